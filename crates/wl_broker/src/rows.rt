@@ -1,0 +1,19 @@
+//! Worked rows, computed on the broker's definition.
+
+ghost use Rattle.wl_broker.specs.Rows.{SharedThenExclusive, ReleaseHandsOver, LateGrantAfterAbort, RepeatedRequest, RestartWhileAsked, RestartWhileHeld, DeathHandsOver, OtherOriginUnblocked, SnapshotRow, OutOfTurnRow, HeldNewcomer, DeadTabUnblocks};
+
+/// What the definition answers to short conversations.
+pub fn law_rows()
+    ensures shared_then_exclusive { SharedThenExclusive }
+    ensures release_hands_over { ReleaseHandsOver }
+    ensures late_grant_after_abort { LateGrantAfterAbort }
+    ensures repeated_request { RepeatedRequest }
+    ensures restart_while_asked { RestartWhileAsked }
+    ensures restart_while_held { RestartWhileHeld }
+    ensures death_hands_over { DeathHandsOver }
+    ensures other_origin_unblocked { OtherOriginUnblocked }
+    ensures snapshot { SnapshotRow }
+    ensures out_of_turn { OutOfTurnRow }
+    ensures held_newcomer { HeldNewcomer }
+    ensures dead_tab_unblocks { DeadTabUnblocks }
+{}

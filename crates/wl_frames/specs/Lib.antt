@@ -1,0 +1,4 @@
+pub use Rattle.wl_draft.specs.Tables
+pub use Rattle.wl_draft.specs.Locks
+pub mod Grammar
+pub mod Stream

@@ -1,0 +1,118 @@
+-- The reading of a stream of bytes: the frames that begin it, up to a rest that is no whole frame or to the first fault.
+use Rattle.std.specs.Prelude.{◌≡◌, ◌≢◌, ◌⊎◌, ◌↔◌, ◌==◌, ℕ, ◌^◌, ◌<◌, ◌≤◌, List, [], ◌∷◌, ◌++◌, Bool, true, false, length, Result, Ok, Err, if◌then◌else◌}
+use Rattle.std.specs.List.{flat_map, AllByRecursion}
+use Rattle.wl_frames.specs.declared.frame.Frame.{Frame}
+use Rattle.wl_frames.specs.declared.frame.Frame.TheVariants as frame
+use Rattle.wl_frames.specs.declared.fault.FrameFault.{FrameFault}
+use Rattle.wl_frames.specs.declared.fault.FrameFault.TheVariants.{BadLength, BadVersion, BadKind, BadField, LeftOver, Truncated, Memory, Failed}
+use Rattle.wl_frames.specs.Grammar.{u32, IsWellFormed, IsBody, body, spelling}
+
+-- ---- what is wrong with a body
+
+-- the kinds of frames
+pub data IsKind : ℕ → Type 0 where
+  command : IsKind 1
+  report : IsKind 2
+  post : IsKind 3
+  hello : IsKind 16
+  answer : IsKind 17
+  snapshot : IsKind 18
+  heard : IsKind 19
+  welcome : IsKind 20
+  stamped : IsKind 32
+  start : IsKind 33
+  addressed : IsKind 34
+  dead : IsKind 35
+
+-- the last field of these frames is a body of its own, which goes to the end
+abbrev pub is_envelope : Frame → Bool
+is_envelope (frame.Stamped s) = true
+is_envelope (frame.Addressed a) = true
+is_envelope _ = false
+
+-- the fields of the frame stand at the front of the bytes, and these bytes after them
+pub record Begins (bytes : List ℕ) (f : Frame) (more : List ℕ) : Type 0 where
+  pub well_formed : IsWellFormed f
+  pub spelled : bytes ≡ body f ++ more
+  pub inner_to_the_end : is_envelope f ≡ true → more ≡ []
+
+-- the first fault of a body that is whole: its version, its kind, its fields, what stands after them
+abbrev pub HasFault : List ℕ → FrameFault → Type 0
+HasFault bytes BadVersion = (version : ℕ) × (rest : List ℕ) × (bytes ≡ version ∷ rest) × (version ≢ 1)
+HasFault bytes BadKind = (kind : ℕ) × (rest : List ℕ) × (bytes ≡ 1 ∷ kind ∷ rest) × (IsKind kind → ⊥)
+HasFault bytes BadField =
+    (kind : ℕ) × (rest : List ℕ) × (bytes ≡ 1 ∷ kind ∷ rest) × IsKind kind × ((f : Frame) (more : List ℕ) → Begins bytes f more → ⊥)
+HasFault bytes LeftOver = (f : Frame) × (more : List ℕ) × Begins bytes f more × (more ≢ [])
+HasFault bytes BadLength = ⊥
+HasFault bytes Truncated = ⊥
+HasFault bytes Memory = ⊥
+HasFault bytes Failed = ⊥
+
+-- why a body was not read: its first fault, or want of memory
+abbrev pub IsFaultOf : List ℕ → FrameFault → Type 0
+IsFaultOf bytes fault = (fault ≡ Memory) ⊎ HasFault bytes fault
+
+-- ---- what stands next in a stream
+
+-- the length of a body
+abbrev pub IsLength : ℕ → Type 0
+IsLength n = (2 ≤ n) × (n ≤ 65536)
+
+-- no whole frame and no fault yet: a part of the length, or less of a body than the length says
+abbrev pub IsPartial : List ℕ → Type 0
+IsPartial bytes =
+    (length bytes < 4) ⊎ ((n : ℕ) × (part : List ℕ) × (bytes ≡ u32 n ++ part) × IsLength n × (length part < n))
+
+-- a fault stands next: a length that no body has, or a whole body with a fault
+abbrev pub HasFaultNext : List ℕ → FrameFault → Type 0
+HasFaultNext bytes fault =
+    ((n : ℕ) × (rest : List ℕ) × (bytes ≡ u32 n ++ rest) × (n < 2 ^ 32) × (IsLength n → ⊥) × (fault ≡ BadLength))
+    ⊎ ((front rest : List ℕ) × (bytes ≡ u32 (length front) ++ front ++ rest) × IsLength (length front) × HasFault front fault)
+
+-- ---- readings
+
+-- where a reading stops: before a rest that is no whole frame, or before a fault
+pub data Stop : Type 0 where
+  Rest : (bytes : List ℕ) → Stop
+  Fault : (fault : FrameFault) → Stop
+
+abbrev pub StopsAt : List ℕ → Stop → Type 0
+StopsAt bytes (Rest rest) = (bytes ≡ rest) × IsPartial rest
+StopsAt bytes (Fault fault) = HasFaultNext bytes fault
+
+-- the stream is the spellings of these frames, one after another, and then this stop
+pub record Reads (stream : List ℕ) (frames : List Frame) (stop : Stop) : Type 0 where
+  pub after : List ℕ
+  pub spelled : stream ≡ flat_map spelling frames ++ after
+  pub well_formed : AllByRecursion IsWellFormed frames
+  pub stops : StopsAt after stop
+
+-- ---- feeding a reading
+
+-- a feed between two pieces: what has come of the next frame, and whether a fault has ended it
+pub record Feeding : Type 0 where
+  pub rest : List ℕ
+  pub has_failed : Bool
+
+abbrev pub at_start : Feeding
+at_start = record { rest = []; has_failed = false }
+
+abbrev pub at_fault : Feeding
+at_fault = record { rest = []; has_failed = true }
+
+-- the frames that a piece brings, and what waits for the next piece
+pub record Takes (old new : Feeding) (piece : List ℕ) (frames : List Frame) : Type 0 where
+  pub was_sound : old.has_failed ≡ false
+  pub is_sound : new.has_failed ≡ false
+  pub reads : Reads (old.rest ++ piece) frames (Rest new.rest)
+
+-- a fault, behind the frames of the piece that stood before it. Want of memory takes nothing of the piece
+pub record Refuses (old new : Feeding) (piece : List ℕ) (before : List Frame) (fault : FrameFault) : Type 0 where
+  pub failed_before : (fault ≡ Failed) ↔ (old.has_failed ≡ true)
+  pub failed : fault ≡ Failed → (before ≡ []) × (new ≡ old)
+  pub memory : fault ≡ Memory → (before ≡ []) × (new ≡ old)
+  pub stops : fault ≢ Failed → fault ≢ Memory → Reads (old.rest ++ piece) before (Fault fault) × (new ≡ at_fault)
+
+-- the end of the stream: a rest is a frame cut short
+abbrev pub end_of : Feeding → Result (Unit {0}) FrameFault
+end_of feed = if feed.has_failed then Err Failed else (if length feed.rest == 0 then Ok tt else Err Truncated)

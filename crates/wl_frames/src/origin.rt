@@ -1,0 +1,50 @@
+ghost use Rattle.std.specs.Prelude.{◌≡◌, IfOk};
+ghost use Rattle.std.specs.String.{string_bytes};
+ghost use Rattle.std.specs.Str.{IsUtf8};
+
+use std::alloc::{AllocError, Global};
+use std::marker::Model;
+
+/// The text of an origin as it stands in a frame. Contracts see it as its bytes.
+#[derive(Debug, Drop)]
+pub struct Origin {
+    text: String,
+}
+
+impl Model for Origin {
+    ghost use Rattle.std.specs.Prelude.{ℕ, List};
+    ghost use Rattle.std.specs.String.{string_bytes};
+
+    ghost Value = { List ℕ };
+
+    ghost view = { λ o. string_bytes o.text };
+}
+
+impl Origin {
+    pub fn new(text: String) -> Origin
+        ensures { result ≡ string_bytes text }
+    {
+        Origin { text }
+    }
+
+    /// The text itself, which takes no memory.
+    pub fn into_string(self) -> String
+        ensures { string_bytes result ≡ self }
+    {
+        self.text
+    }
+
+    pub fn as_str(&self) -> &str
+        ensures value { result.now ≡ self.now }
+        ensures utf8 { IsUtf8 self.now }
+    {
+        self.text.as_str()
+    }
+
+    /// An equal text, in memory of its own.
+    pub fn copy(&self, alloc: Global) -> Result<Origin, AllocError>
+        ensures { IfOk result (λ copy. copy ≡ self.now) }
+    {
+        Ok(Origin::new(String::from_str(alloc, self.as_str())?))
+    }
+}
