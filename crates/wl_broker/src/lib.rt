@@ -1,7 +1,17 @@
+//! The broker of one generation: which tabs have come, and the locks of each partition.
 #![tactic(auto)]
 
+mod answers;
+pub mod broker;
+mod changes;
 pub mod dropped;
+mod judging;
+pub mod laws;
+mod partition;
 pub mod rows;
 pub mod seat;
+mod seats;
 
+pub use broker::{Broker, Outs};
 pub use dropped::Dropped;
+pub use wl_table::{LockTable, Memory};

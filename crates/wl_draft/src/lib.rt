@@ -1,11 +1,17 @@
+//! The lock manager of the Web Locks API on plain data: names, modes, the rows of held locks in the order of granting,
 //! and the requests that wait, in the order of queueing.
 #![tactic(auto)]
 
 pub mod laws;
+mod lists;
+pub mod manager;
 pub mod mode;
 pub mod name;
 pub mod row;
+#[cfg(test)]
+mod tests;
 
+pub use manager::Manager;
 pub use mode::Mode;
 pub use name::Name;
 pub use row::{Entry, Grant, Row, Standing};

@@ -51,6 +51,14 @@ impl Name {
     }
 }
 
+impl From<String> for Name {
+    ghost from_gives = { λ text name. name ≡ string_bytes text };
+
+    fn from(text: String) -> Name {
+        Name::new(text)
+    }
+}
+
 impl PartialEq for Name {
     ghost eq = { bytes_eq };
 
@@ -59,4 +67,8 @@ impl PartialEq for Name {
     fn eq(&self, other: &Name) -> bool {
         self.as_str() == other.as_str()
     }
+}
+
+impl Eq for Name {
+    ghost laws = { Prim.search (comparing, rules) };
 }

@@ -5,7 +5,7 @@ use Rattle.wl_frames.specs.declared.frame.Frame.{Frame}
 use Rattle.wl_frames.specs.declared.frame.Frame.TheVariants as frame
 use Rattle.wl_frames.specs.declared.fault.FrameFault.{FrameFault}
 use Rattle.wl_frames.specs.declared.fault.FrameFault.TheVariants.{BadLength, BadVersion, BadKind, BadField, LeftOver, Truncated, Memory, Failed}
-use Rattle.wl_frames.specs.Grammar.{u32, IsWellFormed, IsBody, body, spelling}
+use Rattle.wl_frames.specs.Grammar.{u32, IsWellFormed, body, spelling}
 
 -- ---- what is wrong with a body
 

@@ -1,12 +1,19 @@
 //! Frames: what tabs, the kernel and the broker send each other, as values and as bytes.
 #![tactic(auto)]
 
+mod copy;
 pub mod fault;
+pub mod feed;
 pub mod frame;
+pub mod laws;
 pub mod origin;
+pub mod reading;
 pub mod sequence;
+mod well_formed;
+pub mod writing;
 
 pub use fault::{FrameFault, PushFault};
+pub use feed::Feed;
 pub use frame::{
     Addressed, Answer, Command, Dead, Downward, Frame, Heard, Hello, Operation, Outcome, Post,
     Report, Snapshot, SnapshotEntry, Stamped, Start, Upward, Welcome,
@@ -14,3 +21,7 @@ pub use frame::{
 pub use origin::Origin;
 pub use sequence::Sequence;
 pub use wl_draft::{Entry, Memory, Mode, Name};
+pub use writing::encode;
+
+#[cfg(test)]
+mod tests;

@@ -1,0 +1,132 @@
+-- A broker's fields after a change, or after one that was taken back.
+use Rattle.std.proofs.Common.{◌≡◌, ◌≢◌, ℕ, ◌≤◌, nat_lt, nat_le, eqb, not, ◌&&◌, ◌||◌, Bool, true, false, List, [], ◌∷◌, Option, Some, None, IsSome, is_some, Result, Ok, Err, IfOk, IfErr, MatchResult, refl, sym, ap, ◌∙◌, subst, arith}
+use Rattle.std.specs.Result.{IsErrAnd}
+use Rattle.std.proofs.lemmas.Bool.{or_parts, false≢true, eqb-true, eqb-false, ltb-false, not-false}
+use Rattle.std.specs.Option.{MatchOption}
+use Rattle.std.specs.Ordering.{nat_cmp}
+use Rattle.std.specs.BTreeMap.{is_at, insert_entry}
+use Rattle.std.specs.Map.{remove_entry, keys_of}
+use Rattle.std.specs.List.Sorted.{IsStrictlySortedBy}
+use Rattle.wl_draft.specs.Tables.{Table, find, has_row, put, at}
+use Rattle.wl_draft.specs.Locks.{live}
+use Rattle.wl_draft.specs.declared.row.Entry.{Entry}
+use Rattle.wl_draft.proofs.TableLemmas.{find-put_same, insert_entry-put, remove_entry-put, is_some-lookup, lookup-find}
+use Rattle.wl_frames.specs.declared.frame.Operation.{Operation}
+use Rattle.wl_frames.specs.declared.frame.Outcome.{Outcome}
+use Rattle.wl_frames.specs.declared.frame.Addressed.{Addressed}
+use Rattle.wl_broker.specs.declared.seat.Seat.{Seat}
+use Rattle.wl_broker.specs.declared.seat.Seat.TheVariants.{Joined, Dead}
+use Rattle.wl_broker.specs.Broker.{BrokerState, seat_of, is_joined, is_dead, is_active, is_misplaced, listed_at, elsewhere, seated_at, next_of, is_lock, is_listed, has_held, manager_of, later_answer, next_in}
+use Rattle.wl_broker.specs.Kept.{PartitionState, no_partition, all_come, answer_of, outcome_at, broker_of, IsConsistent}
+use Rattle.wl_broker.proofs.Consistency.{IsConsistent-active}
+use Rattle.wl_broker.proofs.PartitionRows.{put_itself, put_put}
+use Rattle.wl_broker.proofs.BrokerSteps.{is_active-fields, manager_of-fields, later_is}
+
+pub consistent_as : {listed : List (ℕ × ℕ)} {seats seats' : Table Seat} {partitions partitions' : Table PartitionState} → seats' ≡ seats → partitions' ≡ partitions → IsConsistent listed seats partitions → IsConsistent listed seats' partitions'
+consistent_as {listed} {seats} {seats'} {partitions} {partitions'} s p k =
+    subst (λ ss. IsConsistent listed ss partitions') (sym s) (subst (λ ps. IsConsistent listed seats ps) (sym p) k)
+
+pub same_fields : (g : ℕ) (listed : List (ℕ × ℕ)) {seats seats' : Table Seat} {partitions partitions' : Table PartitionState} → seats' ≡ seats → partitions' ≡ partitions → broker_of g listed seats' partitions' ≡ broker_of g listed seats partitions
+same_fields g listed {seats} {seats'} {partitions} {partitions'} s p =
+    ap (λ ss. broker_of g listed ss partitions') s ∙ ap (λ ps. broker_of g listed seats ps) p
+
+-- what an `insert` of a seat leaves
+pub seat_put : (t : ℕ) (s : Seat) (seats seats' : Table Seat) → seats' ≡ insert_entry nat_cmp seats t s → seats' ≡ put t s seats
+seat_put t s seats seats' e = e ∙ insert_entry-put t s seats
+
+pub seat_there : (t : ℕ) (s : Seat) (seats seats' : Table Seat) → seats' ≡ insert_entry nat_cmp seats t s → IsSome (find seats' t)
+seat_there t s seats seats' e = ap (λ ss. is_some (find ss t)) (seat_put t s seats seats' e) ∙ ap is_some (find-put_same t s seats)
+
+no_row : (t : ℕ) (seats : Table Seat) → find seats t ≡ None → has_row seats t ≡ false
+no_row t seats e = sym (is_some-lookup Dead seats t) ∙ ap is_some (lookup-find seats t ∙ e)
+
+-- a seat that was given back
+pub given_back : (t : ℕ) (s : Seat) (before : Option Seat) (seats seats' seats'' : Table Seat) → before ≡ find seats t → IsStrictlySortedBy nat_cmp (keys_of seats) → seats' ≡ insert_entry nat_cmp seats t s → MatchOption before (seats'' ≡ remove_entry (is_at (nat_cmp t)) seats') (λ x. seats'' ≡ put t x seats') → seats'' ≡ seats
+given_back t s None seats seats' seats'' was o e back =
+    back ∙ ap (remove_entry (is_at (nat_cmp t))) (seat_put t s seats seats' e) ∙ remove_entry-put t s seats (no_row t seats (sym was))
+given_back t s (Some x) seats seats' seats'' was o e back =
+    back ∙ ap (put t x) (seat_put t s seats seats' e) ∙ put_put t s x seats ∙ put_itself t x seats o (sym was)
+
+-- the answer to a command that was taken before
+pub again_is : (g : ℕ) (listed : List (ℕ × ℕ)) (seats : Table Seat) (partitions : Table PartitionState) (t p n : ℕ) (o : Operation) (upto : ℕ) (outcome : Outcome) (outs : List Addressed) → upto ≡ next_in (find seats t) → outcome ≡ outcome_at (at no_partition partitions p).locks t n o → outs ≡ answer_of g upto t n outcome ∷ [] → outs ≡ later_answer (broker_of g listed seats partitions) t p n o ∷ []
+again_is g listed seats partitions t p n o upto outcome outs u a e =
+    rw (e, u, a, later_is (broker_of g listed seats partitions) t p n o, manager_of-fields g listed seats partitions p) refl
+
+-- what a broker shows of a tab and of a partition
+pub seat_seen : (g : ℕ) (listed : List (ℕ × ℕ)) (seats : Table Seat) (partitions : Table PartitionState) (b : BrokerState) (t : ℕ) (o : Option Seat) → broker_of g listed seats partitions ≡ b → o ≡ find seats t → seat_of b t ≡ o
+seat_seen g listed seats partitions b t o v e = ap (λ x. seat_of x t) (sym v) ∙ sym e
+
+pub active_seen : (g : ℕ) (listed : List (ℕ × ℕ)) (seats : Table Seat) (partitions : Table PartitionState) (b : BrokerState) (p : ℕ) → broker_of g listed seats partitions ≡ b → is_active b p ≡ true → all_come listed seats p ≡ true
+active_seen g listed seats partitions b p v e =
+    sym (is_active-fields g listed seats partitions p) ∙ ap (λ x. is_active x p) v ∙ e
+
+-- a tab that is not misplaced
+pub placed_seen : (g : ℕ) (listed : List (ℕ × ℕ)) (seats : Table Seat) (partitions : Table PartitionState) (b : BrokerState) (t p : ℕ) → broker_of g listed seats partitions ≡ b → is_misplaced b t p ≡ false → elsewhere (seated_at (find seats t)) p ≡ false
+unfolding is_misplaced
+placed_seen g listed seats partitions b t p v e =
+    ap (λ x. elsewhere (seated_at (seat_of x t)) p) v ∙ (or_parts _ _ e).1
+
+pub listed_seen : (b : BrokerState) (t p : ℕ) → is_misplaced b t p ≡ false → elsewhere (listed_at t b.listed) p ≡ false
+unfolding is_misplaced
+listed_seen b t p e = (or_parts _ _ e).0
+
+seated_as : (o : Option Seat) (p : ℕ) → is_joined o ≡ true → elsewhere (seated_at o) p ≡ false → o ≡ Some (Joined p (next_in o))
+seated_as None p j e = absurd (false≢true j)
+seated_as (Some (Joined q n)) p j e = ap (λ r. Some (Joined r n)) (eqb-true q p (not-false _ e))
+seated_as (Some Dead) p j e = absurd (false≢true j)
+
+pub unseated : (o : Option Seat) → is_joined o ≡ false → is_dead o ≡ false → o ≡ None
+unseated None j d = refl
+unseated (Some (Joined q n)) j d = absurd (false≢true (sym j))
+unseated (Some Dead) j d = absurd (false≢true (sym d))
+
+-- a tab that has joined and is not misplaced has joined here, and the partition's row says whether it is active
+module _ (g : ℕ) (listed : List (ℕ × ℕ)) (seats : Table Seat) (partitions : Table PartitionState) (b : BrokerState) (t p : ℕ) (v : broker_of g listed seats partitions ≡ b) (placed : is_misplaced b t p ≡ false) (joined : is_joined (find seats t) ≡ true) where
+  pub seated_here : find seats t ≡ Some (Joined p (next_in (find seats t)))
+  seated_here = seated_as (find seats t) p joined (placed_seen g listed seats partitions b t p v placed)
+
+  pub joined_here : is_joined (seat_of b t) ≡ true
+  joined_here = ap (λ x. is_joined (seat_of x t)) (sym v) ∙ joined
+
+  pub next_here : next_of b t ≡ next_in (find seats t)
+  next_here = ap (λ x. next_of x t) (sym v)
+
+  pub active_here : IsConsistent listed seats partitions → is_active b p ≡ (at no_partition partitions p).is_active
+  active_here k =
+      ap (λ x. is_active x p) (sym v) ∙ is_active-fields g listed seats partitions p
+      ∙ sym (IsConsistent-active t p (next_in (find seats t)) k seated_here)
+
+  -- the number of its command is no later than the next one
+  pub turn_here : (next n : ℕ) (out : Bool) → next ≡ next_in (find seats t) → out ≡ (nat_lt next n || eqb n 4294967295) → out ≡ false → (n ≤ next_of b t) × (n ≢ 4294967295)
+  turn_here next n out e o f =
+      let parts = or_parts (nat_lt next n) (eqb n 4294967295) (sym o ∙ f) in
+      (omega (arith, ltb-false next n parts.0, e, next_here), eqb-false n 4294967295 parts.1)
+
+  -- a tab may have one more lock, or may not
+  pub live_here : (o : Operation) (many : Bool) → many ≡ (is_lock o && nat_le 64 (live (at no_partition partitions p).locks t)) → (is_lock o && nat_le 64 (live (manager_of b p) t)) ≡ many
+  live_here o many e = rw (← v, manager_of-fields g listed seats partitions p) (sym e)
+
+-- what a report is judged by
+pub joined_seen : (g : ℕ) (listed : List (ℕ × ℕ)) (seats : Table Seat) (partitions : Table PartitionState) (b : BrokerState) (t : ℕ) (r : Bool) → broker_of g listed seats partitions ≡ b → r ≡ is_joined (find seats t) → is_joined (seat_of b t) ≡ r
+joined_seen g listed seats partitions b t r v e = ap (λ x. is_joined (seat_of x t)) (sym v) ∙ sym e
+
+pub dead_seen : (g : ℕ) (listed : List (ℕ × ℕ)) (seats : Table Seat) (partitions : Table PartitionState) (b : BrokerState) (t : ℕ) (r : Bool) → broker_of g listed seats partitions ≡ b → r ≡ is_dead (find seats t) → is_dead (seat_of b t) ≡ r
+dead_seen g listed seats partitions b t r v e = ap (λ x. is_dead (seat_of x t)) (sym v) ∙ sym e
+
+pub newcomer_seen : (g : ℕ) (listed : List (ℕ × ℕ)) (seats : Table Seat) (partitions : Table PartitionState) (b : BrokerState) (t : ℕ) (xs : List (ℕ × ℕ)) (es entries : List Entry) (r : Bool) → broker_of g listed seats partitions ≡ b → xs ≡ listed → es ≡ entries → r ≡ (not (is_listed (listed_at t xs)) && has_held es) → (not (is_listed (listed_at t b.listed)) && has_held entries) ≡ r
+newcomer_seen g listed seats partitions b t xs es entries r v x e q = rw (← v, ← x, ← e) (sym q)
+
+pub misplaced_seen : (g : ℕ) (listed : List (ℕ × ℕ)) (seats : Table Seat) (partitions : Table PartitionState) (b : BrokerState) (t p : ℕ) (xs : List (ℕ × ℕ)) (r : Bool) → broker_of g listed seats partitions ≡ b → xs ≡ listed → r ≡ (elsewhere (listed_at t xs) p || elsewhere (seated_at (find seats t)) p) → is_misplaced b t p ≡ r
+unfolding is_misplaced
+misplaced_seen g listed seats partitions b t p xs r v x q = rw (← v, ← x) (sym q)
+
+-- ---- a result whose error is mapped
+
+pub if_ok_mapped : {T E D : Type 0} (r : Result T E) (s : Result T D) (Q : E → D → Type 0) (P : T → Type 0) → MatchResult r (λ x. s ≡ Ok x) (λ e. IsErrAnd s (Q e)) → IfOk r P → IfOk s P
+if_ok_mapped (Ok x) s Q P e h = subst (λ q. IfOk q P) (sym e) h
+if_ok_mapped (Err d) (Ok x) Q P e h = absurd e
+if_ok_mapped (Err d) (Err f) Q P e h = tt
+
+pub if_err_always : {T D : Type 0} (s : Result T D) (P : D → Type 0) → ((d : D) → P d) → IfErr s P
+if_err_always (Ok x) P h = tt
+if_err_always (Err d) P h = h d

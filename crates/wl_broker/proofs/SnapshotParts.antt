@@ -1,0 +1,41 @@
+-- A snapshot cut into parts.
+use Rattle.std.proofs.Common.{◌≡◌, ℕ, ◌+◌, ◌*◌, ◌/◌, ◌%◌, ◌≤◌, min, List, [], ◌∷◌, ◌++◌, length, map, take, drop, refl, sym, ap, ◌∙◌, append-nil, arith}
+use Rattle.std.proofs.lemmas.List.{take_at, drop_at, take_all, drop_all, drop-drop}
+use Rattle.std.proofs.lemmas.List.FromFn.{map-range_with_len_more}
+use Rattle.std.specs.List.{range_with_len}
+use Rattle.wl_frames.specs.declared.frame.SnapshotEntry.{SnapshotEntry}
+use Rattle.wl_frames.specs.declared.frame.Addressed.{Addressed}
+use Rattle.wl_frames.specs.declared.frame.Downward.TheVariants as down
+use Rattle.wl_broker.specs.Broker.{parts_of}
+use Rattle.wl_broker.specs.Kept.{part_of}
+
+-- a whole part was taken
+pub whole_part : {X : Type 0} (n : ℕ) (part rest all : List X) → part ++ rest ≡ all → length part ≡ n → (part ≡ take n all) × (rest ≡ drop n all)
+whole_part n part rest all e h =
+    (sym (ap (take n) (sym e) ∙ take_at part rest n h), sym (ap (drop n) (sym e) ∙ drop_at part rest n h))
+
+-- a last part was taken
+nil_from_length : {X : Type 0} (xs : List X) → length xs ≡ 0 → xs ≡ []
+nil_from_length [] e = refl
+nil_from_length (x ∷ xs) e = absurd (omega arith)
+
+pub last_part : {X : Type 0} (n : ℕ) (part rest all : List X) → part ++ rest ≡ all → length rest ≡ 0 → length part ≤ n → (part ≡ take n all) × (rest ≡ drop n all)
+last_part n part rest all e none h =
+    let nil = nil_from_length rest none in
+    let same : all ≡ part = sym e ∙ ap (λ ys. part ++ ys) nil ∙ append-nil part in
+    (sym (ap (take n) same ∙ take_all n part h), nil ∙ sym (ap (drop n) same ∙ drop_all n part h))
+
+-- the number of parts
+pub div_ceil_64 : (n : ℕ) → n / 64 + min 1 (n % 64) ≡ (n + 63) / 64
+div_ceil_64 n = omega arith
+
+-- one more part is made
+pub part_more : (g t n : ℕ) (entries : List SnapshotEntry) (k parts : ℕ) (outs : List Addressed) (part rest : List SnapshotEntry) → outs ≡ map (part_of g t n entries) (range_with_len 0 k) → part ≡ take 64 rest → rest ≡ drop (64 * k) entries → parts ≡ parts_of entries → outs ++ record { tab = t; inner = down.Snapshot (record { generation = g; number = n; part = k; parts = parts; entries = part }) } ∷ [] ≡ map (part_of g t n entries) (range_with_len 0 (k + 1))
+part_more g t n entries k parts outs part rest made taken left count =
+    rw (made, taken, left, count) (sym (map-range_with_len_more (part_of g t n entries) 0 k k (omega arith)))
+
+-- what is left after one more part
+pub drop_part : {X : Type 0} (k : ℕ) (xs ys zs : List X) → ys ≡ drop (64 * k) xs → zs ≡ drop 64 ys → zs ≡ drop (64 * (k + 1)) xs
+drop_part k xs ys zs e f =
+    let more : 64 * k + 64 ≡ 64 * (k + 1) = omega arith in
+    f ∙ ap (drop 64) e ∙ drop-drop 64 (64 * k) xs ∙ ap (λ i. drop i xs) more

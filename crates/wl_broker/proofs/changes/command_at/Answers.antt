@@ -1,0 +1,38 @@
+use Rattle.std.proofs.Common.{sym, ap, ◌∙◌}
+use Rattle.std.proofs.lemmas.Bool.{false≢true}
+use Rattle.std.proofs.lemmas.Result.{IfOk-weaker, on_err_weaker}
+use Rattle.wl_draft.specs.Tables.{put}
+use Rattle.wl_draft.specs.Locks.{standing, settle}
+use Rattle.wl_broker.specs.Broker.{drafted}
+use Rattle.wl_broker.specs.Kept.{PartitionState, state_of, no_partition}
+use Rattle.wl_broker.proofs.PartitionRows.{at-lookup, at-lookup_none, written, written_same}
+use Rattle.wl_broker.proofs.changes.command_at.Goals as goal
+
+pub command-requires-clause-active : goal.command-requires-clause-active
+command-requires-clause-active g c =
+    ap (λ (s : PartitionState). s.is_active) (sym (at-lookup no_partition _ c.args.partition c.args.partitions.now.entries c.in-Some.ensures.value)) ∙ c.requires.active
+
+pub command-requires-clause-new : goal.command-requires-clause-new
+command-requires-clause-new g c =
+    ap (λ (s : PartitionState). standing s.locks c.args.tab c.args.number) (sym (at-lookup no_partition _ c.args.partition c.args.partitions.now.entries c.in-Some.ensures.value)) ∙ c.requires.new
+
+pub unreachable-requires : goal.unreachable-requires
+unreachable-requires g c =
+    let e = ap (λ (s : PartitionState). s.is_active) (at-lookup_none no_partition _ c.args.partitions.now.entries c.in-None.ensures.value) in
+    false≢true (sym e ∙ c.requires.active)
+
+pub returns-clause-grants : goal.returns-clause-grants
+returns-clause-grants g c =
+    let e = at-lookup no_partition _ c.args.partition c.args.partitions.now.entries c.in-Some.ensures.value in
+    rw e c.command.ensures.grants
+
+pub returns-clause-ok : goal.returns-clause-ok
+returns-clause-ok g c =
+    let es = c.args.partitions.now.entries in
+    let row = at-lookup no_partition _ c.args.partition es c.in-Some.ensures.value in
+    rw row
+    (IfOk-weaker c.command.result _ _ (λ x e. written _ _ _ es _ c.in-Some.ensures.ordered c.in-Some.ensures.value (c.get_mut.follows.holds _).0 ∙ ap (λ (s : PartitionState). put c.args.partition s es) (e ∙ ap (λ b. state_of (settle (drafted c.args.tab c.args.number c.args.operation.now c.in-Some.row.now.locks)) b) (ap (λ (s : PartitionState). s.is_active) (sym row) ∙ c.requires.active))) c.command.ensures.ok)
+
+pub returns-clause-err : goal.returns-clause-err
+returns-clause-err g c =
+    on_err_weaker c.command.result (λ e. written_same _ _ _ _ _ c.in-Some.ensures.value (c.get_mut.follows.holds _).0 e) c.command.ensures.err

@@ -1,0 +1,209 @@
+//! What the broker sends: answers, grants, and snapshots in parts.
+
+ghost use Rattle.std.specs.Prelude.{◌≡◌, ◌+◌, ◌≤◌, [], ◌++◌, IfOk, OnOk, length, map, take, drop, true, false};
+ghost use Rattle.std.specs.Vec.{vec_len, vec_capacity};
+ghost use Rattle.std.specs.Vec.Iter.{into_iter_items};
+ghost use Rattle.wl_broker.specs.Broker.{hello_to, hellos, outcome_of, parts_of};
+ghost use Rattle.wl_broker.specs.Kept.{answer_of, grant_of, snapshot_entry_of, snapshot_of};
+
+use crate::seat::Seat;
+use crate::seats::next_of;
+use std::alloc::{AllocError, Global};
+use std::collections::BTreeMap;
+use std::vec::IntoIter;
+use wl_draft::{Grant, Row, Standing};
+use wl_frames::{Addressed, Answer, Downward, Hello, Outcome, Sequence, Snapshot, SnapshotEntry};
+
+/// How many entries a part of a snapshot has, but for the last.
+const PART: usize = 64;
+
+fn hello(generation: u32, tab: u16) -> Addressed
+    ensures { result ≡ hello_to generation tab }
+{
+    Addressed {
+        tab,
+        inner: Downward::Hello(Hello { generation }),
+    }
+}
+
+/// Greets each listed tab.
+pub fn hellos(
+    alloc: Global,
+    generation: u32,
+    listed: &[(u16, u16)],
+) -> Result<Vec<Addressed>, AllocError>
+    ensures { IfOk result (λ outs. outs.items ≡ hellos generation listed.now) }
+{
+    listed
+        .iter()
+        .map(|place| hello(generation, place.0))
+        .collect(alloc)
+}
+
+/// An answer, which tells how many commands of its tab were taken.
+pub fn answer(generation: u32, upto: u32, tab: u16, number: u32, outcome: Outcome) -> Addressed
+    ensures { result ≡ answer_of generation upto tab number outcome }
+{
+    Addressed {
+        tab,
+        inner: Downward::Answer(Answer {
+            generation,
+            upto,
+            number,
+            outcome,
+        }),
+    }
+}
+
+/// The answer to a request, by where it stands.
+pub fn outcome(standing: Standing) -> Outcome
+    ensures { result ≡ outcome_of standing }
+{
+    match standing {
+        Standing::Held => Outcome::Granted,
+        Standing::Waiting => Outcome::Waiting,
+        Standing::Absent => Outcome::Gone,
+    }
+}
+
+/// Room for these answers and those.
+pub fn room_for(alloc: Global, answers: usize, grants: usize) -> Result<Vec<Addressed>, AllocError>
+    ensures items { IfOk result (λ outs. outs.items ≡ []) }
+    ensures len { IfOk result (λ outs. vec_len outs ≡ 0) }
+    ensures room { IfOk result (λ outs. vec_capacity outs ≡ answers + grants) }
+{
+    Vec::with_capacity(alloc, answers.checked_add(grants).ok_or(AllocError)?)
+}
+
+/// Tells each tab what it was granted. There is room for that.
+pub fn push_grants(
+    outs: &mut Vec<Addressed>,
+    generation: u32,
+    seats: &BTreeMap<u16, Seat>,
+    granted: &[Grant],
+)
+    requires { vec_len outs.old + length granted.now ≤ vec_capacity outs.old }
+    ensures { outs.new.items ≡ outs.old.items ++ map (grant_of generation seats.now.entries) granted.now }
+{
+    for grant in granted {
+        let upto = next_of(seats, grant.client);
+        outs.push_reserved(answer(
+            generation,
+            upto,
+            grant.client,
+            grant.number,
+            Outcome::Granted,
+        ));
+    }
+}
+
+fn snapshot_entry(held: bool, row: Row) -> SnapshotEntry
+    ensures { result ≡ snapshot_entry_of held row }
+{
+    let Row {
+        client,
+        number: _,
+        name,
+        mode,
+    } = row;
+    SnapshotEntry {
+        held,
+        tab: client,
+        mode,
+        name,
+    }
+}
+
+/// The held locks, and then the waiting requests. Their names are moved.
+fn snapshot_entries(
+    alloc: Global,
+    held: Vec<Row>,
+    waiting: Vec<Row>,
+) -> Result<Vec<SnapshotEntry>, AllocError>
+    ensures { IfOk result (λ v. v.items ≡ map (snapshot_entry_of true) held.items ++ map (snapshot_entry_of false) waiting.items) }
+{
+    held.into_iter()
+        .map(|row| snapshot_entry(true, row))
+        .chain(waiting.into_iter().map(|row| snapshot_entry(false, row)))
+        .collect(alloc)
+}
+
+/// Takes the entries of the next part.
+fn next_part(
+    alloc: Global,
+    rest: &mut IntoIter<SnapshotEntry>,
+) -> Result<Vec<SnapshotEntry>, AllocError>
+    ensures part { IfOk result (λ v. v.items ≡ take 64 (into_iter_items rest.old)) }
+    ensures rest { OnOk result (into_iter_items rest.new ≡ drop 64 (into_iter_items rest.old)) }
+{
+    let mut part = Vec::new(alloc);
+    while part.len() < PART {
+        let Some(entry) = rest.next() else {
+            return Ok(part);
+        };
+        part.push(entry)?;
+    }
+    Ok(part)
+}
+
+/// How many parts a snapshot has. One without entries is one part.
+fn parts_of(entries: &[SnapshotEntry]) -> usize
+    ensures { result ≡ parts_of entries.now }
+{
+    if entries.is_empty() {
+        1
+    } else {
+        entries.len().div_ceil(PART)
+    }
+}
+
+/// A snapshot's parts, or that it is gone where it has more parts than can be counted.
+fn snapshot_parts(
+    alloc: Global,
+    generation: u32,
+    upto: u32,
+    tab: u16,
+    number: u32,
+    entries: Vec<SnapshotEntry>,
+) -> Result<Vec<Addressed>, AllocError>
+    ensures { IfOk result (λ outs. outs.items ≡ snapshot_of generation upto tab number entries.items) }
+{
+    let parts = parts_of(&entries);
+    let mut outs = Vec::new(alloc);
+    if parts > usize::from(u16::MAX) {
+        outs.push(answer(generation, upto, tab, number, Outcome::Gone))?;
+        return Ok(outs);
+    }
+    let parts = parts as u16;
+    let mut rest = entries.into_iter();
+    for part in 0..parts {
+        let entries = Sequence::new(next_part(alloc, &mut rest)?);
+        outs.push(Addressed {
+            tab,
+            inner: Downward::Snapshot(Snapshot {
+                generation,
+                number,
+                part,
+                parts,
+                entries,
+            }),
+        })?;
+    }
+    Ok(outs)
+}
+
+/// The answer to a query: the held locks and the waiting requests, in parts.
+pub fn snapshot(
+    alloc: Global,
+    generation: u32,
+    upto: u32,
+    tab: u16,
+    number: u32,
+    held: Vec<Row>,
+    waiting: Vec<Row>,
+) -> Result<Vec<Addressed>, AllocError>
+    ensures { IfOk result (λ outs. outs.items ≡ snapshot_of generation upto tab number (map (snapshot_entry_of true) held.items ++ map (snapshot_entry_of false) waiting.items)) }
+{
+    let entries = snapshot_entries(alloc, held, waiting)?;
+    snapshot_parts(alloc, generation, upto, tab, number, entries)
+}

@@ -1,0 +1,327 @@
+//! The broker.
+
+ghost use Rattle.std.specs.Prelude.{◌≡◌, ◌≢◌, ◌<◌, IfOk, IfErr, OnErr, ℕ, List, [], ◌∷◌, true, false};
+ghost use Rattle.wl_frames.specs.declared.frame.Operation.TheVariants.{Query};
+ghost use Rattle.wl_frames.specs.Grammar.{TabsRiseFrom};
+ghost use Rattle.wl_broker.specs.declared.seat.Seat.TheVariants.{Joined, Dead};
+ghost use Rattle.wl_broker.specs.Broker.{started, hellos, taking, burial, Does, Drops, IsTaken, is_active, is_dead, seat_of, listed_at, elsewhere, is_misplaced, take_report, take_command, join, perform, later_answer, buried_at, with_seat, all_below};
+ghost use Rattle.wl_broker.specs.Kept.{Had};
+
+use crate::answers::{answer, hellos, push_grants, room_for, snapshot};
+use crate::changes::{
+    command_at, end_at, is_active_at, is_too_many, outcome_at, restore_at, snapshot_at, waiting_at,
+};
+use crate::dropped::Dropped;
+use crate::judging::{
+    all_below, all_come, generation_of, is_held_by_newcomer, is_misplaced, is_out_of_turn,
+    listed_at,
+};
+use crate::partition::Partition;
+use crate::seat::Seat;
+use crate::seats::{is_dead, is_joined, next_of, put_back, seat_of, set_seat};
+use std::alloc::{AllocError, Global};
+use std::collections::BTreeMap;
+use std::marker::Model;
+use wl_frames::{Addressed, Operation, Report, Sequence, Stamped, Upward};
+use wl_table::LockTable;
+
+/// What the broker sends, each frame with the tab that it is for.
+pub type Outs = Sequence<Addressed>;
+
+/// The broker of one generation, over lock tables of any kind. Contracts see it as the state of the definition.
+#[derive(Drop)]
+pub struct Broker<T: LockTable> {
+    alloc: Global,
+    generation: u32,
+    listed: Vec<(u16, u16)>,
+    seats: BTreeMap<u16, Seat>,
+    partitions: BTreeMap<u16, Partition<T>>,
+}
+
+impl<T: LockTable> Model for Broker<T> {
+    ghost use Rattle.wl_broker.specs.Broker.{BrokerState};
+    ghost use Rattle.wl_broker.specs.Kept.{broker_of, IsConsistent};
+
+    ghost Value = { BrokerState };
+
+    ghost view = { λ b. broker_of b.generation b.listed.items b.seats.entries b.partitions.entries };
+
+    ghost invariant = { λ b. IsConsistent b.listed.items b.seats.entries b.partitions.entries };
+}
+
+impl<T: LockTable> Broker<T> {
+    /// Starts a generation: each listed tab, by its number and partition, is greeted, and no partition with a listed tab
+    /// is served before each of these has reported or was named dead.
+    pub fn start(
+        alloc: Global,
+        generation: u32,
+        list: &[(u16, u16)],
+    ) -> Result<(Broker<T>, Outs), AllocError>
+        requires { TabsRiseFrom 1 list.now }
+        ensures broker { IfOk result (λ r. r.0 ≡ started generation list.now) }
+        ensures hellos { IfOk result (λ r. r.1 ≡ hellos generation list.now) }
+    {
+        let listed = Vec::from_slice(alloc, list)?;
+        let hellos = hellos(alloc, generation, list)?;
+        let broker = Broker {
+            alloc,
+            generation,
+            listed,
+            seats: BTreeMap::new(alloc),
+            partitions: BTreeMap::new(alloc),
+        };
+        Ok((broker, Sequence::new(hellos)))
+    }
+
+    /// Takes a stamped command or report. A command that was taken before is answered again, and changes nothing.
+    pub fn take(&mut self, stamped: &Stamped) -> Result<Outs, Dropped>
+        ensures taken { IfOk result (λ outs. taking self.old stamped.now ≡ Does self.new outs) }
+        // It is dropped for the first cause that applies,
+        ensures dropped { IfErr result (λ d. d ≢ Dropped.Memory → taking self.old stamped.now ≡ Drops d) }
+        // and for want of memory only where no other cause does.
+        ensures memory { IfErr result (λ d. d ≡ Dropped.Memory → IsTaken (taking self.old stamped.now)) }
+        ensures err { OnErr result (self.new ≡ self.old) }
+    {
+        let generation = generation_of(&stamped.inner);
+        if generation < self.generation {
+            return Err(Dropped::OldGeneration);
+        }
+        if generation > self.generation {
+            return Err(Dropped::LaterGeneration);
+        }
+        if is_dead(&self.seats, stamped.tab) {
+            return Err(Dropped::DeadTab);
+        }
+        if is_misplaced(&self.listed, &self.seats, stamped.tab, stamped.partition) {
+            return Err(Dropped::Misplaced);
+        }
+        match &stamped.inner {
+            Upward::Command(command) => self.take_command(
+                stamped.tab,
+                stamped.partition,
+                command.number,
+                &command.operation,
+            ),
+            Upward::Report(report) => self.take_report(stamped.tab, stamped.partition, report),
+        }
+    }
+
+    /// Names a tab dead: what it held and waited for is gone. A second time changes nothing.
+    pub fn dead(&mut self, tab: u16) -> Result<Outs, AllocError>
+        ensures dead { IfOk result (λ outs. burial self.old tab ≡ (self.new, outs)) }
+        ensures err { OnErr result (self.new ≡ self.old) }
+    {
+        match seat_of(&self.seats, tab) {
+            Some(Seat::Dead) => Ok(Sequence::new(Vec::new(self.alloc))),
+            Some(Seat::Joined { partition, .. }) => self.bury(tab, partition),
+            None => match listed_at(&self.listed, tab) {
+                Some(partition) => self.bury(tab, partition),
+                None => {
+                    self.seats.insert(tab, Seat::Dead)?;
+                    Ok(Sequence::new(Vec::new(self.alloc)))
+                }
+            },
+        }
+    }
+
+    /// Whether each listed tab of the partition has come, so that its locks are granted.
+    pub fn is_active(&self, partition: u16) -> bool
+        ensures { result ≡ is_active self.now partition }
+    {
+        all_come(&self.listed, &self.seats, partition)
+    }
+
+    /// Takes the report of a tab that is not dead and not misplaced.
+    fn take_report(&mut self, tab: u16, partition: u16, report: &Report) -> Result<Outs, Dropped>
+        requires alive { is_dead (seat_of self.old tab) ≡ false }
+        requires placed { is_misplaced self.old tab partition ≡ false }
+        ensures taken { IfOk result (λ outs. take_report self.old tab partition report.now ≡ Does self.new outs) }
+        ensures dropped { IfErr result (λ d. d ≢ Dropped.Memory → take_report self.old tab partition report.now ≡ Drops d) }
+        ensures memory { IfErr result (λ d. d ≡ Dropped.Memory → IsTaken (take_report self.old tab partition report.now)) }
+        ensures err { OnErr result (self.new ≡ self.old) }
+    {
+        let entries = report.entries.as_slice();
+        if is_joined(&self.seats, tab) {
+            return Err(Dropped::AlreadyJoined);
+        }
+        if is_held_by_newcomer(&self.listed, tab, entries) {
+            return Err(Dropped::HeldByNewcomer);
+        }
+        if !all_below(report.base, entries) {
+            return Err(Dropped::BadReport);
+        }
+        self.join(tab, partition, report)
+            .map_err(|_| Dropped::Memory)
+    }
+
+    /// Takes the command of a tab that is not dead and not misplaced.
+    fn take_command(
+        &mut self,
+        tab: u16,
+        partition: u16,
+        number: u32,
+        operation: &Operation,
+    ) -> Result<Outs, Dropped>
+        requires placed { is_misplaced self.old tab partition ≡ false }
+        ensures taken { IfOk result (λ outs. take_command self.old tab partition number operation.now ≡ Does self.new outs) }
+        ensures dropped { IfErr result (λ d. d ≢ Dropped.Memory → take_command self.old tab partition number operation.now ≡ Drops d) }
+        ensures memory { IfErr result (λ d. d ≡ Dropped.Memory → IsTaken (take_command self.old tab partition number operation.now)) }
+        ensures err { OnErr result (self.new ≡ self.old) }
+    {
+        if !is_joined(&self.seats, tab) {
+            return Err(Dropped::NotJoined);
+        }
+        if !is_active_at(&self.partitions, partition) {
+            return Err(Dropped::Recovering);
+        }
+        let next = next_of(&self.seats, tab);
+        if is_out_of_turn(next, number) {
+            return Err(Dropped::OutOfTurn);
+        }
+        if number < next {
+            return self
+                .answer_again(tab, partition, number, operation)
+                .map_err(|_| Dropped::Memory);
+        }
+        if is_too_many(&self.partitions, partition, tab, operation) {
+            return Err(Dropped::TooMany);
+        }
+        self.perform(tab, partition, number, operation)
+            .map_err(|_| Dropped::Memory)
+    }
+
+    /// A tab joins with what its report says.
+    fn join(&mut self, tab: u16, partition: u16, report: &Report) -> Result<Outs, AllocError>
+        requires new { seat_of self.old tab ≡ None }
+        requires placed { elsewhere (listed_at tab self.old.listed) partition ≡ false }
+        requires below { all_below report.now.base report.now.entries ≡ true }
+        ensures joined { IfOk result (λ outs. join self.old tab partition report.now ≡ Does self.new outs) }
+        ensures err { OnErr result (self.new ≡ self.old) }
+    {
+        let entries = report.entries.as_slice();
+        let waiting = waiting_at(&self.partitions, partition);
+        let mut outs = room_for(self.alloc, entries.len(), waiting)?;
+        let seat = Seat::Joined {
+            partition,
+            next: report.base,
+        };
+        self.seats.insert(tab, seat)?;
+        let is_active = all_come(&self.listed, &self.seats, partition);
+        match restore_at(
+            self.alloc,
+            &mut self.partitions,
+            partition,
+            tab,
+            entries,
+            is_active,
+        ) {
+            Ok(granted) => {
+                push_grants(&mut outs, self.generation, &self.seats, &granted);
+                Ok(Sequence::new(outs))
+            }
+            Err(error) => {
+                put_back(&mut self.seats, tab, None);
+                Err(error)
+            }
+        }
+    }
+
+    /// What a tab has in its partition is gone, now that it is dead.
+    fn bury(&mut self, tab: u16, partition: u16) -> Result<Outs, AllocError>
+        requires { Had self.old tab partition }
+        ensures buried { IfOk result (λ outs. buried_at (with_seat tab Dead self.old) tab (Some partition) ≡ (self.new, outs)) }
+        ensures err { OnErr result (self.new ≡ self.old) }
+    {
+        let before = seat_of(&self.seats, tab);
+        let waiting = waiting_at(&self.partitions, partition);
+        let mut outs = room_for(self.alloc, 0, waiting)?;
+        self.seats.insert(tab, Seat::Dead)?;
+        let is_active = all_come(&self.listed, &self.seats, partition);
+        match end_at(self.alloc, &mut self.partitions, partition, tab, is_active) {
+            Ok(granted) => {
+                push_grants(&mut outs, self.generation, &self.seats, &granted);
+                Ok(Sequence::new(outs))
+            }
+            Err(error) => {
+                put_back(&mut self.seats, tab, before);
+                Err(error)
+            }
+        }
+    }
+
+    /// Answers a command that was taken before.
+    fn answer_again(
+        &self,
+        tab: u16,
+        partition: u16,
+        number: u32,
+        operation: &Operation,
+    ) -> Result<Outs, AllocError>
+        ensures { IfOk result (λ outs. outs ≡ later_answer self.now tab partition number operation.now ∷ []) }
+    {
+        let upto = next_of(&self.seats, tab);
+        let outcome = outcome_at(&self.partitions, partition, tab, number, operation);
+        let mut outs = Vec::new(self.alloc);
+        outs.push(answer(self.generation, upto, tab, number, outcome))?;
+        Ok(Sequence::new(outs))
+    }
+
+    /// The next command of a tab is done.
+    fn perform(
+        &mut self,
+        tab: u16,
+        partition: u16,
+        number: u32,
+        operation: &Operation,
+    ) -> Result<Outs, AllocError>
+        requires joined { seat_of self.old tab ≡ Some (Joined partition number) }
+        requires active { is_active self.old partition ≡ true }
+        requires more { number < 4294967295 }
+        ensures performed { IfOk result (λ outs. perform self.old tab partition number operation.now ≡ Does self.new outs) }
+        ensures err { OnErr result (self.new ≡ self.old) }
+    {
+        if let Operation::Query = operation {
+            return self.query(tab, partition, number);
+        }
+        let waiting = waiting_at(&self.partitions, partition);
+        // Its answer, and a grant for each request that then waits, its own among them.
+        let mut outs = room_for(self.alloc, 2, waiting)?;
+        let granted = command_at(
+            self.alloc,
+            &mut self.partitions,
+            partition,
+            tab,
+            number,
+            operation,
+        )?;
+        let next = number + 1;
+        set_seat(&mut self.seats, tab, Seat::Joined { partition, next });
+        let outcome = outcome_at(&self.partitions, partition, tab, number, operation);
+        outs.push_reserved(answer(self.generation, next, tab, number, outcome));
+        push_grants(&mut outs, self.generation, &self.seats, &granted);
+        Ok(Sequence::new(outs))
+    }
+
+    /// The next command of a tab is a query, which changes nothing but the tab's next number.
+    fn query(&mut self, tab: u16, partition: u16, number: u32) -> Result<Outs, AllocError>
+        requires joined { seat_of self.old tab ≡ Some (Joined partition number) }
+        requires active { is_active self.old partition ≡ true }
+        requires more { number < 4294967295 }
+        ensures performed { IfOk result (λ outs. perform self.old tab partition number Query ≡ Does self.new outs) }
+        ensures err { OnErr result (self.new ≡ self.old) }
+    {
+        let (held, waiting) = snapshot_at(&self.partitions, partition)?;
+        let next = number + 1;
+        let outs = snapshot(
+            self.alloc,
+            self.generation,
+            next,
+            tab,
+            number,
+            held,
+            waiting,
+        )?;
+        set_seat(&mut self.seats, tab, Seat::Joined { partition, next });
+        Ok(Sequence::new(outs))
+    }
+}

@@ -1,0 +1,186 @@
+//! What a report, a death and a command do to the partitions.
+
+ghost use Rattle.std.specs.Prelude.{◌≡◌, IfOk, OnOk, OnErr, IsTrue, true, [], length, MatchOption, ◌&&◌, nat_le};
+ghost use Rattle.wl_draft.specs.declared.row.Standing.TheVariants.{Absent};
+ghost use Rattle.wl_draft.specs.Tables.{at, put};
+ghost use Rattle.wl_draft.specs.Locks.{settle, newly, settle_if, newly_if, standing, live, grants, without, ended, restored};
+ghost use Rattle.wl_broker.specs.Broker.{drafted, is_lock, lock_limit};
+ghost use Rattle.wl_broker.specs.Kept.{no_partition, state_of, outcome_at};
+
+use crate::answers::outcome;
+use crate::judging::is_lock;
+use crate::partition::Partition;
+use std::alloc::{AllocError, Global};
+use std::collections::BTreeMap;
+use wl_draft::{Entry, Grant, Row};
+use wl_frames::{Operation, Outcome};
+use wl_table::LockTable;
+
+/// How many locks a tab may have.
+const LOCK_LIMIT: usize = 64;
+
+/// The partition, if one has come to it.
+fn row_at<T: LockTable>(
+    partitions: &BTreeMap<u16, Partition<T>>,
+    partition: u16,
+) -> Option<&Partition<T>>
+    ensures { let row = at no_partition partitions.now.entries partition in
+        MatchOption result (row ≡ no_partition) (λ r. row ≡ r.now) }
+{
+    partitions.get(&partition)
+}
+
+pub fn is_active_at<T: LockTable>(partitions: &BTreeMap<u16, Partition<T>>, partition: u16) -> bool
+    ensures { result ≡ (at no_partition partitions.now.entries partition).is_active }
+{
+    match row_at(partitions, partition) {
+        Some(row) => row.is_active(),
+        None => false,
+    }
+}
+
+/// How many requests wait in the partition.
+pub fn waiting_at<T: LockTable>(partitions: &BTreeMap<u16, Partition<T>>, partition: u16) -> usize
+    ensures { result ≡ length (at no_partition partitions.now.entries partition).locks.waiting }
+{
+    match row_at(partitions, partition) {
+        Some(row) => row.waiting(),
+        None => 0,
+    }
+}
+
+/// How many locks the tab holds or waits for.
+fn live_at<T: LockTable>(
+    partitions: &BTreeMap<u16, Partition<T>>,
+    partition: u16,
+    tab: u16,
+) -> usize
+    ensures { result ≡ live (at no_partition partitions.now.entries partition).locks tab }
+{
+    match row_at(partitions, partition) {
+        Some(row) => row.live(tab),
+        None => 0,
+    }
+}
+
+/// Whether the operation asks for a lock beyond those that a tab may have.
+pub fn is_too_many<T: LockTable>(
+    partitions: &BTreeMap<u16, Partition<T>>,
+    partition: u16,
+    tab: u16,
+    operation: &Operation,
+) -> bool
+    ensures { result ≡ (is_lock operation.now && nat_le lock_limit (live (at no_partition partitions.now.entries partition).locks tab)) }
+{
+    is_lock(operation) && live_at(partitions, partition, tab) >= LOCK_LIMIT
+}
+
+/// What is answered to a command that was taken, but to the first of a query.
+pub fn outcome_at<T: LockTable>(
+    partitions: &BTreeMap<u16, Partition<T>>,
+    partition: u16,
+    tab: u16,
+    number: u32,
+    operation: &Operation,
+) -> Outcome
+    ensures { result ≡ outcome_at (at no_partition partitions.now.entries partition).locks tab number operation.now }
+{
+    match operation {
+        Operation::Request { .. } => match row_at(partitions, partition) {
+            Some(row) => outcome(row.state(tab, number)),
+            None => Outcome::Gone,
+        },
+        Operation::Release { .. } | Operation::Abort { .. } => Outcome::Taken,
+        Operation::Query => Outcome::Gone,
+    }
+}
+
+/// Copies of the held locks and of the waiting requests of a partition that is active.
+pub fn snapshot_at<T: LockTable>(
+    partitions: &BTreeMap<u16, Partition<T>>,
+    partition: u16,
+) -> Result<(Vec<Row>, Vec<Row>), AllocError>
+    requires { IsTrue (at no_partition partitions.now.entries partition).is_active }
+    ensures rows { let m = (at no_partition partitions.now.entries partition).locks in
+        IfOk result (λ s. (s.0.items ≡ m.held) × (s.1.items ≡ m.waiting)) }
+    ensures settled { newly (at no_partition partitions.now.entries partition).locks ≡ [] }
+{
+    match row_at(partitions, partition) {
+        Some(row) => row.snapshot(),
+        None => unreachable!(),
+    }
+}
+
+/// Appends what a tab reports to its partition, which is new where none had come to it.
+pub fn restore_at<T: LockTable>(
+    alloc: Global,
+    partitions: &mut BTreeMap<u16, Partition<T>>,
+    partition: u16,
+    tab: u16,
+    entries: &[Entry],
+    is_active: bool,
+) -> Result<Vec<Grant>, AllocError>
+    ensures grants { let m = restored tab entries.now (at no_partition partitions.old.entries partition).locks in
+        IfOk result (λ g. g.items ≡ grants (newly_if is_active m)) }
+    ensures ok { let m = restored tab entries.now (at no_partition partitions.old.entries partition).locks in
+        OnOk result (partitions.new.entries ≡ put partition (state_of (settle_if is_active m) is_active) partitions.old.entries) }
+    ensures err { OnErr result (partitions.new.entries ≡ partitions.old.entries) }
+{
+    match partitions.get_mut(&partition) {
+        Some(row) => row.restore(tab, entries, is_active),
+        None => {
+            let mut row = Partition::new(alloc);
+            let granted = row.restore(tab, entries, is_active)?;
+            partitions.insert(partition, row)?;
+            Ok(granted)
+        }
+    }
+}
+
+/// Takes out all that a tab has in its partition, which is new where none had come to it.
+pub fn end_at<T: LockTable>(
+    alloc: Global,
+    partitions: &mut BTreeMap<u16, Partition<T>>,
+    partition: u16,
+    tab: u16,
+    is_active: bool,
+) -> Result<Vec<Grant>, AllocError>
+    ensures grants { let m = ended tab (at no_partition partitions.old.entries partition).locks in
+        IfOk result (λ g. g.items ≡ grants (newly_if is_active m)) }
+    ensures ok { let m = ended tab (at no_partition partitions.old.entries partition).locks in
+        OnOk result (partitions.new.entries ≡ put partition (state_of (settle_if is_active m) is_active) partitions.old.entries) }
+    ensures err { OnErr result (partitions.new.entries ≡ partitions.old.entries) }
+{
+    match partitions.get_mut(&partition) {
+        Some(row) => row.end_tab(tab, is_active),
+        None => {
+            let mut row = Partition::new(alloc);
+            let granted = row.end_tab(tab, is_active)?;
+            partitions.insert(partition, row)?;
+            Ok(granted)
+        }
+    }
+}
+
+/// Does a tab's command, whose number is new, in its partition, which is active, and says what it granted beside it.
+pub fn command_at<T: LockTable>(
+    alloc: Global,
+    partitions: &mut BTreeMap<u16, Partition<T>>,
+    partition: u16,
+    tab: u16,
+    number: u32,
+    operation: &Operation,
+) -> Result<Vec<Grant>, AllocError>
+    requires active { IsTrue (at no_partition partitions.old.entries partition).is_active }
+    requires new { standing (at no_partition partitions.old.entries partition).locks tab number ≡ Absent }
+    ensures grants { let m = drafted tab number operation.now (at no_partition partitions.old.entries partition).locks in
+        IfOk result (λ g. g.items ≡ grants (without tab number (newly m))) }
+    ensures ok { let m = drafted tab number operation.now (at no_partition partitions.old.entries partition).locks in
+        OnOk result (partitions.new.entries ≡ put partition (state_of (settle m) true) partitions.old.entries) }
+    ensures err { OnErr result (partitions.new.entries ≡ partitions.old.entries) }
+{
+    match partitions.get_mut(&partition) {
+        Some(row) => row.command(alloc, tab, number, operation),
+        None => unreachable!(),
+    }
+}

@@ -1,0 +1,96 @@
+//! What decides whether a message is taken.
+
+ghost use Rattle.std.specs.Prelude.{◌≡◌, ◌&&◌, ◌||◌, ◌==◌, not, nat_lt};
+ghost use Rattle.wl_draft.specs.Tables.{find};
+ghost use Rattle.wl_broker.specs.Broker.{generation_of, listed_at, elsewhere, seated_at, is_listed, has_held, all_below, is_lock, last_number};
+ghost use Rattle.wl_broker.specs.Kept.{all_come};
+
+use crate::seat::Seat;
+use crate::seats::{has_come, seated_at};
+use std::collections::BTreeMap;
+use wl_draft::Entry;
+use wl_frames::{Operation, Upward};
+
+pub fn generation_of(inner: &Upward) -> u32
+    ensures { result ≡ generation_of inner.now }
+{
+    match inner {
+        Upward::Command(command) => command.generation,
+        Upward::Report(report) => report.generation,
+    }
+}
+
+/// The partition under which a tab is listed.
+pub fn listed_at(listed: &[(u16, u16)], tab: u16) -> Option<u16>
+    ensures { result ≡ listed_at tab listed.now }
+{
+    for (listed_tab, partition) in listed {
+        if *listed_tab == tab {
+            return Some(*partition);
+        }
+    }
+    None
+}
+
+fn elsewhere(place: Option<u16>, partition: u16) -> bool
+    ensures { result ≡ elsewhere place partition }
+{
+    match place {
+        Some(other) => other != partition,
+        None => false,
+    }
+}
+
+/// Whether a tab is listed or has joined under another partition.
+pub fn is_misplaced(
+    listed: &[(u16, u16)],
+    seats: &BTreeMap<u16, Seat>,
+    tab: u16,
+    partition: u16,
+) -> bool
+    ensures { result ≡ (elsewhere (listed_at tab listed.now) partition || elsewhere (seated_at (find seats.now.entries tab)) partition) }
+{
+    elsewhere(listed_at(listed, tab), partition) || elsewhere(seated_at(seats, tab), partition)
+}
+
+/// Whether each listed tab of the partition has come.
+pub fn all_come(listed: &[(u16, u16)], seats: &BTreeMap<u16, Seat>, partition: u16) -> bool
+    ensures { result ≡ all_come listed.now seats.now.entries partition }
+{
+    listed
+        .iter()
+        .all(|x| x.1 != partition || has_come(seats, x.0))
+}
+
+fn has_held(entries: &[Entry]) -> bool
+    ensures { result ≡ has_held entries.now }
+{
+    entries.iter().any(|entry| entry.held)
+}
+
+/// Whether the tab is not listed, and reports a held lock.
+pub fn is_held_by_newcomer(listed: &[(u16, u16)], tab: u16, entries: &[Entry]) -> bool
+    ensures { result ≡ (not (is_listed (listed_at tab listed.now)) && has_held entries.now) }
+{
+    listed_at(listed, tab).is_none() && has_held(entries)
+}
+
+pub fn all_below(base: u32, entries: &[Entry]) -> bool
+    ensures { result ≡ all_below base entries.now }
+{
+    entries.iter().all(|entry| entry.number < base)
+}
+
+/// Whether the operation asks for a lock.
+pub fn is_lock(operation: &Operation) -> bool
+    ensures { result ≡ is_lock operation.now }
+{
+    matches!(operation, Operation::Request { .. })
+}
+
+/// Whether the number is above the next one, or the last, under which no command is taken.
+pub fn is_out_of_turn(next: u32, number: u32) -> bool
+    ensures { result ≡ (nat_lt next number || number == last_number) }
+{
+    next < number || number == u32::MAX
+}

@@ -1,0 +1,157 @@
+//! One partition: its locks, and whether they are granted.
+
+ghost use Rattle.std.specs.Prelude.{◌≡◌, length, IfOk, OnOk, OnErr, IsTrue, not, []};
+ghost use Rattle.std.specs.List.{filter};
+ghost use Rattle.wl_draft.specs.declared.row.Standing.TheVariants.{Absent};
+ghost use Rattle.wl_draft.specs.Locks.{settle, newly, settle_if, newly_if, standing, live, grants, without, ended, restored};
+ghost use Rattle.wl_broker.specs.Broker.{drafted};
+ghost use Rattle.wl_broker.specs.Kept.{no_partition, is_grant_of};
+
+use std::alloc::{AllocError, Global};
+use std::marker::Model;
+use wl_draft::{Entry, Grant, Row, Standing};
+use wl_frames::Operation;
+use wl_table::LockTable;
+
+/// The locks of one partition. While it is active they are settled.
+#[derive(Drop)]
+pub struct Partition<T: LockTable> {
+    table: T,
+    /// Whether each listed tab of the partition has come.
+    is_active: bool,
+}
+
+impl<T: LockTable> Model for Partition<T> {
+    ghost use Rattle.std.specs.Prelude.{◌≡◌, [], IsTrue};
+    ghost use Rattle.wl_draft.specs.Locks.{newly};
+    ghost use Rattle.wl_broker.specs.Kept.{PartitionState};
+
+    ghost Value = { PartitionState };
+
+    ghost view = { λ p. record { locks = T.content p.table; is_active = p.is_active } };
+
+    ghost invariant = { λ p. IsTrue p.is_active → newly (T.content p.table) ≡ [] };
+}
+
+impl<T: LockTable> Partition<T> {
+    /// A partition with no lock.
+    pub fn new(alloc: Global) -> Partition<T>
+        ensures { result ≡ no_partition }
+    {
+        Partition {
+            table: T::new(alloc),
+            is_active: false,
+        }
+    }
+
+    pub fn is_active(&self) -> bool
+        ensures { result ≡ self.now.is_active }
+    {
+        self.is_active
+    }
+
+    pub fn waiting(&self) -> usize
+        ensures { result ≡ length self.now.locks.waiting }
+    {
+        self.table.waiting()
+    }
+
+    pub fn live(&self, tab: u16) -> usize
+        ensures { result ≡ live self.now.locks tab }
+    {
+        self.table.live(tab)
+    }
+
+    pub fn state(&self, tab: u16, number: u32) -> Standing
+        ensures { result ≡ standing self.now.locks tab number }
+    {
+        self.table.state(tab, number)
+    }
+
+    /// Copies of the held locks and of the waiting requests.
+    pub fn snapshot(&self) -> Result<(Vec<Row>, Vec<Row>), AllocError>
+        ensures rows { IfOk result (λ s. (s.0.items ≡ self.now.locks.held) × (s.1.items ≡ self.now.locks.waiting)) }
+        ensures settled { IsTrue self.now.is_active → newly self.now.locks ≡ [] }
+    {
+        self.table.snapshot()
+    }
+
+    /// Appends what a tab reports. From now on the partition is active or not, as is said.
+    pub fn restore(
+        &mut self,
+        tab: u16,
+        entries: &[Entry],
+        is_active: bool,
+    ) -> Result<Vec<Grant>, AllocError>
+        ensures grants { IfOk result (λ g. g.items ≡ grants (newly_if is_active (restored tab entries.now self.old.locks))) }
+        ensures ok { OnOk result (self.new ≡ record { locks = settle_if is_active (restored tab entries.now self.old.locks); is_active = is_active }) }
+        ensures err { OnErr result (self.new ≡ self.old) }
+    {
+        let granted = self.table.restore(tab, entries, is_active)?;
+        self.is_active = is_active;
+        Ok(granted)
+    }
+
+    /// Takes out all that a tab has. From now on the partition is active or not, as is said.
+    pub fn end_tab(&mut self, tab: u16, is_active: bool) -> Result<Vec<Grant>, AllocError>
+        ensures grants { IfOk result (λ g. g.items ≡ grants (newly_if is_active (ended tab self.old.locks))) }
+        ensures ok { OnOk result (self.new ≡ record { locks = settle_if is_active (ended tab self.old.locks); is_active = is_active }) }
+        ensures err { OnErr result (self.new ≡ self.old) }
+    {
+        let granted = self.table.end_client(tab, is_active)?;
+        self.is_active = is_active;
+        Ok(granted)
+    }
+
+    /// Does a tab's command, whose number is new, and says what it granted beside it.
+    pub fn command(
+        &mut self,
+        alloc: Global,
+        tab: u16,
+        number: u32,
+        operation: &Operation,
+    ) -> Result<Vec<Grant>, AllocError>
+        requires active { IsTrue self.old.is_active }
+        requires new { standing self.old.locks tab number ≡ Absent }
+        ensures grants { IfOk result (λ g. g.items ≡ grants (without tab number (newly (drafted tab number operation.now self.old.locks)))) }
+        ensures ok { OnOk result (self.new ≡ record self.old { locks = settle (drafted tab number operation.now self.old.locks) }) }
+        ensures err { OnErr result (self.new ≡ self.old) }
+    {
+        let mut granted = self.change(alloc, tab, number, operation)?;
+        granted.retain(|grant| grant.client != tab || grant.number != number);
+        Ok(granted)
+    }
+
+    /// Does a tab's command, whose number is new, and says what it granted.
+    fn change(
+        &mut self,
+        alloc: Global,
+        tab: u16,
+        number: u32,
+        operation: &Operation,
+    ) -> Result<Vec<Grant>, AllocError>
+        requires active { IsTrue self.old.is_active }
+        requires new { standing self.old.locks tab number ≡ Absent }
+        ensures grants { IfOk result (λ g. filter (λ x. not (is_grant_of tab number x)) g.items
+            ≡ grants (without tab number (newly (drafted tab number operation.now self.old.locks)))) }
+        ensures ok { OnOk result (self.new ≡ record self.old { locks = settle (drafted tab number operation.now self.old.locks) }) }
+        ensures err { OnErr result (self.new ≡ self.old) }
+    {
+        match operation {
+            Operation::Request {
+                mode,
+                if_available,
+                name,
+            } => {
+                if *if_available {
+                    self.table.probe(tab, number, name, *mode)
+                } else {
+                    self.table.request(tab, number, name, *mode)
+                }
+            }
+            Operation::Release { number: lock } => self.table.release(tab, *lock),
+            Operation::Abort { number: request } => self.table.abort(tab, *request),
+            Operation::Query => Ok(Vec::new(alloc)),
+        }
+    }
+}

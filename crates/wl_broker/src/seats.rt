@@ -1,0 +1,89 @@
+//! The tabs that have come.
+
+ghost use Rattle.std.specs.Prelude.{◌≡◌, IsSome, MatchOption};
+ghost use Rattle.std.specs.Map.{remove_entry};
+ghost use Rattle.std.specs.BTreeMap.{is_at};
+ghost use Rattle.std.specs.Ordering.{nat_cmp};
+ghost use Rattle.wl_draft.specs.Tables.{find, put};
+ghost use Rattle.wl_broker.specs.Broker.{is_joined, is_dead, has_come, next_in, seated_at};
+
+use crate::seat::Seat;
+use std::collections::BTreeMap;
+
+/// What is known of a tab, if it has come.
+pub fn seat_of(seats: &BTreeMap<u16, Seat>, tab: u16) -> Option<Seat>
+    ensures { result ≡ find seats.now.entries tab }
+{
+    seats.get(&tab).copied()
+}
+
+/// The number of a tab's next command.
+pub fn next_of(seats: &BTreeMap<u16, Seat>, tab: u16) -> u32
+    ensures { result ≡ next_in (find seats.now.entries tab) }
+{
+    match seat_of(seats, tab) {
+        Some(Seat::Joined { next, .. }) => next,
+        Some(Seat::Dead) | None => 0,
+    }
+}
+
+/// The partition in which a tab has joined.
+pub fn seated_at(seats: &BTreeMap<u16, Seat>, tab: u16) -> Option<u16>
+    ensures { result ≡ seated_at (find seats.now.entries tab) }
+{
+    match seat_of(seats, tab) {
+        Some(Seat::Joined { partition, .. }) => Some(partition),
+        Some(Seat::Dead) | None => None,
+    }
+}
+
+pub fn is_joined(seats: &BTreeMap<u16, Seat>, tab: u16) -> bool
+    ensures { result ≡ is_joined (find seats.now.entries tab) }
+{
+    match seat_of(seats, tab) {
+        Some(Seat::Joined { .. }) => true,
+        Some(Seat::Dead) | None => false,
+    }
+}
+
+pub fn is_dead(seats: &BTreeMap<u16, Seat>, tab: u16) -> bool
+    ensures { result ≡ is_dead (find seats.now.entries tab) }
+{
+    match seat_of(seats, tab) {
+        Some(Seat::Dead) => true,
+        Some(Seat::Joined { .. }) | None => false,
+    }
+}
+
+/// Whether a tab has joined or was named dead.
+pub fn has_come(seats: &BTreeMap<u16, Seat>, tab: u16) -> bool
+    ensures { result ≡ has_come (find seats.now.entries tab) }
+{
+    match seat_of(seats, tab) {
+        Some(Seat::Joined { .. } | Seat::Dead) => true,
+        None => false,
+    }
+}
+
+/// Sets the seat of a tab that has one, which takes no memory.
+pub fn set_seat(seats: &mut BTreeMap<u16, Seat>, tab: u16, seat: Seat)
+    requires { IsSome (find seats.old.entries tab) }
+    ensures { seats.new.entries ≡ put tab seat seats.old.entries }
+{
+    let _ = seats.insert(tab, seat);
+}
+
+/// Gives a tab that has a seat the one that it had before, or none.
+pub fn put_back(seats: &mut BTreeMap<u16, Seat>, tab: u16, before: Option<Seat>)
+    requires { IsSome (find seats.old.entries tab) }
+    ensures { MatchOption before
+        (seats.new.entries ≡ remove_entry (is_at (nat_cmp tab)) seats.old.entries)
+        (λ seat. seats.new.entries ≡ put tab seat seats.old.entries) }
+{
+    match before {
+        Some(seat) => set_seat(seats, tab, seat),
+        None => {
+            seats.remove(&tab);
+        }
+    }
+}

@@ -1,0 +1,12 @@
+pub mod Forms
+pub mod Fields
+pub mod Loop
+pub mod Bodies
+pub mod Frames
+pub mod Decode
+pub mod BodyLength
+pub mod Apart
+pub mod OneFrame
+pub mod Framing
+pub mod OneFault
+pub mod OneReading

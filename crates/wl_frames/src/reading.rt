@@ -1,0 +1,33 @@
+//! Reading the body of a frame.
+
+ghost use Rattle.std.specs.Prelude.{◌≤◌, length, IfOk, IfErr};
+ghost use Rattle.wl_frames.specs.Grammar.{IsBody};
+ghost use Rattle.wl_frames.specs.Stream.{IsFaultOf};
+
+mod bodies;
+mod fault;
+mod fields;
+mod kind;
+
+use crate::fault::FrameFault;
+use crate::frame::Frame;
+use std::alloc::Global;
+
+/// The frame whose body the bytes are, or the first fault of the body. There are at least two bytes.
+pub fn decode(alloc: Global, body: &[u8]) -> Result<Frame, FrameFault>
+    requires { 2 ≤ length body.now }
+    ensures frame { IfOk result (λ f. IsBody body.now f) }
+    ensures fault { IfErr result (IsFaultOf body.now) }
+{
+    if body[0] != bodies::VERSION {
+        return Err(FrameFault::BadVersion);
+    }
+    let Some(kind) = kind::kind_of(body[1]) else {
+        return Err(FrameFault::BadKind);
+    };
+    let (frame, rest) = bodies::frame_of(alloc, kind, &body[2..])?;
+    if !rest.is_empty() {
+        return Err(FrameFault::LeftOver);
+    }
+    Ok(frame)
+}

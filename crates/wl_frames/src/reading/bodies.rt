@@ -1,0 +1,505 @@
+//! Reading the fields of each kind of frame: each answers what was read and the bytes after it.
+
+ghost use Rattle.std.specs.Prelude.{◌≡◌};
+ghost use Rattle.wl_frames.specs.Bodies.{request_at, operation_at, command_at, entry_at, numbers_rise, rising_entries_at, report_at, post_at, hello_at, outcome_at, answer_at, snapshot_entry_at, part_at, snapshot_at, heard_at, welcome_at, inner_kind_at, upward_fields_at, upward_at, downward_fields_at, downward_at, stamped_at, place_at, tabs_rise, rising_places_at, start_at, addressed_at, dead_at, frame_at};
+ghost use Rattle.wl_frames.specs.Reading.{Gives};
+
+use super::fault::ReadFault;
+use super::fields::{
+    Item, byte_of, channel_of, data_of, flag_of, generation_of, held_of, list_of, lock_name_of,
+    mode_of, origin_of, tab_of, u16_of, u32_of,
+};
+use super::kind::{Kind, kind_of};
+use crate::frame::{
+    Addressed, Answer, Command, Dead, Downward, Frame, Heard, Hello, Operation, Outcome, Post,
+    Report, Snapshot, SnapshotEntry, Stamped, Start, Upward, Welcome,
+};
+use crate::sequence::Sequence;
+use std::alloc::Global;
+use wl_draft::{Entry, Mode, Name};
+
+/// The version of the protocol.
+pub const VERSION: u8 = 1;
+
+const MOST_ENTRIES: u16 = 64;
+
+const MOST_PLACES: u16 = 1_024;
+
+#[tactic(auto, unfolding(crate::specs::Bodies::request_at))]
+fn request_of(alloc: Global, bytes: &[u8]) -> Result<((Mode, bool, Name), &[u8]), ReadFault>
+    ensures { Gives (λ x. (x.0, x.1.now)) result (request_at bytes.now) }
+{
+    let (mode, rest) = mode_of(bytes)?;
+    let (if_available, rest) = flag_of(rest)?;
+    let (name, rest) = lock_name_of(alloc, rest)?;
+    Ok(((mode, if_available, name), rest))
+}
+
+#[tactic(auto, unfolding(crate::specs::Bodies::operation_at))]
+fn operation_of(alloc: Global, bytes: &[u8]) -> Result<(Operation, &[u8]), ReadFault>
+    ensures { Gives (λ x. (x.0, x.1.now)) result (operation_at bytes.now) }
+{
+    let (code, rest) = byte_of(bytes)?;
+    match code {
+        1 => {
+            let ((mode, if_available, name), rest) = request_of(alloc, rest)?;
+            Ok((
+                Operation::Request {
+                    mode,
+                    if_available,
+                    name,
+                },
+                rest,
+            ))
+        }
+        2 => {
+            let (number, rest) = u32_of(rest)?;
+            Ok((Operation::Release { number }, rest))
+        }
+        3 => {
+            let (number, rest) = u32_of(rest)?;
+            Ok((Operation::Abort { number }, rest))
+        }
+        4 => Ok((Operation::Query, rest)),
+        _ => Err(ReadFault::Field),
+    }
+}
+
+#[tactic(auto, unfolding(crate::specs::Bodies::command_at))]
+fn command_of(alloc: Global, bytes: &[u8]) -> Result<(Command, &[u8]), ReadFault>
+    ensures { Gives (λ x. (x.0, x.1.now)) result (command_at bytes.now) }
+{
+    let (generation, rest) = generation_of(bytes)?;
+    let (number, rest) = u32_of(rest)?;
+    let (operation, rest) = operation_of(alloc, rest)?;
+    Ok((
+        Command {
+            generation,
+            number,
+            operation,
+        },
+        rest,
+    ))
+}
+
+impl Item for Entry {
+    ghost item_at = { entry_at };
+
+    #[tactic(auto, unfolding(crate::specs::Bodies::entry_at))]
+    fn read(alloc: Global, bytes: &[u8]) -> Result<(Entry, &[u8]), ReadFault> {
+        let (number, rest) = u32_of(bytes)?;
+        let (held, rest) = held_of(rest)?;
+        let (mode, rest) = mode_of(rest)?;
+        let (name, rest) = lock_name_of(alloc, rest)?;
+        Ok((
+            Entry {
+                number,
+                held,
+                mode,
+                name,
+            },
+            rest,
+        ))
+    }
+}
+
+/// Whether the numbers strictly rise.
+fn numbers_rise(entries: &[Entry]) -> bool
+    ensures { result ≡ numbers_rise 0 entries.now }
+{
+    let mut least: u64 = 0;
+    for entry in entries {
+        let number = u64::from(entry.number);
+        if number < least {
+            return false;
+        }
+        least = number + 1;
+    }
+    true
+}
+
+#[tactic(auto, unfolding(crate::specs::Bodies::rising_entries_at))]
+fn entries_of(alloc: Global, bytes: &[u8]) -> Result<(Sequence<Entry>, &[u8]), ReadFault>
+    ensures { Gives (λ x. (x.0, x.1.now)) result (rising_entries_at bytes.now) }
+{
+    let (entries, rest) = list_of(alloc, MOST_ENTRIES, bytes)?;
+    if !numbers_rise(entries.as_slice()) {
+        return Err(ReadFault::Field);
+    }
+    Ok((entries, rest))
+}
+
+#[tactic(auto, unfolding(crate::specs::Bodies::report_at))]
+fn report_of(alloc: Global, bytes: &[u8]) -> Result<(Report, &[u8]), ReadFault>
+    ensures { Gives (λ x. (x.0, x.1.now)) result (report_at bytes.now) }
+{
+    let (generation, rest) = generation_of(bytes)?;
+    let (base, rest) = u32_of(rest)?;
+    let (entries, rest) = entries_of(alloc, rest)?;
+    Ok((
+        Report {
+            generation,
+            base,
+            entries,
+        },
+        rest,
+    ))
+}
+
+#[tactic(auto, unfolding(crate::specs::Bodies::post_at))]
+fn post_of(alloc: Global, bytes: &[u8]) -> Result<(Post, &[u8]), ReadFault>
+    ensures { Gives (λ x. (x.0, x.1.now)) result (post_at bytes.now) }
+{
+    let (number, rest) = u32_of(bytes)?;
+    let (channel, rest) = channel_of(alloc, rest)?;
+    let (data, rest) = data_of(alloc, rest)?;
+    Ok((
+        Post {
+            number,
+            channel,
+            data,
+        },
+        rest,
+    ))
+}
+
+#[tactic(auto, unfolding(crate::specs::Bodies::hello_at))]
+fn hello_of(bytes: &[u8]) -> Result<(Hello, &[u8]), ReadFault>
+    ensures { Gives (λ x. (x.0, x.1.now)) result (hello_at bytes.now) }
+{
+    let (generation, rest) = generation_of(bytes)?;
+    Ok((Hello { generation }, rest))
+}
+
+#[tactic(auto, unfolding(crate::specs::Bodies::outcome_at))]
+fn outcome_of(bytes: &[u8]) -> Result<(Outcome, &[u8]), ReadFault>
+    ensures { Gives (λ x. (x.0, x.1.now)) result (outcome_at bytes.now) }
+{
+    let (code, rest) = byte_of(bytes)?;
+    match code {
+        1 => Ok((Outcome::Waiting, rest)),
+        2 => Ok((Outcome::Granted, rest)),
+        3 => Ok((Outcome::Gone, rest)),
+        4 => Ok((Outcome::Taken, rest)),
+        _ => Err(ReadFault::Field),
+    }
+}
+
+#[tactic(auto, unfolding(crate::specs::Bodies::answer_at))]
+fn answer_of(bytes: &[u8]) -> Result<(Answer, &[u8]), ReadFault>
+    ensures { Gives (λ x. (x.0, x.1.now)) result (answer_at bytes.now) }
+{
+    let (generation, rest) = generation_of(bytes)?;
+    let (upto, rest) = u32_of(rest)?;
+    let (number, rest) = u32_of(rest)?;
+    let (outcome, rest) = outcome_of(rest)?;
+    Ok((
+        Answer {
+            generation,
+            upto,
+            number,
+            outcome,
+        },
+        rest,
+    ))
+}
+
+impl Item for SnapshotEntry {
+    ghost item_at = { snapshot_entry_at };
+
+    #[tactic(auto, unfolding(crate::specs::Bodies::snapshot_entry_at))]
+    fn read(alloc: Global, bytes: &[u8]) -> Result<(SnapshotEntry, &[u8]), ReadFault> {
+        let (held, rest) = held_of(bytes)?;
+        let (tab, rest) = tab_of(rest)?;
+        let (mode, rest) = mode_of(rest)?;
+        let (name, rest) = lock_name_of(alloc, rest)?;
+        Ok((
+            SnapshotEntry {
+                held,
+                tab,
+                mode,
+                name,
+            },
+            rest,
+        ))
+    }
+}
+
+/// A part, and how many there are.
+#[tactic(auto, unfolding(crate::specs::Bodies::part_at))]
+fn part_of(bytes: &[u8]) -> Result<((u16, u16), &[u8]), ReadFault>
+    ensures { Gives (λ x. (x.0, x.1.now)) result (part_at bytes.now) }
+{
+    let (part, rest) = u16_of(bytes)?;
+    let (parts, rest) = u16_of(rest)?;
+    if part >= parts {
+        return Err(ReadFault::Field);
+    }
+    Ok(((part, parts), rest))
+}
+
+#[tactic(auto, unfolding(crate::specs::Bodies::snapshot_at))]
+fn snapshot_of(alloc: Global, bytes: &[u8]) -> Result<(Snapshot, &[u8]), ReadFault>
+    ensures { Gives (λ x. (x.0, x.1.now)) result (snapshot_at bytes.now) }
+{
+    let (generation, rest) = generation_of(bytes)?;
+    let (number, rest) = u32_of(rest)?;
+    let ((part, parts), rest) = part_of(rest)?;
+    let (entries, rest) = list_of(alloc, MOST_ENTRIES, rest)?;
+    Ok((
+        Snapshot {
+            generation,
+            number,
+            part,
+            parts,
+            entries,
+        },
+        rest,
+    ))
+}
+
+#[tactic(auto, unfolding(crate::specs::Bodies::heard_at))]
+fn heard_of(alloc: Global, bytes: &[u8]) -> Result<(Heard, &[u8]), ReadFault>
+    ensures { Gives (λ x. (x.0, x.1.now)) result (heard_at bytes.now) }
+{
+    let (source, rest) = tab_of(bytes)?;
+    let (number, rest) = u32_of(rest)?;
+    let (channel, rest) = channel_of(alloc, rest)?;
+    let (data, rest) = data_of(alloc, rest)?;
+    Ok((
+        Heard {
+            source,
+            number,
+            channel,
+            data,
+        },
+        rest,
+    ))
+}
+
+#[tactic(auto, unfolding(crate::specs::Bodies::welcome_at))]
+fn welcome_of(alloc: Global, bytes: &[u8]) -> Result<(Welcome, &[u8]), ReadFault>
+    ensures { Gives (λ x. (x.0, x.1.now)) result (welcome_at bytes.now) }
+{
+    let (tab, rest) = tab_of(bytes)?;
+    let (origin, rest) = origin_of(alloc, rest)?;
+    Ok((Welcome { tab, origin }, rest))
+}
+
+/// The version and the kind of an inner body.
+#[tactic(auto, unfolding(crate::specs::Bodies::inner_kind_at))]
+fn inner_kind_of(bytes: &[u8]) -> Result<(Kind, &[u8]), ReadFault>
+    ensures { Gives (λ x. (x.0, x.1.now)) result (inner_kind_at bytes.now) }
+{
+    let (version, rest) = byte_of(bytes)?;
+    let (code, rest) = byte_of(rest)?;
+    if version != VERSION {
+        return Err(ReadFault::Field);
+    }
+    match kind_of(code) {
+        Some(kind) => Ok((kind, rest)),
+        None => Err(ReadFault::Field),
+    }
+}
+
+fn upward_fields_of(alloc: Global, kind: Kind, bytes: &[u8]) -> Result<(Upward, &[u8]), ReadFault>
+    ensures { Gives (λ x. (x.0, x.1.now)) result (upward_fields_at kind bytes.now) }
+{
+    match kind {
+        Kind::Command => {
+            let (command, rest) = command_of(alloc, bytes)?;
+            Ok((Upward::Command(command), rest))
+        }
+        Kind::Report => {
+            let (report, rest) = report_of(alloc, bytes)?;
+            Ok((Upward::Report(report), rest))
+        }
+        _ => Err(ReadFault::Field),
+    }
+}
+
+/// The inner body of a stamped frame, which goes to the end.
+#[tactic(auto, unfolding(crate::specs::Bodies::upward_at))]
+fn upward_of(alloc: Global, bytes: &[u8]) -> Result<(Upward, &[u8]), ReadFault>
+    ensures { Gives (λ x. (x.0, x.1.now)) result (upward_at bytes.now) }
+{
+    let (kind, rest) = inner_kind_of(bytes)?;
+    let (inner, rest) = upward_fields_of(alloc, kind, rest)?;
+    if !rest.is_empty() {
+        return Err(ReadFault::Field);
+    }
+    Ok((inner, rest))
+}
+
+#[tactic(auto, unfolding(crate::specs::Bodies::stamped_at))]
+fn stamped_of(alloc: Global, bytes: &[u8]) -> Result<(Stamped, &[u8]), ReadFault>
+    ensures { Gives (λ x. (x.0, x.1.now)) result (stamped_at bytes.now) }
+{
+    let (tab, rest) = tab_of(bytes)?;
+    let (partition, rest) = tab_of(rest)?;
+    let (inner, rest) = upward_of(alloc, rest)?;
+    Ok((
+        Stamped {
+            tab,
+            partition,
+            inner,
+        },
+        rest,
+    ))
+}
+
+impl Item for (u16, u16) {
+    ghost item_at = { place_at };
+
+    #[tactic(auto, unfolding(crate::specs::Bodies::place_at))]
+    fn read(_alloc: Global, bytes: &[u8]) -> Result<((u16, u16), &[u8]), ReadFault> {
+        let (tab, rest) = tab_of(bytes)?;
+        let (partition, rest) = tab_of(rest)?;
+        Ok(((tab, partition), rest))
+    }
+}
+
+/// Whether the tabs strictly rise.
+fn tabs_rise(places: &[(u16, u16)]) -> bool
+    ensures { result ≡ tabs_rise 1 places.now }
+{
+    let mut least: u32 = 1;
+    for (tab, _partition) in places {
+        let tab = u32::from(*tab);
+        if tab < least {
+            return false;
+        }
+        least = tab + 1;
+    }
+    true
+}
+
+#[tactic(auto, unfolding(crate::specs::Bodies::rising_places_at))]
+fn places_of(alloc: Global, bytes: &[u8]) -> Result<(Sequence<(u16, u16)>, &[u8]), ReadFault>
+    ensures { Gives (λ x. (x.0, x.1.now)) result (rising_places_at bytes.now) }
+{
+    let (places, rest) = list_of(alloc, MOST_PLACES, bytes)?;
+    if !tabs_rise(places.as_slice()) {
+        return Err(ReadFault::Field);
+    }
+    Ok((places, rest))
+}
+
+#[tactic(auto, unfolding(crate::specs::Bodies::start_at))]
+fn start_of(alloc: Global, bytes: &[u8]) -> Result<(Start, &[u8]), ReadFault>
+    ensures { Gives (λ x. (x.0, x.1.now)) result (start_at bytes.now) }
+{
+    let (generation, rest) = generation_of(bytes)?;
+    let (list, rest) = places_of(alloc, rest)?;
+    Ok((Start { generation, list }, rest))
+}
+
+fn downward_fields_of(
+    alloc: Global,
+    kind: Kind,
+    bytes: &[u8],
+) -> Result<(Downward, &[u8]), ReadFault>
+    ensures { Gives (λ x. (x.0, x.1.now)) result (downward_fields_at kind bytes.now) }
+{
+    match kind {
+        Kind::Hello => {
+            let (hello, rest) = hello_of(bytes)?;
+            Ok((Downward::Hello(hello), rest))
+        }
+        Kind::Answer => {
+            let (answer, rest) = answer_of(bytes)?;
+            Ok((Downward::Answer(answer), rest))
+        }
+        Kind::Snapshot => {
+            let (snapshot, rest) = snapshot_of(alloc, bytes)?;
+            Ok((Downward::Snapshot(snapshot), rest))
+        }
+        _ => Err(ReadFault::Field),
+    }
+}
+
+/// The inner body of an addressed frame, which goes to the end.
+#[tactic(auto, unfolding(crate::specs::Bodies::downward_at))]
+fn downward_of(alloc: Global, bytes: &[u8]) -> Result<(Downward, &[u8]), ReadFault>
+    ensures { Gives (λ x. (x.0, x.1.now)) result (downward_at bytes.now) }
+{
+    let (kind, rest) = inner_kind_of(bytes)?;
+    let (inner, rest) = downward_fields_of(alloc, kind, rest)?;
+    if !rest.is_empty() {
+        return Err(ReadFault::Field);
+    }
+    Ok((inner, rest))
+}
+
+#[tactic(auto, unfolding(crate::specs::Bodies::addressed_at))]
+fn addressed_of(alloc: Global, bytes: &[u8]) -> Result<(Addressed, &[u8]), ReadFault>
+    ensures { Gives (λ x. (x.0, x.1.now)) result (addressed_at bytes.now) }
+{
+    let (tab, rest) = tab_of(bytes)?;
+    let (inner, rest) = downward_of(alloc, rest)?;
+    Ok((Addressed { tab, inner }, rest))
+}
+
+#[tactic(auto, unfolding(crate::specs::Bodies::dead_at))]
+fn dead_of(bytes: &[u8]) -> Result<(Dead, &[u8]), ReadFault>
+    ensures { Gives (λ x. (x.0, x.1.now)) result (dead_at bytes.now) }
+{
+    let (tab, rest) = tab_of(bytes)?;
+    Ok((Dead { tab }, rest))
+}
+
+/// The frame of this kind with these fields.
+pub fn frame_of(alloc: Global, kind: Kind, bytes: &[u8]) -> Result<(Frame, &[u8]), ReadFault>
+    ensures { Gives (λ x. (x.0, x.1.now)) result (frame_at kind bytes.now) }
+{
+    match kind {
+        Kind::Command => {
+            let (command, rest) = command_of(alloc, bytes)?;
+            Ok((Frame::Command(command), rest))
+        }
+        Kind::Report => {
+            let (report, rest) = report_of(alloc, bytes)?;
+            Ok((Frame::Report(report), rest))
+        }
+        Kind::Post => {
+            let (post, rest) = post_of(alloc, bytes)?;
+            Ok((Frame::Post(post), rest))
+        }
+        Kind::Hello => {
+            let (hello, rest) = hello_of(bytes)?;
+            Ok((Frame::Hello(hello), rest))
+        }
+        Kind::Answer => {
+            let (answer, rest) = answer_of(bytes)?;
+            Ok((Frame::Answer(answer), rest))
+        }
+        Kind::Snapshot => {
+            let (snapshot, rest) = snapshot_of(alloc, bytes)?;
+            Ok((Frame::Snapshot(snapshot), rest))
+        }
+        Kind::Heard => {
+            let (heard, rest) = heard_of(alloc, bytes)?;
+            Ok((Frame::Heard(heard), rest))
+        }
+        Kind::Welcome => {
+            let (welcome, rest) = welcome_of(alloc, bytes)?;
+            Ok((Frame::Welcome(welcome), rest))
+        }
+        Kind::Stamped => {
+            let (stamped, rest) = stamped_of(alloc, bytes)?;
+            Ok((Frame::Stamped(stamped), rest))
+        }
+        Kind::Start => {
+            let (start, rest) = start_of(alloc, bytes)?;
+            Ok((Frame::Start(start), rest))
+        }
+        Kind::Addressed => {
+            let (addressed, rest) = addressed_of(alloc, bytes)?;
+            Ok((Frame::Addressed(addressed), rest))
+        }
+        Kind::Dead => {
+            let (dead, rest) = dead_of(bytes)?;
+            Ok((Frame::Dead(dead), rest))
+        }
+    }
+}

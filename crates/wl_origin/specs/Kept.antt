@@ -1,0 +1,14 @@
+-- What a partition keeps: its triple, and beside it the text.
+use Rattle.std.specs.Prelude.{◌≡◌, ◌≤◌, length, string_bytes}
+use Rattle.url.specs.Host.{owned_host}
+use Rattle.url.specs.Origin.{Triple}
+use Rattle.wl_origin.specs.Partition.{origin_limit, origin_text}
+use Rattle.wl_origin.specs.declared.triple.Partition.TheInside.{Inside}
+
+abbrev pub triple_of : Inside → Triple
+triple_of p = (string_bytes p.scheme, owned_host p.host, p.port)
+
+-- the text is that of the triple, and not too long
+pub record KeepsText (p : Inside) : Type 0 where
+  pub text : string_bytes p.text ≡ origin_text (triple_of p)
+  pub within : length (string_bytes p.text) ≤ origin_limit

@@ -1,0 +1,4 @@
+pub mod Fault
+pub mod Kept
+pub mod Order
+pub mod Partition

@@ -1,0 +1,134 @@
+ghost use Rattle.std.specs.Prelude.{◌≡◌, ◌⊎◌, ◌↔◌, ◌≤◌, length, IfOk, IfErr, IsTrue, Ok, Err};
+ghost use Rattle.std.specs.Ordering.{as_partial_cmp};
+ghost use Rattle.std.specs.Cmp.{partial_order_from_own_ties};
+ghost use Rattle.std.specs.Cmp.Rules.{comparing};
+ghost use Rattle.std.proofs.Common.{rules};
+ghost use Rattle.url.specs.Host.{owned_host};
+ghost use Rattle.url.specs.Origin.{origin_tuple};
+ghost use Rattle.wl_origin.specs.Partition.{origin_limit, origin_text, partition_of_origin};
+ghost use Rattle.wl_origin.specs.Order.{triple_eq, triple_cmp};
+
+use crate::fault::OriginFault;
+use std::alloc::{AllocError, Global};
+use std::cmp::Ordering;
+use std::marker::Model;
+use url::{Host, Origin};
+
+/// How many bytes the text of an origin may have.
+const ORIGIN_LIMIT: usize = 4096;
+
+/// Scheme, host and port: what URLs of one partition have in common. Its ASCII text is kept beside them.
+#[derive(Debug, Drop)]
+pub struct Partition {
+    scheme: String,
+    host: Host<String>,
+    port: u16,
+    text: String,
+}
+
+impl Model for Partition {
+    ghost use Rattle.url.specs.Origin.{Triple};
+
+    ghost Value = { Triple };
+
+    ghost use Rattle.wl_origin.specs.Kept.{triple_of, KeepsText};
+
+    ghost view = { triple_of };
+
+    ghost invariant = { KeepsText };
+}
+
+impl Partition {
+    pub(crate) fn of_origin(alloc: Global, origin: Origin) -> Result<Partition, OriginFault>
+        ensures ok { IfOk result (λ p. partition_of_origin (origin_tuple origin) ≡ Ok p) }
+        ensures refused { IfErr result
+            (λ e. (e ≡ OriginFault.Memory) ⊎ (partition_of_origin (origin_tuple origin) ≡ Err e)) }
+    {
+        let text = origin.ascii_serialization(alloc)?;
+        match origin {
+            Origin::Opaque => Err(OriginFault::Security),
+            Origin::Tuple(..) if text.as_str().len() > ORIGIN_LIMIT => Err(OriginFault::BadUrl),
+            Origin::Tuple(scheme, host, port) => Ok(Partition {
+                scheme,
+                host,
+                port,
+                text,
+            }),
+        }
+    }
+
+    /// The origin in ASCII, without a default port.
+    pub fn text(&self) -> &str
+        ensures value { result.now ≡ origin_text self.now }
+        ensures within { length result.now ≤ origin_limit }
+    {
+        self.text.as_str()
+    }
+
+    /// An equal partition, in memory of its own.
+    pub fn copy(&self, alloc: Global) -> Result<Partition, AllocError>
+        ensures { IfOk result (λ copy. copy ≡ self.now) }
+    {
+        Ok(Partition {
+            scheme: String::from_str(alloc, self.scheme.as_str())?,
+            host: copy_host(alloc, &self.host)?,
+            port: self.port,
+            text: String::from_str(alloc, self.text.as_str())?,
+        })
+    }
+}
+
+fn copy_host(alloc: Global, host: &Host<String>) -> Result<Host<String>, AllocError>
+    ensures { IfOk result (λ copy. owned_host copy ≡ owned_host host.now) }
+{
+    match host {
+        Host::Domain(domain) => Ok(Host::Domain(String::from_str(alloc, domain.as_str())?)),
+        Host::Ipv4(address) => Ok(Host::Ipv4(*address)),
+        Host::Ipv6(address) => Ok(Host::Ipv6(*address)),
+    }
+}
+
+impl PartialEq for Partition {
+    ghost eq = { triple_eq };
+
+    ghost laws = { Prim.search (comparing, rules) };
+
+    fn eq(&self, other: &Partition) -> bool
+        ensures value { result ≡ triple_eq self.now other.now }
+        ensures same { IsTrue result ↔ (self.now ≡ other.now) }
+    {
+        self.scheme == other.scheme && self.host == other.host && self.port == other.port
+    }
+}
+
+impl Eq for Partition {
+    ghost laws = { Prim.search (comparing, rules) };
+}
+
+impl PartialOrd for Partition {
+    ghost partial_cmp = { as_partial_cmp triple_cmp };
+
+    ghost laws = { partial_order_from_own_ties
+        (Prim.search (comparing, rules) depth 9) (Prim.search (comparing, rules)) };
+
+    fn partial_cmp(&self, other: &Partition) -> Option<Ordering> {
+        Some(self.cmp(other))
+    }
+}
+
+impl Ord for Partition {
+    ghost cmp = { triple_cmp };
+
+    ghost total = { Prim.search (comparing, rules) depth 9 };
+
+    ghost matches_partial_cmp = { Prim.search (comparing, rules) };
+
+    ghost matches_eq = { Prim.search (comparing, rules) };
+
+    fn cmp(&self, other: &Partition) -> Ordering {
+        self.scheme
+            .cmp(&other.scheme)
+            .then(self.host.cmp(&other.host))
+            .then(self.port.cmp(&other.port))
+    }
+}

@@ -1,0 +1,2 @@
+pub use Rattle.wl_draft.specs.Tables
+pub use Rattle.wl_draft.specs.Locks

@@ -1,0 +1,9 @@
+//! Lock tables: the lock manager of one partition behind a trait, whichever way it is kept.
+#![tactic(auto)]
+
+pub mod lock_table;
+pub mod plain_table;
+
+pub use lock_table::LockTable;
+pub use plain_table::PlainTable;
+pub use wl_draft::{Entry, Grant, Memory, Mode, Name, Row, Standing};

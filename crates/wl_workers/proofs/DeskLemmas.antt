@@ -1,0 +1,340 @@
+-- Lemmas on what a desk does with one frame, with one list of frames after another, and with one piece after another.
+use Rattle.std.proofs.Common.{◌≡◌, ◌≢◌, ◌↔◌, ℕ, ◌+◌, ◌<◌, length, get_or, drop, List, [], ◌∷◌, ◌++◌, Bool, true, false, Option, Some, None, Result, Ok, Err, IfOk, OnErr, MatchResult, refl, sym, ap, subst, ◌∙◌, append_assoc, append-nil, arith}
+use Rattle.std.specs.Option.{is_some}
+use Rattle.std.specs.List.{AllByRecursion}
+use Rattle.std.proofs.lemmas.List.{drop_more}
+use Rattle.std.proofs.lemmas.List.Concat.{flat_map-append}
+use Rattle.wl_frames.specs.declared.frame.Addressed.{Addressed}
+use Rattle.wl_frames.specs.declared.frame.Dead.{Dead}
+use Rattle.wl_frames.specs.declared.frame.Frame.{Frame}
+use Rattle.wl_frames.specs.declared.frame.Frame.TheVariants as frame
+use Rattle.wl_frames.specs.declared.frame.Stamped.{Stamped}
+use Rattle.wl_frames.specs.declared.frame.Start.{Start}
+use Rattle.wl_frames.specs.Grammar.{IsWellFormed, IsStart, IsStamped, IsDead, IsAddressed, spelling}
+use Rattle.wl_broker.specs.declared.dropped.Dropped.{Dropped}
+use Rattle.wl_broker.specs.declared.dropped.Dropped.TheVariants as dropped
+use Rattle.wl_broker.specs.Broker.{BrokerState, started, hellos, Taking, Does, Drops, taking, burial}
+use Rattle.wl_broker.specs.Speech.{IsSpellable}
+use Rattle.wl_workers.specs.declared.desk.DeskFault.{DeskFault}
+use Rattle.wl_workers.specs.declared.desk.DeskFault.TheVariants as desk
+use Rattle.wl_workers.specs.Device.{IsFrontOf}
+use Rattle.wl_workers.specs.Desk.{DeskState, Opening, Serving, Refused, taken, desk_step, desk_after, desk_outs, IsServing, IsRefused}
+use Rattle.wl_workers.specs.DeskSteps.{state_of, IsSpeaking, spelled, due, Steps, Delivers, Deals}
+use Rattle.wl_broker.proofs.Speech.{spells_start, spells_taking, spells_burial}
+use Rattle.wl_workers.proofs.DeviceLemmas.{IsFrontOf-append, append-IsFrontOf}
+
+-- ---- one frame
+
+-- a desk with no broker yet
+pub opening_of : (o : Option BrokerState) (d : DeskState) → state_of o ≡ d → o ≡ None → d ≡ Opening
+opening_of o d e none = sym e ∙ ap state_of none
+
+pub serving_of : (o : Option BrokerState) (b : BrokerState) (d : DeskState) → state_of o ≡ d → o ≡ Some b → d ≡ Serving b
+serving_of o b d e some = sym e ∙ ap state_of some
+
+pub broker_of_none : (o : Option BrokerState) → false ≡ is_some o → o ≡ None
+broker_of_none None e = refl
+broker_of_none (Some b) e = cc
+
+pub step_started : (s : Start) → desk_step Opening (frame.Start s) ≡ (Serving (started s.generation s.list), hellos s.generation s.list)
+unfolding desk_step
+step_started s = refl
+
+pub step_started_twice : (b : BrokerState) (s : Start) → desk_step (Serving b) (frame.Start s) ≡ (Refused, [])
+unfolding desk_step
+step_started_twice b s = refl
+
+pub twice_started : (o : Option BrokerState) (d : DeskState) (s : Start) → state_of o ≡ d → true ≡ is_some o → desk_step d (frame.Start s) ≡ (Refused, [])
+twice_started None d s e h = cc
+twice_started (Some b) d s e h = ap (λ x. desk_step x (frame.Start s)) (sym e) ∙ step_started_twice b s
+
+pub started_by : (d : DeskState) (s : Start) (list : List (ℕ × ℕ)) (b : BrokerState) (outs : List Addressed) → d ≡ Opening → list ≡ s.list
+    → b ≡ started s.generation list → outs ≡ hellos s.generation list → desk_step d (frame.Start s) ≡ (Serving b, outs)
+started_by d s list b outs opening e p q =
+    ap (λ x. desk_step x (frame.Start s)) opening ∙ step_started s
+    ∙ ap (λ l. let pair : DeskState × List Addressed = (Serving (started s.generation l), hellos s.generation l) in pair) (sym e)
+    ∙ sym (let both : (Serving b, outs) ≡ (Serving (started s.generation list), hellos s.generation list) = cc in both)
+
+pub step_taken : (b after : BrokerState) (s : Stamped) (outs : List Addressed) → taking b s ≡ Does after outs → desk_step (Serving b) (frame.Stamped s) ≡ (Serving after, outs)
+unfolding desk_step
+step_taken b after s outs e = ap (taken b) e
+
+pub step_dropped : (b : BrokerState) (s : Stamped) (reason : Dropped) → taking b s ≡ Drops reason → desk_step (Serving b) (frame.Stamped s) ≡ (Serving b, [])
+unfolding desk_step
+step_dropped b s reason e = ap (taken b) e
+
+pub step_stamped_early : (s : Stamped) → desk_step Opening (frame.Stamped s) ≡ (Refused, [])
+unfolding desk_step
+step_stamped_early s = refl
+
+pub step_dead : (b after : BrokerState) (d : Dead) (outs : List Addressed) → burial b d.tab ≡ (after, outs) → desk_step (Serving b) (frame.Dead d) ≡ (Serving after, outs)
+unfolding desk_step
+step_dead b after d outs e =
+    ap (λ (r : BrokerState × List Addressed). let pair : DeskState × List Addressed = (Serving r.0, r.1) in pair) e
+
+pub step_dead_early : (d : Dead) → desk_step Opening (frame.Dead d) ≡ (Refused, [])
+unfolding desk_step
+step_dead_early d = refl
+
+-- what comes of a message that is dropped
+pub step_unanswered : (b after : BrokerState) (d : DeskState) (s : Stamped) (reason : Dropped) (r : Result (List Addressed) DeskFault) → d ≡ Serving b → after ≡ b
+    → (reason ≢ dropped.Memory → taking b s ≡ Drops reason) → MatchResult r (λ outs. (outs ≡ []) × (reason ≢ dropped.Memory)) (λ e. e ≡ desk.Memory)
+    → Steps d (frame.Stamped s) (Serving after) r
+step_unanswered b after d s reason (Ok outs) serving same drops h = (
+  ap (λ x. desk_step x (frame.Stamped s)) serving
+      ∙ step_dropped b s reason (drops h.1)
+      ∙ (let both : (Serving b, []) ≡ (Serving after, outs) = cc (sym same, sym h.0) in both),
+  tt,
+)
+step_unanswered b after d s reason (Err e) serving same drops h = subst (λ x. Steps d (frame.Stamped s) (Serving after) (Err x)) (sym h) tt
+
+-- any other frame is not expected
+pub step_other : (d : DeskState) (f : Frame) → ((s : Start) → f ≡ frame.Start s → ⊥) → ((s : Stamped) → f ≡ frame.Stamped s → ⊥) → ((x : Dead) → f ≡ frame.Dead x → ⊥)
+    → desk_step d f ≡ (Refused, [])
+unfolding desk_step
+step_other d (frame.Start s) no_start no_stamped no_dead = absurd (no_start s refl)
+step_other d (frame.Stamped s) no_start no_stamped no_dead = absurd (no_stamped s refl)
+step_other d (frame.Dead x) no_start no_stamped no_dead = absurd (no_dead x refl)
+step_other Opening (frame.Command x) no_start no_stamped no_dead = refl
+step_other Opening (frame.Report x) no_start no_stamped no_dead = refl
+step_other Opening (frame.Post x) no_start no_stamped no_dead = refl
+step_other Opening (frame.Hello x) no_start no_stamped no_dead = refl
+step_other Opening (frame.Answer x) no_start no_stamped no_dead = refl
+step_other Opening (frame.Snapshot x) no_start no_stamped no_dead = refl
+step_other Opening (frame.Heard x) no_start no_stamped no_dead = refl
+step_other Opening (frame.Welcome x) no_start no_stamped no_dead = refl
+step_other Opening (frame.Addressed x) no_start no_stamped no_dead = refl
+step_other (Serving b) (frame.Command x) no_start no_stamped no_dead = refl
+step_other (Serving b) (frame.Report x) no_start no_stamped no_dead = refl
+step_other (Serving b) (frame.Post x) no_start no_stamped no_dead = refl
+step_other (Serving b) (frame.Hello x) no_start no_stamped no_dead = refl
+step_other (Serving b) (frame.Answer x) no_start no_stamped no_dead = refl
+step_other (Serving b) (frame.Snapshot x) no_start no_stamped no_dead = refl
+step_other (Serving b) (frame.Heard x) no_start no_stamped no_dead = refl
+step_other (Serving b) (frame.Welcome x) no_start no_stamped no_dead = refl
+step_other (Serving b) (frame.Addressed x) no_start no_stamped no_dead = refl
+step_other Refused f no_start no_stamped no_dead = refl
+
+-- nothing is expected after a frame that was not
+pub step_refused : (f : Frame) → desk_step Refused f ≡ (Refused, [])
+unfolding desk_step
+step_refused f = refl
+
+-- ---- what a frame makes the broker say has a spelling
+
+pub speaking_of : (o : Option BrokerState) (b : BrokerState) → o ≡ Some b → IsSpeaking (state_of o) → IsSpellable b
+speaking_of o b e h = subst (λ x. IsSpeaking (state_of x)) e h
+
+pub started_spells : (s : Start) (list : List (ℕ × ℕ)) (outs : List Addressed) → IsStart s → list ≡ s.list → outs ≡ hellos s.generation list → AllByRecursion IsAddressed outs
+started_spells s list outs start e q =
+    subst (AllByRecursion IsAddressed) (sym (q ∙ ap (hellos s.generation) e)) (spells_start s.generation s.list start.generation start.places).1
+
+pub taking_spells : (b after : BrokerState) (s : Stamped) (r : Result (List Addressed) Dropped) → IsSpellable b → IsStamped s
+    → IfOk r (λ outs. taking b s ≡ Does after outs) → OnErr r (after ≡ b) → IsSpellable after × IfOk r (AllByRecursion IsAddressed)
+taking_spells b after s (Ok outs) known stamped does err = spells_taking b s after outs known stamped does
+taking_spells b after s (Err e) known stamped does err = (subst IsSpellable (sym err) known, tt)
+
+pub burial_spells : (b after : BrokerState) (d : Dead) (outs : List Addressed) → IsSpellable b → IsDead d → burial b d.tab ≡ (after, outs)
+    → IsSpellable after × AllByRecursion IsAddressed outs
+burial_spells b after d outs known dead e =
+    subst (λ (r : BrokerState × List Addressed). IsSpellable r.0 × AllByRecursion IsAddressed r.1) e (spells_burial b d.tab known dead)
+
+pub unanswered_spells : (reason : Dropped) (r : Result (List Addressed) DeskFault) → MatchResult r (λ outs. (outs ≡ []) × (reason ≢ dropped.Memory)) (λ e. e ≡ desk.Memory)
+    → IfOk r (AllByRecursion IsAddressed)
+unanswered_spells reason (Ok outs) h = subst (AllByRecursion IsAddressed) (sym h.0) tt
+unanswered_spells reason (Err e) h = tt
+
+-- ---- lists of frames
+
+pub after_refused : (fs : List Frame) → desk_after Refused fs ≡ Refused
+after_refused [] = refl
+after_refused (f ∷ fs) = ap (λ (r : DeskState × List Addressed). desk_after r.0 fs) (step_refused f) ∙ after_refused fs
+
+pub outs_refused : (fs : List Frame) → desk_outs Refused fs ≡ []
+outs_refused [] = refl
+outs_refused (f ∷ fs) = ap (λ (r : DeskState × List Addressed). r.1 ++ desk_outs r.0 fs) (step_refused f) ∙ outs_refused fs
+
+pub desk_after-append : (d : DeskState) (fs gs : List Frame) → desk_after d (fs ++ gs) ≡ desk_after (desk_after d fs) gs
+desk_after-append d [] gs = refl
+desk_after-append d (f ∷ fs) gs = desk_after-append (desk_step d f).0 fs gs
+
+pub desk_outs-append : (d : DeskState) (fs gs : List Frame) → desk_outs d (fs ++ gs) ≡ desk_outs d fs ++ desk_outs (desk_after d fs) gs
+desk_outs-append d [] gs = refl
+desk_outs-append d (f ∷ fs) gs =
+    ap (λ l. (desk_step d f).1 ++ l) (desk_outs-append (desk_step d f).0 fs gs) ∙ sym (append_assoc (desk_step d f).1 _ _)
+
+pub due-append : (d : DeskState) (fs gs : List Frame) → due d (fs ++ gs) ≡ due d fs ++ due (desk_after d fs) gs
+due-append d fs gs = ap spelled (desk_outs-append d fs gs) ∙ flat_map-append (λ a. spelling (frame.Addressed a)) (desk_outs d fs) (desk_outs (desk_after d fs) gs)
+
+-- one frame, and then the others
+pub due-cons : (d new : DeskState) (f : Frame) (fs : List Frame) (outs : List Addressed) → desk_step d f ≡ (new, outs) → due d (f ∷ fs) ≡ spelled outs ++ due new fs
+due-cons d new f fs outs e =
+    ap (λ (r : DeskState × List Addressed). spelled (r.1 ++ desk_outs r.0 fs)) e
+    ∙ flat_map-append (λ a. spelling (frame.Addressed a)) outs (desk_outs new fs)
+
+pub desk_after-cons : (d new : DeskState) (f : Frame) (fs : List Frame) (outs : List Addressed) → desk_step d f ≡ (new, outs) → desk_after d (f ∷ fs) ≡ desk_after new fs
+desk_after-cons d new f fs outs e = ap (λ (r : DeskState × List Addressed). desk_after r.0 fs) e
+
+-- a frame that is not expected is the last that counts
+pub after_unexpected : (d : DeskState) (f : Frame) (fs : List Frame) → desk_step d f ≡ (Refused, []) → IsRefused (desk_after d (f ∷ fs))
+after_unexpected d f fs e = subst IsRefused (sym (desk_after-cons d Refused f fs [] e ∙ after_refused fs)) tt
+
+pub due_unexpected : (d : DeskState) (f : Frame) (fs : List Frame) → desk_step d f ≡ (Refused, []) → due d (f ∷ fs) ≡ []
+due_unexpected d f fs e = due-cons d Refused f fs [] e ∙ ap spelled (outs_refused fs)
+
+-- a desk that is before its first frame has had none
+past_taken : (b : BrokerState) (t : Taking) → (taken b t).0 ≡ Opening → ⊥
+past_taken b (Drops reason) e = cc
+past_taken b (Does after outs) e = cc
+
+past_step : (d : DeskState) (f : Frame) → (desk_step d f).0 ≡ Opening → ⊥
+unfolding desk_step
+past_step Opening (frame.Start s) e = cc
+past_step Opening (frame.Command x) e = cc
+past_step Opening (frame.Report x) e = cc
+past_step Opening (frame.Post x) e = cc
+past_step Opening (frame.Hello x) e = cc
+past_step Opening (frame.Answer x) e = cc
+past_step Opening (frame.Snapshot x) e = cc
+past_step Opening (frame.Heard x) e = cc
+past_step Opening (frame.Welcome x) e = cc
+past_step Opening (frame.Stamped x) e = cc
+past_step Opening (frame.Addressed x) e = cc
+past_step Opening (frame.Dead x) e = cc
+past_step (Serving b) (frame.Start s) e = cc
+past_step (Serving b) (frame.Command x) e = cc
+past_step (Serving b) (frame.Report x) e = cc
+past_step (Serving b) (frame.Post x) e = cc
+past_step (Serving b) (frame.Hello x) e = cc
+past_step (Serving b) (frame.Answer x) e = cc
+past_step (Serving b) (frame.Snapshot x) e = cc
+past_step (Serving b) (frame.Heard x) e = cc
+past_step (Serving b) (frame.Welcome x) e = cc
+past_step (Serving b) (frame.Stamped x) e = past_taken b (taking b x) e
+past_step (Serving b) (frame.Addressed x) e = cc
+past_step (Serving b) (frame.Dead x) e = cc
+past_step Refused f e = cc
+
+past_after : (fs : List Frame) (d : DeskState) → (d ≡ Opening → ⊥) → desk_after d fs ≡ Opening → ⊥
+past_after [] d past e = past e
+past_after (f ∷ fs) d past e = past_after fs (desk_step d f).0 (past_step d f) e
+
+pub frames_before_opening : (fs : List Frame) → Opening ≡ desk_after Opening fs → fs ≡ []
+frames_before_opening [] e = refl
+frames_before_opening (f ∷ fs) e = absurd (past_after fs (desk_step Opening f).0 (past_step Opening f) (sym e))
+
+-- ---- frames to tabs, written one after another
+
+pub outs_more : (all rest more : List Addressed) (a : Addressed) (done piece : List ℕ) → rest ≡ a ∷ more → done ++ spelled rest ≡ spelled all → piece ≡ spelling (frame.Addressed a)
+    → done ++ piece ++ spelled more ≡ spelled all
+outs_more all rest more a done piece e h p =
+    append_assoc done piece (spelled more) ∙ ap (λ l. done ++ (l ++ spelled more)) p ∙ ap (λ l. done ++ spelled l) (sym e) ∙ h
+
+outs_front : (all rest more : List Addressed) (a : Addressed) (done piece : List ℕ) → rest ≡ a ∷ more → done ++ spelled rest ≡ spelled all → IsFrontOf piece (spelling (frame.Addressed a))
+    → IsFrontOf (done ++ piece) (spelled all)
+outs_front all rest more a done piece e h p =
+    subst (IsFrontOf (done ++ piece)) (ap (λ l. done ++ spelled l) (sym e) ∙ h) (append-IsFrontOf done piece _ (IsFrontOf-append piece _ (spelled more) p))
+
+pub outs_fail : (all rest more : List Addressed) (a : Addressed) (done piece : List ℕ) (e : DeskFault) → rest ≡ a ∷ more → done ++ spelled rest ≡ spelled all
+    → Delivers (spelling (frame.Addressed a)) (Err e) piece → Delivers (spelled all) (Err e) (done ++ piece)
+outs_fail all rest more a done piece (desk.Frame f) e h p = p
+outs_fail all rest more a done piece desk.Unexpected e h p = p
+outs_fail all rest more a done piece desk.Read e h p = p
+outs_fail all rest more a done piece desk.Write e h p = outs_front all rest more a done piece e h p
+outs_fail all rest more a done piece desk.TooManyReads e h p = p
+outs_fail all rest more a done piece desk.Memory e h p = outs_front all rest more a done piece e h p
+
+-- ---- frames, answered one after another
+
+not_refused : (d : DeskState) → IsServing d → IsRefused d → ⊥
+not_refused Opening s r = s
+not_refused (Serving b) s r = r
+not_refused Refused s r = s
+
+-- what a desk that has come so far is still to do makes up what it was to do
+pub record Leaves (first now : DeskState) (all rest : List Frame) (output : List ℕ) : Type 0 where
+  pub is_open : IsRefused now → ⊥
+  pub formed : AllByRecursion IsWellFormed rest
+  pub after : desk_after now rest ≡ desk_after first all
+  pub output_is : output ++ due now rest ≡ due first all
+
+pub Leaves-start : (d : DeskState) (all : List Frame) → (IsRefused d → ⊥) → AllByRecursion IsWellFormed all → Leaves d d all all []
+Leaves-start d all is_open formed = record { is_open = is_open; formed = formed; after = refl; output_is = refl }
+
+pub Leaves-more : (first now new : DeskState) (all rest more : List Frame) (f : Frame) (outs : List Addressed) (output piece : List ℕ) → Leaves first now all rest output → rest ≡ f ∷ more
+    → Steps now f new (Ok outs) → piece ≡ spelled outs → Leaves first new all more (output ++ piece)
+Leaves-more first now new all rest more f outs output piece h e step p = record {
+  is_open = not_refused new step.1;
+  formed = (subst (AllByRecursion IsWellFormed) e h.formed).1;
+  after = sym (desk_after-cons now new f more outs step.0) ∙ ap (desk_after now) (sym e) ∙ h.after;
+  output_is =
+      append_assoc output piece (due new more)
+      ∙ ap (λ l. output ++ (l ++ due new more)) p
+      ∙ ap (λ l. output ++ l) (sym (due-cons now new f more outs step.0))
+      ∙ ap (λ l. output ++ due now l) (sym e)
+      ∙ h.output_is;
+}
+
+pub Leaves-formed : (first now : DeskState) (all rest more : List Frame) (f : Frame) (output : List ℕ) → Leaves first now all rest output → rest ≡ f ∷ more → IsWellFormed f
+Leaves-formed first now all rest more f output h e = (subst (AllByRecursion IsWellFormed) e h.formed).0
+
+pub Leaves-end : (first now : DeskState) (all rest : List Frame) (output : List ℕ) → Leaves first now all rest output → rest ≡ [] → Deals first all now (Ok tt) output
+Leaves-end first now all rest output h e = (
+  ap (desk_after now) (sym e) ∙ h.after,
+  h.is_open,
+  sym (append-nil output) ∙ ap (λ l. output ++ due now l) (sym e) ∙ h.output_is,
+)
+
+-- a frame was not answered
+pub answer_fails : (first now new last : DeskState) (all rest more : List Frame) (f : Frame) (output : List ℕ) (e : DeskFault) → Leaves first now all rest output → rest ≡ f ∷ more
+    → Steps now f new (Err e) → Deals first all last (Err e) output
+answer_fails first now new last all rest more f output (desk.Frame x) h e step = step
+answer_fails first now new last all rest more f output desk.Unexpected h e step = (
+  subst IsRefused (ap (desk_after now) (sym e) ∙ h.after) (after_unexpected now f more step),
+  sym (append-nil output) ∙ ap (λ l. output ++ l) (sym (due_unexpected now f more step)) ∙ ap (λ l. output ++ due now l) (sym e) ∙ h.output_is,
+)
+answer_fails first now new last all rest more f output desk.Read h e step = step
+answer_fails first now new last all rest more f output desk.Write h e step = absurd step
+answer_fails first now new last all rest more f output desk.TooManyReads h e step = step
+answer_fails first now new last all rest more f output desk.Memory h e step = (due now rest, sym h.output_is)
+
+outs_are_front : (first now new : DeskState) (all rest more : List Frame) (f : Frame) (outs : List Addressed) (output piece : List ℕ) → Leaves first now all rest output → rest ≡ f ∷ more
+    → Steps now f new (Ok outs) → IsFrontOf piece (spelled outs) → IsFrontOf (output ++ piece) (due first all)
+outs_are_front first now new all rest more f outs output piece h e step p =
+    subst (IsFrontOf (output ++ piece)) (ap (λ l. output ++ l) (sym (due-cons now new f more outs step.0) ∙ ap (due now) (sym e)) ∙ h.output_is)
+    (append-IsFrontOf output piece _ (IsFrontOf-append piece _ (due new more) p))
+
+not_empty : (all : List Frame) (n : ℕ) → n < length all → all ≡ [] → ⊥
+not_empty all n h e = let none : length all ≡ 0 = ap length e in omega arith
+
+-- its answer was not written
+pub write_fails : (first now new last : DeskState) (all rest more : List Frame) (f : Frame) (outs : List Addressed) (output piece : List ℕ) (n : ℕ) (e : DeskFault) → n < length all
+    → Leaves first now all rest output → rest ≡ f ∷ more → Steps now f new (Ok outs) → Delivers (spelled outs) (Err e) piece → Deals first all last (Err e) (output ++ piece)
+write_fails first now new last all rest more f outs output piece n (desk.Frame x) some h e step p = p
+write_fails first now new last all rest more f outs output piece n desk.Unexpected some h e step p = absurd p
+write_fails first now new last all rest more f outs output piece n desk.Read some h e step p = p
+write_fails first now new last all rest more f outs output piece n desk.Write some h e step p =
+    (not_empty all n some, outs_are_front first now new all rest more f outs output piece h e step p)
+write_fails first now new last all rest more f outs output piece n desk.TooManyReads some h e step p = p
+write_fails first now new last all rest more f outs output piece n desk.Memory some h e step p = outs_are_front first now new all rest more f outs output piece h e step p
+
+-- the frame at an index, and the ones after it
+pub next_frame : (all : List Frame) (n : ℕ) (f : Frame) → n < length all → f ≡ get_or all n f → drop n all ≡ f ∷ drop (n + 1) all
+next_frame all n f some e = drop_more all n f some ∙ ap (λ x. x ∷ drop (n + 1) all) (sym e)
+
+-- ---- whether a writer has failed
+
+abbrev pub IsWriteFault : Result (Unit {0}) DeskFault → Type 0
+IsWriteFault r = r ≡ Err desk.Write
+
+pub sound_at_ok : (b : Bool) → (b ≡ true → IsWriteFault (Ok tt)) → b ≡ false
+sound_at_ok true h = let e = h refl in cc
+sound_at_ok false h = refl
+
+pub step_is_no_write : (now new : DeskState) (f : Frame) (e : DeskFault) (b : Bool) → Steps now f new (Err e) → b ≡ false → (IsWriteFault (Err e)) ↔ (b ≡ true)
+step_is_no_write now new f (desk.Frame x) b step sound = absurd step
+step_is_no_write now new f desk.Unexpected b step sound = (λ h. cc, λ h. cc)
+step_is_no_write now new f desk.Read b step sound = absurd step
+step_is_no_write now new f desk.Write b step sound = absurd step
+step_is_no_write now new f desk.TooManyReads b step sound = absurd step
+step_is_no_write now new f desk.Memory b step sound = (λ h. cc, λ h. cc)

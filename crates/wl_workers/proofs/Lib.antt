@@ -1,0 +1,4 @@
+pub mod DeviceLemmas
+pub mod DeskLemmas
+pub mod PieceLemmas
+pub mod RunLemmas

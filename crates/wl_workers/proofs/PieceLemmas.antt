@@ -1,0 +1,156 @@
+-- Lemmas on readings of one piece of the input after another.
+use Rattle.std.proofs.Common.{◌≡◌, ℕ, List, [], ◌∷◌, ◌++◌, true, false, Result, Ok, Err, refl, sym, ap, subst, ◌∙◌, append_assoc, append-nil}
+use Rattle.std.specs.List.{flat_map, AllByRecursion}
+use Rattle.std.proofs.lemmas.List.Concat.{flat_map-append}
+use Rattle.wl_frames.specs.declared.fault.FrameFault.{FrameFault}
+use Rattle.wl_frames.specs.declared.fault.FrameFault.TheVariants as fault
+use Rattle.wl_frames.specs.declared.frame.Frame.{Frame}
+use Rattle.wl_frames.specs.Grammar.{IsWellFormed, spelling}
+use Rattle.wl_frames.specs.Stream.{Stop, Rest, Fault, Reads, IsPartial, Feeding, Takes, Refuses}
+use Rattle.wl_workers.specs.declared.desk.DeskFault.{DeskFault}
+use Rattle.wl_workers.specs.declared.desk.DeskFault.TheVariants as desk
+use Rattle.wl_workers.specs.Device.{IsFrontOf}
+use Rattle.wl_workers.specs.Desk.{DeskState, desk_after, IsRefused, IsReadPart}
+use Rattle.wl_workers.specs.DeskSteps.{of_frame, due, Deals, EndsBy, Breaks, Treats}
+
+AllByRecursion-append : (P : Frame → Type 0) (fs gs : List Frame) → AllByRecursion P fs → AllByRecursion P gs → AllByRecursion P (fs ++ gs)
+AllByRecursion-append P [] gs p q = q
+AllByRecursion-append P (f ∷ fs) gs p q = (p.0, AllByRecursion-append P fs gs p.1 q)
+
+-- a reading up to a rest, and one of the rest and more, are one reading
+pub Reads-join : (stream piece rest : List ℕ) (fs gs : List Frame) (stop : Stop) → Reads stream fs (Rest rest) → Reads (rest ++ piece) gs stop → Reads (stream ++ piece) (fs ++ gs) stop
+Reads-join stream piece rest fs gs stop p q = record {
+  after = q.after;
+  spelled =
+      ap (λ l. l ++ piece) (p.spelled ∙ ap (λ l. flat_map spelling fs ++ l) p.stops.0)
+      ∙ append_assoc (flat_map spelling fs) rest piece
+      ∙ ap (λ l. flat_map spelling fs ++ l) q.spelled
+      ∙ sym (append_assoc (flat_map spelling fs) (flat_map spelling gs) q.after)
+      ∙ ap (λ l. l ++ q.after) (sym (flat_map-append spelling fs gs));
+  well_formed = AllByRecursion-append IsWellFormed fs gs p.well_formed q.well_formed;
+  stops = q.stops;
+}
+
+-- nothing more was read
+pub Reads-none : (rest : List ℕ) → IsPartial rest → Reads (rest ++ []) [] (Rest rest)
+Reads-none rest partial = record { after = rest; spelled = append-nil rest; well_formed = tt; stops = (refl, partial) }
+
+-- ---- what a fault of the answers says of the piece
+
+-- the part that is all of it
+part_whole : (piece : List ℕ) (e : DeskFault) → IsReadPart piece piece (Err e)
+part_whole piece (desk.Frame f) = refl
+part_whole piece desk.Unexpected = refl
+part_whole piece desk.Read = refl
+part_whole piece desk.Write = refl
+part_whole piece desk.TooManyReads = refl
+part_whole piece desk.Memory = ([], sym (append-nil piece))
+
+ends_by_deals : (old new : DeskState) (frames : List Frame) (stop : Stop) (e : DeskFault) (output : List ℕ) → Deals old frames new (Err e) output → EndsBy old frames stop e output
+ends_by_deals old new frames stop (desk.Frame f) output h = absurd h
+ends_by_deals old new frames stop desk.Unexpected output h = h
+ends_by_deals old new frames stop desk.Read output h = h
+ends_by_deals old new frames stop desk.Write output h = h.1
+ends_by_deals old new frames stop desk.TooManyReads output h = h
+ends_by_deals old new frames stop desk.Memory output h = h
+
+pub breaks_by_deals : (old new : DeskState) (rest piece : List ℕ) (frames : List Frame) (stop : Stop) (e : DeskFault) (output : List ℕ) → Reads (rest ++ piece) frames stop
+    → Deals old frames new (Err e) output → Breaks old rest piece e output
+breaks_by_deals old new rest piece frames stop e output reads h = record {
+  part = piece;
+  frames = frames;
+  stop = stop;
+  is_part = part_whole piece e;
+  reads = reads;
+  ends = ends_by_deals old new frames stop e output h;
+}
+
+-- a piece whose frames are all whole, or end in a rest
+pub treats_taken : (old new : DeskState) (before after : Feeding) (piece : List ℕ) (frames : List Frame) (r : Result (Unit {0}) DeskFault) (output : List ℕ) → Takes before after piece frames
+    → Deals old frames new r output → Treats old new before.rest piece after r output
+treats_taken old new before after piece frames (Ok done) output takes h = record {
+  frames = frames;
+  sound = takes.is_sound;
+  reads = takes.reads;
+  desk_is = h.0;
+  is_open = h.1;
+  output_is = h.2;
+}
+treats_taken old new before after piece frames (Err e) output takes h = breaks_by_deals old new before.rest piece frames (Rest after.rest) e output takes.reads h
+
+-- a piece that memory refused
+breaks_by_memory : (old : DeskState) (rest piece : List ℕ) (output : List ℕ) → IsPartial rest → output ≡ [] → Breaks old rest piece desk.Memory output
+breaks_by_memory old rest piece output partial none = record {
+  part = [];
+  frames = [];
+  stop = Rest rest;
+  is_part = (piece, refl);
+  reads = Reads-none rest partial;
+  ends = ([], sym (append-nil output ∙ none));
+}
+
+no_deal : (old new : DeskState) (rest piece : List ℕ) (frames : List Frame) (e : DeskFault) (output : List ℕ) → IsPartial rest → (IsRefused old → ⊥) → frames ≡ [] → Deals old frames new (Err e) output
+    → Breaks old rest piece e output
+no_deal old new rest piece frames (desk.Frame f) output partial is_open none h = absurd h
+no_deal old new rest piece frames desk.Unexpected output partial is_open none h = absurd (is_open (subst (λ fs. IsRefused (desk_after old fs)) none h.0))
+no_deal old new rest piece frames desk.Read output partial is_open none h = absurd h
+no_deal old new rest piece frames desk.Write output partial is_open none h = absurd (h.0 none)
+no_deal old new rest piece frames desk.TooManyReads output partial is_open none h = absurd h
+no_deal old new rest piece frames desk.Memory output partial is_open none h = record {
+  part = [];
+  frames = [];
+  stop = Rest rest;
+  is_part = (piece, refl);
+  reads = Reads-none rest partial;
+  ends = subst (λ fs. IsFrontOf output (due old fs)) none h;
+}
+
+breaks_by_fault : (old new : DeskState) (rest piece : List ℕ) (frames : List Frame) (fault : FrameFault) (output : List ℕ) → Reads (rest ++ piece) frames (Fault fault) → Deals old frames new (Ok tt) output
+    → Breaks old rest piece (desk.Frame fault) output
+breaks_by_fault old new rest piece frames fault output reads h = record {
+  part = piece;
+  frames = frames;
+  stop = Fault fault;
+  is_part = refl;
+  reads = reads;
+  ends = (refl, λ refused. h.1 (subst IsRefused (sym h.0) refused), h.2);
+}
+
+-- the frames before a fault were not all answered
+pub breaks_before : (old new : DeskState) (before after : Feeding) (piece : List ℕ) (frames : List Frame) (fault : FrameFault) (e : DeskFault) (output : List ℕ) → before.has_failed ≡ false
+    → IsPartial before.rest → (IsRefused old → ⊥) → Refuses before after piece frames fault → Deals old frames new (Err e) output → Breaks old before.rest piece e output
+breaks_before old new before after piece frames fault.BadLength e output sound partial is_open refuses h =
+    breaks_by_deals old new before.rest piece frames (Fault fault.BadLength) e output (refuses.stops (λ x. cc) (λ x. cc)).0 h
+breaks_before old new before after piece frames fault.BadVersion e output sound partial is_open refuses h =
+    breaks_by_deals old new before.rest piece frames (Fault fault.BadVersion) e output (refuses.stops (λ x. cc) (λ x. cc)).0 h
+breaks_before old new before after piece frames fault.BadKind e output sound partial is_open refuses h =
+    breaks_by_deals old new before.rest piece frames (Fault fault.BadKind) e output (refuses.stops (λ x. cc) (λ x. cc)).0 h
+breaks_before old new before after piece frames fault.BadField e output sound partial is_open refuses h =
+    breaks_by_deals old new before.rest piece frames (Fault fault.BadField) e output (refuses.stops (λ x. cc) (λ x. cc)).0 h
+breaks_before old new before after piece frames fault.LeftOver e output sound partial is_open refuses h =
+    breaks_by_deals old new before.rest piece frames (Fault fault.LeftOver) e output (refuses.stops (λ x. cc) (λ x. cc)).0 h
+breaks_before old new before after piece frames fault.Truncated e output sound partial is_open refuses h =
+    breaks_by_deals old new before.rest piece frames (Fault fault.Truncated) e output (refuses.stops (λ x. cc) (λ x. cc)).0 h
+breaks_before old new before after piece frames fault.Memory e output sound partial is_open refuses h = no_deal old new before.rest piece frames e output partial is_open (refuses.memory refl).0 h
+breaks_before old new before after piece frames fault.Failed e output sound partial is_open refuses h =
+    let failed = refuses.failed_before.0 refl in absurd (let e : true ≡ false = sym failed ∙ sound in cc)
+
+-- the frames before a fault were answered, and then it counts
+pub breaks_after : (old new : DeskState) (before after : Feeding) (piece : List ℕ) (frames : List Frame) (fault : FrameFault) (output : List ℕ) → before.has_failed ≡ false
+    → IsPartial before.rest → Refuses before after piece frames fault → Deals old frames new (Ok tt) output → Breaks old before.rest piece (of_frame fault) output
+breaks_after old new before after piece frames fault.BadLength output sound partial refuses h =
+    breaks_by_fault old new before.rest piece frames fault.BadLength output (refuses.stops (λ x. cc) (λ x. cc)).0 h
+breaks_after old new before after piece frames fault.BadVersion output sound partial refuses h =
+    breaks_by_fault old new before.rest piece frames fault.BadVersion output (refuses.stops (λ x. cc) (λ x. cc)).0 h
+breaks_after old new before after piece frames fault.BadKind output sound partial refuses h =
+    breaks_by_fault old new before.rest piece frames fault.BadKind output (refuses.stops (λ x. cc) (λ x. cc)).0 h
+breaks_after old new before after piece frames fault.BadField output sound partial refuses h =
+    breaks_by_fault old new before.rest piece frames fault.BadField output (refuses.stops (λ x. cc) (λ x. cc)).0 h
+breaks_after old new before after piece frames fault.LeftOver output sound partial refuses h =
+    breaks_by_fault old new before.rest piece frames fault.LeftOver output (refuses.stops (λ x. cc) (λ x. cc)).0 h
+breaks_after old new before after piece frames fault.Truncated output sound partial refuses h =
+    breaks_by_fault old new before.rest piece frames fault.Truncated output (refuses.stops (λ x. cc) (λ x. cc)).0 h
+breaks_after old new before after piece frames fault.Memory output sound partial refuses h =
+    breaks_by_memory old before.rest piece output partial (h.2 ∙ ap (due old) (refuses.memory refl).0)
+breaks_after old new before after piece frames fault.Failed output sound partial refuses h =
+    let failed = refuses.failed_before.0 refl in absurd (let e : true ≡ false = sym failed ∙ sound in cc)

@@ -1,0 +1,127 @@
+-- Helpers of the desk's private contracts: what one frame, one list of frames and one piece of the input do at a desk.
+use Rattle.std.specs.Prelude.{◌≡◌, ◌≢◌, ℕ, List, [], ◌++◌, false, Option, Some, None, Result, Ok, Err}
+use Rattle.std.specs.List.{flat_map}
+use Rattle.wl_frames.specs.declared.frame.Addressed.{Addressed}
+use Rattle.wl_frames.specs.declared.frame.Frame.{Frame}
+use Rattle.wl_frames.specs.declared.frame.Frame.TheVariants as frame
+use Rattle.wl_frames.specs.declared.fault.FrameFault.{FrameFault}
+use Rattle.wl_frames.specs.declared.fault.FrameFault.TheVariants as fault
+use Rattle.wl_frames.specs.Grammar.{spelling}
+use Rattle.wl_frames.specs.Stream.{Stop, Rest, Fault, Reads, Feeding}
+use Rattle.wl_broker.specs.Broker.{BrokerState}
+use Rattle.wl_broker.specs.Speech.{IsSpellable}
+use Rattle.wl_workers.specs.declared.desk.DeskFault.{DeskFault}
+use Rattle.wl_workers.specs.declared.desk.DeskFault.TheVariants as desk
+use Rattle.wl_workers.specs.declared.device.ReadFault.{ReadFault}
+use Rattle.wl_workers.specs.declared.device.ReadFault.TheVariants as read
+use Rattle.wl_workers.specs.Device.{IsFrontOf}
+use Rattle.wl_workers.specs.Desk.{DeskState, Opening, Serving, Refused, desk_step, desk_after, desk_outs, IsServing, IsRefused, IsReadPart}
+
+-- ---- faults
+
+abbrev pub of_read : ReadFault → DeskFault
+of_read read.Failed = desk.Read
+of_read read.TooManyReads = desk.TooManyReads
+
+abbrev pub of_frame : FrameFault → DeskFault
+of_frame fault.BadLength = desk.Frame fault.BadLength
+of_frame fault.BadVersion = desk.Frame fault.BadVersion
+of_frame fault.BadKind = desk.Frame fault.BadKind
+of_frame fault.BadField = desk.Frame fault.BadField
+of_frame fault.LeftOver = desk.Frame fault.LeftOver
+of_frame fault.Truncated = desk.Frame fault.Truncated
+of_frame fault.Memory = desk.Memory
+of_frame fault.Failed = desk.Frame fault.Failed
+
+-- ---- the desk's state
+
+-- a desk has a broker from its first frame on
+abbrev pub state_of : Option BrokerState → DeskState
+state_of None = Opening
+state_of (Some broker) = Serving broker
+
+-- all that the broker knows has a spelling
+abbrev pub IsSpeaking : DeskState → Type 0
+IsSpeaking Opening = Unit {0}
+IsSpeaking (Serving broker) = IsSpellable broker
+IsSpeaking Refused = Unit {0}
+
+-- the bytes of these frames to tabs
+abbrev pub spelled : List Addressed → List ℕ
+spelled outs = flat_map (λ a. spelling (frame.Addressed a)) outs
+
+-- all that a desk writes for these frames
+abbrev pub due : DeskState → List Frame → List ℕ
+due d frames = spelled (desk_outs d frames)
+
+-- ---- what a frame, frames and a piece do
+
+-- a frame is answered, is not expected, or is not answered for want of memory
+abbrev pub Steps : DeskState → Frame → DeskState → Result (List Addressed) DeskFault → Type 0
+Steps old f new (Ok outs) = (desk_step old f ≡ (new, outs)) × IsServing new
+Steps old f new (Err (desk.Frame e)) = ⊥
+Steps old f new (Err desk.Unexpected) = desk_step old f ≡ (Refused, [])
+Steps old f new (Err desk.Read) = ⊥
+Steps old f new (Err desk.Write) = ⊥
+Steps old f new (Err desk.TooManyReads) = ⊥
+Steps old f new (Err desk.Memory) = Unit {0}
+
+-- the bytes that are due were written, or a front of them
+abbrev pub Delivers : List ℕ → Result (Unit {0}) DeskFault → List ℕ → Type 0
+Delivers bytes (Ok done) output = output ≡ bytes
+Delivers bytes (Err (desk.Frame e)) output = ⊥
+Delivers bytes (Err desk.Unexpected) output = ⊥
+Delivers bytes (Err desk.Read) output = ⊥
+Delivers bytes (Err desk.Write) output = IsFrontOf output bytes
+Delivers bytes (Err desk.TooManyReads) output = ⊥
+Delivers bytes (Err desk.Memory) output = IsFrontOf output bytes
+
+-- frames are answered, up to the end or the first fault
+abbrev pub Deals : DeskState → List Frame → DeskState → Result (Unit {0}) DeskFault → List ℕ → Type 0
+Deals old frames new (Ok done) output = (new ≡ desk_after old frames) × (IsRefused new → ⊥) × (output ≡ due old frames)
+Deals old frames new (Err (desk.Frame e)) output = ⊥
+Deals old frames new (Err desk.Unexpected) output = IsRefused (desk_after old frames) × (output ≡ due old frames)
+Deals old frames new (Err desk.Read) output = ⊥
+Deals old frames new (Err desk.Write) output = (frames ≢ []) × IsFrontOf output (due old frames)
+Deals old frames new (Err desk.TooManyReads) output = ⊥
+Deals old frames new (Err desk.Memory) output = IsFrontOf output (due old frames)
+
+-- a piece was read as these frames and answered, up to the fault that ends the run
+abbrev pub EndsBy : DeskState → List Frame → Stop → DeskFault → List ℕ → Type 0
+EndsBy old frames stop (desk.Frame e) output = (stop ≡ Fault e) × (IsRefused (desk_after old frames) → ⊥) × (output ≡ due old frames)
+EndsBy old frames stop desk.Unexpected output = IsRefused (desk_after old frames) × (output ≡ due old frames)
+EndsBy old frames stop desk.Read output = ⊥
+EndsBy old frames stop desk.Write output = IsFrontOf output (due old frames)
+EndsBy old frames stop desk.TooManyReads output = ⊥
+EndsBy old frames stop desk.Memory output = IsFrontOf output (due old frames)
+
+pub record Passes (old new : DeskState) (rest piece : List ℕ) (feed : Feeding) (output : List ℕ) : Type 0 where
+  pub frames : List Frame
+  pub sound : feed.has_failed ≡ false
+  pub reads : Reads (rest ++ piece) frames (Rest feed.rest)
+  pub desk_is : new ≡ desk_after old frames
+  pub is_open : IsRefused new → ⊥
+  pub output_is : output ≡ due old frames
+
+pub record Breaks (old : DeskState) (rest piece : List ℕ) (e : DeskFault) (output : List ℕ) : Type 0 where
+  pub part : List ℕ
+  pub frames : List Frame
+  pub stop : Stop
+  pub is_part : IsReadPart part piece (Err e)
+  pub reads : Reads (rest ++ part) frames stop
+  pub ends : EndsBy old frames stop e output
+
+-- one more piece of the input, at a desk with this rest of the pieces before
+abbrev pub Treats : DeskState → DeskState → List ℕ → List ℕ → Feeding → Result (Unit {0}) DeskFault → List ℕ → Type 0
+Treats old new rest piece feed (Ok done) output = Passes old new rest piece feed output
+Treats old new rest piece feed (Err e) output = Breaks old rest piece e output
+
+-- the end of the input
+abbrev pub Closes : DeskState → List ℕ → Result (Unit {0}) DeskFault → Type 0
+Closes d rest (Ok done) = IsServing d × (rest ≡ [])
+Closes d rest (Err (desk.Frame e)) = (rest ≢ []) × (e ≡ fault.Truncated)
+Closes d rest (Err desk.Unexpected) = (d ≡ Opening) × (rest ≡ [])
+Closes d rest (Err desk.Read) = ⊥
+Closes d rest (Err desk.Write) = ⊥
+Closes d rest (Err desk.TooManyReads) = ⊥
+Closes d rest (Err desk.Memory) = ⊥

@@ -1,0 +1,321 @@
+//! The desk: frames in, the broker's answers out.
+
+ghost use Rattle.std.specs.Prelude.{◌≡◌, ◌≢◌, ◌↔◌, ℕ, List, [], true, false, Err, IfOk, OnOk, MatchResult};
+ghost use Rattle.std.specs.List.{AllByRecursion};
+ghost use Rattle.std.specs.Io.KnownBytes.{Appends, IsAtEnd};
+ghost use Rattle.wl_frames.specs.Grammar.{IsWellFormed, IsAddressed, spelling};
+ghost use Rattle.wl_frames.specs.Stream.{IsPartial};
+ghost use Rattle.wl_workers.specs.declared.desk.DeskFault.TheVariants.{Write as write_fault, Memory as memory};
+ghost use Rattle.wl_workers.specs.Desk.{Opening, IsRefused, Runs};
+ghost use Rattle.wl_workers.specs.DeskSteps.{of_read, of_frame, spelled, Steps, Delivers, Deals, Treats, Closes};
+
+use crate::device::{READ_LIMIT, ReadFault, Sink, Source, WriteFault};
+use std::alloc::{AllocError, Global};
+use std::io::{Read, Write};
+use std::marker::Model;
+use thiserror::Error;
+use wl_broker::{Broker, Dropped, LockTable, Outs};
+use wl_frames::{Addressed, Dead, Feed, Frame, FrameFault, Sequence, Stamped, Start, encode};
+use wl_table::PlainTable;
+
+/// How many bytes are read at once, at most.
+const PIECE_LEN: usize = 4096;
+
+/// Why the desk ended before its input did.
+#[derive(Clone, Copy, Debug, PartialEq, Eq, Error)]
+pub enum DeskFault {
+    /// The input is no stream of frames; or it ended within a frame.
+    #[error("{0}")]
+    Frame(FrameFault),
+    /// A frame that the desk does not expect; or no frame at all.
+    #[error("Unexpected")]
+    Unexpected,
+    /// The reader failed.
+    #[error("Read")]
+    Read,
+    /// The writer failed.
+    #[error("Write")]
+    Write,
+    /// The reader was read as often as it may be.
+    #[error("TooManyReads")]
+    TooManyReads,
+    /// Memory was refused.
+    #[error("Memory")]
+    Memory,
+}
+
+impl From<ReadFault> for DeskFault {
+    ghost from_gives = { λ fault e. e ≡ of_read fault };
+
+    fn from(fault: ReadFault) -> DeskFault {
+        match fault {
+            ReadFault::Failed => DeskFault::Read,
+            ReadFault::TooManyReads => DeskFault::TooManyReads,
+        }
+    }
+}
+
+impl From<WriteFault> for DeskFault {
+    ghost from_gives = { λ _ e. e ≡ write_fault };
+
+    fn from(_fault: WriteFault) -> DeskFault {
+        DeskFault::Write
+    }
+}
+
+impl From<FrameFault> for DeskFault {
+    ghost from_gives = { λ fault e. e ≡ of_frame fault };
+
+    fn from(fault: FrameFault) -> DeskFault {
+        match fault {
+            FrameFault::Memory => DeskFault::Memory,
+            fault => DeskFault::Frame(fault),
+        }
+    }
+}
+
+impl From<AllocError> for DeskFault {
+    ghost from_gives = { λ _ e. e ≡ memory };
+
+    fn from(_fault: AllocError) -> DeskFault {
+        DeskFault::Memory
+    }
+}
+
+/// A broker that the first frame starts.
+#[derive(Drop)]
+struct Desk<T: LockTable> {
+    broker: Option<Broker<T>>,
+}
+
+impl<T: LockTable> Model for Desk<T> {
+    ghost use Rattle.wl_workers.specs.Desk.{DeskState};
+    ghost use Rattle.wl_workers.specs.DeskSteps.{state_of, IsSpeaking};
+
+    ghost Value = { DeskState };
+
+    ghost view = { λ d. state_of d.broker };
+
+    ghost invariant = { λ d. IsSpeaking (state_of d.broker) };
+}
+
+impl<T: LockTable> Desk<T> {
+    fn new() -> Desk<T>
+        ensures { result ≡ Opening }
+    {
+        Desk { broker: None }
+    }
+
+    /// Starts the broker, once.
+    fn start(&mut self, alloc: Global, start: &Start) -> Result<Outs, DeskFault>
+        requires { IsWellFormed (Frame.Start start.now) }
+        ensures step { Steps self.old (Frame.Start start.now) self.new result }
+        ensures spellable { IfOk result (AllByRecursion IsAddressed) }
+    {
+        if self.broker.is_some() {
+            return Err(DeskFault::Unexpected);
+        }
+        let (broker, outs) = Broker::start(alloc, start.generation, start.list.as_slice())?;
+        self.broker = Some(broker);
+        Ok(outs)
+    }
+
+    /// Gives the broker a tab's message.
+    fn take(&mut self, alloc: Global, stamped: &Stamped) -> Result<Outs, DeskFault>
+        requires { IsWellFormed (Frame.Stamped stamped.now) }
+        ensures step { Steps self.old (Frame.Stamped stamped.now) self.new result }
+        ensures spellable { IfOk result (AllByRecursion IsAddressed) }
+    {
+        let Some(broker) = &mut self.broker else {
+            return Err(DeskFault::Unexpected);
+        };
+        match broker.take(stamped) {
+            Ok(outs) => Ok(outs),
+            Err(reason) => unanswered(alloc, reason),
+        }
+    }
+
+    /// Tells the broker of a tab's death.
+    fn bury(&mut self, dead: &Dead) -> Result<Outs, DeskFault>
+        requires { IsWellFormed (Frame.Dead dead.now) }
+        ensures step { Steps self.old (Frame.Dead dead.now) self.new result }
+        ensures spellable { IfOk result (AllByRecursion IsAddressed) }
+    {
+        let Some(broker) = &mut self.broker else {
+            return Err(DeskFault::Unexpected);
+        };
+        Ok(broker.dead(dead.tab)?)
+    }
+
+    /// The broker's frames in answer to one frame.
+    fn answer(&mut self, alloc: Global, frame: &Frame) -> Result<Outs, DeskFault>
+        requires { IsWellFormed frame.now }
+        ensures step { Steps self.old frame.now self.new result }
+        ensures spellable { IfOk result (AllByRecursion IsAddressed) }
+    {
+        match frame {
+            Frame::Start(start) => self.start(alloc, start),
+            Frame::Stamped(stamped) => self.take(alloc, stamped),
+            Frame::Dead(dead) => self.bury(dead),
+            _ => Err(DeskFault::Unexpected),
+        }
+    }
+
+    /// Answers frames in order, up to the first fault.
+    fn answer_all<W: Write>(
+        &mut self,
+        alloc: Global,
+        frames: &[Frame],
+        sink: &mut Sink<W>,
+    ) -> Result<(), DeskFault>
+        requires frames { AllByRecursion IsWellFormed frames.now }
+        requires is_open { IsRefused self.old → ⊥ }
+        requires sink { sink.old.has_failed ≡ false }
+        ensures answered { (output : List ℕ) × Appends (W.contents sink.old.writer) (W.contents sink.new.writer) output
+            × Deals self.old frames.now self.new result output }
+        ensures write { (result ≡ Err DeskFault.Write) ↔ (sink.new.has_failed ≡ true) }
+    {
+        for frame in frames {
+            let outs = self.answer(alloc, frame)?;
+            write_all(alloc, outs, sink)?;
+        }
+        Ok(())
+    }
+
+    /// Reads a piece of the input, and answers its frames. What stands before a fault is answered first.
+    fn take_piece<W: Write>(
+        &mut self,
+        alloc: Global,
+        feed: &mut Feed,
+        piece: &[u8],
+        sink: &mut Sink<W>,
+    ) -> Result<(), DeskFault>
+        requires feed { feed.old.has_failed ≡ false }
+        requires rest { IsPartial feed.old.rest }
+        requires is_open { IsRefused self.old → ⊥ }
+        requires sink { sink.old.has_failed ≡ false }
+        ensures treated { (output : List ℕ) × Appends (W.contents sink.old.writer) (W.contents sink.new.writer) output
+            × Treats self.old self.new feed.old.rest piece.now feed.new result output }
+        ensures write { (result ≡ Err DeskFault.Write) ↔ (sink.new.has_failed ≡ true) }
+    {
+        match feed.push(piece) {
+            Ok(frames) => self.answer_all(alloc, frames.as_slice(), sink),
+            Err(refused) => {
+                self.answer_all(alloc, refused.before.as_slice(), sink)?;
+                Err(DeskFault::from(refused.fault))
+            }
+        }
+    }
+
+    /// What the end of the input means.
+    fn end(self, feed: Feed) -> Result<(), DeskFault>
+        requires { feed.has_failed ≡ false }
+        ensures { Closes self feed.rest result }
+    {
+        feed.end()?;
+        if self.broker.is_none() {
+            return Err(DeskFault::Unexpected);
+        }
+        Ok(())
+    }
+}
+
+/// A message that is dropped is not answered; but for want of memory the run ends.
+fn unanswered(alloc: Global, reason: Dropped) -> Result<Outs, DeskFault>
+    ensures { MatchResult result (λ outs. (outs ≡ []) × (reason ≢ Dropped.Memory)) (λ e. e ≡ DeskFault.Memory) }
+{
+    match reason {
+        Dropped::Memory => Err(DeskFault::Memory),
+        _ => Ok(Sequence::new(Vec::new(alloc))),
+    }
+}
+
+/// Writes the encodings of the broker's frames, in order.
+fn write_all<W: Write>(alloc: Global, outs: Outs, sink: &mut Sink<W>) -> Result<(), DeskFault>
+    requires outs { AllByRecursion IsAddressed outs }
+    requires sink { sink.old.has_failed ≡ false }
+    ensures written { (output : List ℕ) × Appends (W.contents sink.old.writer) (W.contents sink.new.writer) output
+        × Delivers (spelled outs) result output }
+    ensures write { (result ≡ Err DeskFault.Write) ↔ (sink.new.has_failed ≡ true) }
+{
+    for addressed in outs.into_vec() {
+        write_one(alloc, addressed, sink)?;
+    }
+    Ok(())
+}
+
+/// Writes the encoding of one of the broker's frames.
+fn write_one<W: Write>(
+    alloc: Global,
+    addressed: Addressed,
+    sink: &mut Sink<W>,
+) -> Result<(), DeskFault>
+    requires addressed { IsAddressed addressed }
+    requires sink { sink.old.has_failed ≡ false }
+    ensures written { (output : List ℕ) × Appends (W.contents sink.old.writer) (W.contents sink.new.writer) output
+        × Delivers (spelling (Frame.Addressed addressed)) result output }
+    ensures write { (result ≡ Err DeskFault.Write) ↔ (sink.new.has_failed ≡ true) }
+{
+    let bytes = encode(alloc, &Frame::Addressed(addressed))?;
+    sink.write(bytes.as_slice())?;
+    Ok(())
+}
+
+/// Runs a broker between a reader and a writer: reads frames, a Start frame first and then stamped frames and deaths,
+/// and writes the frames that the broker sends, up to the end of the input or the first fault.
+pub fn desk_run_on<T: LockTable, R: Read, W: Write>(
+    alloc: Global,
+    source: &mut Source<R>,
+    sink: &mut Sink<W>,
+) -> Result<(), DeskFault>
+    requires source { source.old.has_failed ≡ false }
+    requires reads { source.old.reads ≡ 0 }
+    requires sink { sink.old.has_failed ≡ false }
+
+    // What is written is the answer to what was read, and nothing else.
+    ensures runs { Runs (R.remaining source.old.reader) (R.remaining source.new.reader)
+        (W.contents sink.old.writer) (W.contents sink.new.writer) result }
+    ensures end { OnOk result (IsAtEnd (R.remaining source.new.reader)) }
+
+    // A fault of a device comes exactly where that device failed.
+    ensures read { (result ≡ Err DeskFault.Read) ↔ (source.new.has_failed ≡ true) }
+    ensures write { (result ≡ Err DeskFault.Write) ↔ (sink.new.has_failed ≡ true) }
+    ensures limit { result ≡ Err DeskFault.TooManyReads → source.new.reads ≡ 1000000 }
+{
+    let mut feed = Feed::new(alloc);
+    let mut desk = Desk::<T>::new();
+    let mut buffer = [0; PIECE_LEN];
+    // A loop is proved to end, so this one counts the reads too.
+    for _reads in 0..READ_LIMIT {
+        let n = source.read(&mut buffer)?;
+        if n == 0 {
+            return desk.end(feed);
+        }
+        desk.take_piece(alloc, &mut feed, &buffer[..n], sink)?;
+    }
+    Err(DeskFault::TooManyReads)
+}
+
+/// Runs a broker over plain lock tables between a reader and a writer: reads frames, a Start frame first and then stamped
+/// frames and deaths, and writes the frames that the broker sends, up to the end of the input or the first fault.
+pub fn desk_run<R: Read, W: Write>(
+    alloc: Global,
+    source: &mut Source<R>,
+    sink: &mut Sink<W>,
+) -> Result<(), DeskFault>
+    requires source { source.old.has_failed ≡ false }
+    requires reads { source.old.reads ≡ 0 }
+    requires sink { sink.old.has_failed ≡ false }
+
+    // What is written is the answer to what was read, and nothing else.
+    ensures runs { Runs (R.remaining source.old.reader) (R.remaining source.new.reader)
+        (W.contents sink.old.writer) (W.contents sink.new.writer) result }
+    ensures end { OnOk result (IsAtEnd (R.remaining source.new.reader)) }
+
+    // A fault of a device comes exactly where that device failed.
+    ensures read { (result ≡ Err DeskFault.Read) ↔ (source.new.has_failed ≡ true) }
+    ensures write { (result ≡ Err DeskFault.Write) ↔ (sink.new.has_failed ≡ true) }
+    ensures limit { result ≡ Err DeskFault.TooManyReads → source.new.reads ≡ 1000000 }
+{
+    desk_run_on::<PlainTable, R, W>(alloc, source, sink)
+}

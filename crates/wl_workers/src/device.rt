@@ -1,0 +1,128 @@
+//! Readers that are read so often and no more, and writers, each of which remembers whether it failed.
+
+ghost use Rattle.std.specs.Prelude.{◌≡◌, ◌≤◌, ◌<◌, ◌+◌, length, take, true, false, Err, IfOk, OnOk, OnErr};
+ghost use Rattle.std.specs.Io.KnownBytes.{Consumes, IsAtEnd, Keeps, Appends};
+ghost use Rattle.wl_workers.specs.Device.{fresh_reader, fresh_writer, WritesFront};
+
+use std::io::{Read, Write};
+use std::marker::Model;
+
+/// How many times a reader is read at most.
+pub const READ_LIMIT: u32 = 1_000_000;
+
+/// Why nothing was read.
+#[derive(Clone, Copy, Debug, PartialEq, Eq)]
+pub enum ReadFault {
+    /// The reader failed; an interrupted read is a failure too.
+    Failed,
+    /// It was read as often as it may be.
+    TooManyReads,
+}
+
+/// Why not all was written.
+#[derive(Clone, Copy, Debug, PartialEq, Eq)]
+pub struct WriteFault;
+
+/// A reader, how often it was read, and whether it has failed.
+#[derive(Drop)]
+pub struct Source<R> {
+    reader: R,
+    reads: u32,
+    has_failed: bool,
+}
+
+impl<R> Model for Source<R> {
+    ghost use Rattle.wl_workers.specs.Device.{Reading};
+    ghost use Rattle.std.specs.Prelude.{◌≤◌};
+
+    ghost Value = { Reading R };
+
+    ghost view = { λ s. record { reader = s.reader; reads = s.reads; has_failed = s.has_failed } };
+
+    ghost invariant = { λ s. s.reads ≤ 1000000 };
+}
+
+impl<R> Source<R> {
+    pub fn new(reader: R) -> Source<R>
+        ensures { result ≡ fresh_reader reader }
+    {
+        Source {
+            reader,
+            reads: 0,
+            has_failed: false,
+        }
+    }
+}
+
+impl<R: Read> Source<R> {
+    /// Reads once, at most as many bytes as the buffer has. None are read only at the end.
+    pub fn read(&mut self, buffer: &mut [u8]) -> Result<usize, ReadFault>
+        requires { 0 < length buffer.old }
+        ensures bound { IfOk result (λ n. n ≤ length buffer.new) }
+        ensures bytes { IfOk result (λ n. Consumes (R.remaining self.old.reader) (R.remaining self.new.reader) (take n buffer.new)) }
+        ensures end { IfOk result (λ n. n ≡ 0 → IsAtEnd (R.remaining self.new.reader)) }
+        ensures counted { IfOk result (λ n. (self.new.reads ≡ self.old.reads + 1) × (self.new.has_failed ≡ self.old.has_failed)) }
+        ensures failed { result ≡ Err ReadFault.Failed → (self.new.has_failed ≡ true) × Keeps (R.remaining self.old.reader) (R.remaining self.new.reader) }
+        ensures limit { result ≡ Err ReadFault.TooManyReads → (self.old.reads ≡ 1000000) × (self.new ≡ self.old) }
+    {
+        if self.reads >= READ_LIMIT {
+            return Err(ReadFault::TooManyReads);
+        }
+        self.reads += 1;
+        match self.reader.read(buffer) {
+            Ok(n) => Ok(n),
+            Err(_) => {
+                self.has_failed = true;
+                Err(ReadFault::Failed)
+            }
+        }
+    }
+}
+
+/// A writer, and whether it has failed.
+#[derive(Drop)]
+pub struct Sink<W> {
+    writer: W,
+    has_failed: bool,
+}
+
+impl<W> Model for Sink<W> {
+    ghost use Rattle.wl_workers.specs.Device.{Writing};
+
+    ghost Value = { Writing W };
+
+    ghost view = { λ s. record { writer = s.writer; has_failed = s.has_failed } };
+}
+
+impl<W> Sink<W> {
+    pub fn new(writer: W) -> Sink<W>
+        ensures { result ≡ fresh_writer writer }
+    {
+        Sink {
+            writer,
+            has_failed: false,
+        }
+    }
+}
+
+impl<W: Write> Sink<W> {
+    /// Writes the bytes, in as many writes as the writer needs. A write that takes nothing is a failure.
+    pub fn write(&mut self, bytes: &[u8]) -> Result<(), WriteFault>
+        ensures written { OnOk result (Appends (W.contents self.old.writer) (W.contents self.new.writer) bytes.now) }
+        ensures sound { OnOk result (self.new.has_failed ≡ self.old.has_failed) }
+        // What was written before the failure is a front of the bytes.
+        ensures failed { OnErr result ((self.new.has_failed ≡ true) × WritesFront (W.contents self.old.writer) (W.contents self.new.writer) bytes.now) }
+    {
+        let mut rest = bytes;
+        while !rest.is_empty() {
+            match self.writer.write(rest) {
+                Ok(n) if n > 0 => rest = &rest[n..],
+                _ => {
+                    self.has_failed = true;
+                    return Err(WriteFault);
+                }
+            }
+        }
+        Ok(())
+    }
+}

@@ -1,0 +1,4 @@
+mod desk;
+mod devices;
+mod fakes;
+mod rows;

@@ -1,0 +1,54 @@
+//! `wlb`: the lock broker of a browser's tabs, as a program.
+#![tactic(auto)]
+
+mod command;
+mod words;
+
+use command::{Line, LineFault};
+use std::process::ExitCode;
+use wl_workers::{DeskFault, Sink, Source, desk_run};
+
+/// What is wrong with the input; the command line; a device or memory.
+const REFUSED_INPUT: u8 = 1;
+
+const USAGE: u8 = 2;
+
+const DEVICE_OR_MEMORY: u8 = 3;
+
+fn main(rt: HostRuntime) -> ExitCode {
+    let alloc = rt.alloc();
+    let Ok(arguments) = std::env::args(&rt) else {
+        return failed(&rt, "Memory", DEVICE_OR_MEMORY);
+    };
+    let Ok(words) = arguments.collect::<Vec<String>>(alloc) else {
+        return failed(&rt, "Memory", DEVICE_OR_MEMORY);
+    };
+    match words::line(alloc, words.as_slice()) {
+        Ok(Line::Desk) => {
+            let mut source = Source::new(rt.stdin());
+            let mut sink = Sink::new(rt.stdout());
+            match desk_run(alloc, &mut source, &mut sink) {
+                Ok(()) => ExitCode::SUCCESS,
+                Err(fault) => failed(&rt, fault, desk_status(fault)),
+            }
+        }
+        Err(LineFault::Usage(text)) => {
+            let _ = eprint!(rt; "{text}");
+            ExitCode::from(USAGE)
+        }
+        Err(LineFault::Memory) => failed(&rt, "Memory", DEVICE_OR_MEMORY),
+    }
+}
+
+/// Names the fault on standard error. Where that fails too there is nobody left to tell.
+fn failed(rt: &impl Eprint, fault: impl std::fmt::Display + Drop, status: u8) -> ExitCode {
+    let _ = eprintln!(rt; "wlb: {fault}");
+    ExitCode::from(status)
+}
+
+fn desk_status(fault: DeskFault) -> u8 {
+    match fault {
+        DeskFault::Frame(_) | DeskFault::Unexpected | DeskFault::TooManyReads => REFUSED_INPUT,
+        DeskFault::Read | DeskFault::Write | DeskFault::Memory => DEVICE_OR_MEMORY,
+    }
+}

@@ -1,0 +1,124 @@
+"""Feeds the frames of an example file to `wlb desk`, and prints what goes in and what comes out, a frame a line.
+
+usage: demo.py EXAMPLE PROGRAM
+
+An example file has hexadecimal digits; what stands behind `#` is a comment.
+"""
+
+import subprocess
+import sys
+
+MODES = {1: "shared", 2: "exclusive"}
+STANDINGS = {1: "held", 2: "waiting"}
+OUTCOMES = {1: "waiting", 2: "granted", 3: "gone", 4: "taken"}
+
+
+class Body:
+    """The fields of a body, from left to right."""
+
+    def __init__(self, data):
+        self.data = data
+
+    def take(self, count):
+        front, self.data = self.data[:count], self.data[count:]
+        return front
+
+    def number(self, count):
+        return int.from_bytes(self.take(count), "big")
+
+    def short_text(self):
+        return repr(self.take(self.number(1)).decode())
+
+    def long_text(self):
+        return repr(self.take(self.number(2)))
+
+
+def operation(body):
+    kind = body.number(1)
+    if kind == 1:
+        mode, probe = MODES[body.number(1)], body.number(1) == 1
+        return f"{'probe' if probe else 'request'} {mode} {body.short_text()}"
+    if kind in (2, 3):
+        return f"{'release' if kind == 2 else 'abort'} of #{body.number(4)}"
+    return "query"
+
+
+def report_entry(body):
+    number, standing = body.number(4), STANDINGS[body.number(1)]
+    return f"#{number} {standing} {MODES[body.number(1)]} {body.short_text()}"
+
+
+def snapshot_entry(body):
+    standing, tab = STANDINGS[body.number(1)], body.number(2)
+    return f"{standing} by tab {tab} {MODES[body.number(1)]} {body.short_text()}"
+
+
+def listed(body, entry):
+    entries = [entry(body) for _ in range(body.number(2))]
+    return ", ".join(entries) if entries else "none"
+
+
+def meaning(body):
+    body.number(1)
+    kind = body.number(1)
+    if kind == 1:
+        return f"Command: generation {body.number(4)}, #{body.number(4)}: {operation(body)}"
+    if kind == 2:
+        return f"Report: generation {body.number(4)}, base {body.number(4)}, locks: {listed(body, report_entry)}"
+    if kind == 3:
+        return f"Post: #{body.number(4)} on {body.short_text()}: {body.long_text()}"
+    if kind == 16:
+        return f"Hello: generation {body.number(4)}"
+    if kind == 17:
+        generation, upto, number = body.number(4), body.number(4), body.number(4)
+        return f"Answer: generation {generation}, #{number} {OUTCOMES[body.number(1)]}, {upto} commands taken"
+    if kind == 18:
+        generation, number, part, parts = body.number(4), body.number(4), body.number(2), body.number(2)
+        return f"Snapshot: generation {generation}, #{number}, part {part} of {parts}: {listed(body, snapshot_entry)}"
+    if kind == 19:
+        return f"Heard: from tab {body.number(2)}, #{body.number(4)} on {body.short_text()}: {body.long_text()}"
+    if kind == 20:
+        return f"Welcome: tab {body.number(2)} of {body.long_text()}"
+    if kind == 32:
+        return f"from tab {body.number(2)} of partition {body.number(2)}: {meaning(body)}"
+    if kind == 33:
+        generation = body.number(4)
+        places = listed(body, lambda rest: f"tab {rest.number(2)} of partition {rest.number(2)}")
+        return f"Start: generation {generation}, listed: {places}"
+    if kind == 34:
+        return f"to tab {body.number(2)}: {meaning(body)}"
+    if kind == 35:
+        return f"Dead: tab {body.number(2)}"
+    return "?"
+
+
+def frames(stream):
+    while stream:
+        length = int.from_bytes(stream[:4], "big")
+        yield stream[: 4 + length]
+        stream = stream[4 + length :]
+
+
+def show(title, stream):
+    print(title)
+    for frame in frames(stream):
+        print(f"  {frame.hex().upper()}")
+        print(f"    {meaning(Body(frame[4:]))}")
+
+
+def main():
+    example, program = sys.argv[1:]
+    with open(example, encoding="utf-8") as lines:
+        digits = "".join(line.split("#")[0] for line in lines)
+    given = bytes.fromhex("".join(digits.split()))
+    show("In:", given)
+    done = subprocess.run([program, "desk"], input=given, capture_output=True, check=False)
+    show("Out:", done.stdout)
+    if done.stderr:
+        print(done.stderr.decode(), end="")
+    print(f"status {done.returncode}")
+    return done.returncode
+
+
+if __name__ == "__main__":
+    sys.exit(main())
