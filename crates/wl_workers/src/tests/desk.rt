@@ -1,7 +1,7 @@
 use crate::desk::{DeskFault, desk_run};
 use crate::device::{Sink, Source};
 use crate::tests::fakes::{SlowReader, SlowWriter};
-use crate::tests::rows::{FIRST_GRANT, ROWS};
+use crate::tests::rows::{self, FIRST_GRANT, Row};
 use std::alloc::{AllocError, Global};
 use std::process::Abort;
 use std::test::Fail;
@@ -43,25 +43,122 @@ fn expect(
     assert_eq!(rt; written.as_slice(), output, "{name}");
 }
 
-#[test]
-fn rows(rt: HostRuntime) -> Result<(), Fail> {
-    for row in [FIRST_GRANT].iter().chain(&ROWS) {
-        let input = bytes_of(rt.alloc(), row.input)?;
-        let output = bytes_of(rt.alloc(), row.output)?;
-        expect(
-            &rt,
-            rt.alloc(),
-            input.as_slice(),
-            Ok(()),
-            output.as_slice(),
-            row.name,
-        );
-    }
+fn expect_row(rt: &impl Abort, alloc: Global, row: &Row) -> Result<(), Fail> {
+    let input = bytes_of(alloc, row.input)?;
+    let output = bytes_of(alloc, row.output)?;
+    expect(
+        rt,
+        alloc,
+        input.as_slice(),
+        Ok(()),
+        output.as_slice(),
+        row.name,
+    );
     Ok(())
 }
 
+#[test]
+fn first_grant(rt: HostRuntime) -> Result<(), Fail> {
+    expect_row(&rt, rt.alloc(), &FIRST_GRANT)
+}
+
+#[test]
+fn handover(rt: HostRuntime) -> Result<(), Fail> {
+    expect_row(&rt, rt.alloc(), &rows::HANDOVER)
+}
+
+#[test]
+fn shared_then_exclusive(rt: HostRuntime) -> Result<(), Fail> {
+    expect_row(&rt, rt.alloc(), &rows::SHARED_THEN_EXCLUSIVE)
+}
+
+#[test]
+fn probe_behind_queue(rt: HostRuntime) -> Result<(), Fail> {
+    expect_row(&rt, rt.alloc(), &rows::PROBE_BEHIND_QUEUE)
+}
+
+#[test]
+fn abort_unblocks(rt: HostRuntime) -> Result<(), Fail> {
+    expect_row(&rt, rt.alloc(), &rows::ABORT_UNBLOCKS)
+}
+
+#[test]
+fn release_hands_over(rt: HostRuntime) -> Result<(), Fail> {
+    expect_row(&rt, rt.alloc(), &rows::RELEASE_HANDS_OVER)
+}
+
+#[test]
+fn late_grant_after_abort(rt: HostRuntime) -> Result<(), Fail> {
+    expect_row(&rt, rt.alloc(), &rows::LATE_GRANT_AFTER_ABORT)
+}
+
+#[test]
+fn repeated_request(rt: HostRuntime) -> Result<(), Fail> {
+    expect_row(&rt, rt.alloc(), &rows::REPEATED_REQUEST)
+}
+
+#[test]
+fn restart_while_asked(rt: HostRuntime) -> Result<(), Fail> {
+    expect_row(&rt, rt.alloc(), &rows::RESTART_WHILE_ASKED)
+}
+
+#[test]
+fn restart_while_held(rt: HostRuntime) -> Result<(), Fail> {
+    expect_row(&rt, rt.alloc(), &rows::RESTART_WHILE_HELD)
+}
+
+#[test]
+fn death_hands_over(rt: HostRuntime) -> Result<(), Fail> {
+    expect_row(&rt, rt.alloc(), &rows::DEATH_HANDS_OVER)
+}
+
+#[test]
+fn other_origin_unblocked(rt: HostRuntime) -> Result<(), Fail> {
+    expect_row(&rt, rt.alloc(), &rows::OTHER_ORIGIN_UNBLOCKED)
+}
+
+#[test]
+fn origins_apart(rt: HostRuntime) -> Result<(), Fail> {
+    expect_row(&rt, rt.alloc(), &rows::ORIGINS_APART)
+}
+
+#[test]
+fn refusals(rt: HostRuntime) -> Result<(), Fail> {
+    expect_row(&rt, rt.alloc(), &rows::REFUSALS)
+}
+
+#[test]
+fn snapshot(rt: HostRuntime) -> Result<(), Fail> {
+    expect_row(&rt, rt.alloc(), &rows::SNAPSHOT)
+}
+
+#[test]
+fn missing_tab(rt: HostRuntime) -> Result<(), Fail> {
+    expect_row(&rt, rt.alloc(), &rows::MISSING_TAB)
+}
+
+#[test]
+fn out_of_turn(rt: HostRuntime) -> Result<(), Fail> {
+    expect_row(&rt, rt.alloc(), &rows::OUT_OF_TURN)
+}
+
+#[test]
+fn held_newcomer(rt: HostRuntime) -> Result<(), Fail> {
+    expect_row(&rt, rt.alloc(), &rows::HELD_NEWCOMER)
+}
+
+#[test]
+fn commands(rt: HostRuntime) -> Result<(), Fail> {
+    expect_row(&rt, rt.alloc(), &rows::COMMANDS)
+}
+
+#[test]
+fn snapshot_of_65(rt: HostRuntime) -> Result<(), Fail> {
+    expect_row(&rt, rt.alloc(), &rows::SNAPSHOT_OF_65)
+}
+
 /// The input and the output of the first row.
-fn first_grant(alloc: Global) -> Result<(Vec<u8>, Vec<u8>), AllocError> {
+fn first_exchange(alloc: Global) -> Result<(Vec<u8>, Vec<u8>), AllocError> {
     Ok((
         bytes_of(alloc, FIRST_GRANT.input)?,
         bytes_of(alloc, FIRST_GRANT.output)?,
@@ -72,7 +169,7 @@ fn first_grant(alloc: Global) -> Result<(Vec<u8>, Vec<u8>), AllocError> {
 fn unexpected_frames(rt: HostRuntime) -> Result<(), Fail> {
     let alloc = rt.alloc();
     expect(&rt, alloc, b"", Err(DeskFault::Unexpected), b"", "no frame");
-    let (mut input, output) = first_grant(alloc)?;
+    let (mut input, output) = first_exchange(alloc)?;
     let start = bytes_of(alloc, &["00000008 01 21 00000001 0000"])?;
     input.extend_from_slice(start.as_slice())?;
     expect(
@@ -89,7 +186,7 @@ fn unexpected_frames(rt: HostRuntime) -> Result<(), Fail> {
 #[test]
 fn cut_input(rt: HostRuntime) -> Result<(), Fail> {
     let alloc = rt.alloc();
-    let (input, _output) = first_grant(alloc)?;
+    let (input, _output) = first_exchange(alloc)?;
     assert_eq!(rt; input.len(), 59);
     for len in 0..59 {
         let end = match len {
@@ -105,7 +202,7 @@ fn cut_input(rt: HostRuntime) -> Result<(), Fail> {
 #[test]
 fn failing_reader(rt: HostRuntime) -> Result<(), Fail> {
     let alloc = rt.alloc();
-    let (input, output) = first_grant(alloc)?;
+    let (input, output) = first_exchange(alloc)?;
     for reads in 0..60 {
         let mut source = Source::new(SlowReader::new(input.as_slice(), reads));
         let mut written = Vec::new(alloc);
@@ -127,7 +224,7 @@ fn failing_reader(rt: HostRuntime) -> Result<(), Fail> {
 #[test]
 fn failing_writer(rt: HostRuntime) -> Result<(), Fail> {
     let alloc = rt.alloc();
-    let (input, output) = first_grant(alloc)?;
+    let (input, output) = first_exchange(alloc)?;
     assert_eq!(rt; output.len(), 23);
     for writes in 0..23 {
         let mut source = Source::new(input.as_slice());
