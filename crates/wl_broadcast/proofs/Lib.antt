@@ -1,0 +1,4 @@
+pub mod Delivering
+pub mod Numbered
+pub mod Gained
+pub mod Rising

@@ -1,0 +1,13 @@
+use Rattle.std.proofs.Common.{sym, ap, ◌∙◌, arith}
+use Rattle.std.proofs.lemmas.List.{with_items_is}
+use Rattle.wl_broadcast.specs.Channels.{changed_at, rest_of}
+use Rattle.wl_broadcast.specs.OpenObjects.{all_seen, open_from}
+use Rattle.wl_broadcast.proofs.Numbered.{open-read}
+use Rattle.wl_broadcast.proofs.channels.Channels.read.Goals as goal
+
+pub invariant_of-self : goal.invariant_of-self
+invariant_of-self c =
+    let n = c.args.channel.now.number in
+    let whole = with_items_is c.self.inside.objects c.read_at.new.objects (omega (arith, c.read_at.auto.objects, c.deref_mut.ensures.len, c.self.inside.objects.ok.0)) in
+    let rest = c.read_at.ensures.rest ∙ ap (λ os. changed_at n (λ o. record o { inbox = rest_of o.inbox }) (all_seen os)) c.deref_mut.ensures.value in
+    sym (ap (λ os. open_from 0 (all_seen os)) whole ∙ ap (open_from 0) rest ∙ open-read 0 n (all_seen c.self.inside.objects.items) ∙ sym c.self.invariant)

@@ -1,0 +1,318 @@
+//! A tab's channels.
+
+ghost use Rattle.std.specs.Prelude.{◌≡◌, ◌≢◌, ◌==◌, ◌<◌, ◌^◌, ◌++◌, length, filter, not, None, Some, Err, IfOk, OnOk, IfErr, OnErr, IsTrue};
+ghost use Rattle.wl_draft.specs.Tables.{put};
+ghost use Rattle.wl_broadcast.specs.OpenObjects.{all_seen, open_from};
+ghost use Rattle.wl_broadcast.specs.Channels.{no_channels, opened, delivered, posted, post_frame, name_at, taking, full, after_hearing, hearing_of, read_at, closed_at, inbox_at, first_of, is_own, is_old, open_refusal, post_refusal, own_refusal, heard_refusal};
+
+use crate::channel::{Channel, Foreign};
+use crate::fault::ChannelFault;
+use crate::letter::{Hearing, Letter, Posted};
+use crate::object::{self, ChannelObject, Delivery, Takers};
+use bytes::Bytes;
+use std::alloc::{AllocError, Global};
+use std::collections::BTreeMap;
+use std::marker::Model;
+use wl_draft::Name;
+use wl_frames::{Frame, Post, Sequence};
+
+/// The most bytes of a name.
+const NAME_LIMIT: usize = 255;
+
+/// The most bytes of a post.
+const DATA_LIMIT: usize = 16_384;
+
+/// The most channels of a tab that are open at once.
+const CHANNEL_LIMIT: usize = 64;
+
+/// The most posts of a tab in its life.
+const POST_LIMIT: u32 = 1_000_000;
+
+/// The channels of a tab, its posts, and the last post that it heard of each other tab.
+#[derive(Drop)]
+pub struct Channels {
+    alloc: Global,
+    tab: u16,
+    /// All that were ever opened, the closed ones too.
+    objects: Vec<ChannelObject>,
+    /// The numbers of the open ones, oldest first.
+    open_numbers: Vec<usize>,
+    posts: u32,
+    /// The number of the last post heard, by source.
+    last: BTreeMap<u16, u32>,
+}
+
+impl Model for Channels {
+    ghost use Rattle.std.specs.Prelude.{◌≡◌};
+    ghost use Rattle.wl_broadcast.specs.Channels.{ChannelState};
+    ghost use Rattle.wl_broadcast.specs.OpenObjects.{all_seen, open_from};
+
+    ghost Value = { ChannelState };
+
+    ghost view = { λ c. record { tab = c.tab; objects = all_seen c.objects.items; posts = c.posts; last = c.last.entries } };
+
+    ghost invariant = { λ c. c.open_numbers.items ≡ open_from 0 (all_seen c.objects.items) };
+}
+
+impl Channels {
+    /// The channels of a tab that has opened none.
+    pub fn new(alloc: Global, tab: u16) -> Channels
+        ensures { result ≡ no_channels tab }
+    {
+        Channels {
+            alloc,
+            tab,
+            objects: Vec::new(alloc),
+            open_numbers: Vec::new(alloc),
+            posts: 0,
+            last: BTreeMap::new(alloc),
+        }
+    }
+
+    /// Opens a channel object of the name, behind the others.
+    pub fn open(&mut self, name: &str) -> Result<Channel, ChannelFault>
+        ensures ok { OnOk result ((self.new ≡ opened name.now self.old) × (open_refusal name.now self.old ≡ None)) }
+        ensures channel { IfOk result (λ c. (c.tab ≡ self.old.tab) × (c.number ≡ length self.old.objects)) }
+        ensures refused { IfErr result (λ e. e ≢ ChannelFault.Memory → open_refusal name.now self.old ≡ Some e) }
+        ensures memory { result ≡ Err ChannelFault.Memory → open_refusal name.now self.old ≡ None }
+        ensures err { OnErr result (self.new ≡ self.old) }
+    {
+        if name.len() > NAME_LIMIT {
+            return Err(ChannelFault::NameTooLong);
+        }
+        if self.open_numbers.len() >= CHANNEL_LIMIT {
+            return Err(ChannelFault::TooManyChannels);
+        }
+        let name = Name::new(String::from_str(self.alloc, name)?);
+        let object = ChannelObject::new(self.alloc, name);
+        let number = self.objects.len();
+        self.open_numbers.reserve(1)?;
+        self.objects.push(object)?;
+        self.open_numbers.push_reserved(number);
+        Ok(Channel {
+            tab: self.tab,
+            number,
+        })
+    }
+
+    /// Posts data on a channel: the tab's other open objects of its name get it at once, oldest first.
+    pub fn post(&mut self, channel: &Channel, data: &[u8]) -> Result<Posted, ChannelFault>
+        ensures ok { OnOk result (self.new ≡ posted channel.now.number data.now self.old) }
+        ensures allowed { OnOk result (post_refusal channel.now.tab channel.now.number data.now self.old ≡ None) }
+        ensures posted { IfOk result (λ p.
+            (p.frame ≡ post_frame self.old.posts (name_at self.old.objects channel.now.number) data.now)
+            × (p.took ≡ taking (Some channel.now.number) (name_at self.old.objects channel.now.number) self.old.objects)
+            × (p.full ≡ full (Some channel.now.number) (name_at self.old.objects channel.now.number) self.old.objects)) }
+        ensures refused { IfErr result (λ e. e ≢ ChannelFault.Memory → post_refusal channel.now.tab channel.now.number data.now self.old ≡ Some e) }
+        ensures memory { result ≡ Err ChannelFault.Memory → post_refusal channel.now.tab channel.now.number data.now self.old ≡ None }
+        ensures err { OnErr result (self.new ≡ self.old) }
+    {
+        if data.len() > DATA_LIMIT {
+            return Err(ChannelFault::DataTooLong);
+        }
+        if self.posts >= POST_LIMIT {
+            return Err(ChannelFault::PostsUsedUp);
+        }
+        if !self.is_own(channel) {
+            return Err(ChannelFault::ForeignChannel);
+        }
+        let name = object::name_at(&self.objects, channel.number).copy(self.alloc)?;
+        let bytes = Bytes::copy_from_slice(self.alloc, data)?;
+        let letter = Letter {
+            source: self.tab,
+            number: self.posts,
+            bytes: bytes.clone()?,
+        };
+        let delivery = Delivery {
+            sender: Some(channel.number),
+            name: &name,
+            letter: &letter,
+        };
+        let Takers { took, full } = self.deliver(&delivery)?;
+        let number = self.posts;
+        self.posts += 1;
+        Ok(Posted {
+            frame: Frame::Post(Post {
+                number,
+                channel: name,
+                data: bytes,
+            }),
+            took: Sequence::new(took),
+            full: Sequence::new(full),
+        })
+    }
+
+    /// Takes another tab's post in. An old one changes nothing.
+    pub fn heard(&mut self, frame: &Frame) -> Result<Hearing, ChannelFault>
+        ensures ok { OnOk result ((self.new ≡ after_hearing frame.now self.old) × (heard_refusal frame.now ≡ None)) }
+        ensures hearing { IfOk result (λ h. h ≡ hearing_of frame.now self.old) }
+        ensures refused { IfErr result (λ e. e ≢ ChannelFault.Memory → heard_refusal frame.now ≡ Some e) }
+        ensures memory { result ≡ Err ChannelFault.Memory → heard_refusal frame.now ≡ None }
+        ensures err { OnErr result (self.new ≡ self.old) }
+    {
+        let Frame::Heard(heard) = frame else {
+            return Err(ChannelFault::WrongKind);
+        };
+        if self.is_old(heard.source, heard.number) {
+            return Ok(Hearing::Old);
+        }
+        let letter = Letter {
+            source: heard.source,
+            number: heard.number,
+            bytes: heard.data.clone()?,
+        };
+        let delivery = Delivery {
+            sender: None,
+            name: &heard.channel,
+            letter: &letter,
+        };
+        let mut takers = Takers::new(self.alloc);
+        hear(
+            &mut self.objects,
+            &self.open_numbers,
+            &mut self.last,
+            &delivery,
+            &mut takers,
+        )?;
+        let Takers { took, full } = takers;
+        Ok(Hearing::New {
+            took: Sequence::new(took),
+            full: Sequence::new(full),
+        })
+    }
+
+    /// How many posts wait in the channel's inbox.
+    pub fn inbox(&self, channel: &Channel) -> Result<usize, ChannelFault>
+        ensures ok { IfOk result (λ n. n ≡ length (inbox_at self.now.objects channel.now.number)) }
+        ensures allowed { OnOk result (own_refusal channel.now.tab channel.now.number self.now ≡ None) }
+        ensures refused { IfErr result (λ e. own_refusal channel.now.tab channel.now.number self.now ≡ Some e) }
+    {
+        if !self.is_own(channel) {
+            return Err(ChannelFault::ForeignChannel);
+        }
+        Ok(object::waiting_at(&self.objects, channel.number))
+    }
+
+    /// Takes the oldest post out. It takes no memory.
+    pub fn read(&mut self, channel: &Channel) -> Result<Option<Letter>, ChannelFault>
+        ensures ok { OnOk result (self.new ≡ read_at channel.now.number self.old) }
+        ensures letter { IfOk result (λ letter. letter ≡ first_of (inbox_at self.old.objects channel.now.number)) }
+        ensures allowed { OnOk result (own_refusal channel.now.tab channel.now.number self.old ≡ None) }
+        ensures refused { IfErr result (λ e. own_refusal channel.now.tab channel.now.number self.old ≡ Some e) }
+        ensures err { OnErr result (self.new ≡ self.old) }
+    {
+        if !self.is_own(channel) {
+            return Err(ChannelFault::ForeignChannel);
+        }
+        Ok(object::read_at(&mut self.objects, channel.number))
+    }
+
+    /// Closes a channel: it takes no more posts, and what it had not read is gone. It takes no memory.
+    pub fn close(&mut self, channel: Channel) -> Result<(), Foreign<Channel>>
+        ensures ok { OnOk result (self.new ≡ closed_at channel.number self.old) }
+        ensures allowed { OnOk result (own_refusal channel.tab channel.number self.old ≡ None) }
+        ensures refused { OnErr result (own_refusal channel.tab channel.number self.old ≡ Some ChannelFault.ForeignChannel) }
+        ensures given_back { IfErr result (λ foreign. foreign.value ≡ channel) }
+        ensures err { OnErr result (self.new ≡ self.old) }
+    {
+        if !self.is_own(&channel) {
+            return Err(Foreign { value: channel });
+        }
+        let Channel { tab: _, number } = channel;
+        object::close_at(&mut self.objects, number, self.alloc);
+        forget(&mut self.open_numbers, number);
+        Ok(())
+    }
+
+    /// Ends the tab's channels with the channels that it still holds.
+    pub fn end(self, mut channels: Vec<Channel>) {
+        while let Some(channel) = channels.pop() {
+            let Channel { tab: _, number: _ } = channel;
+        }
+        channels.destroy_empty();
+    }
+
+    /// Delivers a post to the open objects, all or none.
+    fn deliver(&mut self, delivery: &Delivery) -> Result<Takers, AllocError>
+        ensures ok { OnOk result (self.new
+            ≡ record self.old { objects = delivered delivery.now.sender delivery.now.name.now delivery.now.letter.now self.old.objects }) }
+        ensures took { IfOk result (λ takers. takers.took.items ≡ taking delivery.now.sender delivery.now.name.now self.old.objects) }
+        ensures full { IfOk result (λ takers. takers.full.items ≡ full delivery.now.sender delivery.now.name.now self.old.objects) }
+        ensures err { OnErr result (self.new ≡ self.old) }
+    {
+        let mut takers = Takers::new(self.alloc);
+        object::deliver(
+            &mut self.objects,
+            0,
+            &self.open_numbers,
+            delivery,
+            &mut takers,
+        )?;
+        Ok(takers)
+    }
+
+    /// Whether this post or a later one of its source was heard.
+    fn is_old(&self, source: u16, number: u32) -> bool
+        ensures { result ≡ is_old self.now source number }
+    {
+        match self.last.get(&source) {
+            Some(last) => number <= *last,
+            None => false,
+        }
+    }
+
+    /// Whether the channel is an open one of this tab.
+    fn is_own(&self, channel: &Channel) -> bool
+        ensures value { result ≡ is_own self.now channel.now.tab channel.now.number }
+        ensures within { IsTrue result → channel.now.number < length self.now.objects }
+    {
+        channel.tab == self.tab && object::is_open_at(&self.objects, channel.number)
+    }
+}
+
+/// Takes the number out.
+fn forget(numbers: &mut Vec<usize>, number: usize)
+    ensures { numbers.new.items ≡ filter (λ n. not (n == number)) numbers.old.items }
+{
+    numbers.retain(|n| *n != number);
+}
+
+/// Delivers another tab's post and puts its number as the last one heard of its source: both, or neither.
+fn hear(
+    objects: &mut [ChannelObject],
+    open_numbers: &[usize],
+    last: &mut BTreeMap<u16, u32>,
+    delivery: &Delivery,
+    takers: &mut Takers,
+) -> Result<(), AllocError>
+    requires numbers { length objects.old < 2 ^ 64 }
+    requires open { open_numbers.now ≡ open_from 0 (all_seen objects.old) }
+    ensures ok { OnOk result (all_seen objects.new
+        ≡ delivered delivery.now.sender delivery.now.name.now delivery.now.letter.now (all_seen objects.old)) }
+    ensures open { OnOk result (open_from 0 (all_seen objects.new) ≡ open_from 0 (all_seen objects.old)) }
+    ensures last { OnOk result (last.new.entries
+        ≡ put delivery.now.letter.now.source delivery.now.letter.now.number last.old.entries) }
+    ensures took { OnOk result (takers.new.took.items
+        ≡ takers.old.took.items ++ taking delivery.now.sender delivery.now.name.now (all_seen objects.old)) }
+    ensures full { OnOk result (takers.new.full.items
+        ≡ takers.old.full.items ++ full delivery.now.sender delivery.now.name.now (all_seen objects.old)) }
+    ensures err { OnErr result ((all_seen objects.new ≡ all_seen objects.old) × (last.new.entries ≡ last.old.entries)) }
+{
+    let Letter { source, number, .. } = delivery.letter;
+    if last.contains_key(source) {
+        object::deliver(objects, 0, open_numbers, delivery, takers)?;
+        // The row is there, so this is never refused.
+        last.insert(*source, *number)?;
+        return Ok(());
+    }
+    // The row of a new source may be refused, so it is put before any object takes the post.
+    last.insert(*source, *number)?;
+    if let Err(refused) = object::deliver(objects, 0, open_numbers, delivery, takers) {
+        last.remove(source);
+        return Err(refused);
+    }
+    Ok(())
+}
+
+#[cfg(test)]
+mod tests;
