@@ -135,7 +135,7 @@ impl Channels {
             frame: Frame::Post(Post {
                 number,
                 channel: name,
-                data: bytes,
+                bytes,
             }),
             took: Sequence::new(took),
             full: Sequence::new(full),
@@ -159,7 +159,7 @@ impl Channels {
         let letter = Letter {
             source: heard.source,
             number: heard.number,
-            bytes: heard.data.clone()?,
+            bytes: heard.bytes.clone()?,
         };
         let delivery = Delivery {
             sender: None,

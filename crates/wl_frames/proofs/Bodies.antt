@@ -155,21 +155,21 @@ report_form =
 
 -- ---- posts
 
-pub post_form : IsForm (λ p. u32 p.number ++ short_text p.channel ++ long_text p.«data») IsPost Any post_at
+pub post_form : IsForm (λ p. u32 p.number ++ short_text p.channel ++ long_text p.bytes) IsPost Any post_at
 unfolding post_at
 post_form =
-    let parts : IsForm (λ (p : Post). u32 p.number ++ (short_text p.channel ++ long_text p.«data»)) (λ p. ⊤ × (IsU32 p.number × (IsChannel p.channel × IsData p.«data»))) Any post_at =
-    then_form _ (λ p. p.number) u32_form (λ n. then_form _ (λ p. p.channel) channel_form (λ c. last_form (λ p. p.«data») (λ d. record { number = n; channel = c; «data» = d }) data_form (λ p k. rw (← k.0, ← k.1.0) refl) (λ d. ((refl, (refl, tt)), refl)))) in
+    let parts : IsForm (λ (p : Post). u32 p.number ++ (short_text p.channel ++ long_text p.bytes)) (λ p. ⊤ × (IsU32 p.number × (IsChannel p.channel × IsData p.bytes))) Any post_at =
+    then_form _ (λ p. p.number) u32_form (λ n. then_form _ (λ p. p.channel) channel_form (λ c. last_form (λ p. p.bytes) (λ d. record { number = n; channel = c; bytes = d }) data_form (λ p k. rw (← k.0, ← k.1.0) refl) (λ d. ((refl, (refl, tt)), refl)))) in
     same_form parts
     (λ p. refl)
     (λ p h. record { number = h.1.0; channel = h.1.1.0; bytes = h.1.1.1 })
     (λ p h. (tt, (h.number, (h.channel, h.bytes))))
 
-pub heard_form : IsForm (λ h. u16 h.source ++ u32 h.number ++ short_text h.channel ++ long_text h.«data») IsHeard Any heard_at
+pub heard_form : IsForm (λ h. u16 h.source ++ u32 h.number ++ short_text h.channel ++ long_text h.bytes) IsHeard Any heard_at
 unfolding heard_at
 heard_form =
-    let parts : IsForm (λ (h : Heard). u16 h.source ++ (u32 h.number ++ (short_text h.channel ++ long_text h.«data»))) (λ h. ⊤ × (IsTab h.source × (IsU32 h.number × (IsChannel h.channel × IsData h.«data»)))) Any heard_at =
-    then_form _ (λ h. h.source) tab_form (λ s. then_form _ (λ h. h.number) u32_form (λ n. then_form _ (λ h. h.channel) channel_form (λ c. last_form (λ h. h.«data») (λ d. record { source = s; number = n; channel = c; «data» = d }) data_form (λ h k. rw (← k.0, ← k.1.0, ← k.1.1.0) refl) (λ d. ((refl, (refl, (refl, tt))), refl))))) in
+    let parts : IsForm (λ (h : Heard). u16 h.source ++ (u32 h.number ++ (short_text h.channel ++ long_text h.bytes))) (λ h. ⊤ × (IsTab h.source × (IsU32 h.number × (IsChannel h.channel × IsData h.bytes)))) Any heard_at =
+    then_form _ (λ h. h.source) tab_form (λ s. then_form _ (λ h. h.number) u32_form (λ n. then_form _ (λ h. h.channel) channel_form (λ c. last_form (λ h. h.bytes) (λ d. record { source = s; number = n; channel = c; bytes = d }) data_form (λ h k. rw (← k.0, ← k.1.0, ← k.1.1.0) refl) (λ d. ((refl, (refl, (refl, tt))), refl))))) in
     same_form parts
     (λ h. refl)
     (λ x h. record { source = h.1.0; number = h.1.1.0; channel = h.1.1.1.0; bytes = h.1.1.1.1 })

@@ -248,11 +248,11 @@ kind_of (frame.Dead d) = kind.Dead
 abbrev pub fields : Frame → List ℕ
 fields (frame.Command c) = u32 c.generation ++ u32 c.number ++ operation c.operation
 fields (frame.Report r) = u32 r.generation ++ u32 r.base ++ u16 (length r.entries) ++ flat_map entry r.entries
-fields (frame.Post p) = u32 p.number ++ short_text p.channel ++ long_text p.«data»
+fields (frame.Post p) = u32 p.number ++ short_text p.channel ++ long_text p.bytes
 fields (frame.Hello h) = u32 h.generation
 fields (frame.Answer a) = u32 a.generation ++ u32 a.upto ++ u32 a.number ++ spelled_outcome a.outcome
 fields (frame.Snapshot s) = u32 s.generation ++ u32 s.number ++ u16 s.part ++ u16 s.parts ++ u16 (length s.entries) ++ flat_map snapshot_entry s.entries
-fields (frame.Heard h) = u16 h.source ++ u32 h.number ++ short_text h.channel ++ long_text h.«data»
+fields (frame.Heard h) = u16 h.source ++ u32 h.number ++ short_text h.channel ++ long_text h.bytes
 fields (frame.Welcome w) = u16 w.tab ++ long_text w.origin
 fields (frame.Stamped s) = u16 s.tab ++ u16 s.partition ++ upward s.inner
 fields (frame.Start s) = u32 s.generation ++ u16 (length s.list) ++ flat_map place s.list

@@ -92,7 +92,7 @@ post_at bytes = do
   number ← number_at w32 bytes
   channel ← channel_at number.1
   bytes ← data_at channel.1
-  Some (record { number = number.0; channel = channel.0; «data» = bytes.0 }, bytes.1)
+  Some (record { number = number.0; channel = channel.0; bytes = bytes.0 }, bytes.1)
 
 unfoldable pub heard_at : List ℕ → Option (Heard × List ℕ)
 heard_at bytes = do
@@ -100,7 +100,7 @@ heard_at bytes = do
   number ← number_at w32 source.1
   channel ← channel_at number.1
   bytes ← data_at channel.1
-  Some (record { source = source.0; number = number.0; channel = channel.0; «data» = bytes.0 }, bytes.1)
+  Some (record { source = source.0; number = number.0; channel = channel.0; bytes = bytes.0 }, bytes.1)
 
 -- ---- what a broker tells
 

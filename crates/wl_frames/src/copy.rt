@@ -11,7 +11,7 @@ use std::alloc::{AllocError, Global};
 use wl_draft::Entry;
 
 impl Frame {
-    /// An equal frame. The data of posts is shared with this one, and all else is in memory of its own.
+    /// An equal frame. The bytes of posts are shared with this one, and all else is in memory of its own.
     pub fn copy(&self, alloc: Global) -> Result<Frame, AllocError>
         ensures { IfOk result (λ copy. copy ≡ self.now) }
     {
@@ -124,7 +124,7 @@ impl Post {
         Ok(Post {
             number: self.number,
             channel: self.channel.copy(alloc)?,
-            data: self.data.clone()?,
+            bytes: self.bytes.clone()?,
         })
     }
 }
@@ -176,7 +176,7 @@ impl Heard {
             source: self.source,
             number: self.number,
             channel: self.channel.copy(alloc)?,
-            data: self.data.clone()?,
+            bytes: self.bytes.clone()?,
         })
     }
 }

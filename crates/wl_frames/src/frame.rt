@@ -48,7 +48,7 @@ pub struct Report {
 pub struct Post {
     pub number: u32,
     pub channel: Name,
-    pub data: Bytes,
+    pub bytes: Bytes,
 }
 
 /// Tells a tab that a generation has begun.
@@ -109,7 +109,7 @@ pub struct Heard {
     pub source: u16,
     pub number: u32,
     pub channel: Name,
-    pub data: Bytes,
+    pub bytes: Bytes,
 }
 
 /// Tells a tab process who it is.

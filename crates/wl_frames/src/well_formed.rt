@@ -161,7 +161,7 @@ impl Post {
         ensures { IsTrue result ↔ IsPost self.now }
     {
         let _number = self.number;
-        is_channel(&self.channel) && is_data(self.data.as_slice())
+        is_channel(&self.channel) && is_data(self.bytes.as_slice())
     }
 }
 
@@ -201,7 +201,7 @@ impl Heard {
         ensures { IsTrue result ↔ IsHeard self.now }
     {
         let _number = self.number;
-        is_tab(self.source) && is_channel(&self.channel) && is_data(self.data.as_slice())
+        is_tab(self.source) && is_channel(&self.channel) && is_data(self.bytes.as_slice())
     }
 }
 

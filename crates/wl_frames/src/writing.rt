@@ -257,7 +257,7 @@ fn put_post(out: &mut Vec<u8>, p: &Post) -> Result<(), AllocError>
     put_kind(out, 3)?;
     put_u32(out, p.number)?;
     put_short_text(out, p.channel.as_str())?;
-    put_long_text(out, p.data.as_slice())
+    put_long_text(out, p.bytes.as_slice())
 }
 
 #[tactic(auto, unfolding(crate::specs::Grammar::hello))]
@@ -301,7 +301,7 @@ fn put_heard(out: &mut Vec<u8>, h: &Heard) -> Result<(), AllocError>
     put_u16(out, h.source)?;
     put_u32(out, h.number)?;
     put_short_text(out, h.channel.as_str())?;
-    put_long_text(out, h.data.as_slice())
+    put_long_text(out, h.bytes.as_slice())
 }
 
 #[tactic(auto, unfolding(crate::specs::Grammar::welcome))]

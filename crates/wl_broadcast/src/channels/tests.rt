@@ -67,7 +67,7 @@ fn frame(
         source,
         number,
         channel: Name::new(String::from_str(alloc, "n")?),
-        data: Bytes::from_static(data),
+        bytes: Bytes::from_static(data),
     }))
 }
 
@@ -133,7 +133,7 @@ fn broadcast(rt: HostRuntime) {
         panic!(rt; "no post");
     };
     assert_eq!(rt;
-        (post.number, post.channel.as_str(), post.data.as_slice()),
+        (post.number, post.channel.as_str(), post.bytes.as_slice()),
         (0, "n", b"x".as_slice())
     );
     assert!(rt; is_letter(first.read(&twin), 1, 0));

@@ -157,7 +157,7 @@ fn post_of(alloc: Global, bytes: &[u8]) -> Result<(Post, &[u8]), ReadFault>
         Post {
             number,
             channel,
-            data,
+            bytes: data,
         },
         rest,
     ))
@@ -271,7 +271,7 @@ fn heard_of(alloc: Global, bytes: &[u8]) -> Result<(Heard, &[u8]), ReadFault>
             source,
             number,
             channel,
-            data,
+            bytes: data,
         },
         rest,
     ))

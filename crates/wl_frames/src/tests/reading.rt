@@ -61,7 +61,7 @@ fn one_frame_of_every_other_kind(rt: HostRuntime) -> Result<(), Fail> {
         ),
         (
             &[1, 3, 0, 0, 0, 9, 1, b'-', 0, 2, 0xFF, b'x'],
-            "Post(Post { number: 9, channel: Name { text: \"-\" }, data: b\"\\xffx\" })",
+            "Post(Post { number: 9, channel: Name { text: \"-\" }, bytes: b\"\\xffx\" })",
         ),
         (&[1, 16, 0, 0, 0, 1], "Hello(Hello { generation: 1 })"),
         (
@@ -77,7 +77,7 @@ fn one_frame_of_every_other_kind(rt: HostRuntime) -> Result<(), Fail> {
         ),
         (
             &[1, 19, 0, 1, 0, 0, 0, 4, 1, b'n', 0, 0],
-            "Heard(Heard { source: 1, number: 4, channel: Name { text: \"n\" }, data: b\"\" })",
+            "Heard(Heard { source: 1, number: 4, channel: Name { text: \"n\" }, bytes: b\"\" })",
         ),
         (
             &[

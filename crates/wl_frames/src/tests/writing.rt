@@ -28,7 +28,7 @@ fn post(alloc: Global, channel: &str, data: &[u8]) -> Result<Frame, AllocError> 
     Ok(Frame::Post(Post {
         number: 1,
         channel: name(alloc, channel)?,
-        data: Bytes::copy_from_slice(alloc, data)?,
+        bytes: Bytes::copy_from_slice(alloc, data)?,
     }))
 }
 
@@ -142,7 +142,7 @@ fn texts_spelled(rt: HostRuntime) -> Result<(), Fail> {
         source: 2,
         number: 1,
         channel: name(alloc, "c")?,
-        data: Bytes::from_static(&[7]),
+        bytes: Bytes::from_static(&[7]),
     });
     let bytes = b"\x00\x00\x00\x0D\x01\x13\x00\x02\x00\x00\x00\x01\x01c\x00\x01\x07";
     expect_bytes(&rt, alloc, heard, bytes)?;
