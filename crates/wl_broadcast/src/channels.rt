@@ -96,18 +96,18 @@ impl Channels {
     }
 
     /// Posts data on a channel: the tab's other open objects of its name get it at once, oldest first.
-    pub fn post(&mut self, channel: &Channel, data: &[u8]) -> Result<Posted, ChannelFault>
-        ensures ok { OnOk result (self.new ≡ posted channel.now.number data.now self.old) }
-        ensures allowed { OnOk result (post_refusal channel.now.tab channel.now.number data.now self.old ≡ None) }
+    pub fn post(&mut self, channel: &Channel, bytes: &[u8]) -> Result<Posted, ChannelFault>
+        ensures ok { OnOk result (self.new ≡ posted channel.now.number bytes.now self.old) }
+        ensures allowed { OnOk result (post_refusal channel.now.tab channel.now.number bytes.now self.old ≡ None) }
         ensures posted { IfOk result (λ p.
-            (p.frame ≡ post_frame self.old.posts (name_at self.old.objects channel.now.number) data.now)
+            (p.frame ≡ post_frame self.old.posts (name_at self.old.objects channel.now.number) bytes.now)
             × (p.took ≡ taking (Some channel.now.number) (name_at self.old.objects channel.now.number) self.old.objects)
             × (p.full ≡ full (Some channel.now.number) (name_at self.old.objects channel.now.number) self.old.objects)) }
-        ensures refused { IfErr result (λ e. e ≢ ChannelFault.Memory → post_refusal channel.now.tab channel.now.number data.now self.old ≡ Some e) }
-        ensures memory { result ≡ Err ChannelFault.Memory → post_refusal channel.now.tab channel.now.number data.now self.old ≡ None }
+        ensures refused { IfErr result (λ e. e ≢ ChannelFault.Memory → post_refusal channel.now.tab channel.now.number bytes.now self.old ≡ Some e) }
+        ensures memory { result ≡ Err ChannelFault.Memory → post_refusal channel.now.tab channel.now.number bytes.now self.old ≡ None }
         ensures err { OnErr result (self.new ≡ self.old) }
     {
-        if data.len() > DATA_LIMIT {
+        if bytes.len() > DATA_LIMIT {
             return Err(ChannelFault::DataTooLong);
         }
         if self.posts >= POST_LIMIT {
@@ -117,11 +117,11 @@ impl Channels {
             return Err(ChannelFault::ForeignChannel);
         }
         let name = object::name_at(&self.objects, channel.number).copy(self.alloc)?;
-        let bytes = Bytes::copy_from_slice(self.alloc, data)?;
+        let content = Bytes::copy_from_slice(self.alloc, bytes)?;
         let letter = Letter {
             source: self.tab,
             number: self.posts,
-            bytes: bytes.clone()?,
+            bytes: content.clone()?,
         };
         let delivery = Delivery {
             sender: Some(channel.number),
@@ -135,7 +135,7 @@ impl Channels {
             frame: Frame::Post(Post {
                 number,
                 channel: name,
-                bytes,
+                bytes: content,
             }),
             took: Sequence::new(took),
             full: Sequence::new(full),
@@ -289,7 +289,7 @@ fn hear(
     requires open { open_numbers.now ≡ open_from 0 (all_seen objects.old) }
     ensures ok { OnOk result (all_seen objects.new
         ≡ delivered delivery.now.sender delivery.now.name.now delivery.now.letter.now (all_seen objects.old)) }
-    ensures open { OnOk result (open_from 0 (all_seen objects.new) ≡ open_from 0 (all_seen objects.old)) }
+    ensures kept_open { OnOk result (open_from 0 (all_seen objects.new) ≡ open_from 0 (all_seen objects.old)) }
     ensures last { OnOk result (last.new.entries
         ≡ put delivery.now.letter.now.source delivery.now.letter.now.number last.old.entries) }
     ensures took { OnOk result (takers.new.took.items

@@ -9,8 +9,8 @@ use Rattle.wl_broadcast.specs.OpenObjects.{all_seen, open_from}
 use Rattle.wl_broadcast.proofs.Numbered.{open-delivered}
 use Rattle.wl_broadcast.proofs.channels.hear.Goals as goal
 
-pub returns-then-contains_key-clause-open : goal.returns-then-contains_key-clause-open
-returns-then-contains_key-clause-open c =
+pub returns-then-contains_key-clause-kept_open : goal.returns-then-contains_key-clause-kept_open
+returns-then-contains_key-clause-kept_open c =
     let d = c.args.delivery.now in
     ap (open_from 0) c.in_ok-deliver.ensures.ok ∙ open-delivered d.sender d.name.now d.letter.now 0 (all_seen c.args.objects.now)
 
@@ -27,8 +27,8 @@ returns-in-Err-clause-err c =
     let put_row = c.in_ok-insert-2.ensures.entries ∙ insert_entry-put l.source l.number rows in
     (c.in-Err.ensures.err, c.remove.ensures.entries ∙ ap (remove_entry (is_at (nat_cmp l.source))) put_row ∙ remove_entry-put l.source l.number rows absent)
 
-pub returns-clause-open : goal.returns-clause-open
-returns-clause-open c =
+pub returns-clause-kept_open : goal.returns-clause-kept_open
+returns-clause-kept_open c =
     let d = c.args.delivery.now in
     ap (open_from 0) c.in_default.ensures.ok ∙ open-delivered d.sender d.name.now d.letter.now 0 (all_seen c.args.objects.now)
 
