@@ -64,6 +64,7 @@ impl<R: Read> Source<R> {
         ensures counted { IfOk result (λ n. (self.new.reads ≡ self.old.reads + 1) × (self.new.has_failed ≡ self.old.has_failed)) }
         ensures failed { result ≡ Err ReadFault.Failed → (self.new.has_failed ≡ true) × Keeps (R.remaining self.old.reader) (R.remaining self.new.reader) }
         ensures limit { result ≡ Err ReadFault.TooManyReads → (self.old.reads ≡ 1000000) × (self.new ≡ self.old) }
+        ensures within { self.new.reads ≤ 1000000 }
     {
         if self.reads >= READ_LIMIT {
             return Err(ReadFault::TooManyReads);
