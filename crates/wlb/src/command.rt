@@ -1,5 +1,8 @@
 //! What the words of the command line can mean.
 
+ghost use Rattle.std.specs.Prelude.{◌≡◌};
+ghost use Rattle.wlb.specs.declared.command.LineFault.TheVariants.{Memory as memory};
+
 use std::alloc::AllocError;
 
 /// What the program is asked to do.
@@ -19,6 +22,8 @@ pub enum LineFault {
 }
 
 impl From<AllocError> for LineFault {
+    ghost from_gives = { λ _ fault. fault ≡ memory };
+
     fn from(_error: AllocError) -> LineFault {
         LineFault::Memory
     }
