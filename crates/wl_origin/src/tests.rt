@@ -62,6 +62,14 @@ fn ascii_origins(rt: HostRuntime) -> Result<(), Fail> {
 }
 
 #[test]
+fn origins_5(rt: HostRuntime) {
+    let opaque = partition(rt.alloc(), "data:,x").err();
+    assert_eq!(rt; opaque, Some(OriginFault::Security));
+    let no_url = partition(rt.alloc(), "a b").err();
+    assert_eq!(rt; no_url, Some(OriginFault::BadUrl));
+}
+
+#[test]
 fn refusals(rt: HostRuntime) {
     let cases = [
         // URL Standard, section 4.7: any other scheme has an opaque origin, and so has a blob URL of one.
