@@ -1,0 +1,56 @@
+//! Lists of tab numbers that strictly rise.
+
+ghost use Rattle.std.specs.Prelude.{◌≡◌, ◌==◌, ◌<◌, ◌≤◌, length, filter, not, vec_len, vec_capacity, true};
+ghost use Rattle.std.specs.List.{insert};
+ghost use Rattle.wl_kernel.specs.Kernel.{put_in, rises, is_listed};
+
+/// Whether the numbers strictly rise.
+pub(crate) fn rises(numbers: &[u16]) -> bool
+    ensures { result ≡ rises numbers.now }
+{
+    let mut least = 0u32;
+    for number in numbers {
+        let number = u32::from(*number);
+        if number < least {
+            return false;
+        }
+        least = number + 1;
+    }
+    true
+}
+
+pub(crate) fn contains(numbers: &[u16], number: u16) -> bool
+    requires { rises numbers.now ≡ true }
+    ensures { result ≡ is_listed numbers.now number }
+{
+    numbers.binary_search(&number).is_ok()
+}
+
+/// Where the number stands, or would stand.
+fn place_of(numbers: &[u16], number: u16) -> usize
+    requires { rises numbers.now ≡ true }
+    ensures within { result ≤ length numbers.now }
+    ensures place { insert numbers.now result number ≡ put_in number numbers.now }
+{
+    match numbers.binary_search(&number) {
+        Ok(place) | Err(place) => place,
+    }
+}
+
+/// Puts the number at its place. It takes no memory.
+pub(crate) fn put_in(numbers: &mut Vec<u16>, number: u16)
+    requires rising { rises numbers.old.items ≡ true }
+    requires room { vec_len numbers.old < vec_capacity numbers.old }
+    ensures { numbers.new.items ≡ put_in number numbers.old.items }
+{
+    let place = place_of(numbers, number);
+    // There is room, so this is never refused.
+    let _ = numbers.insert(place, number);
+}
+
+/// Takes the number out. It takes no memory.
+pub(crate) fn take_out(numbers: &mut Vec<u16>, number: u16)
+    ensures { numbers.new.items ≡ filter (λ n. not (n == number)) numbers.old.items }
+{
+    numbers.retain(|n| *n != number);
+}

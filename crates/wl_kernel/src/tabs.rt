@@ -1,0 +1,370 @@
+//! The tab table, which belongs to the supervisor.
+
+ghost use Rattle.std.specs.Prelude.{◌≡◌, ◌≢◌, ◌≤◌, None, Some, Err, IfOk, OnOk, IfErr, OnErr, IfSome, IsTrue, true, false, option_map, if◌then◌else◌};
+ghost use Rattle.wl_frames.specs.declared.frame.Frame.TheVariants as frame;
+ghost use Rattle.wl_kernel.specs.declared.routes.Routed.TheVariants.{Broker};
+ghost use Rattle.wl_kernel.specs.Kernel.{no_tabs, tab_of, is_opened, is_living, living_tabs, living_of, partition_number, number_for, open_refusal, opened, kill_refusal, killed, start_refusal, placed, stranger, missing, is_from_before, rises, may_stop, stopped};
+ghost use Rattle.wl_kernel.specs.Routes.{tab_refusal, stamped, route_up_refusal, routed_up, route_down_refusal, routed_down};
+ghost use Rattle.wl_kernel.specs.Kept.{seen, place_in, IsList};
+
+use crate::fault::{GenerationsUsedUp, KillFault, OpenFault, RouteFault, StartFault};
+use crate::homes::{self, Home};
+use crate::rising;
+use crate::routes::{Routed, frame_of, generation_of, heard};
+use crate::rows::{self, TabRow};
+use std::alloc::{AllocError, Global};
+use std::collections::BTreeMap;
+use std::marker::Model;
+use wl_frames::{Frame, Post, Sequence, Stamped, Upward};
+use wl_origin::Partition;
+
+/// The most tabs that live at once.
+const LIVING_LIMIT: usize = 1_024;
+
+/// The most tabs of one partition that live at once.
+const PARTITION_LIMIT: usize = 64;
+
+/// The most tabs that a broker is started with.
+const LIST_LIMIT: usize = 1_024;
+
+/// The tabs that were ever opened, and the generation of the broker that runs or is the next to run. It stands in `Down`
+/// or `Up`, which lend it.
+#[derive(Drop)]
+pub struct Tabs {
+    alloc: Global,
+    /// In the order of opening.
+    rows: Vec<TabRow>,
+    /// Where the row of a tab stands.
+    places: BTreeMap<u16, usize>,
+    homes: BTreeMap<Partition, Home>,
+    /// All living tabs, by rising number.
+    living: Vec<u16>,
+    generation: u32,
+    last: u32,
+}
+
+impl Model for Tabs {
+    ghost use Rattle.wl_kernel.specs.Kernel.{KernelState};
+    ghost use Rattle.wl_kernel.specs.Kept.{all_seen, IsConsistent};
+
+    ghost Value = { KernelState };
+
+    ghost view = { λ t. record { opened = all_seen t.rows.items; generation = t.generation; last = t.last } };
+
+    ghost invariant = { λ t. IsConsistent t.rows.items t.places.entries t.homes.entries t.living.items t.generation t.last };
+}
+
+impl Tabs {
+    /// No tabs, in generation 1.
+    pub(crate) fn new(alloc: Global, last: u32) -> Tabs
+        requires { 1 ≤ last }
+        ensures { result ≡ no_tabs last }
+    {
+        Tabs {
+            alloc,
+            rows: Vec::new(alloc),
+            places: BTreeMap::new(alloc),
+            homes: BTreeMap::new(alloc),
+            living: Vec::new(alloc),
+            generation: 1,
+            last,
+        }
+    }
+
+    /// The generation of the broker that runs, or of the next one.
+    pub fn generation(&self) -> u32
+        ensures value { result ≡ self.now.generation }
+        ensures from_one { 1 ≤ result }
+    {
+        self.generation
+    }
+
+    /// Whether the tab was opened and not killed since.
+    pub fn is_living(&self, tab: u16) -> bool
+        ensures { result ≡ is_living self.now tab }
+    {
+        match self.row_of(tab) {
+            Some(row) => row.is_living,
+            None => false,
+        }
+    }
+
+    /// The living tabs, by rising number.
+    pub fn living(&self) -> &[u16]
+        ensures { result.now ≡ living_tabs self.now }
+    {
+        self.living.as_slice()
+    }
+
+    /// The number of a tab's partition, which is that of the first tab opened in it. A dead tab has it still.
+    pub fn partition_number(&self, tab: u16) -> Option<u16>
+        ensures { result ≡ (if is_opened self.now tab then Some (partition_number self.now tab) else None) }
+    {
+        match self.row_of(tab) {
+            Some(row) => Some(row.number),
+            None => None,
+        }
+    }
+
+    /// Opens a tab in a partition, whose number is answered.
+    pub fn open(&mut self, tab: u16, partition: Partition) -> Result<u16, OpenFault>
+        ensures ok { OnOk result ((self.new ≡ opened tab partition self.old) × (open_refusal tab partition self.old ≡ None)) }
+        ensures number { IfOk result (λ n. n ≡ number_for tab partition self.old) }
+        ensures refused { IfErr result (λ e. e ≢ OpenFault.Memory → open_refusal tab partition self.old ≡ Some e) }
+        ensures memory { result ≡ Err OpenFault.Memory → open_refusal tab partition self.old ≡ None }
+        ensures err { OnErr result (self.new ≡ self.old) }
+    {
+        if let Some(fault) = self.open_fault(tab, &partition) {
+            return Err(fault);
+        }
+        self.rows.reserve(1)?;
+        self.living.reserve(1)?;
+        self.places.insert(tab, self.rows.len())?;
+        let number = match homes::join(self.alloc, &mut self.homes, &partition, tab) {
+            Ok(number) => number,
+            Err(refused) => {
+                self.places.remove(&tab);
+                return Err(OpenFault::from(refused));
+            }
+        };
+        self.rows.push_reserved(TabRow {
+            tab,
+            partition,
+            number,
+            generation: self.generation,
+            is_living: true,
+        });
+        rising::put_in(&mut self.living, tab);
+        Ok(number)
+    }
+
+    /// A tab is dead from now on. It takes no memory.
+    pub fn kill(&mut self, tab: u16) -> Result<(), KillFault>
+        ensures ok { OnOk result ((self.new ≡ killed tab self.old) × (kill_refusal tab self.old ≡ None)) }
+        ensures refused { IfErr result (λ e. kill_refusal tab self.old ≡ Some e) }
+        ensures err { OnErr result (self.new ≡ self.old) }
+    {
+        let place = self.living_place(tab)?;
+        let row = rows::row_at(&self.rows, place);
+        homes::leave(&mut self.homes, &row.partition, tab);
+        rising::take_out(&mut self.living, tab);
+        rows::end_at(&mut self.rows, place, tab);
+        Ok(())
+    }
+
+    /// Passes on what a tab sends: a command or a report to the broker, a post to each other living tab of the partition.
+    pub fn route_up(&self, tab: u16, frame: Frame) -> Result<Routed, RouteFault>
+        ensures routed { IfOk result (λ routed. routed ≡ routed_up tab frame self.now) }
+        ensures allowed { OnOk result (route_up_refusal tab frame self.now ≡ None) }
+        ensures refused { IfErr result (λ e. e ≢ RouteFault.Memory → route_up_refusal tab frame self.now ≡ Some e) }
+        ensures memory { result ≡ Err RouteFault.Memory → route_up_refusal tab frame self.now ≡ None }
+    {
+        match frame {
+            Frame::Command(command) => self.to_broker(tab, Upward::Command(command)),
+            Frame::Report(report) => self.to_broker(tab, Upward::Report(report)),
+            Frame::Post(post) => self.to_others(tab, post),
+            _ => Err(RouteFault::WrongKind),
+        }
+    }
+
+    /// Passes on what a broker says to a living tab. It takes no memory.
+    pub(crate) fn route_down(&self, link: u32, frame: Frame) -> Result<(u16, Frame), RouteFault>
+        ensures routed { IfOk result (λ r. routed_down frame ≡ Some r) }
+        ensures allowed { OnOk result (route_down_refusal link frame self.now ≡ None) }
+        ensures refused { IfErr result (λ e. route_down_refusal link frame self.now ≡ Some e) }
+    {
+        if link != self.generation {
+            return Err(RouteFault::StaleLink);
+        }
+        let Frame::Addressed(addressed) = frame else {
+            return Err(RouteFault::WrongKind);
+        };
+        if generation_of(&addressed.inner) != link {
+            return Err(RouteFault::WrongKind);
+        }
+        self.living_row(addressed.tab)?;
+        Ok((addressed.tab, frame_of(addressed.inner)))
+    }
+
+    /// The tabs that a broker is started with, each with the number of its partition.
+    pub(crate) fn listed(&self, listed: &[u16]) -> Result<Sequence<(u16, u16)>, StartFault>
+        ensures placed { IfOk result (λ list. list ≡ placed listed.now self.now) }
+        ensures well_formed { IfOk result IsList }
+        ensures allowed { OnOk result (start_refusal listed.now self.now ≡ None) }
+        ensures refused { IfErr result (λ e. e ≢ StartFault.Memory → start_refusal listed.now self.now ≡ Some e) }
+        ensures memory { result ≡ Err StartFault.Memory → start_refusal listed.now self.now ≡ None }
+    {
+        if listed.len() > LIST_LIMIT {
+            return Err(StartFault::TooManyListed);
+        }
+        if !rising::rises(listed) {
+            return Err(StartFault::NotRising);
+        }
+        if let Some(tab) = self.stranger(listed) {
+            return Err(StartFault::Stranger(tab));
+        }
+        if let Some(tab) = self.missing(listed) {
+            return Err(StartFault::Missing(tab));
+        }
+        let list = self.placed(listed)?;
+        Ok(Sequence::new(list))
+    }
+
+    /// Goes on to the next generation. It takes no memory.
+    pub(crate) fn stop(&mut self) -> Result<(), GenerationsUsedUp>
+        ensures ok { OnOk result ((self.new ≡ stopped self.old) × IsTrue (may_stop self.old)) }
+        ensures refused { OnErr result ((self.new ≡ self.old) × (may_stop self.old ≡ false)) }
+    {
+        if self.generation == self.last {
+            return Err(GenerationsUsedUp);
+        }
+        self.generation += 1;
+        Ok(())
+    }
+
+    /// Why a tab is not opened, want of memory apart.
+    fn open_fault(&self, tab: u16, partition: &Partition) -> Option<OpenFault>
+        ensures { result ≡ open_refusal tab partition.now self.now }
+    {
+        if tab == 0 || self.row_of(tab).is_some() {
+            return Some(OpenFault::NumberTaken);
+        }
+        if self.living().len() >= LIVING_LIMIT {
+            return Some(OpenFault::TooManyLiving);
+        }
+        if self.members(partition).len() >= PARTITION_LIMIT {
+            return Some(OpenFault::PartitionFull);
+        }
+        None
+    }
+
+    /// The living tabs of a partition, by rising number.
+    fn members(&self, partition: &Partition) -> &[u16]
+        ensures { result.now ≡ living_of self.now partition.now }
+    {
+        homes::members(&self.homes, partition)
+    }
+
+    /// Where the row of a living tab stands.
+    fn living_place(&self, tab: u16) -> Result<usize, KillFault>
+        ensures place { IfOk result (λ place. place_in self.now.opened tab ≡ Some place) }
+        ensures allowed { OnOk result (kill_refusal tab self.now ≡ None) }
+        ensures refused { IfErr result (λ e. kill_refusal tab self.now ≡ Some e) }
+    {
+        let Some(place) = self.places.get(&tab) else {
+            return Err(KillFault::NoTab);
+        };
+        if !rows::row_at(&self.rows, *place).is_living {
+            return Err(KillFault::AlreadyDead);
+        }
+        Ok(*place)
+    }
+
+    /// The row of a tab, if it was ever opened.
+    fn row_of(&self, tab: u16) -> Option<&TabRow>
+        ensures row { option_map (λ row. seen row.now) result ≡ tab_of self.now tab }
+        ensures number { IfSome result (λ row. row.now.number ≡ partition_number self.now tab) }
+    {
+        rows::row_of(&self.rows, &self.places, tab)
+    }
+
+    /// The row of a living tab.
+    fn living_row(&self, tab: u16) -> Result<&TabRow, RouteFault>
+        ensures row { IfOk result (λ row. tab_of self.now tab ≡ Some (seen row.now)) }
+        ensures number { IfOk result (λ row. row.now.number ≡ partition_number self.now tab) }
+        ensures allowed { OnOk result (tab_refusal self.now tab ≡ None) }
+        ensures refused { IfErr result (λ e. tab_refusal self.now tab ≡ Some e) }
+    {
+        match self.row_of(tab) {
+            Some(row) if row.is_living => Ok(row),
+            Some(_) => Err(RouteFault::DeadTab),
+            None => Err(RouteFault::NoTab),
+        }
+    }
+
+    /// What a living tab says to the broker, stamped.
+    fn to_broker(&self, tab: u16, inner: Upward) -> Result<Routed, RouteFault>
+        ensures routed { IfOk result (λ routed. routed ≡ Broker (stamped self.now tab inner)) }
+        ensures allowed { OnOk result (tab_refusal self.now tab ≡ None) }
+        ensures refused { IfErr result (λ e. tab_refusal self.now tab ≡ Some e) }
+    {
+        let partition = self.living_row(tab)?.number;
+        Ok(Routed::Broker(Frame::Stamped(Stamped {
+            tab,
+            partition,
+            inner,
+        })))
+    }
+
+    /// A living tab's post as the others of its partition hear it.
+    fn to_others(&self, tab: u16, post: Post) -> Result<Routed, RouteFault>
+        ensures routed { IfOk result (λ routed. routed ≡ routed_up tab (frame.Post post) self.now) }
+        ensures allowed { OnOk result (tab_refusal self.now tab ≡ None) }
+        ensures refused { IfErr result (λ e. e ≢ RouteFault.Memory → tab_refusal self.now tab ≡ Some e) }
+        ensures memory { result ≡ Err RouteFault.Memory → tab_refusal self.now tab ≡ None }
+    {
+        let row = self.living_row(tab)?;
+        let members = self.members(&row.partition);
+        let heard = heard(self.alloc, tab, post, members)?;
+        Ok(Routed::Tabs(Sequence::new(heard)))
+    }
+
+    /// The least listed tab that was never opened.
+    fn stranger(&self, listed: &[u16]) -> Option<u16>
+        ensures { result ≡ stranger self.now listed.now }
+    {
+        for tab in listed {
+            if self.row_of(*tab).is_none() {
+                return Some(*tab);
+            }
+        }
+        None
+    }
+
+    /// The least living tab that was opened before the last stop and is not listed.
+    fn missing(&self, listed: &[u16]) -> Option<u16>
+        requires { rises listed.now ≡ true }
+        ensures { result ≡ missing self.now listed.now }
+    {
+        let living = self.living();
+        for tab in living {
+            if self.is_from_before(*tab) && !rising::contains(listed, *tab) {
+                return Some(*tab);
+            }
+        }
+        None
+    }
+
+    /// Whether a stop came after the tab was opened.
+    fn is_from_before(&self, tab: u16) -> bool
+        ensures { result ≡ is_from_before self.now tab }
+    {
+        match self.row_of(tab) {
+            Some(row) => row.generation < self.generation,
+            None => false,
+        }
+    }
+
+    /// Each of these tabs with the number of its partition.
+    fn placed(&self, listed: &[u16]) -> Result<Vec<(u16, u16)>, AllocError>
+        requires { start_refusal listed.now self.now ≡ None }
+        ensures placed { IfOk result (λ list. list.items ≡ placed listed.now self.now) }
+        ensures well_formed { IfOk result (λ list. IsList list.items) }
+    {
+        let mut list = Vec::with_capacity(self.alloc, listed.len())?;
+        for tab in listed {
+            list.push((*tab, self.number_of(*tab)))?;
+        }
+        Ok(list)
+    }
+
+    /// The number of a tab's partition, and 0 where the tab was never opened.
+    fn number_of(&self, tab: u16) -> u16
+        ensures { result ≡ partition_number self.now tab }
+    {
+        match self.row_of(tab) {
+            Some(row) => row.number,
+            None => 0,
+        }
+    }
+}
