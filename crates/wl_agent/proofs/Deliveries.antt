@@ -1,0 +1,200 @@
+-- What a delivery is, by its cases.
+use Rattle.std.proofs.Common.{◌≡◌, ◌≢◌, ℕ, ◌+◌, ◌<◌, ◌≤◌, Bool, true, false, ◌&&◌, cond, eqb, ltb, length, Option, Some, None, is_some, refl, sym, ap, ◌∙◌, subst, arith}
+use Rattle.std.proofs.lemmas.Bool.{eq-eqb, ne_eqb, ltb-true, ltb-false}
+use Rattle.wl_frames.specs.declared.frame.Operation.{Operation}
+use Rattle.wl_frames.specs.declared.frame.Operation.TheVariants.{Request, Release, Abort, Query}
+use Rattle.wl_frames.specs.declared.frame.Outcome.{Outcome}
+use Rattle.wl_frames.specs.declared.frame.Outcome.TheVariants as outcome
+use Rattle.wl_frames.specs.declared.frame.Report.{Report}
+use Rattle.wl_frames.specs.declared.frame.Hello.{Hello}
+use Rattle.wl_frames.specs.declared.frame.Answer.{Answer}
+use Rattle.wl_frames.specs.declared.frame.Snapshot.{Snapshot as Part}
+use Rattle.wl_frames.specs.declared.frame.Frame.{Frame}
+use Rattle.wl_frames.specs.declared.frame.Frame.TheVariants as frame
+use Rattle.wl_agent.specs.declared.delivered.Unheard.{Unheard}
+use Rattle.wl_agent.specs.declared.delivered.Unheard.TheVariants as unheard
+use Rattle.wl_agent.specs.declared.delivered.Delivered.{Delivered}
+use Rattle.wl_agent.specs.declared.delivered.Delivered.TheVariants as told
+use Rattle.wl_agent.specs.declared.status.Status.{Status}
+use Rattle.wl_agent.specs.declared.status.Status.TheVariants.{Asked, Held, Querying, Whole, Lost}
+use Rattle.wl_draft.specs.Tables.{Table, find, put, has_row}
+use Rattle.wl_agent.proofs.TabSteps.{step-becomes}
+use Rattle.wl_agent.specs.Parts.{PartsState, fits, with_part, is_whole}
+use Rattle.wl_agent.specs.Tab.{TabState, enter, status_of, operation_of, is_issued, is_query, is_querying}
+use Rattle.wl_agent.specs.Delivery.{delivery, noted, becomes, of_other, told_by_answer, told_by_part, told_command, told_lock, told_asked, told_end, told_query, told_asked_query, told_unless, told_by_come, parts_refusal, asking_refusal, part_refusal, parts_of, with_part_come, after_answer, after_part, takes_memory}
+
+-- ---- hellos
+
+greeting : (x : Hello) (a : TabState) (b : Bool) → ltb a.entered x.generation ≡ b → cond b (enter x.generation a, told.Entered (frame.Report (enter x.generation a).report)) (a, told.Dropped unheard.OldGeneration) ≡ delivery (frame.Hello x) a
+unfolding delivery
+greeting x a b e = rw (← e) refl
+
+pub greets-old : (x : Hello) (a : TabState) → ltb a.entered x.generation ≡ false → (a, told.Dropped unheard.OldGeneration) ≡ delivery (frame.Hello x) a
+greets-old x a e = greeting x a false e
+
+pub greets-new : (x : Hello) (a new : TabState) (report : Report) → ltb a.entered x.generation ≡ true → new ≡ enter x.generation a → report ≡ (enter x.generation a).report → (new, told.Entered (frame.Report report)) ≡ delivery (frame.Hello x) a
+greets-new x a new report e new_is report_is =
+    ap (λ (n : TabState). (n, told.Entered (frame.Report report))) new_is ∙ ap (λ (r : Report). (enter x.generation a, told.Entered (frame.Report r))) report_is ∙ greeting x a true e
+
+-- ---- answers
+
+hearing : (x : Answer) (a : TabState) (b : Bool) → eqb x.generation a.entered ≡ b → cond b (noted x.upto (after_answer (told_by_answer x a) a), told_by_answer x a) (a, of_other x.generation a) ≡ delivery (frame.Answer x) a
+unfolding delivery
+hearing x a b e = rw (← e) refl
+
+pub hears-other : (x : Answer) (a : TabState) (d : Delivered) → x.generation ≢ a.entered → d ≡ of_other x.generation a → (a, d) ≡ delivery (frame.Answer x) a
+hears-other x a d other d_is = ap (λ (t : Delivered). (a, t)) d_is ∙ hearing x a false (ne_eqb x.generation a.entered other)
+
+pub hears : (x : Answer) (a mid new : TabState) (d : Delivered) → x.generation ≡ a.entered → d ≡ told_by_answer x a → mid ≡ after_answer d a → new ≡ noted x.upto mid → (new, d) ≡ delivery (frame.Answer x) a
+hears x a mid new d same d_is mid_is new_is =
+    ap (λ (n : TabState). (n, d)) (new_is ∙ ap (noted x.upto) mid_is) ∙ ap (λ (t : Delivered). (noted x.upto (after_answer t a), t)) d_is ∙ hearing x a true (eq-eqb x.generation a.entered same)
+
+-- ---- parts of snapshots
+
+collecting : (x : Part) (a : TabState) (b : Bool) → eqb x.generation a.entered ≡ b → cond b (noted (x.number + 1) (after_part x a), told_by_part x a) (a, of_other x.generation a) ≡ delivery (frame.Snapshot x) a
+unfolding delivery
+collecting x a b e = rw (← e) refl
+
+pub collects-other : (x : Part) (a : TabState) (d : Delivered) → x.generation ≢ a.entered → d ≡ of_other x.generation a → (a, d) ≡ delivery (frame.Snapshot x) a
+collects-other x a d other d_is = ap (λ (t : Delivered). (a, t)) d_is ∙ collecting x a false (ne_eqb x.generation a.entered other)
+
+pub collects : (x : Part) (a mid new : TabState) (d : Delivered) → x.generation ≡ a.entered → d ≡ told_by_part x a → mid ≡ after_part x a → new ≡ noted (x.number + 1) mid → (new, d) ≡ delivery (frame.Snapshot x) a
+collects x a mid new d same d_is mid_is new_is =
+    ap (λ (n : TabState). (n, d)) (new_is ∙ ap (noted (x.number + 1)) mid_is) ∙ ap (λ (t : Delivered). (noted (x.number + 1) (after_part x a), t)) d_is ∙ collecting x a true (eq-eqb x.generation a.entered same)
+
+-- ---- what takes memory
+
+pub enters-by_memory : (x : Hello) (a : TabState) → ltb a.entered x.generation ≡ true → takes_memory (delivery (frame.Hello x) a).1 ≡ true
+enters-by_memory x a e = ap (λ (p : TabState × Delivered). takes_memory p.1) (sym (greeting x a true e))
+
+pub collects-by_memory : (x : Part) (a : TabState) → x.generation ≡ a.entered → takes_memory (told_by_part x a) ≡ true → takes_memory (delivery (frame.Snapshot x) a).1 ≡ true
+collects-by_memory x a same e =
+    ap (λ (p : TabState × Delivered). takes_memory p.1) (sym (collecting x a true (eq-eqb x.generation a.entered same))) ∙ e
+
+-- no frame is dropped for want of memory by itself
+abbrev pub is_memory : Delivered → Bool
+is_memory (told.Dropped unheard.Memory) = true
+is_memory d = false
+
+asked_told : (k : ℕ) (b : Bool) (o : Outcome) → is_memory (told_asked k b o) ≡ false
+asked_told k b outcome.Granted = refl
+asked_told k true outcome.Waiting = refl
+asked_told k false outcome.Waiting = refl
+asked_told k true outcome.Gone = refl
+asked_told k false outcome.Gone = refl
+asked_told k b outcome.Taken = refl
+
+lock_told : (k : ℕ) (b : Bool) (s : Option Status) (o : Outcome) → is_memory (told_lock k b s o) ≡ false
+lock_told k b None o = refl
+lock_told k b (Some Asked) o = asked_told k b o
+lock_told k b (Some Held) o = refl
+lock_told k b (Some (Querying p)) o = refl
+lock_told k b (Some (Whole p)) o = refl
+lock_told k b (Some Lost) o = refl
+
+end_told : (k : ℕ) (o : Outcome) → is_memory (told_end k o) ≡ false
+end_told k outcome.Granted = refl
+end_told k outcome.Waiting = refl
+end_told k outcome.Gone = refl
+end_told k outcome.Taken = refl
+
+asking_told : (k : ℕ) (o : Outcome) → is_memory (told_asked_query k o) ≡ false
+asking_told k outcome.Granted = refl
+asking_told k outcome.Waiting = refl
+asking_told k outcome.Gone = refl
+asking_told k outcome.Taken = refl
+
+query_told : (k : ℕ) (s : Option Status) (o : Outcome) → is_memory (told_query k s o) ≡ false
+query_told k None o = refl
+query_told k (Some Asked) o = refl
+query_told k (Some Held) o = refl
+query_told k (Some (Querying p)) o = asking_told k o
+query_told k (Some (Whole p)) o = refl
+query_told k (Some Lost) o = refl
+
+command_told : (k : ℕ) (op : Operation) (s : Option Status) (o : Outcome) → is_memory (told_command k op s o) ≡ false
+command_told k (Request mode b name) s o = lock_told k b s o
+command_told k (Release n) s o = end_told k o
+command_told k (Abort n) s o = end_told k o
+command_told k Query s o = query_told k s o
+
+told_if : (x : Answer) (a : TabState) (b : Bool) → ltb x.number (length a.issued) ≡ b → is_memory (cond b (told_command x.number (operation_of a x.number) (status_of a x.number) x.outcome) (told.Dropped unheard.Odd)) ≡ false
+told_if x a true e = command_told x.number (operation_of a x.number) (status_of a x.number) x.outcome
+told_if x a false e = refl
+
+told_never : (x : Answer) (a : TabState) → is_memory (told_by_answer x a) ≡ false
+told_never x a = told_if x a (ltb x.number (length a.issued)) refl
+
+other_never : (g : ℕ) (a : TabState) (b : Bool) → ltb g a.entered ≡ b → is_memory (of_other g a) ≡ false
+other_never g a true e = rw e refl
+other_never g a false e = rw e refl
+
+come_never : (x : Part) (parts : PartsState) (b : Bool) → is_whole (with_part x parts) ≡ b → is_memory (told_by_come x parts) ≡ false
+come_never x parts true e = rw e refl
+come_never x parts false e = rw e refl
+
+parts_never : (x : Part) (parts : PartsState) (b c : Bool) → fits x parts ≡ b → has_row parts.came x.part ≡ c → is_memory (told_unless (parts_refusal x parts) (told_by_come x parts)) ≡ false
+parts_never x parts true c e f = rw e (come_never x parts (is_whole (with_part x parts)) refl)
+parts_never x parts false true e f = rw (e, f) refl
+parts_never x parts false false e f = rw (e, f) refl
+
+asking_never : (x : Part) (o : Option Status) → is_memory (told_unless (asking_refusal x o) (told_by_come x (parts_of o))) ≡ false
+asking_never x None = refl
+asking_never x (Some Asked) = refl
+asking_never x (Some Held) = refl
+asking_never x (Some (Querying p)) = parts_never x p _ _ refl refl
+asking_never x (Some (Whole p)) = refl
+asking_never x (Some Lost) = refl
+
+part_never : (x : Part) (a : TabState) (b : Bool) → (is_issued a x.number && is_query (operation_of a x.number)) ≡ b → is_memory (told_by_part x a) ≡ false
+part_never x a true e = rw e (asking_never x (status_of a x.number))
+part_never x a false e = rw e refl
+
+hello_never : (x : Hello) (a : TabState) (b : Bool) → ltb a.entered x.generation ≡ b → is_memory (delivery (frame.Hello x) a).1 ≡ false
+hello_never x a true e = ap (λ (p : TabState × Delivered). is_memory p.1) (sym (greeting x a true e))
+hello_never x a false e = ap (λ (p : TabState × Delivered). is_memory p.1) (sym (greeting x a false e))
+
+answer_never : (x : Answer) (a : TabState) (b : Bool) → eqb x.generation a.entered ≡ b → is_memory (delivery (frame.Answer x) a).1 ≡ false
+answer_never x a true e = ap (λ (p : TabState × Delivered). is_memory p.1) (sym (hearing x a true e)) ∙ told_never x a
+answer_never x a false e = ap (λ (p : TabState × Delivered). is_memory p.1) (sym (hearing x a false e)) ∙ other_never x.generation a _ refl
+
+snapshot_never : (x : Part) (a : TabState) (b : Bool) → eqb x.generation a.entered ≡ b → is_memory (delivery (frame.Snapshot x) a).1 ≡ false
+snapshot_never x a true e = ap (λ (p : TabState × Delivered). is_memory p.1) (sym (collecting x a true e)) ∙ part_never x a _ refl
+snapshot_never x a false e = ap (λ (p : TabState × Delivered). is_memory p.1) (sym (collecting x a false e)) ∙ other_never x.generation a _ refl
+
+pub never-by_memory : (f : Frame) (a : TabState) → is_memory (delivery f a).1 ≡ false
+unfolding delivery
+never-by_memory (frame.Hello x) a = hello_never x a _ refl
+never-by_memory (frame.Answer x) a = answer_never x a _ refl
+never-by_memory (frame.Snapshot x) a = snapshot_never x a _ refl
+never-by_memory f a = refl
+
+-- ---- a part that is taken
+
+not_refused_as : (x : Part) (o : Option Status) (b : Bool) → cond b (asking_refusal x o) (Some unheard.Odd) ≡ None → is_querying o ≡ true
+not_refused_as x o false e = cc
+not_refused_as x None true e = cc
+not_refused_as x (Some Asked) true e = cc
+not_refused_as x (Some Held) true e = cc
+not_refused_as x (Some (Querying p)) true e = refl
+not_refused_as x (Some (Whole p)) true e = cc
+not_refused_as x (Some Lost) true e = cc
+
+pub not-refused : (x : Part) (a : TabState) → part_refusal x a ≡ None → is_querying (status_of a x.number) ≡ true
+not-refused x a e = not_refused_as x (status_of a x.number) (is_issued a x.number && is_query (operation_of a x.number)) e
+
+pub step-part : (a b : TabState) (x : Part) (rows : Table Status) → a ≡ b → rows ≡ put x.number (with_part_come x (parts_of (find a.statuses x.number))) a.statuses → part_refusal x b ≡ None → record a { statuses = rows } ≡ after_part x b
+step-part a b x rows same rows_are taken =
+    let k = x.number in
+    step-becomes a b k _ rows same rows_are
+    ∙ ap (λ (y : TabState). becomes k (with_part_come x (parts_of (find y.statuses k))) b) same
+    ∙ sym (ap (λ r. cond (is_some r) b (becomes k (with_part_come x (parts_of (find b.statuses k))) b)) taken)
+
+-- ---- frames of other kinds
+
+pub other-kind : (f : Frame) (a : TabState) → ((x : Part) → f ≢ frame.Snapshot x) → ((x : Answer) → f ≢ frame.Answer x) → ((x : Hello) → f ≢ frame.Hello x) → (a, told.Dropped unheard.WrongKind) ≡ delivery f a
+unfolding delivery
+other-kind (frame.Hello x) a not_part not_answer not_hello = absurd (not_hello x refl)
+other-kind (frame.Answer x) a not_part not_answer not_hello = absurd (not_answer x refl)
+other-kind (frame.Snapshot x) a not_part not_answer not_hello = absurd (not_part x refl)
+other-kind f a not_part not_answer not_hello = refl

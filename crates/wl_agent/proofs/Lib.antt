@@ -1,0 +1,16 @@
+pub mod Rows
+pub mod Counts
+pub mod PartsTogether
+pub mod Carrying
+pub mod QueryCounts
+pub mod Outcomes
+pub mod Tidiness
+pub mod TabSteps
+pub mod Deliveries
+pub mod Walks
+pub mod EnterSteps
+pub mod Cases
+pub mod OverForGood
+pub mod HeldByGrants
+pub mod ReportEntries
+pub mod Limits

@@ -1,0 +1,18 @@
+use Rattle.std.proofs.Common.{ap, sym, ◌∙◌}
+use Rattle.wl_agent.specs.Tab.{TabState}
+use Rattle.wl_agent.proofs.Outcomes.{on_err}
+use Rattle.wl_agent.proofs.Deliveries.{collects-other, collects, collects-by_memory}
+use Rattle.wl_agent.proofs.agent.Agent.collect.Goals as goal
+
+pub returns-then-part-self-clause-ok : goal.returns-then-part-self-clause-ok
+returns-then-part-self-clause-ok c =
+    collects-other c.args.part.now c.args.self.now _ (λ same. c.if-part-self.true (same ∙ ap (λ (a : TabState). a.entered) (sym c.self.view_is))) c.of_other.ensures
+
+pub returns-clause-ok : goal.returns-clause-ok
+returns-clause-ok c =
+    collects c.args.part.now c.args.self.now _ _ _ (c.if-part-self.false ∙ ap (λ (a : TabState). a.entered) c.self.view_is) c.in_ok-delivered.ensures.told c.in_ok-delivered.ensures.ok c.note.ensures
+
+pub returns-in_err-delivered-clause-memory : goal.returns-in_err-delivered-clause-memory
+returns-in_err-delivered-clause-memory c =
+    let same = c.if-part-self.false ∙ ap (λ (a : TabState). a.entered) c.self.view_is in
+    on_err c.from_residual.result _ (collects-by_memory c.args.part.now c.args.self.now same c.in_err-delivered.ensures.memory)

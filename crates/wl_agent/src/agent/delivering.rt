@@ -1,0 +1,165 @@
+//! Frames that come to the tab.
+
+ghost use Rattle.std.specs.Prelude.{◌≡◌, ◌≢◌, true, IfOk, OnOk, OnErr, None};
+ghost use Rattle.wl_agent.specs.Tab.{enter};
+ghost use Rattle.wl_agent.specs.Delivery.{delivery, takes_memory, noted, acknowledged_by, of_other, told_by_answer, told_by_part, after_answer, after_part, part_refusal};
+ghost use Rattle.wl_agent.specs.Kept.{CanFollow};
+ghost use Rattle.wl_frames.specs.declared.frame.Frame.TheVariants as frame;
+
+use crate::agent::Agent;
+use crate::answers::told_command;
+use crate::delivered::{Delivered, Unheard};
+use crate::operations::is_query_at;
+use crate::status::Status;
+use std::alloc::AllocError;
+use wl_frames::{Answer, Frame, Hello, Snapshot};
+
+impl Agent {
+    /// Takes in a frame. A frame that is dropped for want of memory may be delivered again.
+    pub fn deliver(&mut self, frame: &Frame) -> Delivered
+        ensures done { result ≢ Delivered.Dropped Unheard.Memory → (self.new, result) ≡ delivery frame.now self.old }
+        // For want of memory a frame is dropped only where it takes memory, and then nothing is changed.
+        ensures memory { result ≡ Delivered.Dropped Unheard.Memory → (self.new ≡ self.old) × (takes_memory (delivery frame.now self.old).1 ≡ true) }
+    {
+        match self.take(frame) {
+            Ok(delivered) => delivered,
+            Err(_) => Delivered::Dropped(Unheard::Memory),
+        }
+    }
+
+    fn take(&mut self, frame: &Frame) -> Result<Delivered, AllocError>
+        ensures ok { IfOk result (λ d. (self.new, d) ≡ delivery frame.now self.old) }
+        ensures memory { OnErr result (takes_memory (delivery frame.now self.old).1 ≡ true) }
+        ensures err { OnErr result (self.new ≡ self.old) }
+    {
+        match frame {
+            Frame::Hello(hello) => self.greet(hello),
+            Frame::Answer(answer) => Ok(self.hear(answer)),
+            Frame::Snapshot(part) => self.collect(part),
+            _ => Ok(Delivered::Dropped(Unheard::WrongKind)),
+        }
+    }
+
+    fn greet(&mut self, hello: &Hello) -> Result<Delivered, AllocError>
+        ensures ok { IfOk result (λ d. (self.new, d) ≡ delivery (frame.Hello hello.now) self.old) }
+        ensures memory { OnErr result (takes_memory (delivery (frame.Hello hello.now) self.old).1 ≡ true) }
+        ensures err { OnErr result (self.new ≡ self.old) }
+    {
+        if hello.generation <= self.entered {
+            return Ok(Delivered::Dropped(Unheard::OldGeneration));
+        }
+        let report = self.enter(hello.generation)?;
+        Ok(Delivered::Entered(Frame::Report(report)))
+    }
+
+    fn hear(&mut self, answer: &Answer) -> Delivered
+        ensures { (self.new, result) ≡ delivery (frame.Answer answer.now) self.old }
+    {
+        if answer.generation != self.entered {
+            return self.of_other(answer.generation);
+        }
+        let delivered = self.told_by_answer(answer);
+        self.follow(&delivered);
+        self.note(answer.upto as usize);
+        delivered
+    }
+
+    fn collect(&mut self, part: &Snapshot) -> Result<Delivered, AllocError>
+        ensures ok { IfOk result (λ d. (self.new, d) ≡ delivery (frame.Snapshot part.now) self.old) }
+        ensures memory { OnErr result (takes_memory (delivery (frame.Snapshot part.now) self.old).1 ≡ true) }
+        ensures err { OnErr result (self.new ≡ self.old) }
+    {
+        if part.generation != self.entered {
+            return Ok(self.of_other(part.generation));
+        }
+        let delivered = self.take_part(part)?;
+        self.note(part.number as usize + 1);
+        Ok(delivered)
+    }
+
+    /// What a frame of a generation other than the entered one is.
+    fn of_other(&self, generation: u32) -> Delivered
+        ensures { result ≡ of_other generation self.now }
+    {
+        Delivered::Dropped(if generation < self.entered {
+            Unheard::OldGeneration
+        } else {
+            Unheard::LaterGeneration
+        })
+    }
+
+    fn told_by_answer(&self, answer: &Answer) -> Delivered
+        ensures value { result ≡ told_by_answer answer.now self.now }
+        ensures follows { CanFollow result self.now }
+    {
+        match self.issued.get(answer.number as usize) {
+            Some(operation) => told_command(
+                answer.number,
+                operation,
+                self.statuses.get(answer.number),
+                answer.outcome,
+            ),
+            None => Delivered::Dropped(Unheard::Odd),
+        }
+    }
+
+    /// Changes the status that an answer changes.
+    fn follow(&mut self, delivered: &Delivered)
+        requires { CanFollow delivered.now self.old }
+        ensures { self.new ≡ after_answer delivered.now self.old }
+    {
+        match delivered {
+            Delivered::Granted(number) => self.statuses.set(*number, Status::Held),
+            Delivered::Lost(number) => self.statuses.set(*number, Status::Lost),
+            Delivered::Null(number) => self.statuses.end(*number),
+            _ => {}
+        }
+    }
+
+    /// Notes that something of the entered generation has come, when the broker had taken so many commands.
+    fn note(&mut self, upto: usize)
+        ensures { self.new ≡ noted upto self.old }
+    {
+        self.acknowledged = self.acknowledged_by(upto);
+        self.answered = true;
+    }
+
+    fn acknowledged_by(&self, upto: usize) -> u32
+        ensures { result ≡ acknowledged_by upto self.now }
+    {
+        if (self.acknowledged as usize) < upto && upto <= self.issued.len() {
+            upto as u32
+        } else {
+            self.acknowledged
+        }
+    }
+
+    fn part_refusal(&self, part: &Snapshot) -> Option<Unheard>
+        ensures { result ≡ part_refusal part.now self.now }
+    {
+        if !is_query_at(&self.issued, part.number) {
+            return Some(Unheard::Odd);
+        }
+        match self.statuses.get(part.number) {
+            Some(Status::Querying(parts)) => parts.refusal(part),
+            _ => Some(Unheard::Over),
+        }
+    }
+
+    /// Takes in a part, if it is one that is missing.
+    fn take_part(&mut self, part: &Snapshot) -> Result<Delivered, AllocError>
+        ensures ok { OnOk result (self.new ≡ after_part part.now self.old) }
+        ensures told { IfOk result (λ d. d ≡ told_by_part part.now self.old) }
+        ensures memory { OnErr result (takes_memory (told_by_part part.now self.old) ≡ true) }
+        ensures err { OnErr result (self.new ≡ self.old) }
+    {
+        if let Some(reason) = self.part_refusal(part) {
+            return Ok(Delivered::Dropped(reason));
+        }
+        Ok(if self.statuses.take_part(self.alloc, part)? {
+            Delivered::Whole(part.number)
+        } else {
+            Delivered::Part(part.number)
+        })
+    }
+}

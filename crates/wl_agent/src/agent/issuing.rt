@@ -1,0 +1,134 @@
+//! Requests, probes and queries.
+
+ghost use Rattle.std.specs.Prelude.{◌≡◌, ◌≢◌, ◌<◌, ◌≤◌, ◌+◌, true, false, length, Some, None, Err, IfOk, OnOk, IfErr, OnErr, if◌then◌else◌};
+ghost use Rattle.wl_agent.specs.Tab.{asked, queried, issue, ask_refusal, query_refusal, live_refusal, is_supported, keeps_number, kept_numbers, live_numbers};
+ghost use Rattle.wl_agent.specs.Kept.{can_become};
+
+use crate::agent::Agent;
+use crate::fault::AgentFault;
+use crate::parts::Parts;
+use crate::status::Status;
+use crate::token::{Asking, Pending, Probe};
+use std::alloc::AllocError;
+use wl_frames::{Mode, Name, Operation};
+
+/// The most bytes of a name.
+const NAME_LIMIT: usize = 255;
+
+/// The most numbers of a tab that are live at once.
+const LIVE_LIMIT: usize = 64;
+
+impl Agent {
+    /// Asks for a lock.
+    pub fn request(&mut self, name: &str, mode: Mode) -> Result<Pending, AgentFault>
+        ensures ok { OnOk result ((self.new ≡ asked mode false name.now self.old) × (ask_refusal self.old name.now ≡ None)) }
+        ensures pending { IfOk result (λ p. (p.tab ≡ self.old.tab) × (p.number ≡ length self.old.issued)) }
+        ensures refused { IfErr result (λ e. e ≢ AgentFault.Memory → ask_refusal self.old name.now ≡ Some e) }
+        ensures memory { result ≡ Err AgentFault.Memory → ask_refusal self.old name.now ≡ None }
+        ensures err { OnErr result (self.new ≡ self.old) }
+    {
+        let tab = self.tab;
+        let number = self.ask(name, mode, false)?;
+        Ok(Pending { tab, number })
+    }
+
+    /// Asks for a lock that is to be had at once or not at all.
+    pub fn probe(&mut self, name: &str, mode: Mode) -> Result<Probe, AgentFault>
+        ensures ok { OnOk result ((self.new ≡ asked mode true name.now self.old) × (ask_refusal self.old name.now ≡ None)) }
+        ensures probe { IfOk result (λ p. (p.tab ≡ self.old.tab) × (p.number ≡ length self.old.issued)) }
+        ensures refused { IfErr result (λ e. e ≢ AgentFault.Memory → ask_refusal self.old name.now ≡ Some e) }
+        ensures memory { result ≡ Err AgentFault.Memory → ask_refusal self.old name.now ≡ None }
+        ensures err { OnErr result (self.new ≡ self.old) }
+    {
+        let tab = self.tab;
+        let number = self.ask(name, mode, true)?;
+        Ok(Probe { tab, number })
+    }
+
+    /// Asks for a snapshot of the partition's locks.
+    pub fn query(&mut self) -> Result<Asking, AgentFault>
+        ensures ok { OnOk result ((self.new ≡ queried self.old) × (query_refusal self.old ≡ None)) }
+        ensures asking { IfOk result (λ q. (q.tab ≡ self.old.tab) × (q.number ≡ length self.old.issued)) }
+        ensures refused { IfErr result (λ e. e ≢ AgentFault.Memory → query_refusal self.old ≡ Some e) }
+        ensures memory { result ≡ Err AgentFault.Memory → query_refusal self.old ≡ None }
+        ensures err { OnErr result (self.new ≡ self.old) }
+    {
+        if let Some(fault) = self.live_refusal(1) {
+            return Err(fault);
+        }
+        let tab = self.tab;
+        let parts = Parts::new(self.alloc);
+        let number = self.issue(Operation::Query, Status::Querying(parts))?;
+        Ok(Asking { tab, number })
+    }
+
+    /// Issues a request or a probe.
+    fn ask(&mut self, name: &str, mode: Mode, if_available: bool) -> Result<u32, AgentFault>
+        ensures ok { OnOk result ((self.new ≡ asked mode if_available name.now self.old) × (ask_refusal self.old name.now ≡ None)) }
+        ensures number { IfOk result (λ n. n ≡ length self.old.issued) }
+        ensures refused { IfErr result (λ e. e ≢ AgentFault.Memory → ask_refusal self.old name.now ≡ Some e) }
+        ensures memory { result ≡ Err AgentFault.Memory → ask_refusal self.old name.now ≡ None }
+        ensures err { OnErr result (self.new ≡ self.old) }
+    {
+        if let Some(fault) = self.ask_refusal(name) {
+            return Err(fault);
+        }
+        let name = Name::new(String::from_str(self.alloc, name)?);
+        let operation = Operation::Request {
+            mode,
+            if_available,
+            name,
+        };
+        Ok(self.issue(operation, Status::Asked)?)
+    }
+
+    fn ask_refusal(&self, name: &str) -> Option<AgentFault>
+        ensures { result ≡ ask_refusal self.now name.now }
+    {
+        if !is_supported(name) {
+            return Some(AgentFault::NotSupported);
+        }
+        if name.len() > NAME_LIMIT {
+            return Some(AgentFault::NameTooLong);
+        }
+        self.live_refusal(2)
+    }
+
+    /// Why a command that needs so many numbers, used or kept, is refused.
+    fn live_refusal(&self, more: usize) -> Option<AgentFault>
+        requires { more ≤ 2 }
+        ensures { result ≡ live_refusal self.now more }
+    {
+        if self.statuses.live() >= LIVE_LIMIT {
+            return Some(AgentFault::TooMany);
+        }
+        if self.issued.len() + self.statuses.kept() + more > self.numbers as usize {
+            return Some(AgentFault::NumbersUsedUp);
+        }
+        None
+    }
+
+    /// Issues a command, with room for what is kept then.
+    fn issue(&mut self, operation: Operation, status: Status) -> Result<u32, AllocError>
+        requires few { live_numbers self.old < 64 }
+        requires becomes { can_become operation status ≡ true }
+        requires numbers { length self.old.issued + kept_numbers self.old + (if keeps_number (Some status) then 2 else 1) ≤ self.old.numbers }
+        ensures ok { OnOk result (self.new ≡ issue operation status self.old) }
+        ensures number { IfOk result (λ n. n ≡ length self.old.issued) }
+        ensures err { OnErr result (self.new ≡ self.old) }
+    {
+        let number = self.count();
+        let more = 1 + usize::from(status.keeps_number());
+        self.issued.reserve(self.statuses.kept() + more)?;
+        self.statuses.insert(number, status)?;
+        self.issued.push_reserved(operation);
+        Ok(number)
+    }
+}
+
+/// Whether the draft lets a lock have the name.
+fn is_supported(name: &str) -> bool
+    ensures { result ≡ is_supported name.now }
+{
+    name.as_bytes().first() != Some(&b'-')
+}

@@ -1,0 +1,75 @@
+//! What the tab sends.
+
+ghost use Rattle.std.specs.Prelude.{◌≡◌, ◌≢◌, Some, None, Err, IfOk, OnOk, IfErr};
+ghost use Rattle.wl_frames.specs.declared.frame.Frame.TheVariants as frame;
+ghost use Rattle.wl_agent.specs.Tab.{command_frame, message_refusal, report_refusal, due, is_report_due};
+
+use crate::agent::Agent;
+use crate::fault::MessageFault;
+use std::alloc::AllocError;
+use wl_frames::{Command, Frame, Memory};
+
+/// What the tab sends again, since nothing may have come of it.
+#[derive(Debug, Drop)]
+pub struct Resend {
+    /// Whether the report is sent again, before the commands.
+    pub report: bool,
+    /// The commands, by rising number.
+    pub numbers: Vec<u32>,
+}
+
+impl Agent {
+    /// The message of a command, for the broker of the entered generation.
+    pub fn message(&self, number: u32) -> Result<Frame, MessageFault>
+        ensures message { IfOk result (λ f. f ≡ command_frame self.now number) }
+        ensures allowed { OnOk result (message_refusal self.now number ≡ None) }
+        ensures refused { IfErr result (λ e. e ≢ MessageFault.Memory → message_refusal self.now number ≡ Some e) }
+        ensures memory { result ≡ Err MessageFault.Memory → message_refusal self.now number ≡ None }
+    {
+        if self.entered == 0 {
+            return Err(MessageFault::NotEntered);
+        }
+        let Some(operation) = self.issued.get(number as usize) else {
+            return Err(MessageFault::NoSuchNumber);
+        };
+        Ok(Frame::Command(Command {
+            generation: self.entered,
+            number,
+            operation: operation.copy(self.alloc)?,
+        }))
+    }
+
+    /// The report of the entered generation.
+    pub fn report_frame(&self) -> Result<Frame, MessageFault>
+        ensures report { IfOk result (λ f. f ≡ frame.Report self.now.report) }
+        ensures allowed { OnOk result (report_refusal self.now ≡ None) }
+        ensures refused { IfErr result (λ e. e ≢ MessageFault.Memory → report_refusal self.now ≡ Some e) }
+        ensures memory { result ≡ Err MessageFault.Memory → report_refusal self.now ≡ None }
+    {
+        if self.entered == 0 {
+            return Err(MessageFault::NotEntered);
+        }
+        Ok(Frame::Report(self.report.copy(self.alloc)?))
+    }
+
+    /// What is sent again. The broker takes each message once, however often it comes.
+    pub fn resend(&self) -> Result<Resend, Memory>
+        ensures report { IfOk result (λ r. r.report ≡ is_report_due self.now) }
+        ensures numbers { IfOk result (λ r. r.numbers.items ≡ due self.now) }
+    {
+        if self.entered == 0 {
+            return Ok(Resend {
+                report: false,
+                numbers: Vec::new(self.alloc),
+            });
+        }
+        let mut numbers = self.statuses.due_below(self.alloc, self.acknowledged)?;
+        for number in self.acknowledged..self.count() {
+            numbers.push(number)?;
+        }
+        Ok(Resend {
+            report: !self.answered,
+            numbers,
+        })
+    }
+}

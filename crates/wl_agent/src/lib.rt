@@ -1,0 +1,26 @@
+//! A tab's side of the locks: its commands by number, what became of each, and the tokens of those who asked.
+#![tactic(auto)]
+
+pub mod agent;
+mod answers;
+pub mod delivered;
+pub mod fault;
+pub mod laws;
+mod operations;
+pub mod parts;
+pub mod snapshot;
+pub mod status;
+mod statuses;
+pub mod token;
+
+pub use agent::Agent;
+pub use agent::ending::DeadAgent;
+pub use agent::sending::Resend;
+pub use delivered::{Delivered, Unheard};
+pub use fault::{AgentFault, MessageFault};
+pub use snapshot::{LockInfo, Snapshot};
+pub use token::{
+    AbortFault, Asking, Foreign, HeldLock, Pending, Probe, ProbeSettled, QuerySettled, Settled,
+    Token,
+};
+pub use wl_frames::{Memory, Mode, Name};

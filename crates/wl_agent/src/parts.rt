@@ -1,0 +1,147 @@
+//! The parts of a snapshot that have come.
+
+ghost use Rattle.std.specs.Prelude.{◌≡◌, ◌++◌, false, IfOk, OnOk, OnErr};
+ghost use Rattle.wl_draft.specs.Tables.{has_row, put};
+ghost use Rattle.wl_agent.specs.Parts.{no_parts, fits, with_part, whole_of, all_entries, held_in, pending_in, info_of};
+ghost use Rattle.wl_agent.specs.Delivery.{parts_refusal};
+
+use crate::delivered::Unheard;
+use crate::snapshot::{LockInfo, Snapshot};
+use std::alloc::{AllocError, Global};
+use std::collections::BTreeMap;
+use std::marker::Model;
+use wl_frames::{Sequence, SnapshotEntry};
+
+/// The parts of a snapshot that have come. It is public for contracts alone, which see it as `PartsState`.
+#[derive(Drop)]
+pub struct Parts {
+    /// Of how many parts they are, where one has come.
+    count: u16,
+    came: BTreeMap<u16, Sequence<SnapshotEntry>>,
+}
+
+impl Model for Parts {
+    ghost use Rattle.wl_agent.specs.Parts.{PartsState};
+
+    ghost Value = { PartsState };
+
+    ghost view = { λ p. record { count = p.count; came = p.came.entries } };
+}
+
+impl Parts {
+    pub(crate) fn new(alloc: Global) -> Parts
+        ensures { result ≡ no_parts }
+    {
+        Parts {
+            count: 0,
+            came: BTreeMap::new(alloc),
+        }
+    }
+
+    fn has(&self, part: u16) -> bool
+        ensures { result ≡ has_row self.now.came part }
+    {
+        self.came.contains_key(&part)
+    }
+
+    /// Whether the part is one that is missing.
+    fn fits(&self, part: &wl_frames::Snapshot) -> bool
+        ensures { result ≡ fits part.now self.now }
+    {
+        (self.came.is_empty() || part.parts == self.count)
+            && part.part < part.parts
+            && !self.has(part.part)
+    }
+
+    /// Why a part is none that is missing.
+    pub(crate) fn refusal(&self, part: &wl_frames::Snapshot) -> Option<Unheard>
+        ensures { result ≡ parts_refusal part.now self.now }
+    {
+        if self.fits(part) {
+            None
+        } else if self.has(part.part) {
+            Some(Unheard::Twice)
+        } else {
+            Some(Unheard::Odd)
+        }
+    }
+
+    /// Takes in a part that is missing, and gives the snapshot where none is missing any more.
+    pub(crate) fn take(
+        &mut self,
+        alloc: Global,
+        part: &wl_frames::Snapshot,
+    ) -> Result<Option<Snapshot>, AllocError>
+        requires { has_row self.old.came part.now.part ≡ false }
+        ensures ok { OnOk result (self.new ≡ with_part part.now self.old) }
+        ensures snapshot { IfOk result (λ s. s ≡ whole_of (with_part part.now self.old)) }
+        ensures err { OnErr result (self.new ≡ self.old) }
+    {
+        let wl_frames::Snapshot { entries, .. } = part.copy(alloc)?;
+        self.came.insert(part.part, entries)?;
+        if self.came.len() != usize::from(part.parts) {
+            self.count = part.parts;
+            return Ok(None);
+        }
+        match assemble(alloc, &self.came) {
+            Ok(snapshot) => {
+                self.count = part.parts;
+                Ok(Some(snapshot))
+            }
+            Err(refused) => {
+                self.came.remove(&part.part);
+                Err(refused)
+            }
+        }
+    }
+}
+
+/// The snapshot of these parts.
+fn assemble(
+    alloc: Global,
+    came: &BTreeMap<u16, Sequence<SnapshotEntry>>,
+) -> Result<Snapshot, AllocError>
+    ensures held { IfOk result (λ s. s.held ≡ held_in (all_entries came.now.entries)) }
+    ensures pending { IfOk result (λ s. s.pending ≡ pending_in (all_entries came.now.entries)) }
+{
+    let mut held = Vec::new(alloc);
+    let mut pending = Vec::new(alloc);
+    for entries in came.values() {
+        divide(alloc, entries.as_slice(), &mut held, &mut pending)?;
+    }
+    Ok(Snapshot {
+        held: Sequence::new(held),
+        pending: Sequence::new(pending),
+    })
+}
+
+/// Puts what is held behind the one list, and what is waited for behind the other.
+fn divide(
+    alloc: Global,
+    entries: &[SnapshotEntry],
+    held: &mut Vec<LockInfo>,
+    pending: &mut Vec<LockInfo>,
+) -> Result<(), AllocError>
+    ensures held { OnOk result (held.new.items ≡ held.old.items ++ held_in entries.now) }
+    ensures pending { OnOk result (pending.new.items ≡ pending.old.items ++ pending_in entries.now) }
+{
+    for entry in entries {
+        let info = info_of(alloc, entry)?;
+        if entry.held {
+            held.push(info)?;
+        } else {
+            pending.push(info)?;
+        }
+    }
+    Ok(())
+}
+
+fn info_of(alloc: Global, entry: &SnapshotEntry) -> Result<LockInfo, AllocError>
+    ensures { IfOk result (λ info. info ≡ info_of entry.now) }
+{
+    Ok(LockInfo {
+        tab: entry.tab,
+        mode: entry.mode,
+        name: entry.name.copy(alloc)?,
+    })
+}

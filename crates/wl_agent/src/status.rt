@@ -1,0 +1,77 @@
+ghost use Rattle.std.specs.Prelude.{◌≡◌, true, false, Some, IfOk, OnOk, OnErr};
+ghost use Rattle.wl_draft.specs.Tables.{has_row};
+ghost use Rattle.wl_agent.specs.Parts.{with_part, is_whole};
+ghost use Rattle.wl_agent.specs.Tab.{keeps_number, is_live, is_querying, unless_asked};
+ghost use Rattle.wl_agent.specs.Delivery.{parts_of, with_part_come};
+
+use crate::parts::Parts;
+use crate::snapshot::Snapshot;
+use std::alloc::{AllocError, Global};
+
+/// What became of a number that is not over. It is public for contracts alone.
+#[derive(Drop)]
+pub enum Status {
+    /// A request or probe that no answer has settled.
+    Asked,
+    Held,
+    /// A query that is asked, with what has come of its answer.
+    Querying(Parts),
+    /// A query's answer, which its token has not taken yet.
+    Whole(Snapshot),
+    /// A query without an answer, of which its token has not been told yet.
+    Lost,
+}
+
+impl Status {
+    /// Whether a number is kept free for the release or abort.
+    pub(crate) fn keeps_number(&self) -> bool
+        ensures { result ≡ keeps_number (Some self.now) }
+    {
+        matches!(self, Status::Asked | Status::Held)
+    }
+
+    pub(crate) fn is_live(&self) -> bool
+        ensures { result ≡ is_live (Some self.now) }
+    {
+        matches!(self, Status::Asked | Status::Held | Status::Querying(_))
+    }
+
+    pub(crate) fn set(&mut self, status: Status)
+        ensures { self.new ≡ status }
+    {
+        *self = status;
+    }
+
+    /// Takes in a part of the snapshot that is missing, and says whether none is missing any more.
+    pub(crate) fn take_part(
+        &mut self,
+        alloc: Global,
+        part: &wl_frames::Snapshot,
+    ) -> Result<bool, AllocError>
+        requires querying { is_querying (Some self.old) ≡ true }
+        requires missing { has_row (parts_of (Some self.old)).came part.now.part ≡ false }
+        ensures ok { OnOk result (self.new ≡ with_part_come part.now (parts_of (Some self.old))) }
+        ensures whole { IfOk result (λ whole. whole ≡ is_whole (with_part part.now (parts_of (Some self.old)))) }
+        ensures err { OnErr result (self.new ≡ self.old) }
+    {
+        match self {
+            Status::Querying(parts) => match parts.take(alloc, part)? {
+                Some(snapshot) => {
+                    *self = Status::Whole(snapshot);
+                    Ok(true)
+                }
+                None => Ok(false),
+            },
+            _ => unreachable!(),
+        }
+    }
+
+    /// What entering a generation makes of it: an asked query is lost.
+    pub(crate) fn carry(&mut self)
+        ensures { self.new ≡ unless_asked self.old }
+    {
+        if let Status::Querying(_) = self {
+            *self = Status::Lost;
+        }
+    }
+}
