@@ -1,0 +1,38 @@
+-- Each row computes.
+use Rattle.std.specs.Prelude.{refl}
+use Rattle.wl_draft.specs.Locks.{is_grantable, newly, settle, queued, probed, released, aborted, ended, restored}
+use Rattle.wl_broker.specs.Broker.{is_active, place_of, is_misplaced, settled_at, newly_at, join, take_report, perform, take_command, taking, burial}
+use Rattle.wl_agent.specs.Parts.{with_part, snapshot_of}
+use Rattle.wl_agent.specs.Tab.{issue, ended as ended_number, finish, report_of, enter_first, enter_later, due}
+use Rattle.wl_agent.specs.Delivery.{noted, becomes as becomes_status, delivery}
+use Rattle.wl_world.specs.Messages.{is_sent}
+use Rattle.wl_world.specs.World.{acts, becomes, told, deed, happens}
+use Rattle.wl_world.proofs.rows.law_rows.Goals as goal
+
+pub returns-clause-first_grant : goal.returns-clause-first_grant
+unfolding is_grantable newly settle queued probed released aborted ended restored is_active place_of is_misplaced settled_at newly_at join take_report perform take_command taking burial with_part snapshot_of issue ended_number finish report_of enter_first enter_later due noted becomes_status delivery is_sent acts becomes told deed happens
+returns-clause-first_grant c = (refl, refl, refl)
+
+pub returns-clause-release_hands_over : goal.returns-clause-release_hands_over
+unfolding is_grantable newly settle queued probed released aborted ended restored is_active place_of is_misplaced settled_at newly_at join take_report perform take_command taking burial with_part snapshot_of issue ended_number finish report_of enter_first enter_later due noted becomes_status delivery is_sent acts becomes told deed happens
+returns-clause-release_hands_over c = (refl, refl, refl)
+
+pub returns-clause-late_grant_after_abort : goal.returns-clause-late_grant_after_abort
+unfolding is_grantable newly settle queued probed released aborted ended restored is_active place_of is_misplaced settled_at newly_at join take_report perform take_command taking burial with_part snapshot_of issue ended_number finish report_of enter_first enter_later due noted becomes_status delivery is_sent acts becomes told deed happens
+returns-clause-late_grant_after_abort c = (refl, refl, refl)
+
+pub returns-clause-restart_while_asked : goal.returns-clause-restart_while_asked
+unfolding is_grantable newly settle queued probed released aborted ended restored is_active place_of is_misplaced settled_at newly_at join take_report perform take_command taking burial with_part snapshot_of issue ended_number finish report_of enter_first enter_later due noted becomes_status delivery is_sent acts becomes told deed happens
+returns-clause-restart_while_asked c = (refl, refl, refl)
+
+pub returns-clause-restart_while_held : goal.returns-clause-restart_while_held
+unfolding is_grantable newly settle queued probed released aborted ended restored is_active place_of is_misplaced settled_at newly_at join take_report perform take_command taking burial with_part snapshot_of issue ended_number finish report_of enter_first enter_later due noted becomes_status delivery is_sent acts becomes told deed happens
+returns-clause-restart_while_held c = (refl, refl, refl)
+
+pub returns-clause-death_hands_over : goal.returns-clause-death_hands_over
+unfolding is_grantable newly settle queued probed released aborted ended restored is_active place_of is_misplaced settled_at newly_at join take_report perform take_command taking burial with_part snapshot_of issue ended_number finish report_of enter_first enter_later due noted becomes_status delivery is_sent acts becomes told deed happens
+returns-clause-death_hands_over c = (refl, refl, refl)
+
+pub returns-clause-posts_in_the_partition : goal.returns-clause-posts_in_the_partition
+unfolding is_grantable newly settle queued probed released aborted ended restored is_active place_of is_misplaced settled_at newly_at join take_report perform take_command taking burial with_part snapshot_of issue ended_number finish report_of enter_first enter_later due noted becomes_status delivery is_sent acts becomes told deed happens
+returns-clause-posts_in_the_partition c = refl

@@ -1,0 +1,4 @@
+pub mod Messages
+pub mod World
+pub mod Holdings
+pub mod Rows

@@ -1,0 +1,155 @@
+-- Worked rows: what the definition makes of short scripts.
+use Rattle.std.specs.Prelude.{◌≡◌, ℕ, ◌*◌, ◌-◌, List, [], ◌∷◌, ◌++◌, Bool, true, false, ◌&&◌, get_or, drop}
+use Rattle.url.specs.Origin.{Triple}
+use Rattle.url.specs.declared.host.Host.TheVariants.{Domain}
+use Rattle.wl_draft.specs.declared.mode.Mode.TheVariants.{Exclusive}
+use Rattle.wl_draft.specs.declared.row.Entry.{Entry}
+use Rattle.wl_frames.specs.declared.frame.Operation.{Operation}
+use Rattle.wl_frames.specs.declared.frame.Operation.TheVariants.{Request, Release, Abort, Query}
+use Rattle.wl_frames.specs.declared.frame.Outcome.{Outcome}
+use Rattle.wl_frames.specs.declared.frame.Outcome.TheVariants.{Waiting, Granted, Taken}
+use Rattle.wl_frames.specs.declared.frame.Upward.TheVariants as up
+use Rattle.wl_frames.specs.declared.frame.Downward.TheVariants as down
+use Rattle.wl_broker.specs.Broker.{hello_to}
+use Rattle.wl_agent.specs.Tab.{status_of, is_held}
+use Rattle.wl_world.specs.declared.message.Sender.TheVariants.{Kernel, Broker}
+use Rattle.wl_world.specs.declared.message.Message.{Message}
+use Rattle.wl_world.specs.declared.message.Message.TheVariants.{Up, Down, Across}
+use Rattle.wl_world.specs.declared.event.Event.{Event}
+use Rattle.wl_world.specs.declared.event.Event.TheVariants as event
+use Rattle.wl_world.specs.World.{WorldState, empty_world, tab_of, lives, happens}
+
+-- ---- scripts
+
+-- an event, or the delivery of a message by its place among all that were sent, the first being 1
+pub data Line : Type 0 where
+  Does : (happening : Event) → Line
+  Delivers : (place : ℕ) → Line
+
+abbrev pub message_at : WorldState → ℕ → Message
+message_at w n = get_or w.bag (n - 1) (Down Kernel (hello_to 0 0))
+
+abbrev pub after_line : WorldState → Line → WorldState
+after_line w (Does e) = happens w e
+after_line w (Delivers n) = happens w (event.Deliver (message_at w n))
+
+abbrev pub after_lines : List Line → WorldState → WorldState
+after_lines [] w = w
+after_lines (l ∷ ls) w = after_lines ls (after_line w l)
+
+abbrev pub played : List Line → WorldState
+played lines = after_lines lines empty_world
+
+-- what was sent behind the first messages
+abbrev pub sent_behind : ℕ → List Line → List Message
+sent_behind n lines = drop n (played lines).bag
+
+-- whether a tab holds the lock of a number, by its own account
+abbrev pub holds : ℕ → ℕ → List Line → Bool
+holds t k lines = lives (played lines) t && is_held (status_of (tab_of (played lines) t) k)
+
+-- ---- words
+
+abbrev pub a : List ℕ
+a = 97 ∷ []
+
+abbrev pub p : Triple
+p = (104 ∷ 116 ∷ 116 ∷ 112 ∷ [], Domain a, 80)
+
+abbrev pub command : ℕ → ℕ → ℕ → Operation → Message
+command g t n o = Up (record { tab = t; partition = 1; inner = up.Command (record { generation = g; number = n; operation = o }) })
+
+abbrev pub report : ℕ → ℕ → ℕ → List Entry → Message
+report g t base entries = Up (record { tab = t; partition = 1; inner = up.Report (record { generation = g; base = base; entries = entries }) })
+
+abbrev pub answer : ℕ → ℕ → ℕ → ℕ → Outcome → Message
+answer g t n upto o = Down Broker (record { tab = t; inner = down.Answer (record { generation = g; upto = upto; number = n; outcome = o }) })
+
+abbrev pub hello : ℕ → ℕ → Message
+hello g t = Down Broker (hello_to g t)
+
+abbrev pub entry : Bool → Entry
+entry held = record { number = 0; held = held; mode = Exclusive; name = a }
+
+abbrev pub request : Operation
+request = Request Exclusive false a
+
+abbrev pub ask : ℕ → Line
+ask t = Does (event.Ask t Exclusive a)
+
+-- a tab is opened and greeted, hears it, and its report comes to the broker
+abbrev pub join : ℕ → List Line
+join t = Does (event.Open t p) ∷ Does (event.Hello t) ∷ Delivers (2 * t - 1) ∷ Delivers (2 * t) ∷ []
+
+-- two tabs join; the first asks for a lock and is granted it, though it has not heard of it; the second waits
+abbrev pub contended : List Line
+contended = Does (event.Start []) ∷ (join 1 ++ join 2 ++ ask 1 ∷ Delivers 5 ∷ ask 2 ∷ Delivers 7 ∷ [])
+
+abbrev pub contended_sends : List Message
+contended_sends = command 1 1 0 request ∷ answer 1 1 0 1 Granted ∷ command 1 2 0 request ∷ answer 1 2 0 1 Waiting ∷ []
+
+-- ---- the rows
+
+abbrev pub FirstGrant : Type 0
+FirstGrant = (sent_behind 4 contended ≡ contended_sends) × (holds 1 0 contended ≡ false) × (holds 1 0 (contended ++ Delivers 6 ∷ []) ≡ true)
+
+-- a release hands the lock over
+abbrev pub released : List Line
+released = contended ++ Delivers 6 ∷ Does (event.Release 1 0) ∷ Delivers 9 ∷ Delivers 11 ∷ []
+
+abbrev pub ReleaseHandsOver : Type 0
+ReleaseHandsOver =
+    (sent_behind 8 released ≡ command 1 1 1 (Release 0) ∷ answer 1 1 1 2 Taken ∷ answer 1 2 0 1 Granted ∷ [])
+    × (holds 1 0 released ≡ false) × (holds 2 0 released ≡ true)
+
+-- a grant that comes after the abort is dropped, and the abort hands the lock over
+abbrev pub aborted : List Line
+aborted = contended ++ Does (event.Abort 1 0) ∷ Delivers 6 ∷ Delivers 9 ∷ []
+
+abbrev pub LateGrantAfterAbort : Type 0
+LateGrantAfterAbort =
+    (sent_behind 8 aborted ≡ command 1 1 1 (Abort 0) ∷ answer 1 1 1 2 Taken ∷ answer 1 2 0 1 Granted ∷ [])
+    × (holds 1 0 aborted ≡ false) × (holds 2 0 aborted ≡ false)
+
+-- the broker stops and starts, and both tabs enter the next generation; the second's report comes first
+abbrev pub restart : List Line
+restart = Does event.Stop ∷ Does (event.Start (1 ∷ 2 ∷ [])) ∷ Delivers 9 ∷ Delivers 10 ∷ Delivers 12 ∷ Delivers 11 ∷ []
+
+-- what was only asked is granted anew, and the old grant is dropped
+abbrev pub restarted_asked : List Line
+restarted_asked = contended ++ restart ++ Delivers 6 ∷ Delivers 13 ∷ []
+
+abbrev pub RestartWhileAsked : Type 0
+RestartWhileAsked =
+    (sent_behind 8 restarted_asked
+    ≡ hello 2 1 ∷ hello 2 2 ∷ report 2 1 1 (entry false ∷ []) ∷ report 2 2 1 (entry false ∷ []) ∷ answer 2 2 0 1 Granted ∷ [])
+    × (holds 1 0 restarted_asked ≡ false) × (holds 2 0 restarted_asked ≡ true)
+
+-- what was held stays held
+abbrev pub restarted_held : List Line
+restarted_held = contended ++ Delivers 6 ∷ restart
+
+abbrev pub RestartWhileHeld : Type 0
+RestartWhileHeld =
+    (sent_behind 8 restarted_held ≡ hello 2 1 ∷ hello 2 2 ∷ report 2 1 1 (entry true ∷ []) ∷ report 2 2 1 (entry false ∷ []) ∷ [])
+    × (holds 1 0 restarted_held ≡ true) × (holds 2 0 restarted_held ≡ false)
+
+-- a death that the broker is told of hands the lock over, and what the dead tab sent before is dropped
+abbrev pub killed : List Line
+killed = contended ++ Delivers 6 ∷ Does (event.Query 1) ∷ Does (event.Kill 1) ∷ Does (event.Tell 1) ∷ Delivers 9 ∷ Delivers 10 ∷ []
+
+abbrev pub DeathHandsOver : Type 0
+DeathHandsOver =
+    (sent_behind 8 killed ≡ command 1 1 1 Query ∷ answer 1 2 0 1 Granted ∷ []) × (holds 1 0 killed ≡ false) × (holds 2 0 killed ≡ true)
+
+-- a post goes to the other tab of the partition, and not across partitions
+abbrev pub q : Triple
+q = (104 ∷ 116 ∷ 116 ∷ 112 ∷ [], Domain (98 ∷ []), 80)
+
+abbrev pub posted : List Line
+posted =
+    Does (event.Open 1 p) ∷ Does (event.Open 2 p) ∷ Does (event.Open 3 q)
+    ∷ Does (event.Channel 1 a) ∷ Does (event.Channel 2 a) ∷ Does (event.Channel 3 a) ∷ Does (event.Post 1 0 (120 ∷ [])) ∷ []
+
+abbrev pub PostsInThePartition : Type 0
+PostsInThePartition = sent_behind 0 posted ≡ Across 2 (record { source = 1; number = 0; channel = a; bytes = 120 ∷ [] }) ∷ []
