@@ -40,10 +40,10 @@ allowed-sound w b d s f = either (λ x. Sound (after w x)) b d (nothing w) f (λ
 pub each_tab : (P : ℕ → TabState → Type 0) (t : ℕ) (y : TabState) (ts : Table TabState) → P t y → ((u : ℕ) → t ≢ u → P u (tab_at ts u)) → (u : ℕ) → P u (tab_at (put t y ts) u)
 each_tab P t y ts now elsewhere u = each_found (λ j o. P j (tab_in j o)) t y ts now elsewhere u
 
-Grows-same : (xs ys : List Operation) → ys ≡ xs → Grows xs ys
+pub Grows-same : (xs ys : List Operation) → ys ≡ xs → Grows xs ys
 Grows-same xs ys e = subst (Grows xs) (sym e) (le_refl (length xs), λ k lt. refl)
 
-Grows-push : (xs : List Operation) (c : Operation) → Grows xs (xs ++ c ∷ [])
+pub Grows-push : (xs : List Operation) (c : Operation) → Grows xs (xs ++ c ∷ [])
 Grows-push xs c = (omega (arith, length-append xs (c ∷ [])), λ k lt. get_or_append_left xs (c ∷ []) Query k lt)
 
 pub record Calm (w : WorldState) (t : ℕ) (y : TabState) (ms : List Message) : Type 0 where
@@ -128,7 +128,7 @@ module _ (t : ℕ) (x : TabState) (sx : SoundTab t x) (c : Operation) (rows : Ta
 command-said : (w : WorldState) (t : ℕ) (y : TabState) (n : ℕ) → n < length y.issued → FromTab t (partition_of w t) y (command_message w t y n)
 command-said w t y n lt = (refl, refl, (lt, refl))
 
-issued-sends : (w : WorldState) (t : ℕ) (y : TabState) (n : ℕ) → n < length y.issued → (m : Message) → In m (cond (y.entered == 0) [] (command_message w t y n ∷ [])) → FromTab t (partition_of w t) y m
+pub issued-sends : (w : WorldState) (t : ℕ) (y : TabState) (n : ℕ) → n < length y.issued → (m : Message) → In m (cond (y.entered == 0) [] (command_message w t y n ∷ [])) → FromTab t (partition_of w t) y m
 issued-sends w t y n lt m i =
     either (λ zs. In m zs → FromTab t (partition_of w t) y m) (y.entered == 0) [] (command_message w t y n ∷ [])
     (λ _ j. absurd (In-nil j))
@@ -241,7 +241,7 @@ report-said w t x m i =
     (λ _ j. absurd (In-nil j))
     i
 
-resent-said : (w : WorldState) (t : ℕ) (x : TabState) (m : Message) → In m (resent w t x) → FromTab t (partition_of w t) x m
+pub resent-said : (w : WorldState) (t : ℕ) (x : TabState) (m : Message) → In m (resent w t x) → FromTab t (partition_of w t) x m
 resent-said w t x m i = ⊎_elim (λ a. report-said w t x m a) (λ a. due-said w t x m a) (In-append_cases _ (map (command_message w t x) (due x)) i)
 
 pub resends-sound : (w : WorldState) (t : ℕ) → Sound w → Sound (after w (resends w t))

@@ -153,7 +153,7 @@ module _ (w : WorldState) (s : Sound w) (t : ℕ) (p : Triple) (unopened : was_o
   }
 
 -- a number may be opened only once
-not_opened : (k : KernelState) (t : ℕ) (p : Triple) → is_some (open_refusal t p k) ≡ false → is_opened k t ≡ false
+pub not_opened : (k : KernelState) (t : ℕ) (p : Triple) → is_some (open_refusal t p k) ≡ false → is_opened k t ≡ false
 not_opened k t p =
     either (λ z. is_some z ≡ false → is_opened k t ≡ false) (t == 0 || is_opened k t) (Some NumberTaken)
     (cond (nat_le living_limit (length (living_tabs k))) (Some TooManyLiving) (cond (nat_le partition_limit (length (living_of k p))) (Some PartitionFull) None))

@@ -20,3 +20,13 @@ pub mod Burying
 pub mod Hearing
 pub mod Runs
 pub mod Sources
+pub mod Items
+pub mod Rested
+pub mod TabRuns
+pub mod Tied
+pub mod Standing
+pub mod Takes
+pub mod Picking
+pub mod Quiet
+pub mod Speaking
+pub mod Order

@@ -27,9 +27,9 @@ use Rattle.wl_world.specs.declared.message.Sender.{Sender}
 use Rattle.wl_world.specs.declared.message.Sender.TheVariants.{Kernel, Broker}
 use Rattle.wl_world.specs.declared.message.Message.{Message}
 use Rattle.wl_world.specs.declared.message.Message.TheVariants.{Up, Down, Across}
-use Rattle.wl_world.specs.Holdings.{In, Later}
+use Rattle.wl_world.specs.Holdings.{In, Here, Later}
 use Rattle.wl_world.specs.Messages.{same_mode, same_bool, same_operation, same_entry, same_row, same_list, same_command, same_report, same_upward, same_outcome, same_answer, same_part, same_downward, same_heard, same_sender, same_message, is_sent, sent, sent_all}
-use Rattle.wl_world.proofs.Basics.{apart, either, In-head, In-append_left, In-append_cases, In-one, list_any-In}
+use Rattle.wl_world.proofs.Basics.{apart, either, In-nil, In-head, In-cons_cases, In-append_left, In-append_right, In-append_cases, In-one, list_any-In}
 
 names-same : (xs ys : List ℕ) → bytes_eq xs ys ≡ true → xs ≡ ys
 names-same xs ys h = (bytes_eq-Decides xs ys).0 h
@@ -208,3 +208,15 @@ command-no_report x y e = cc
 
 pub answer-no_hello : (x : Answer) (y : Hello) → down.Answer x ≡ down.Hello y → ⊥
 answer-no_hello x y e = cc
+
+-- ---- what is sent is in the bag
+
+sent-adds : (m : Message) (bag : List Message) → In m (sent m bag)
+sent-adds m bag = either (In m) (is_sent m bag) bag (bag ++ m ∷ []) (λ e. is_sent-In m bag e) (λ _. In-append_right bag Here)
+
+pub sent_all-adds : {x : Message} (ms bag : List Message) → In x ms → In x (sent_all ms bag)
+sent_all-adds [] bag h = absurd (In-nil h)
+sent_all-adds (m ∷ ms) bag h = ⊎_elim
+    (λ e. sent_all-keeps ms (sent m bag) (subst (λ z. In z (sent m bag)) (sym e) (sent-adds m bag)))
+    (λ j. sent_all-adds ms (sent m bag) j)
+    (In-cons_cases h)

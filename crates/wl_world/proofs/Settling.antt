@@ -81,7 +81,7 @@ pub settle-newly : {x : Row} (m : Locks) → In x (newly m) → In x (settle m).
 unfolding settle
 settle-newly m h = In-append_right m.held h
 
-newly-waited : {x : Row} (m : Locks) → In x (newly m) → In x m.waiting
+pub newly-waited : {x : Row} (m : Locks) → In x (newly m) → In x m.waiting
 unfolding newly
 newly-waited m h = granted-waited m.held [] m.waiting h
 

@@ -92,7 +92,7 @@ enter-issued : (g : ℕ) (x : TabState) → (enter g x).issued ≡ x.issued
 unfolding enter_first enter_later
 enter-issued g x = either (λ z. z.issued ≡ x.issued) (x.entered == 0) (enter_first g x) (enter_later g x) (λ _. refl) (λ _. refl)
 
-delivery-issued : (t : ℕ) (x : TabState) → SoundTab t x → (m : Downward) → (delivery (frame_of m) x).0.issued ≡ x.issued
+pub delivery-issued : (t : ℕ) (x : TabState) → SoundTab t x → (m : Downward) → (delivery (frame_of m) x).0.issued ≡ x.issued
 unfolding delivery
 delivery-issued t x s (down.Hello h) =
     either {A = TabState × Delivered} (λ o. o.0.issued ≡ x.issued) (nat_lt x.entered h.generation) _ _ (λ _. enter-issued h.generation x) (λ _. refl)
@@ -101,7 +101,7 @@ delivery-issued t x s (down.Answer m) =
 delivery-issued t x s (down.Snapshot m) =
     either {A = TabState × Delivered} (λ o. o.0.issued ≡ x.issued) (m.generation == x.entered) _ _ (λ _. (noted-kept (m.number + 1) x _ _ (part-kept m x (λ k. ⊥) s.rises)).issued) (λ _. refl)
 
-told-issued : (x : TabState) → (told x).issued ≡ x.issued
+pub told-issued : (x : TabState) → (told x).issued ≡ x.issued
 unfolding told
 told-issued x = refl
 

@@ -27,7 +27,7 @@ use Rattle.wl_world.proofs.Calm.{after, allowed-sound}
 -- ---- hellos are sent
 
 -- a hello of this generation to a tab that was opened
-abbrev Greets : WorldState → Message → Type 0
+abbrev pub Greets : WorldState → Message → Type 0
 Greets w m = (v : Sender) × (u : ℕ) × (m ≡ Down v (hello_to (generation w) u)) × (was_opened w u ≡ true)
 
 module _ (w : WorldState) (s : Sound w) (now : generation w < limit w) (ms : List Message) (greetings : (m : Message) → In m ms → Greets w m) where
@@ -183,7 +183,7 @@ absence-none (Some t) y e = apart refl e
 absence-none None (Some t) e = apart refl e
 absence-none None None e = (refl, refl)
 
-none-absent : (ts : List ℕ) (k : KernelState) → is_some (start_refusal ts k) ≡ false → (stranger k ts ≡ None) × (missing k ts ≡ None)
+pub none-absent : (ts : List ℕ) (k : KernelState) → is_some (start_refusal ts k) ≡ false → (stranger k ts ≡ None) × (missing k ts ≡ None)
 none-absent ts k =
     either (λ z. is_some z ≡ false → (stranger k ts ≡ None) × (missing k ts ≡ None)) (nat_lt list_limit (length ts)) (Some TooManyListed) (cond (rises ts) (absence (stranger k ts) (missing k ts)) (Some NotRising))
     (λ _ e. apart refl e)
@@ -191,7 +191,7 @@ none-absent ts k =
     (λ _ e. absence-none (stranger k ts) (missing k ts) e)
     (λ _ e. apart refl e))
 
-first_such-none : (test : ℕ → Bool) (ts : List ℕ) (u : ℕ) → first_such test ts ≡ None → In u ts → test u ≡ false
+pub first_such-none : (test : ℕ → Bool) (ts : List ℕ) (u : ℕ) → first_such test ts ≡ None → In u ts → test u ≡ false
 first_such-none test [] u = λ e i. absurd (In-nil i)
 first_such-none test (t ∷ ts) u =
     either (λ z. z ≡ None → In u (t ∷ ts) → test u ≡ false) (test t) (Some t) (first_such test ts)
@@ -235,7 +235,7 @@ listed-all w ts none t lt l =
     (and_cases _ _ f)
 
 -- each tab that is listed was opened
-hellos-greet : (w : WorldState) (ts : List ℕ) → stranger w.kernel ts ≡ None → (m : Message) → In m (map from_broker (hellos w.kernel.generation (placed ts w.kernel))) → Greets w m
+pub hellos-greet : (w : WorldState) (ts : List ℕ) → stranger w.kernel ts ≡ None → (m : Message) → In m (map from_broker (hellos w.kernel.generation (placed ts w.kernel))) → Greets w m
 hellos-greet w ts none m i =
     let k = w.kernel in
     let a = In-map_cases from_broker (hellos k.generation (placed ts k)) i in

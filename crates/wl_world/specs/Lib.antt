@@ -2,3 +2,4 @@ pub mod Messages
 pub mod World
 pub mod Holdings
 pub mod Rows
+pub mod Orders

@@ -18,6 +18,7 @@ use Rattle.wl_world.specs.declared.message.Message.TheVariants.{Up, Down, Across
 use Rattle.wl_world.specs.declared.event.Event.{Event}
 use Rattle.wl_world.specs.declared.event.Event.TheVariants as event
 use Rattle.wl_world.specs.World.{WorldState, empty_world, tab_of, lives, happens}
+use Rattle.wl_world.specs.Orders.{Reports, Commands, picked}
 
 -- ---- scripts
 
@@ -153,3 +154,15 @@ posted =
 
 abbrev pub PostsInThePartition : Type 0
 PostsInThePartition = sent_behind 0 posted ≡ Across 2 (record { source = 1; number = 0; channel = a; bytes = 120 ∷ [] }) ∷ []
+
+-- what a generation takes, picked from the events: the tab's report and its command, and not the command that comes again
+abbrev pub taken_events : List Event
+taken_events =
+    event.Start [] ∷ event.Open 1 p ∷ event.Hello 1 ∷ event.Deliver (Down Kernel (hello_to 1 1)) ∷ event.Deliver (report 1 1 0 [])
+    ∷ event.Ask 1 Exclusive a ∷ event.Deliver (command 1 1 0 request) ∷ event.Deliver (command 1 1 0 request) ∷ []
+
+abbrev pub TakenOnce : Type 0
+TakenOnce =
+    (picked 1 taken_events).items
+    ≡ record { tab = 1; partition = 1; act = Reports (record { generation = 1; base = 0; entries = [] }) }
+    ∷ record { tab = 1; partition = 1; act = Commands 0 request } ∷ []

@@ -1,6 +1,6 @@
 //! Worked rows, computed on the machine's definition.
 
-ghost use Rattle.wl_world.specs.Rows.{FirstGrant, ReleaseHandsOver, LateGrantAfterAbort, RestartWhileAsked, RestartWhileHeld, DeathHandsOver, PostsInThePartition};
+ghost use Rattle.wl_world.specs.Rows.{FirstGrant, ReleaseHandsOver, LateGrantAfterAbort, RestartWhileAsked, RestartWhileHeld, DeathHandsOver, PostsInThePartition, TakenOnce};
 
 /// What the definition makes of short scripts.
 pub fn law_rows()
@@ -11,4 +11,5 @@ pub fn law_rows()
     ensures restart_while_held { RestartWhileHeld }
     ensures death_hands_over { DeathHandsOver }
     ensures posts_in_the_partition { PostsInThePartition }
+    ensures taken_once { TakenOnce }
 {}

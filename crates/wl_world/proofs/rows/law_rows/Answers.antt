@@ -7,6 +7,7 @@ use Rattle.wl_agent.specs.Tab.{issue, ended as ended_number, finish, report_of, 
 use Rattle.wl_agent.specs.Delivery.{noted, becomes as becomes_status, delivery}
 use Rattle.wl_world.specs.Messages.{is_sent}
 use Rattle.wl_world.specs.World.{acts, becomes, told, deed, happens}
+use Rattle.wl_world.specs.Orders.{takes_report, takes_command, picks}
 use Rattle.wl_world.proofs.rows.law_rows.Goals as goal
 
 pub returns-clause-first_grant : goal.returns-clause-first_grant
@@ -36,3 +37,7 @@ returns-clause-death_hands_over c = (refl, refl, refl)
 pub returns-clause-posts_in_the_partition : goal.returns-clause-posts_in_the_partition
 unfolding is_grantable newly settle queued probed released aborted ended restored is_active place_of is_misplaced settled_at newly_at join take_report perform take_command taking burial with_part snapshot_of issue ended_number finish report_of enter_first enter_later due noted becomes_status delivery is_sent acts becomes told deed happens
 returns-clause-posts_in_the_partition c = refl
+
+pub returns-clause-taken_once : goal.returns-clause-taken_once
+unfolding is_grantable newly settle queued probed released aborted ended restored is_active place_of is_misplaced settled_at newly_at join take_report perform take_command taking burial with_part snapshot_of issue ended_number finish report_of enter_first enter_later due noted becomes_status delivery is_sent acts becomes told deed happens takes_report takes_command picks
+returns-clause-taken_once c = refl
