@@ -30,3 +30,13 @@ pub mod Picking
 pub mod Quiet
 pub mod Speaking
 pub mod Order
+pub mod Cuts
+pub mod CutMail
+pub mod CutKernel
+pub mod Fits
+pub mod CutBroker
+pub mod Orderly
+pub mod TabActs
+pub mod CutEvents
+pub mod CutOpening
+pub mod Isolation

@@ -3,3 +3,4 @@ pub mod World
 pub mod Holdings
 pub mod Rows
 pub mod Orders
+pub mod Apart

@@ -1,5 +1,6 @@
 //! What no list of events can break.
 
+ghost use Rattle.wl_world.specs.Apart.{DroppedLeavesAlone, KeptDoesAlike, RunsApart};
 ghost use Rattle.wl_world.specs.Holdings.{ExclusionForAll, OwnForAll};
 ghost use Rattle.wl_world.specs.Orders.{CommandsInOrder, GrantedWereHeld, GrantsWereSent, ManagerIsFold};
 
@@ -21,4 +22,16 @@ pub fn law_order()
     ensures sent { GrantsWereSent }
     // While the generation is up, its broker's locks of the partition are the draft's commands folded over the list.
     ensures fold { ManagerIsFold }
+{}
+
+/// Apart: a partition's run is what it is without the others. What belongs to a partition is its tabs with their locks and
+/// channels, all that the broker holds of them and the messages to and from them; beside it stand whether a broker is up, and
+/// its generation.
+pub fn law_apart()
+    // After any list of events, one that the projection to the partition drops leaves all of these alone.
+    ensures dropped { DroppedLeavesAlone }
+    // One that it keeps, a Start's list cut, does the same to them in any world of that partition alone that agrees.
+    ensures kept { KeptDoesAlike }
+    // So after the whole list they are what the world is after the projection.
+    ensures whole { RunsApart }
 {}
