@@ -8,8 +8,6 @@ pub mod manager;
 pub mod mode;
 pub mod name;
 pub mod row;
-#[cfg(test)]
-mod tests;
 
 pub use manager::Manager;
 pub use mode::Mode;

@@ -3,8 +3,6 @@
 
 pub mod fault;
 pub mod parse;
-#[cfg(test)]
-mod tests;
 pub mod triple;
 
 pub use fault::OriginFault;

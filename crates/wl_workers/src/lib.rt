@@ -3,8 +3,6 @@
 
 pub mod desk;
 pub mod device;
-#[cfg(test)]
-mod tests;
 
 pub use desk::{DeskFault, desk_run, desk_run_on};
 pub use device::{READ_LIMIT, ReadFault, Sink, Source, WriteFault};

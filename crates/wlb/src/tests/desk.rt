@@ -1,11 +1,14 @@
-use crate::desk::{DeskFault, desk_run};
-use crate::device::{Sink, Source};
-use crate::tests::fakes::{SlowReader, SlowWriter};
-use crate::tests::rows::{self, FIRST_GRANT, Row};
+mod devices;
+mod fakes;
+mod rows;
+
+use fakes::{SlowReader, SlowWriter};
+use rows::{FIRST_GRANT, Row};
 use std::alloc::{AllocError, Global};
 use std::process::Abort;
 use std::test::Fail;
 use wl_frames::FrameFault;
+use wl_workers::{DeskFault, Sink, Source, desk_run};
 
 /// The bytes that the hexadecimal digits of these lines spell.
 fn bytes_of(alloc: Global, lines: &[&str]) -> Result<Vec<u8>, AllocError> {

@@ -1,4 +1,4 @@
-use crate::{OriginFault, partition};
+use wl_origin::{OriginFault, partition};
 use std::cmp::Ordering;
 use std::test::Fail;
 

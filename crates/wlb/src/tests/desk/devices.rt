@@ -1,5 +1,5 @@
-use crate::device::{READ_LIMIT, ReadFault, Sink, Source, WriteFault};
-use crate::tests::fakes::{FullWriter, SlowReader, SlowWriter};
+use super::fakes::{FullWriter, SlowReader, SlowWriter};
+use wl_workers::{READ_LIMIT, ReadFault, Sink, Source, WriteFault};
 
 #[test]
 fn source_reads_to_the_end(rt: HostRuntime) {

@@ -1,4 +1,4 @@
-use crate::{Entry, Grant, Manager, Mode, Name, Row, Standing};
+use wl_draft::{Entry, Grant, Manager, Mode, Name, Row, Standing};
 use std::alloc::{AllocError, Global};
 use std::process::Abort;
 use std::test::Fail;

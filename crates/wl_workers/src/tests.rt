@@ -1,4 +1,0 @@
-mod desk;
-mod devices;
-mod fakes;
-mod rows;
