@@ -3,7 +3,7 @@
 use wl_frames::Frame;
 
 /// What a frame was to the tab.
-#[derive(Debug, Drop)]
+#[derive(Drop)]
 pub enum Delivered {
     /// The tab has entered a generation, and this is its report.
     Entered(Frame),

@@ -31,7 +31,7 @@ impl Letter {
 pub type Numbers = Sequence<usize>;
 
 /// What became of a post of the own tab.
-#[derive(Debug, Drop)]
+#[derive(Drop)]
 pub struct Posted {
     /// The frame for the other tabs.
     pub frame: Frame,

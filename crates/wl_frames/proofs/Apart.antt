@@ -1,9 +1,9 @@
 -- No spelling of a frame begins another.
-use Rattle.std.proofs.Common.{◌≡◌, ℕ, List, ◌++◌, length, take, drop, Option, Some, refl, sym, ap, ◌∙◌, append_assoc, arith}
+use Rattle.std.proofs.Common.{◌≡◌, ℕ, List, ◌++◌, length, take, drop, Some, refl, sym, ap, ◌∙◌, arith}
 use Rattle.std.specs.Int.{w32}
 use Rattle.std.proofs.lemmas.List.{take_at, drop_at}
 use Rattle.wl_frames.specs.declared.frame.Frame.{Frame}
-use Rattle.wl_frames.specs.Grammar.{u32, IsWellFormed, body, spelling}
+use Rattle.wl_frames.specs.Grammar.{IsWellFormed, body, spelling}
 use Rattle.wl_frames.specs.Reading.{number_at}
 use Rattle.wl_frames.proofs.Forms.{some_is}
 use Rattle.wl_frames.proofs.Fields.{u32_form}

@@ -1,5 +1,5 @@
 -- A stream has one reading.
-use Rattle.std.proofs.Common.{◌≡◌, ℕ, ◌+◌, ◌^◌, ◌<◌, List, [], ◌∷◌, ◌++◌, length, take, drop, refl, sym, ap, ◌∙◌, subst, append_assoc, arith, inl, inr}
+use Rattle.std.proofs.Common.{◌≡◌, ℕ, ◌^◌, ◌<◌, List, [], ◌∷◌, ◌++◌, length, take, drop, refl, sym, ap, ◌∙◌, subst, append_assoc, arith, inl, inr}
 use Rattle.std.specs.Int.{w32, from_be_bytes}
 use Rattle.std.specs.List.{flat_map, AllByRecursion}
 use Rattle.std.proofs.lemmas.List.{length-append, take_at, drop_at}
@@ -10,7 +10,6 @@ use Rattle.wl_frames.specs.Grammar.{u32, IsWellFormed, body, spelling}
 use Rattle.wl_frames.specs.Stream.{IsLength, IsPartial, HasFault, HasFaultNext, Stop, Rest, Fault, StopsAt, Reads}
 use Rattle.wl_frames.proofs.BodyLength.{body_length}
 use Rattle.wl_frames.proofs.Apart.{apart}
-use Rattle.wl_frames.proofs.OneFrame.{one_frame}
 use Rattle.wl_frames.proofs.OneFault.{no_fault, one_fault}
 
 -- ---- the front of a stream

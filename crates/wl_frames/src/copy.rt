@@ -66,7 +66,7 @@ fn copy_entries(alloc: Global, entries: &[Entry]) -> Result<Sequence<Entry>, All
 }
 
 impl SnapshotEntry {
-    pub fn copy(&self, alloc: Global) -> Result<SnapshotEntry, AllocError>
+    pub(crate) fn copy(&self, alloc: Global) -> Result<SnapshotEntry, AllocError>
         ensures { IfOk result (λ copy. copy ≡ self.now) }
     {
         Ok(SnapshotEntry {
@@ -94,7 +94,7 @@ fn copy_snapshot_entries(
 // ---- bodies
 
 impl Command {
-    pub fn copy(&self, alloc: Global) -> Result<Command, AllocError>
+    pub(crate) fn copy(&self, alloc: Global) -> Result<Command, AllocError>
         ensures { IfOk result (λ copy. copy ≡ self.now) }
     {
         Ok(Command {
@@ -118,7 +118,7 @@ impl Report {
 }
 
 impl Post {
-    pub fn copy(&self, alloc: Global) -> Result<Post, AllocError>
+    pub(crate) fn copy(&self, alloc: Global) -> Result<Post, AllocError>
         ensures { IfOk result (λ copy. copy ≡ self.now) }
     {
         Ok(Post {
@@ -131,7 +131,7 @@ impl Post {
 
 impl Hello {
     /// It takes no memory.
-    pub fn copy(&self) -> Hello
+    pub(crate) fn copy(&self) -> Hello
         ensures { result ≡ self.now }
     {
         Hello {
@@ -142,7 +142,7 @@ impl Hello {
 
 impl Answer {
     /// It takes no memory.
-    pub fn copy(&self) -> Answer
+    pub(crate) fn copy(&self) -> Answer
         ensures { result ≡ self.now }
     {
         Answer {
@@ -182,7 +182,7 @@ impl Heard {
 }
 
 impl Welcome {
-    pub fn copy(&self, alloc: Global) -> Result<Welcome, AllocError>
+    pub(crate) fn copy(&self, alloc: Global) -> Result<Welcome, AllocError>
         ensures { IfOk result (λ copy. copy ≡ self.now) }
     {
         Ok(Welcome {
@@ -193,7 +193,7 @@ impl Welcome {
 }
 
 impl Upward {
-    pub fn copy(&self, alloc: Global) -> Result<Upward, AllocError>
+    pub(crate) fn copy(&self, alloc: Global) -> Result<Upward, AllocError>
         ensures { IfOk result (λ copy. copy ≡ self.now) }
     {
         Ok(match self {
@@ -204,7 +204,7 @@ impl Upward {
 }
 
 impl Downward {
-    pub fn copy(&self, alloc: Global) -> Result<Downward, AllocError>
+    pub(crate) fn copy(&self, alloc: Global) -> Result<Downward, AllocError>
         ensures { IfOk result (λ copy. copy ≡ self.now) }
     {
         Ok(match self {
@@ -228,7 +228,7 @@ impl Stamped {
 }
 
 impl Start {
-    pub fn copy(&self, alloc: Global) -> Result<Start, AllocError>
+    pub(crate) fn copy(&self, alloc: Global) -> Result<Start, AllocError>
         ensures { IfOk result (λ copy. copy ≡ self.now) }
     {
         Ok(Start {
@@ -251,7 +251,7 @@ impl Addressed {
 
 impl Dead {
     /// It takes no memory.
-    pub fn copy(&self) -> Dead
+    pub(crate) fn copy(&self) -> Dead
         ensures { result ≡ self.now }
     {
         Dead { tab: self.tab }

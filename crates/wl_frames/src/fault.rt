@@ -33,7 +33,7 @@ pub enum FrameFault {
 }
 
 /// A fault in a piece of a stream, behind the frames of that piece that stood before it.
-#[derive(Debug, Drop)]
+#[derive(Drop)]
 pub struct PushFault {
     pub before: Vec<Frame>,
     pub fault: FrameFault,

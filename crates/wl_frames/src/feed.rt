@@ -65,7 +65,7 @@ fn read_frames(alloc: Global, frames: &mut Vec<Frame>, bytes: &[u8]) -> Result<u
 }
 
 /// Reads frames from a stream that comes in pieces of any size.
-#[derive(Debug, Drop)]
+#[derive(Drop)]
 pub struct Feed {
     alloc: Global,
     rest: Vec<u8>,

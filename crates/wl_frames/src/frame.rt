@@ -6,7 +6,7 @@ use bytes::Bytes;
 use wl_draft::{Entry, Mode, Name};
 
 /// What a command of a tab asks the lock manager for.
-#[derive(Debug, Drop)]
+#[derive(Drop)]
 pub enum Operation {
     /// A lock, to be waited for, or under `if_available` to be had at once or not at all.
     Request {
@@ -27,7 +27,7 @@ pub enum Operation {
 }
 
 /// One numbered command of a tab.
-#[derive(Debug, Drop)]
+#[derive(Drop)]
 pub struct Command {
     pub generation: u32,
     pub number: u32,
@@ -35,7 +35,7 @@ pub struct Command {
 }
 
 /// What a tab says on entering a generation: how many commands it has issued, and its live locks.
-#[derive(Debug, Drop)]
+#[derive(Drop)]
 pub struct Report {
     pub generation: u32,
     pub base: u32,
@@ -44,7 +44,7 @@ pub struct Report {
 }
 
 /// A broadcast message of a tab.
-#[derive(Debug, Drop)]
+#[derive(Drop)]
 pub struct Post {
     pub number: u32,
     pub channel: Name,
@@ -52,7 +52,7 @@ pub struct Post {
 }
 
 /// Tells a tab that a generation has begun.
-#[derive(Debug, Drop)]
+#[derive(Drop)]
 pub struct Hello {
     pub generation: u32,
 }
@@ -71,7 +71,7 @@ pub enum Outcome {
 }
 
 /// The broker's answer to the command of a number.
-#[derive(Debug, Drop)]
+#[derive(Drop)]
 pub struct Answer {
     pub generation: u32,
     /// How many commands of the tab the broker has taken.
@@ -81,7 +81,7 @@ pub struct Answer {
 }
 
 /// A lock of a snapshot.
-#[derive(Debug, Drop)]
+#[derive(Drop)]
 pub struct SnapshotEntry {
     /// Whether it is held; else it is waited for.
     pub held: bool,
@@ -92,7 +92,7 @@ pub struct SnapshotEntry {
 
 /// One part of the answer to a query: the held locks in the order of granting, then the waiting requests in the order
 /// of queueing.
-#[derive(Debug, Drop)]
+#[derive(Drop)]
 pub struct Snapshot {
     pub generation: u32,
     pub number: u32,
@@ -103,7 +103,7 @@ pub struct Snapshot {
 }
 
 /// A post on its way to a tab.
-#[derive(Debug, Drop)]
+#[derive(Drop)]
 pub struct Heard {
     /// The tab that posted it.
     pub source: u16,
@@ -113,21 +113,21 @@ pub struct Heard {
 }
 
 /// Tells a tab process who it is.
-#[derive(Debug, Drop)]
+#[derive(Drop)]
 pub struct Welcome {
     pub tab: u16,
     pub origin: Origin,
 }
 
 /// What a tab sends to the broker.
-#[derive(Debug, Drop)]
+#[derive(Drop)]
 pub enum Upward {
     Command(Command),
     Report(Report),
 }
 
 /// What the broker sends to a tab.
-#[derive(Debug, Drop)]
+#[derive(Drop)]
 pub enum Downward {
     Hello(Hello),
     Answer(Answer),
@@ -135,7 +135,7 @@ pub enum Downward {
 }
 
 /// A frame of a tab, with the tab and the partition that the kernel set for it.
-#[derive(Debug, Drop)]
+#[derive(Drop)]
 pub struct Stamped {
     pub tab: u16,
     pub partition: u16,
@@ -143,7 +143,7 @@ pub struct Stamped {
 }
 
 /// Starts a broker.
-#[derive(Debug, Drop)]
+#[derive(Drop)]
 pub struct Start {
     pub generation: u32,
     /// The listed tabs, by strictly rising number, each with its partition.
@@ -151,20 +151,20 @@ pub struct Start {
 }
 
 /// A frame of the broker, with the tab that it is for.
-#[derive(Debug, Drop)]
+#[derive(Drop)]
 pub struct Addressed {
     pub tab: u16,
     pub inner: Downward,
 }
 
 /// Tells the broker that a tab is dead.
-#[derive(Debug, Drop)]
+#[derive(Drop)]
 pub struct Dead {
     pub tab: u16,
 }
 
 /// Any frame of the protocol.
-#[derive(Debug, Drop)]
+#[derive(Drop)]
 pub enum Frame {
     Command(Command),
     Report(Report),

@@ -22,6 +22,3 @@ pub use origin::Origin;
 pub use sequence::Sequence;
 pub use wl_draft::{Entry, Memory, Mode, Name};
 pub use writing::encode;
-
-#[cfg(test)]
-mod tests;

@@ -7,7 +7,7 @@ use std::alloc::{AllocError, Global};
 use wl_frames::{Downward, Frame, Heard, Post, Sequence};
 
 /// Where a tab's frame goes.
-#[derive(Debug, Drop)]
+#[derive(Drop)]
 pub enum Routed {
     /// To the broker, if one runs.
     Broker(Frame),

@@ -7,7 +7,7 @@ use wl_frames::Sequence;
 use wl_origin::Partition;
 
 /// One event. The loss of a message is a delivery that never comes.
-#[derive(Debug, Drop)]
+#[derive(Drop)]
 pub enum Event {
     Open {
         tab: u16,

@@ -10,7 +10,7 @@ pub enum Sender {
 }
 
 /// A message with its ends.
-#[derive(Debug, Drop)]
+#[derive(Drop)]
 pub enum Message {
     /// A tab's command or report, with the kernel's stamp, to the broker.
     Up(Stamped),

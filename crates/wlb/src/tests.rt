@@ -1,5 +1,7 @@
-//! The tests of all crates stand here, at the top, one file a crate: a crate with tests is proved a second time with them.
+//! The tests of all crates, one file a crate, through what each offers: a crate with tests is proved a second time with them,
+//! so they stand here, at the top.
 
 mod desk;
 mod draft;
+mod frames;
 mod origin;

@@ -296,10 +296,10 @@ fn inner_kind_of(bytes: &[u8]) -> Result<(Kind, &[u8]), ReadFault>
     if version != VERSION {
         return Err(ReadFault::Field);
     }
-    match kind_of(code) {
-        Some(kind) => Ok((kind, rest)),
-        None => Err(ReadFault::Field),
-    }
+    let Some(kind) = kind_of(code) else {
+        return Err(ReadFault::Field);
+    };
+    Ok((kind, rest))
 }
 
 fn upward_fields_of(alloc: Global, kind: Kind, bytes: &[u8]) -> Result<(Upward, &[u8]), ReadFault>

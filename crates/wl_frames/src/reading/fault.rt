@@ -8,7 +8,7 @@ use crate::fault::FrameFault;
 use std::alloc::{AllocError, AllocFailed};
 use std::str::Utf8Error;
 
-#[derive(Debug, Drop)]
+#[derive(Drop)]
 pub enum ReadFault {
     /// Memory was refused.
     Memory,

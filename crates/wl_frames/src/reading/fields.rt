@@ -28,19 +28,22 @@ pub fn byte_of(bytes: &[u8]) -> Result<(u8, &[u8]), ReadFault>
 pub fn u16_of(bytes: &[u8]) -> Result<(u16, &[u8]), ReadFault>
     ensures { Gives (λ x. (x.0, x.1.now)) result (number_at w16 bytes.now) }
 {
-    let Some((front, rest)) = bytes.split_first_chunk::<2>() else {
-        return Err(ReadFault::Field);
-    };
-    Ok((u16::from_be_bytes(*front), rest))
+    match bytes {
+        [first, second, rest @ ..] => Ok((u16::from_be_bytes([*first, *second]), rest)),
+        _ => Err(ReadFault::Field),
+    }
 }
 
 pub fn u32_of(bytes: &[u8]) -> Result<(u32, &[u8]), ReadFault>
     ensures { Gives (λ x. (x.0, x.1.now)) result (number_at w32 bytes.now) }
 {
-    let Some((front, rest)) = bytes.split_first_chunk::<4>() else {
-        return Err(ReadFault::Field);
-    };
-    Ok((u32::from_be_bytes(*front), rest))
+    match bytes {
+        [first, second, third, fourth, rest @ ..] => {
+            let number = u32::from_be_bytes([*first, *second, *third, *fourth]);
+            Ok((number, rest))
+        }
+        _ => Err(ReadFault::Field),
+    }
 }
 
 #[tactic(auto, unfolding(crate::specs::Reading::generation_at))]
@@ -143,8 +146,8 @@ fn name_of(alloc: Global, text: &[u8]) -> Result<Name, ReadFault>
 pub fn channel_of(alloc: Global, bytes: &[u8]) -> Result<(Name, &[u8]), ReadFault>
     ensures { Gives (λ x. (x.0, x.1.now)) result (channel_at bytes.now) }
 {
-    let (text, rest) = short_text_of(bytes)?;
-    Ok((name_of(alloc, text)?, rest))
+    let (channel, rest) = short_text_of(bytes)?;
+    Ok((name_of(alloc, channel)?, rest))
 }
 
 #[tactic(auto, unfolding(crate::specs::Reading::lock_name_at))]

@@ -1,3 +1,0 @@
-mod feed;
-mod reading;
-mod writing;

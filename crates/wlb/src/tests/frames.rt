@@ -1,0 +1,486 @@
+//! Frames: an example of each kind as bytes and as a value, streams in pieces, faults, and the limits of the forms.
+
+use bytes::Bytes;
+use std::alloc::{AllocError, Global};
+use std::process::Abort;
+use std::test::Fail;
+use wl_frames::{
+    Addressed, Answer, Command, Dead, Downward, Entry, Feed, Frame, FrameFault, Heard, Mode, Name,
+    Operation, Outcome, Post, PushFault, Report, Sequence, Snapshot, SnapshotEntry, Stamped, Start,
+    Upward, encode,
+};
+
+/// The command 0 of generation 1: the lock `a` is requested, exclusive.
+const COMMAND: [u8; 19] = [0, 0, 0, 15, 1, 1, 0, 0, 0, 1, 0, 0, 0, 0, 1, 2, 0, 1, b'a'];
+
+// ---- an example of each kind
+
+const EXAMPLES: [&[u8]; 15] = [
+    &COMMAND,
+    b"\x00\x00\x00\x0F\x01\x01\x00\x00\x00\x01\x00\x00\x00\x05\x02\x00\x00\x01\x02",
+    b"\x00\x00\x00\x0F\x01\x01\x00\x00\x00\x01\x00\x00\x00\x05\x03\x00\x00\x00\x04",
+    b"\x00\x00\x00\x0B\x01\x01\x00\x00\x00\x01\x00\x00\x00\x05\x04",
+    b"\x00\x00\x00\x1B\x01\x02\x00\x00\x00\x02\x00\x00\x00\x01\x00\x02\
+        \x00\x00\x00\x00\x01\x02\x01a\x00\x00\x00\x03\x02\x01\x00",
+    b"\x00\x00\x00\x0C\x01\x03\x00\x00\x00\x09\x01-\x00\x02\xFFx",
+    b"\x00\x00\x00\x06\x01\x10\x00\x00\x01\x02",
+    b"\x00\x00\x00\x0F\x01\x11\x00\x00\x00\x01\x00\x00\x00\x03\x00\x00\x00\x02\x02",
+    b"\x00\x00\x00\x1C\x01\x12\x00\x00\x00\x02\x00\x00\x00\x05\x00\x00\x00\x01\x00\x02\
+        \x01\x00\x01\x02\x01f\x02\x00\x02\x01\x01f",
+    b"\x00\x00\x00\x0D\x01\x13\x00\x02\x00\x00\x00\x04\x01n\x00\x01\x07",
+    b"\x00\x00\x00\x14\x01\x14\x00\x07\x00\x0Ehttps://a.test",
+    b"\x00\x00\x00\x15\x01\x20\x00\x05\x00\x06\
+        \x01\x01\x00\x00\x00\x01\x00\x00\x00\x05\x03\x00\x00\x00\x04",
+    b"\x00\x00\x00\x10\x01\x21\x00\x00\x00\x07\x00\x02\x00\x01\x00\x09\x01\x2C\x00\x02",
+    b"\x00\x00\x00\x0A\x01\x22\x00\x05\x01\x10\x00\x00\x01\x02",
+    b"\x00\x00\x00\x04\x01\x23\x01\x00",
+];
+
+/// Whether the frame is an example of its kind.
+fn is_example(frame: &Frame) -> bool {
+    match frame {
+        Frame::Command(command) => is_first_command(frame) || is_later_command(command),
+        Frame::Report(report) => is_report(report),
+        Frame::Post(post) => is_post(post),
+        Frame::Hello(hello) => hello.generation == 258,
+        Frame::Answer(answer) => is_answer(answer),
+        Frame::Snapshot(snapshot) => is_snapshot(snapshot),
+        Frame::Heard(heard) => is_heard(heard),
+        Frame::Welcome(welcome) => welcome.tab == 7 && welcome.origin.as_str() == "https://a.test",
+        Frame::Stamped(stamped) => is_stamped(stamped),
+        Frame::Start(start) => is_start(start),
+        Frame::Addressed(addressed) => is_addressed(addressed),
+        Frame::Dead(dead) => dead.tab == 256,
+    }
+}
+
+fn is_first_command(frame: &Frame) -> bool {
+    match frame {
+        Frame::Command(
+            Command {
+                generation: 1,
+                number: 0,
+                operation: Operation::Request {
+                    mode: Mode::Exclusive,
+                    if_available: false,
+                    name,
+                },
+            },
+        ) => name.as_str() == "a",
+        _ => false,
+    }
+}
+
+fn is_later_command(command: &Command) -> bool {
+    let is_operation = match &command.operation {
+        Operation::Request { .. } => false,
+        Operation::Release { number } => *number == 258,
+        Operation::Abort { number } => *number == 4,
+        Operation::Query => true,
+    };
+    command.generation == 1 && command.number == 5 && is_operation
+}
+
+fn is_report(report: &Report) -> bool {
+    let [first, second] = report.entries.as_slice() else {
+        return false;
+    };
+    report.generation == 2
+        && report.base == 1
+        && is_entry(first, 0, true, Mode::Exclusive, "a")
+        && is_entry(second, 3, false, Mode::Shared, "")
+}
+
+fn is_entry(entry: &Entry, number: u32, held: bool, mode: Mode, name: &str) -> bool {
+    entry.number == number
+        && entry.held == held
+        && entry.mode == mode
+        && entry.name.as_str() == name
+}
+
+fn is_post(post: &Post) -> bool {
+    post.number == 9 && post.channel.as_str() == "-" && post.bytes.as_slice() == b"\xFFx".as_slice()
+}
+
+fn is_answer(answer: &Answer) -> bool {
+    answer.generation == 1
+        && answer.upto == 3
+        && answer.number == 2
+        && answer.outcome == Outcome::Granted
+}
+
+fn is_snapshot(snapshot: &Snapshot) -> bool {
+    let [first, second] = snapshot.entries.as_slice() else {
+        return false;
+    };
+    snapshot.generation == 2
+        && snapshot.number == 5
+        && snapshot.part == 0
+        && snapshot.parts == 1
+        && is_lock(first, true, 1, Mode::Exclusive)
+        && is_lock(second, false, 2, Mode::Shared)
+}
+
+fn is_lock(entry: &SnapshotEntry, held: bool, tab: u16, mode: Mode) -> bool {
+    entry.held == held && entry.tab == tab && entry.mode == mode && entry.name.as_str() == "f"
+}
+
+fn is_heard(heard: &Heard) -> bool {
+    heard.source == 2
+        && heard.number == 4
+        && heard.channel.as_str() == "n"
+        && heard.bytes.as_slice() == b"\x07".as_slice()
+}
+
+fn is_stamped(stamped: &Stamped) -> bool {
+    match &stamped.inner {
+        Upward::Command(command) => {
+            stamped.tab == 5 && stamped.partition == 6 && is_later_command(command)
+        }
+        Upward::Report(_) => false,
+    }
+}
+
+fn is_start(start: &Start) -> bool {
+    start.generation == 7 && start.list.as_slice() == [(1, 9), (300, 2)].as_slice()
+}
+
+fn is_addressed(addressed: &Addressed) -> bool {
+    match &addressed.inner {
+        Downward::Hello(hello) => addressed.tab == 5 && hello.generation == 258,
+        _ => false,
+    }
+}
+
+/// The frame is well formed, and spelled by these bytes.
+fn spelled(rt: &impl Abort, alloc: Global, frame: &Frame, bytes: &[u8]) -> Result<(), Fail> {
+    assert!(rt; frame.is_well_formed());
+    assert_eq!(rt; encode(alloc, frame)?.as_slice(), bytes);
+    Ok(())
+}
+
+/// The frame is an example of its kind, and it and a copy of it are spelled by these bytes.
+fn expect_example(rt: &impl Abort, alloc: Global, frame: &Frame, bytes: &[u8]) -> Result<(), Fail> {
+    assert!(rt; is_example(frame), "{bytes:?}");
+    spelled(rt, alloc, frame, bytes)?;
+    spelled(rt, alloc, &frame.copy(alloc)?, bytes)
+}
+
+#[test]
+fn frames_of_each_kind(rt: HostRuntime) -> Result<(), Fail> {
+    for bytes in EXAMPLES {
+        let mut feed = Feed::new(rt.alloc());
+        let frames = pushed(&rt, &mut feed, bytes);
+        assert_eq!(rt; frames.len(), 1);
+        for frame in &frames {
+            expect_example(&rt, rt.alloc(), frame, bytes)?;
+        }
+    }
+    Ok(())
+}
+
+// ---- streams in pieces
+
+/// Pushes a piece, and once more where memory was refused, since nothing of it was taken then.
+fn push(rt: &impl Abort, feed: &mut Feed, piece: &[u8]) -> Result<Vec<Frame>, PushFault> {
+    match feed.push(piece) {
+        Err(
+            PushFault {
+                before,
+                fault: FrameFault::Memory,
+            },
+        ) => {
+            assert!(rt; before.is_empty());
+            feed.push(piece)
+        }
+        answered => answered,
+    }
+}
+
+/// The frames of a piece that has no fault.
+fn pushed(rt: &impl Abort, feed: &mut Feed, piece: &[u8]) -> Vec<Frame> {
+    match push(rt, feed, piece) {
+        Ok(frames) => frames,
+        Err(refused) => panic!(rt; "{} at {piece:?}", refused.fault),
+    }
+}
+
+/// The piece gives the command so many times, and no fault.
+fn gives(rt: &impl Abort, feed: &mut Feed, piece: &[u8], count: usize) {
+    let frames = pushed(rt, feed, piece);
+    assert_eq!(rt; frames.len(), count);
+    assert!(rt; frames.iter().all(is_first_command));
+}
+
+/// The piece gives the command so many times, and then the fault.
+fn fails(rt: &impl Abort, feed: &mut Feed, piece: &[u8], count: usize, fault: FrameFault) {
+    match push(rt, feed, piece) {
+        Ok(_) => assert!(rt; false, "no {fault} at {piece:?}"),
+        Err(refused) => {
+            assert_eq!(rt; refused.fault, fault, "at {piece:?}");
+            assert_eq!(rt; refused.before.len(), count);
+            assert!(rt; refused.before.iter().all(is_first_command));
+        }
+    }
+}
+
+#[test]
+fn one_command_frame(rt: HostRuntime) {
+    let mut feed = Feed::new(rt.alloc());
+    gives(&rt, &mut feed, &COMMAND, 1);
+    for (i, byte) in COMMAND.iter().enumerate() {
+        let count = if i == 18 { 1 } else { 0 };
+        gives(&rt, &mut feed, &[*byte], count);
+    }
+    // Two frames and a part of the third, and then its rest.
+    let mut piece = [0; 42];
+    piece[..19].copy_from_slice(&COMMAND);
+    piece[19..38].copy_from_slice(&COMMAND);
+    piece[38..].copy_from_slice(&COMMAND[..4]);
+    gives(&rt, &mut feed, &piece, 2);
+    gives(&rt, &mut feed, &COMMAND[4..], 1);
+    assert_eq!(rt; feed.end(), Ok(()));
+}
+
+const FAULTS: [(&[u8], FrameFault); 18] = [
+    (b"\x00\x00\x00\x00", FrameFault::BadLength),
+    (b"\x00\x00\x00\x01", FrameFault::BadLength),
+    (b"\x00\x01\x00\x01", FrameFault::BadLength),
+    (b"\x00\x00\x00\x02\x02\x01", FrameFault::BadVersion),
+    (b"\x00\x00\x00\x02\x01\x63", FrameFault::BadKind),
+    (b"\x00\x00\x00\x02\x01\x01", FrameFault::BadField),
+    // the command with another flag, and with a byte more
+    (
+        b"\x00\x00\x00\x0F\x01\x01\x00\x00\x00\x01\x00\x00\x00\x00\x01\x02\x02\x01a",
+        FrameFault::BadField,
+    ),
+    (
+        b"\x00\x00\x00\x10\x01\x01\x00\x00\x00\x01\x00\x00\x00\x00\x01\x02\x00\x01a\x00",
+        FrameFault::LeftOver,
+    ),
+    // a lock's name that begins with a dash, and one that is no UTF-8
+    (
+        b"\x00\x00\x00\x0F\x01\x01\x00\x00\x00\x01\x00\x00\x00\x00\x01\x02\x00\x01-",
+        FrameFault::BadField,
+    ),
+    (
+        b"\x00\x00\x00\x0F\x01\x01\x00\x00\x00\x01\x00\x00\x00\x00\x01\x02\x00\x01\xFF",
+        FrameFault::BadField,
+    ),
+    // generation 0, and tab 0
+    (
+        b"\x00\x00\x00\x06\x01\x10\x00\x00\x00\x00",
+        FrameFault::BadField,
+    ),
+    (b"\x00\x00\x00\x04\x01\x23\x00\x00", FrameFault::BadField),
+    // entries out of order, and one number twice
+    (
+        b"\x00\x00\x00\x1A\x01\x02\x00\x00\x00\x01\x00\x00\x00\x05\x00\x02\
+            \x00\x00\x00\x03\x01\x01\x00\x00\x00\x00\x02\x01\x01\x00",
+        FrameFault::BadField,
+    ),
+    (
+        b"\x00\x00\x00\x1A\x01\x02\x00\x00\x00\x01\x00\x00\x00\x05\x00\x02\
+            \x00\x00\x00\x03\x01\x01\x00\x00\x00\x00\x03\x01\x01\x00",
+        FrameFault::BadField,
+    ),
+    // part 1 of 1
+    (
+        b"\x00\x00\x00\x10\x01\x12\x00\x00\x00\x01\x00\x00\x00\x01\x00\x01\x00\x01\x00\x00",
+        FrameFault::BadField,
+    ),
+    // inner bodies: another kind, another version, and a byte more
+    (
+        b"\x00\x00\x00\x0C\x01\x20\x00\x02\x00\x03\x01\x10\x00\x00\x00\x01",
+        FrameFault::BadField,
+    ),
+    (
+        b"\x00\x00\x00\x0A\x01\x22\x00\x01\x02\x10\x00\x00\x00\x01",
+        FrameFault::BadField,
+    ),
+    (
+        b"\x00\x00\x00\x0B\x01\x22\x00\x01\x01\x10\x00\x00\x00\x01\x00",
+        FrameFault::BadField,
+    ),
+];
+
+/// The fault comes at the last byte, and no later piece is read.
+fn expect_fault(rt: &impl Abort, alloc: Global, bytes: &[u8], fault: FrameFault) {
+    let [front @ .., last] = bytes else {
+        return;
+    };
+    let mut feed = Feed::new(alloc);
+    gives(rt, &mut feed, front, 0);
+    fails(rt, &mut feed, &[*last], 0, fault);
+    fails(rt, &mut feed, &COMMAND, 0, FrameFault::Failed);
+    fails(rt, &mut feed, &[], 0, FrameFault::Failed);
+    assert_eq!(rt; feed.end(), Err(FrameFault::Failed));
+}
+
+#[test]
+fn feed_faults(rt: HostRuntime) {
+    for (bytes, fault) in FAULTS {
+        expect_fault(&rt, rt.alloc(), bytes, fault);
+    }
+}
+
+#[test]
+fn frames_before_a_fault(rt: HostRuntime) {
+    let mut piece = [0; 23];
+    piece[..19].copy_from_slice(&COMMAND);
+    piece[22] = 1;
+    let mut feed = Feed::new(rt.alloc());
+    fails(&rt, &mut feed, &piece, 1, FrameFault::BadLength);
+    fails(&rt, &mut feed, &COMMAND, 0, FrameFault::Failed);
+    assert_eq!(rt; feed.end(), Err(FrameFault::Failed));
+}
+
+#[test]
+fn feed_ends(rt: HostRuntime) {
+    let feed = Feed::new(rt.alloc());
+    assert_eq!(rt; feed.end(), Ok(()));
+    let mut feed = Feed::new(rt.alloc());
+    gives(&rt, &mut feed, &COMMAND[..18], 0);
+    assert_eq!(rt; feed.end(), Err(FrameFault::Truncated));
+}
+
+#[test]
+fn at_most_64_entries(rt: HostRuntime) -> Result<(), Fail> {
+    let alloc = rt.alloc();
+    for (count, length) in [(64, [0, 0, 1, 0xCC]), (65, [0, 0, 1, 0xD3])] {
+        let mut bytes = length.to_vec(alloc)?;
+        bytes.extend_from_slice(&[1, 2, 0, 0, 0, 1, 0, 0, 0, 100, 0, count])?;
+        for number in 0..count {
+            bytes.extend_from_slice(&[0, 0, 0, number, 1, 1, 0])?;
+        }
+        let mut feed = Feed::new(alloc);
+        if count == 64 {
+            assert_eq!(rt; pushed(&rt, &mut feed, &bytes).len(), 1);
+        } else {
+            fails(&rt, &mut feed, &bytes, 0, FrameFault::BadField);
+        }
+    }
+    Ok(())
+}
+
+// ---- which frames are well formed
+
+fn name(alloc: Global, text: &str) -> Result<Name, AllocError> {
+    Ok(Name::new(String::from_str(alloc, text)?))
+}
+
+fn request(alloc: Global, generation: u32, text: &str) -> Result<Frame, AllocError> {
+    let operation = Operation::Request {
+        mode: Mode::Exclusive,
+        if_available: false,
+        name: name(alloc, text)?,
+    };
+    Ok(Frame::Command(Command {
+        generation,
+        number: 0,
+        operation,
+    }))
+}
+
+fn post(alloc: Global, channel: &str, data: &[u8]) -> Result<Frame, AllocError> {
+    let channel = name(alloc, channel)?;
+    let bytes = Bytes::copy_from_slice(alloc, data)?;
+    Ok(Frame::Post(Post {
+        number: 1,
+        channel,
+        bytes,
+    }))
+}
+
+/// A report of held locks by these numbers.
+fn report(alloc: Global, numbers: &[u32]) -> Result<Frame, AllocError> {
+    let mut entries = Vec::new(alloc);
+    for number in numbers {
+        entries.push(Entry {
+            number: *number,
+            held: true,
+            mode: Mode::Shared,
+            name: name(alloc, "x")?,
+        })?;
+    }
+    Ok(Frame::Report(Report {
+        generation: 2,
+        base: 9,
+        entries: Sequence::new(entries),
+    }))
+}
+
+/// A part of a snapshot, with a lock of this tab.
+fn snapshot(alloc: Global, tab: u16, part: u16, parts: u16) -> Result<Frame, AllocError> {
+    let entry = SnapshotEntry {
+        held: true,
+        tab,
+        mode: Mode::Exclusive,
+        name: name(alloc, "f")?,
+    };
+    let entries = Vec::from_array(alloc, [entry])?;
+    Ok(Frame::Snapshot(Snapshot {
+        generation: 2,
+        number: 5,
+        part,
+        parts,
+        entries: Sequence::new(entries),
+    }))
+}
+
+fn start(alloc: Global, places: &[(u16, u16)]) -> Result<Frame, AllocError> {
+    Ok(Frame::Start(Start {
+        generation: 7,
+        list: Sequence::new(places.to_vec(alloc)?),
+    }))
+}
+
+/// Whether the frame is well formed is what is wanted.
+fn expect_form(rt: &impl Abort, frame: Frame, want: bool) {
+    assert_eq!(rt; frame.is_well_formed(), want);
+}
+
+#[test]
+fn forms_of_texts(rt: HostRuntime) -> Result<(), Fail> {
+    let alloc = rt.alloc();
+    for (length, want) in [(255, true), (256, false)] {
+        let text = "x".repeat(alloc, length)?;
+        expect_form(&rt, request(alloc, 1, text.as_str())?, want);
+        expect_form(&rt, post(alloc, text.as_str(), b"")?, want);
+    }
+    for (text, want) in [("", true), ("-", false), ("a-", true)] {
+        expect_form(&rt, request(alloc, 1, text)?, want);
+    }
+    expect_form(&rt, post(alloc, "-", b"")?, true);
+    for (length, want) in [(16384, true), (16385, false)] {
+        let data = vec![in alloc; 0u8; length]?;
+        expect_form(&rt, post(alloc, "c", &data)?, want);
+    }
+    Ok(())
+}
+
+#[test]
+fn forms_of_numbers(rt: HostRuntime) -> Result<(), Fail> {
+    let alloc = rt.alloc();
+    expect_form(&rt, request(alloc, 0, "a")?, false);
+    expect_form(&rt, Frame::Dead(Dead { tab: 0 }), false);
+    for (tab, part, parts, want) in [(1, 1, 2, true), (1, 2, 2, false), (0, 0, 1, false)] {
+        expect_form(&rt, snapshot(alloc, tab, part, parts)?, want);
+    }
+    Ok(())
+}
+
+#[test]
+fn forms_of_lists(rt: HostRuntime) -> Result<(), Fail> {
+    let alloc = rt.alloc();
+    for (count, want) in [(64, true), (65, false)] {
+        let numbers: Vec<u32> = (0..count).collect(alloc)?;
+        expect_form(&rt, report(alloc, &numbers)?, want);
+    }
+    for (first, second, want) in [(0, u32::MAX, true), (4, 4, false), (5, 4, false)] {
+        expect_form(&rt, report(alloc, &[first, second])?, want);
+    }
+    expect_form(&rt, start(alloc, &[(2, 1), (2, 1)])?, false);
+    expect_form(&rt, start(alloc, &[(2, 0)])?, false);
+    Ok(())
+}
