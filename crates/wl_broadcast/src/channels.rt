@@ -313,6 +313,3 @@ fn hear(
     }
     Ok(())
 }
-
-#[cfg(test)]
-mod tests;

@@ -15,6 +15,3 @@ pub use fault::{GenerationsUsedUp, KillFault, OpenFault, RouteFault, StartFault}
 pub use routes::Routed;
 pub use states::{Down, Up};
 pub use tabs::Tabs;
-
-#[cfg(test)]
-mod tests;

@@ -8,15 +8,7 @@ ghost use Rattle.wl_kernel.specs.Kernel.{put_in, rises, is_listed};
 pub(crate) fn rises(numbers: &[u16]) -> bool
     ensures { result ≡ rises numbers.now }
 {
-    let mut least = 0u32;
-    for number in numbers {
-        let number = u32::from(*number);
-        if number < least {
-            return false;
-        }
-        least = number + 1;
-    }
-    true
+    numbers.is_sorted_by(|earlier, later| *earlier < *later)
 }
 
 pub(crate) fn contains(numbers: &[u16], number: u16) -> bool

@@ -1,7 +1,9 @@
 //! The tests of all crates, one file a crate, through what each offers: a crate with tests is proved a second time with them,
 //! so they stand here, at the top.
 
+mod broadcast;
 mod desk;
 mod draft;
 mod frames;
+mod kernel;
 mod origin;

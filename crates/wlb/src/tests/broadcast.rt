@@ -1,0 +1,304 @@
+// A tab's channels. Each call that may answer for want of memory is made again where it does, and has to answer as if it
+// had not been refused: so these tests pass whichever allocation is refused.
+use bytes::Bytes;
+use std::alloc::{AllocError, Global};
+use std::process::Abort;
+use std::str;
+use wl_broadcast::{Channel, ChannelFault, Channels, Foreign, Hearing, Letter, Posted};
+use wl_frames::{Frame, Heard, Name};
+
+fn open(rt: &impl Abort, channels: &mut Channels, name: &str) -> Channel {
+    match channels.open(name) {
+        Ok(channel) => channel,
+        Err(fault) => {
+            assert!(rt; fault == ChannelFault::Memory);
+            channels.open(name).expect(rt, "memory is back")
+        }
+    }
+}
+
+/// Opens a channel, which has to have this number.
+fn opened(rt: &impl Abort, channels: &mut Channels, name: &str, number: usize) -> Channel {
+    let channel = open(rt, channels, name);
+    assert!(rt; channel.number() == number);
+    channel
+}
+
+fn close(rt: &impl Abort, channels: &mut Channels, channel: Channel) {
+    match channels.close(channel) {
+        Ok(()) => {}
+        Err(_foreign) => panic!(rt; "the channel was refused"),
+    }
+}
+
+fn post(rt: &impl Abort, channels: &mut Channels, channel: &Channel, data: &[u8]) -> Posted {
+    match channels.post(channel, data) {
+        Ok(posted) => posted,
+        Err(fault) => {
+            assert!(rt; fault == ChannelFault::Memory);
+            channels.post(channel, data).expect(rt, "memory is back")
+        }
+    }
+}
+
+/// Whether the frame is the tab's post of this number, with the data `x` to the name `n`.
+fn is_post(frame: &Frame, number: u32) -> bool {
+    match frame {
+        Frame::Post(post) => {
+            post.number == number
+                && post.channel.as_str() == "n"
+                && post.bytes.as_slice() == b"x".as_slice()
+        }
+        _ => false,
+    }
+}
+
+fn name(alloc: Global, text: &str) -> Result<Name, AllocError> {
+    Ok(Name::new(String::from_str(alloc, text)?))
+}
+
+/// The post of another tab, of the data `x` to the name `n`.
+fn heard(rt: &impl Abort, alloc: Global, source: u16, number: u32) -> Frame {
+    let channel = match name(alloc, "n") {
+        Ok(channel) => channel,
+        Err(_) => name(alloc, "n").expect(rt, "memory is back"),
+    };
+    Frame::Heard(Heard {
+        source,
+        number,
+        channel,
+        bytes: Bytes::from_static(b"x"),
+    })
+}
+
+fn hear(rt: &impl Abort, channels: &mut Channels, frame: &Frame) -> Hearing {
+    match channels.heard(frame) {
+        Ok(hearing) => hearing,
+        Err(fault) => {
+            assert!(rt; fault == ChannelFault::Memory);
+            channels.heard(frame).expect(rt, "memory is back")
+        }
+    }
+}
+
+fn is_new(hearing: &Hearing, takers: &[usize], filled: &[usize]) -> bool {
+    match hearing {
+        Hearing::Old => false,
+        Hearing::New { took, full } => took.as_slice() == takers && full.as_slice() == filled,
+    }
+}
+
+/// Whether the post of tab 1 that comes is new, and taken by these channels, the inboxes of those being full.
+fn hears_new(
+    rt: &impl Abort,
+    alloc: Global,
+    channels: &mut Channels,
+    number: u32,
+    takers: &[usize],
+    filled: &[usize],
+) -> bool {
+    let frame = heard(rt, alloc, 1, number);
+    is_new(&hear(rt, channels, &frame), takers, filled)
+}
+
+/// Whether the post of tab 1 that comes is an old one.
+fn hears_old(rt: &impl Abort, alloc: Global, channels: &mut Channels, number: u32) -> bool {
+    let frame = heard(rt, alloc, 1, number);
+    let hearing = hear(rt, channels, &frame);
+    matches!(&hearing, Hearing::Old)
+}
+
+/// Whether this was the post of the source and the number, with the data `x`.
+fn is_letter(letter: &Letter, source: u16, number: u32) -> bool {
+    letter.source == source && letter.number == number && letter.bytes.as_slice() == b"x".as_slice()
+}
+
+/// Reads the channel's oldest post, which has to be this one.
+fn reads(channels: &mut Channels, channel: &Channel, source: u16, number: u32) -> bool {
+    let letter = channels.read(channel);
+    match &letter {
+        Ok(Some(letter)) => is_letter(letter, source, number),
+        _ => false,
+    }
+}
+
+fn reads_nothing(channels: &mut Channels, channel: &Channel) -> bool {
+    let letter = channels.read(channel);
+    matches!(&letter, Ok(None))
+}
+
+fn is_refused<T>(answer: &Result<T, ChannelFault>, fault: ChannelFault) -> bool {
+    match answer {
+        Ok(_) => false,
+        Err(refusal) => *refusal == fault,
+    }
+}
+
+/// Whether the name is not opened, for this cause.
+fn refuses_name(rt: &impl Abort, channels: &mut Channels, name: &str, fault: ChannelFault) -> bool {
+    match channels.open(name) {
+        Ok(channel) => {
+            close(rt, channels, channel);
+            false
+        }
+        Err(refusal) => refusal == fault,
+    }
+}
+
+/// Whether the data are not posted, for this cause.
+fn refuses_post(
+    channels: &mut Channels,
+    channel: &Channel,
+    data: &[u8],
+    fault: ChannelFault,
+) -> bool {
+    is_refused(&channels.post(channel, data), fault)
+}
+
+fn refuses_read(channels: &mut Channels, channel: &Channel, fault: ChannelFault) -> bool {
+    is_refused(&channels.read(channel), fault)
+}
+
+fn refuses_frame(channels: &mut Channels, frame: &Frame, fault: ChannelFault) -> bool {
+    is_refused(&channels.heard(frame), fault)
+}
+
+/// A channel of another tab, which is given back and not closed.
+fn given_back(rt: &impl Abort, channels: &mut Channels, channel: Channel) -> Channel {
+    match channels.close(channel) {
+        Ok(()) => panic!(rt; "a foreign channel was closed"),
+        Err(Foreign { value }) => value,
+    }
+}
+
+#[test]
+fn broadcast(rt: HostRuntime) {
+    let mut channels = Channels::new(rt.alloc(), 1);
+    let sender = opened(&rt, &mut channels, "n", 0);
+    let twin = opened(&rt, &mut channels, "n", 1);
+    let posted = post(&rt, &mut channels, &sender, b"x");
+    assert!(rt; is_post(&posted.frame, 0));
+    assert!(rt; posted.took.as_slice() == [1].as_slice());
+    assert!(rt; posted.full.as_slice().is_empty());
+    assert!(rt; reads(&mut channels, &twin, 1, 0));
+    assert!(rt; reads_nothing(&mut channels, &twin));
+    assert!(rt; reads_nothing(&mut channels, &sender));
+    assert!(rt; refuses_frame(&mut channels, &posted.frame, ChannelFault::WrongKind));
+    close(&rt, &mut channels, sender);
+    close(&rt, &mut channels, twin);
+}
+
+#[test]
+fn broadcast_to_another_tab(rt: HostRuntime) {
+    let alloc = rt.alloc();
+    let mut channels = Channels::new(alloc, 2);
+    let channel = opened(&rt, &mut channels, "n", 0);
+    assert!(rt; hears_new(&rt, alloc, &mut channels, 0, &[0], &[]));
+    assert!(rt; hears_old(&rt, alloc, &mut channels, 0));
+    assert!(rt; reads(&mut channels, &channel, 1, 0));
+    assert!(rt; reads_nothing(&mut channels, &channel));
+    close(&rt, &mut channels, channel);
+}
+
+#[test]
+fn broadcast_1(rt: HostRuntime) {
+    let alloc = rt.alloc();
+    let mut channels = Channels::new(alloc, 2);
+    let channel = opened(&rt, &mut channels, "n", 0);
+    assert!(rt; hears_new(&rt, alloc, &mut channels, 1, &[0], &[]));
+    assert!(rt; hears_old(&rt, alloc, &mut channels, 0));
+    assert!(rt; channels.inbox(&channel) == Ok(1));
+    close(&rt, &mut channels, channel);
+}
+
+#[test]
+fn broadcast_2(rt: HostRuntime) {
+    let alloc = rt.alloc();
+    let mut channels = Channels::new(alloc, 2);
+    let channel = opened(&rt, &mut channels, "n", 0);
+    for number in 0..256 {
+        assert!(rt; hears_new(&rt, alloc, &mut channels, number, &[0], &[]));
+    }
+    assert!(rt; hears_new(&rt, alloc, &mut channels, 256, &[], &[0]));
+    assert!(rt; hears_old(&rt, alloc, &mut channels, 256));
+    assert!(rt; reads(&mut channels, &channel, 1, 0));
+    assert!(rt; channels.inbox(&channel) == Ok(255));
+    close(&rt, &mut channels, channel);
+}
+
+fn repeated(alloc: Global, byte: u8, count: usize) -> Result<Vec<u8>, AllocError> {
+    vec![in alloc; byte; count]
+}
+
+/// The byte, so many times.
+fn bytes(rt: &impl Abort, alloc: Global, byte: u8, count: usize) -> Vec<u8> {
+    match repeated(alloc, byte, count) {
+        Ok(bytes) => bytes,
+        Err(_) => repeated(alloc, byte, count).expect(rt, "memory is back"),
+    }
+}
+
+#[test]
+fn limit_of_names(rt: HostRuntime) {
+    let alloc = rt.alloc();
+    let mut channels = Channels::new(alloc, 1);
+    let longest = bytes(&rt, alloc, b'a', 255);
+    let longest = str::from_utf8(longest.as_slice()).expect(&rt, "a text");
+    let channel = opened(&rt, &mut channels, longest, 0);
+    close(&rt, &mut channels, channel);
+    let too_long = bytes(&rt, alloc, b'a', 256);
+    let too_long = str::from_utf8(too_long.as_slice()).expect(&rt, "a text");
+    assert!(rt; refuses_name(&rt, &mut channels, too_long, ChannelFault::NameTooLong));
+}
+
+#[test]
+fn limit_of_data(rt: HostRuntime) {
+    let alloc = rt.alloc();
+    let mut channels = Channels::new(alloc, 1);
+    let channel = opened(&rt, &mut channels, "n", 0);
+    let longest = bytes(&rt, alloc, 0, 16_384);
+    let posted = post(&rt, &mut channels, &channel, longest.as_slice());
+    assert!(rt; posted.took.as_slice().is_empty());
+    let too_long = bytes(&rt, alloc, 0, 16_385);
+    let too_long = too_long.as_slice();
+    assert!(rt; refuses_post(&mut channels, &channel, too_long, ChannelFault::DataTooLong));
+    close(&rt, &mut channels, channel);
+}
+
+#[test]
+fn foreign_channel(rt: HostRuntime) {
+    let alloc = rt.alloc();
+    let mut channels = Channels::new(alloc, 1);
+    let channel = opened(&rt, &mut channels, "n", 0);
+    let mut others = Channels::new(alloc, 2);
+    assert!(rt; refuses_post(&mut others, &channel, b"x", ChannelFault::ForeignChannel));
+    assert!(rt; refuses_read(&mut others, &channel, ChannelFault::ForeignChannel));
+    assert!(rt; others.inbox(&channel) == Err(ChannelFault::ForeignChannel));
+    let channel = given_back(&rt, &mut others, channel);
+    close(&rt, &mut channels, channel);
+}
+
+/// Opens 64 channels.
+fn open_all(rt: &impl Abort, alloc: Global, channels: &mut Channels) -> Vec<Channel> {
+    let mut held = Vec::new(alloc);
+    // One more than there may be, since the list may be refused once.
+    for _ in 0..65 {
+        if held.len() < 64 {
+            let channel = open(rt, channels, "n");
+            if let Err(refused) = held.push(channel) {
+                close(rt, channels, refused.value);
+            }
+        }
+    }
+    held
+}
+
+#[test]
+fn limit_of_channels(rt: HostRuntime) {
+    let alloc = rt.alloc();
+    let mut channels = Channels::new(alloc, 1);
+    let held = open_all(&rt, alloc, &mut channels);
+    assert!(rt; held.len() == 64);
+    assert!(rt; refuses_name(&rt, &mut channels, "n", ChannelFault::TooManyChannels));
+    channels.end(held);
+}

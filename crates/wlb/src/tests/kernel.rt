@@ -1,0 +1,483 @@
+// The kernel's rows. Each call that may answer for want of memory is made again where it does, with the kernel as it was:
+// so these tests pass whichever allocation is refused.
+use bytes::Bytes;
+use std::alloc::{AllocError, Global};
+use std::process::Abort;
+use wl_frames::{
+    Addressed, Answer, Command, Downward, Frame, Hello, Name, Operation, Outcome, Post, Start,
+    Upward,
+};
+use wl_kernel::{
+    Down, GenerationsUsedUp, KillFault, OpenFault, RouteFault, Routed, StartFault, Tabs, Up,
+};
+use wl_origin::{OriginFault, Partition, partition};
+
+/// What is told of the kernel: the generation, how many tabs live, and of the tabs 0 to 5 the partition numbers, and
+/// which live.
+type State = (u32, usize, [Option<u16>; 6], [bool; 6]);
+
+fn state(tabs: &Tabs) -> State {
+    (
+        tabs.generation(),
+        tabs.living().len(),
+        [0, 1, 2, 3, 4, 5].map(|tab| tabs.partition_number(tab)),
+        [0, 1, 2, 3, 4, 5].map(|tab| tabs.is_living(tab)),
+    )
+}
+
+fn partition_of(rt: &impl Abort, alloc: Global, url: &str) -> Partition {
+    match partition(alloc, url) {
+        Ok(partition) => partition,
+        Err(_) => partition(alloc, url).expect(rt, "memory is back"),
+    }
+}
+
+/// Opens a tab, which has to be answered so.
+fn opens(
+    rt: &impl Abort,
+    alloc: Global,
+    tabs: &mut Tabs,
+    tab: u16,
+    url: &str,
+    expected: Result<u16, OpenFault>,
+) {
+    let before = state(tabs);
+    let mut answer = tabs.open(tab, partition_of(rt, alloc, url));
+    if answer == Err(OpenFault::Memory) {
+        assert!(rt; state(tabs) == before);
+        answer = tabs.open(tab, partition_of(rt, alloc, url));
+    }
+    assert!(rt; answer == expected, "tab {tab}");
+}
+
+/// What a start answers.
+type Started = Result<(Up, Frame), (Down, StartFault)>;
+
+/// The start alone: a caller that sees none of its clauses is checked much sooner.
+fn start_once(down: Down, listed: &[u16]) -> Started {
+    down.start(listed)
+}
+
+fn start(rt: &impl Abort, down: Down, listed: &[u16]) -> Started {
+    let before = state(down.tabs());
+    let (down, fault) = match start_once(down, listed) {
+        Ok(started) => return Ok(started),
+        Err(refused) => refused,
+    };
+    if fault != StartFault::Memory {
+        return Err((down, fault));
+    }
+    assert!(rt; state(down.tabs()) == before);
+    start_once(down, listed)
+}
+
+/// Whether the frame starts a broker of the generation with these tabs and their partitions.
+fn is_start(frame: &Frame, generation: u32, list: &[(u16, u16)]) -> bool {
+    match frame {
+        Frame::Start(start) => start.generation == generation && start.list.as_slice() == list,
+        _ => false,
+    }
+}
+
+/// Starts a broker of the generation with these tabs, whose frame has to list their partitions so.
+fn started(
+    rt: &impl Abort,
+    down: Down,
+    listed: &[u16],
+    generation: u32,
+    list: &[(u16, u16)],
+) -> Up {
+    match start(rt, down, listed) {
+        Ok((up, frame)) => {
+            assert!(rt; is_start(&frame, generation, list));
+            up
+        }
+        Err(_refused) => panic!(rt; "the start was refused"),
+    }
+}
+
+/// The refusal of a start with these tabs, which leaves the kernel as it was.
+fn refused(rt: &impl Abort, down: Down, listed: &[u16], expected: StartFault) -> Down {
+    let before = state(down.tabs());
+    match start(rt, down, listed) {
+        Ok(_started) => panic!(rt; "the broker was started"),
+        Err((down, fault)) => {
+            assert!(rt; fault == expected && state(down.tabs()) == before);
+            down
+        }
+    }
+}
+
+fn stopped(rt: &impl Abort, up: Up) -> Down {
+    match up.stop() {
+        Ok(down) => down,
+        Err(_refused) => panic!(rt; "the stop was refused"),
+    }
+}
+
+fn name(alloc: Global, text: &str) -> Result<Name, AllocError> {
+    Ok(Name::new(String::from_str(alloc, text)?))
+}
+
+/// The post number 0 of a tab, of data `x` to the name `n`.
+fn post(rt: &impl Abort, alloc: Global) -> Frame {
+    let channel = match name(alloc, "n") {
+        Ok(channel) => channel,
+        Err(_) => name(alloc, "n").expect(rt, "memory is back"),
+    };
+    Frame::Post(Post {
+        number: 0,
+        channel,
+        bytes: Bytes::from_static(b"x"),
+    })
+}
+
+fn query() -> Frame {
+    Frame::Command(Command {
+        generation: 1,
+        number: 0,
+        operation: Operation::Query,
+    })
+}
+
+/// The broker's answer to a tab: its command number 0 is granted.
+fn granted(tab: u16, generation: u32) -> Frame {
+    Frame::Addressed(Addressed {
+        tab,
+        inner: Downward::Answer(Answer {
+            generation,
+            upto: 1,
+            number: 0,
+            outcome: Outcome::Granted,
+        }),
+    })
+}
+
+fn is_granted(frame: &Frame) -> bool {
+    match frame {
+        Frame::Answer(answer) => answer.number == 0 && answer.outcome == Outcome::Granted,
+        _ => false,
+    }
+}
+
+fn is_refused<T>(routed: &Result<T, RouteFault>, fault: RouteFault) -> bool {
+    match routed {
+        Ok(_) => false,
+        Err(refusal) => *refusal == fault,
+    }
+}
+
+/// Whether the broker of generation 1 reaches this tab with its granted answer.
+fn passes(up: &Up, tab: u16) -> bool {
+    let routed = up.route_down(1, granted(tab, 1));
+    match &routed {
+        Ok((target, frame)) => *target == tab && is_granted(frame),
+        Err(_) => false,
+    }
+}
+
+/// Whether what a broker says over the link of generation 1 is refused so.
+fn refuses_down(up: &Up, frame: Frame, fault: RouteFault) -> bool {
+    is_refused(&up.route_down(1, frame), fault)
+}
+
+/// Whether nothing passes while no broker runs.
+fn refuses_all(down: &Down) -> bool {
+    is_refused(&down.route_down(1, granted(1, 1)), RouteFault::StaleLink)
+}
+
+/// Whether what a tab sends is refused so.
+fn refuses_up(up: &Up, tab: u16, frame: Frame, fault: RouteFault) -> bool {
+    is_refused(&up.tabs().route_up(tab, frame), fault)
+}
+
+/// Whether the frame is a tab's command, stamped so.
+fn is_command(frame: &Frame, tab: u16, partition: u16) -> bool {
+    match frame {
+        Frame::Stamped(stamped) => {
+            stamped.tab == tab
+                && stamped.partition == partition
+                && matches!(stamped.inner, Upward::Command(_))
+        }
+        _ => false,
+    }
+}
+
+/// Whether the tab's query goes to the broker under this partition number.
+fn is_stamped(tabs: &Tabs, tab: u16, partition: u16) -> bool {
+    let routed = tabs.route_up(tab, query());
+    match &routed {
+        Ok(Routed::Broker(frame)) => is_command(frame, tab, partition),
+        _ => false,
+    }
+}
+
+fn routed_post(
+    rt: &impl Abort,
+    alloc: Global,
+    tabs: &Tabs,
+    tab: u16,
+) -> Result<Routed, RouteFault> {
+    let routed = tabs.route_up(tab, post(rt, alloc));
+    if is_refused(&routed, RouteFault::Memory) {
+        return tabs.route_up(tab, post(rt, alloc));
+    }
+    routed
+}
+
+/// Whether this is the post of the source, for the tab.
+fn is_heard(heard: &(u16, Frame), tab: u16, source: u16) -> bool {
+    let (target, frame) = heard;
+    match frame {
+        Frame::Heard(heard) => {
+            *target == tab
+                && heard.source == source
+                && heard.number == 0
+                && heard.channel.as_str() == "n"
+                && heard.bytes.as_slice() == b"x".as_slice()
+        }
+        _ => false,
+    }
+}
+
+/// Whether a post of the tab is heard by these, in this order.
+fn is_heard_by(routed: &Result<Routed, RouteFault>, tab: u16, hearers: &[u16]) -> bool {
+    match routed {
+        Ok(Routed::Tabs(heard)) => {
+            let heard = heard.as_slice();
+            heard.len() == hearers.len()
+                && heard
+                    .iter()
+                    .zip(hearers)
+                    .all(|(heard, hearer)| is_heard(heard, *hearer, tab))
+        }
+        _ => false,
+    }
+}
+
+fn is_posted(rt: &impl Abort, alloc: Global, tabs: &Tabs, tab: u16, hearers: &[u16]) -> bool {
+    is_heard_by(&routed_post(rt, alloc, tabs, tab), tab, hearers)
+}
+
+/// The refusal to stop the last generation, which is this one.
+fn not_stopped(rt: &impl Abort, up: Up, generation: u32) -> Up {
+    match up.stop() {
+        Ok(_down) => panic!(rt; "the last generation was stopped"),
+        Err((up, GenerationsUsedUp)) => {
+            assert!(rt; up.tabs().generation() == generation);
+            up
+        }
+    }
+}
+
+/// Tabs 1 and 2 of one partition, and a broker that was started with no tab listed.
+fn two_tabs(rt: &impl Abort, alloc: Global) -> Up {
+    let mut up = started(rt, Down::new(alloc, 65_535), &[], 1, &[]);
+    let tabs = up.tabs_mut();
+    opens(rt, alloc, tabs, 1, "https://a.test/", Ok(1));
+    opens(rt, alloc, tabs, 2, "https://a.test/", Ok(1));
+    up
+}
+
+#[test]
+fn origins_1(rt: HostRuntime) {
+    let alloc = rt.alloc();
+    let mut down = Down::new(alloc, 1);
+    let tabs = down.tabs_mut();
+    opens(&rt, alloc, tabs, 5, "https://a.test/", Ok(5));
+    opens(&rt, alloc, tabs, 3, "https://a.test:443/x", Ok(5));
+    opens(&rt, alloc, tabs, 2, "http://a.test/", Ok(2));
+    opens(
+        &rt,
+        alloc,
+        tabs,
+        5,
+        "https://b.test/",
+        Err(OpenFault::NumberTaken),
+    );
+    opens(
+        &rt,
+        alloc,
+        tabs,
+        0,
+        "https://b.test/",
+        Err(OpenFault::NumberTaken),
+    );
+    assert!(rt; tabs.living() == [2, 3, 5].as_slice());
+    down.end();
+}
+
+#[test]
+fn origins_2(rt: HostRuntime) {
+    let alloc = rt.alloc();
+    let mut down = Down::new(alloc, 1);
+    let tabs = down.tabs_mut();
+    opens(&rt, alloc, tabs, 3, "https://a.test/", Ok(3));
+    opens(&rt, alloc, tabs, 2, "https://a.test/", Ok(3));
+    let down = refused(&rt, down, &[3, 2], StartFault::NotRising);
+    let down = refused(&rt, down, &[3, 3], StartFault::NotRising);
+    let down = refused(&rt, down, &[4], StartFault::Stranger(4));
+    down.end();
+}
+
+fn url_of_port(alloc: Global, port: u16) -> Result<String, AllocError> {
+    format!(in alloc; "http://a.test:{port}/")
+}
+
+/// Opens 64 tabs of the partition of a port, from this number on.
+fn fills(rt: &impl Abort, alloc: Global, tabs: &mut Tabs, port: u16, first: u16) {
+    let url = match url_of_port(alloc, port) {
+        Ok(url) => url,
+        Err(_) => url_of_port(alloc, port).expect(rt, "memory is back"),
+    };
+    for next in 0..64 {
+        opens(
+            rt,
+            alloc,
+            tabs,
+            first.saturating_add(next),
+            url.as_str(),
+            Ok(first),
+        );
+    }
+}
+
+#[test]
+fn origins_3(rt: HostRuntime) {
+    let alloc = rt.alloc();
+    let mut down = Down::new(alloc, 1);
+    let tabs = down.tabs_mut();
+    fills(&rt, alloc, tabs, 1, 1);
+    opens(
+        &rt,
+        alloc,
+        tabs,
+        65,
+        "http://a.test:1/",
+        Err(OpenFault::PartitionFull),
+    );
+    for port in 2..17 {
+        fills(&rt, alloc, tabs, port, (port - 1) * 64 + 1);
+    }
+    assert!(rt; tabs.living().len() == 1_024);
+    opens(
+        &rt,
+        alloc,
+        tabs,
+        1_025,
+        "http://a.test:17/",
+        Err(OpenFault::TooManyLiving),
+    );
+    down.end();
+}
+
+#[test]
+fn origins_4(rt: HostRuntime) {
+    let up = started(&rt, Down::new(rt.alloc(), 2), &[], 1, &[]);
+    let down = stopped(&rt, up);
+    assert!(rt; refuses_all(&down));
+    let up = started(&rt, down, &[], 2, &[]);
+    assert!(rt; refuses_down(&up, granted(1, 1), RouteFault::StaleLink));
+    not_stopped(&rt, up, 2).end();
+}
+
+#[test]
+fn missing_tab(rt: HostRuntime) {
+    let alloc = rt.alloc();
+    let mut down = stopped(&rt, two_tabs(&rt, alloc));
+    opens(&rt, alloc, down.tabs_mut(), 3, "https://a.test/", Ok(1));
+    let down = refused(&rt, down, &[1], StartFault::Missing(2));
+    let up = started(&rt, down, &[1, 2], 2, &[(1, 1), (2, 1)]);
+    up.end();
+}
+
+fn is_opaque(alloc: Global, url: &str) -> bool {
+    let mut answer = partition(alloc, url).err();
+    if answer == Some(OriginFault::Memory) {
+        answer = partition(alloc, url).err();
+    }
+    answer == Some(OriginFault::Security)
+}
+
+#[test]
+fn origins_apart(rt: HostRuntime) {
+    let alloc = rt.alloc();
+    let mut down = Down::new(alloc, 1);
+    let tabs = down.tabs_mut();
+    opens(&rt, alloc, tabs, 1, "https://a.test/", Ok(1));
+    opens(&rt, alloc, tabs, 2, "https://a.test:443/x", Ok(1));
+    opens(&rt, alloc, tabs, 3, "http://a.test/", Ok(3));
+    assert!(rt; is_opaque(alloc, "data:,x"));
+    let up = started(&rt, down, &[1, 2, 3], 1, &[(1, 1), (2, 1), (3, 3)]);
+    assert!(rt; is_stamped(up.tabs(), 1, 1));
+    assert!(rt; is_stamped(up.tabs(), 3, 3));
+    assert!(rt; is_stamped(up.tabs(), 2, 1));
+    assert!(rt; passes(&up, 3));
+    up.end();
+}
+
+#[test]
+fn broadcast(rt: HostRuntime) {
+    let alloc = rt.alloc();
+    let mut down = Down::new(alloc, 1);
+    let tabs = down.tabs_mut();
+    opens(&rt, alloc, tabs, 1, "https://a.test/", Ok(1));
+    assert!(rt; is_posted(&rt, alloc, tabs, 1, &[]));
+    opens(&rt, alloc, tabs, 2, "https://a.test/", Ok(1));
+    opens(&rt, alloc, tabs, 3, "http://a.test/", Ok(3));
+    assert!(rt; is_posted(&rt, alloc, tabs, 1, &[2]));
+
+    // Two hear it, by rising number.
+    opens(&rt, alloc, tabs, 5, "https://a.test/", Ok(1));
+    opens(&rt, alloc, tabs, 4, "https://a.test/", Ok(1));
+    assert!(rt; tabs.kill(5) == Ok(()));
+    assert!(rt; is_posted(&rt, alloc, tabs, 2, &[1, 4]));
+    down.end();
+}
+
+#[test]
+fn death_hands_over(rt: HostRuntime) {
+    let alloc = rt.alloc();
+    let mut up = two_tabs(&rt, alloc);
+    assert!(rt; up.tabs_mut().kill(1) == Ok(()));
+    assert!(rt; passes(&up, 2));
+    assert!(rt; refuses_up(&up, 1, query(), RouteFault::DeadTab));
+    assert!(rt; refuses_down(&up, granted(1, 1), RouteFault::DeadTab));
+    assert!(rt; up.tabs_mut().kill(1) == Err(KillFault::AlreadyDead));
+    assert!(rt; up.tabs().partition_number(1) == Some(1) && !up.tabs().is_living(1));
+    up.end();
+}
+
+#[test]
+fn refusals(rt: HostRuntime) {
+    let alloc = rt.alloc();
+    let mut up = two_tabs(&rt, alloc);
+    assert!(rt; up.tabs_mut().kill(4) == Err(KillFault::NoTab));
+    assert!(rt; refuses_up(&up, 4, query(), RouteFault::NoTab));
+    assert!(rt; refuses_up(&up, 1, granted(1, 1), RouteFault::WrongKind));
+    assert!(rt; refuses_down(&up, granted(4, 1), RouteFault::NoTab));
+    assert!(rt; refuses_down(&up, granted(1, 2), RouteFault::WrongKind));
+    let hello = Frame::Hello(Hello { generation: 1 });
+    assert!(rt; refuses_down(&up, hello, RouteFault::WrongKind));
+    up.end();
+}
+
+fn ones(alloc: Global, count: usize) -> Result<Vec<u16>, AllocError> {
+    vec![in alloc; 1; count]
+}
+
+#[test]
+fn too_many_listed(rt: HostRuntime) {
+    let alloc = rt.alloc();
+    let listed = match ones(alloc, 1_025) {
+        Ok(listed) => listed,
+        Err(_) => ones(alloc, 1_025).expect(&rt, "memory is back"),
+    };
+    let down = refused(
+        &rt,
+        Down::new(alloc, 1),
+        listed.as_slice(),
+        StartFault::TooManyListed,
+    );
+    down.end();
+}
