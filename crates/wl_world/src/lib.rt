@@ -4,4 +4,5 @@
 pub mod event;
 pub mod laws;
 pub mod message;
+pub mod reply;
 pub mod rows;

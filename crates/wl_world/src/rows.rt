@@ -1,6 +1,7 @@
 //! Worked rows, computed on the machine's definition.
 
 ghost use Rattle.wl_world.specs.Rows.{FirstGrant, ReleaseHandsOver, LateGrantAfterAbort, RestartWhileAsked, RestartWhileHeld, DeathHandsOver, PostsInThePartition, TakenOnce};
+ghost use Rattle.wl_world.specs.ReplyRows.{Joining, LateGrant, Snapshots, Recovery, Ending, Posts, FullInbox, Refusals};
 
 /// What the definition makes of short scripts.
 pub fn law_rows()
@@ -12,4 +13,16 @@ pub fn law_rows()
     ensures death_hands_over { DeathHandsOver }
     ensures posts_in_the_partition { PostsInThePartition }
     ensures taken_once { TakenOnce }
+{}
+
+/// What the definition answers to the lines of short scripts.
+pub fn law_replies()
+    ensures joining { Joining }
+    ensures late_grant { LateGrant }
+    ensures snapshots { Snapshots }
+    ensures recovery { Recovery }
+    ensures ending { Ending }
+    ensures posts { Posts }
+    ensures full_inbox { FullInbox }
+    ensures refusals { Refusals }
 {}
