@@ -1,7 +1,7 @@
 -- What a delivery leaves, case by case, and what a call makes of one status.
-use Rattle.std.proofs.Common.{◌≡◌, ◌≢◌, ℕ, ◌+◌, ◌<◌, Bool, true, false, ◌&&◌, not, cond, eqb, ltb, List, [], ◌∷◌, length, Option, Some, None, refl, sym, ap, ◌∙◌, subst, arith}
-use Rattle.std.proofs.lemmas.Bool.{eqb-true, ltb-true, ne_eqb}
-use Rattle.wl_draft.specs.Tables.{Table, find}
+use Rattle.std.proofs.Common.{◌≡◌, ℕ, ◌+◌, ◌<◌, Bool, true, false, cond, eqb, ltb, length, Option, Some, None, refl, sym, ap, subst}
+use Rattle.std.proofs.lemmas.Bool.{eqb-true, ltb-true}
+use Rattle.wl_draft.specs.Tables.{find}
 use Rattle.wl_draft.proofs.TableLemmas.{find-put}
 use Rattle.wl_frames.specs.declared.frame.Operation.{Operation}
 use Rattle.wl_frames.specs.declared.frame.Operation.TheVariants.{Request, Release, Abort, Query}

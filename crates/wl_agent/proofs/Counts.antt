@@ -1,9 +1,9 @@
 -- The counts that are kept beside the statuses.
-use Rattle.std.proofs.Common.{◌≡◌, ℕ, ◌+◌, ◌-◌, ◌<◌, ◌≤◌, Bool, true, false, ◌||◌, cond, [], ◌∷◌, Option, Some, None, refl, sym, ap, ◌∙◌, subst, arith}
+use Rattle.std.proofs.Common.{◌≡◌, ℕ, ◌+◌, ◌-◌, ◌≤◌, Bool, true, false, ◌||◌, Option, Some, None, refl, sym, ap, ◌∙◌, subst, arith}
 use Rattle.wl_draft.specs.Tables.{Table, find, put}
 use Rattle.wl_agent.specs.declared.status.Status.{Status}
 use Rattle.wl_agent.specs.Tab.{is_live, keeps_number, is_querying, count_of, without_row}
-use Rattle.wl_agent.specs.Kept.{IsCounted, Rises}
+use Rattle.wl_agent.specs.Kept.{IsCounted}
 use Rattle.wl_agent.proofs.Rows.{weight, passing-without, passing-put, passing-le, Rises-put, Rises-filter}
 
 keeping_is_live : (s : Status) (b c : Bool) → keeps_number (Some s) ≡ b → is_querying (Some s) ≡ c → b ≡ true → (b || c) ≡ true

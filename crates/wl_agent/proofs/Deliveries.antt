@@ -1,6 +1,6 @@
 -- What a delivery is, by its cases.
-use Rattle.std.proofs.Common.{◌≡◌, ◌≢◌, ℕ, ◌+◌, ◌<◌, ◌≤◌, Bool, true, false, ◌&&◌, cond, eqb, ltb, length, Option, Some, None, is_some, refl, sym, ap, ◌∙◌, subst, arith}
-use Rattle.std.proofs.lemmas.Bool.{eq-eqb, ne_eqb, ltb-true, ltb-false}
+use Rattle.std.proofs.Common.{◌≡◌, ◌≢◌, ℕ, ◌+◌, Bool, true, false, ◌&&◌, cond, eqb, ltb, length, Option, Some, None, is_some, refl, sym, ap, ◌∙◌}
+use Rattle.std.proofs.lemmas.Bool.{eq-eqb, ne_eqb}
 use Rattle.wl_frames.specs.declared.frame.Operation.{Operation}
 use Rattle.wl_frames.specs.declared.frame.Operation.TheVariants.{Request, Release, Abort, Query}
 use Rattle.wl_frames.specs.declared.frame.Outcome.{Outcome}
@@ -11,7 +11,6 @@ use Rattle.wl_frames.specs.declared.frame.Answer.{Answer}
 use Rattle.wl_frames.specs.declared.frame.Snapshot.{Snapshot as Part}
 use Rattle.wl_frames.specs.declared.frame.Frame.{Frame}
 use Rattle.wl_frames.specs.declared.frame.Frame.TheVariants as frame
-use Rattle.wl_agent.specs.declared.delivered.Unheard.{Unheard}
 use Rattle.wl_agent.specs.declared.delivered.Unheard.TheVariants as unheard
 use Rattle.wl_agent.specs.declared.delivered.Delivered.{Delivered}
 use Rattle.wl_agent.specs.declared.delivered.Delivered.TheVariants as told

@@ -1,20 +1,18 @@
 -- A tab that began with no command stays tidy through every call, and so within its limits.
-use Rattle.std.proofs.Common.{◌≡◌, ℕ, ◌+◌, ◌<◌, ◌≤◌, Bool, true, false, ◌&&◌, ◌||◌, not, cond, eqb, ltb, leb, List, [], ◌∷◌, ◌++◌, length, Option, Some, None, is_some, refl, sym, ap, ◌∙◌, subst, arith}
+use Rattle.std.proofs.Common.{◌≡◌, ℕ, ◌+◌, ◌<◌, ◌≤◌, Bool, true, false, ◌&&◌, ◌||◌, not, cond, eqb, ltb, leb, List, [], ◌∷◌, ◌++◌, length, Option, Some, None, is_some, refl, ap, subst, arith}
 use Rattle.std.proofs.lemmas.Bool.{leb-true, leb-false, and_parts}
-use Rattle.wl_draft.specs.Tables.{Table, find, put}
+use Rattle.wl_draft.specs.Tables.{put}
 use Rattle.wl_frames.specs.declared.frame.Operation.{Operation}
 use Rattle.wl_frames.specs.declared.frame.Operation.TheVariants.{Request, Release, Abort, Query}
 use Rattle.wl_frames.specs.declared.frame.Answer.{Answer}
 use Rattle.wl_frames.specs.declared.frame.Snapshot.{Snapshot as Part}
-use Rattle.wl_agent.specs.declared.delivered.Unheard.{Unheard}
-use Rattle.wl_agent.specs.declared.fault.AgentFault.{AgentFault}
 use Rattle.wl_agent.specs.declared.fault.AgentFault.TheVariants.{NotSupported, NameTooLong, TooMany, NumbersUsedUp}
 use Rattle.wl_agent.specs.declared.status.Status.{Status}
 use Rattle.wl_agent.specs.declared.status.Status.TheVariants.{Asked, Held, Querying, Whole, Lost}
 use Rattle.wl_agent.specs.Parts.{no_parts}
 use Rattle.wl_agent.specs.Tab.{TabState, newborn, status_of, enter, carried, issue, ended, finish, asked, queried, aborted, released, ask_refusal, query_refusal, live_refusal, has_numbers, is_supported, kept_numbers, live_numbers, live_limit, is_asked, is_held, is_querying, keeps_number, without_row}
 use Rattle.wl_agent.specs.Tokens.{is_pending, is_holding, is_asking, after_query}
-use Rattle.wl_agent.specs.Delivery.{delivery, noted, becomes, acknowledged_by, told_by_answer, after_answer, after_part, part_refusal, parts_of, with_part_come}
+use Rattle.wl_agent.specs.Delivery.{noted, becomes, acknowledged_by, told_by_answer, after_answer, after_part, part_refusal, parts_of, with_part_come}
 use Rattle.wl_agent.specs.Kept.{IsTidy, carried_tab, begun, can_become}
 use Rattle.wl_agent.specs.Laws.{Call, Asks, Queries, Tells, Aborts, Releases, Hears, step, steps, reached, command_limit, HeldByGrant, StaysWithinLimits}
 use Rattle.wl_agent.proofs.Cases.{either, delivered_as, told_fits, answered_as}

@@ -1,9 +1,7 @@
 -- What stays true of a tab through each of its calls.
-use Rattle.std.proofs.Common.{◌≡◌, ℕ, ◌+◌, ◌<◌, ◌≤◌, Bool, true, false, ◌&&◌, not, cond, ltb, leb, filter, List, [], ◌∷◌, ◌++◌, length, get_or, Option, Some, None, IsSome, refl, sym, ap, ◌∙◌, subst, arith, length-append}
-use Rattle.std.proofs.lemmas.Bool.{ltb-true, leb-true}
+use Rattle.std.proofs.Common.{◌≡◌, ℕ, ◌+◌, ◌<◌, ◌≤◌, Bool, true, false, not, cond, filter, List, [], ◌∷◌, ◌++◌, length, get_or, Option, Some, None, refl, sym, ap, ◌∙◌, subst, arith, length-append}
 use Rattle.std.proofs.Math.ListN.{get_or-append}
 use Rattle.std.proofs.Math.Seq.{get_or-append_seam}
-use Rattle.std.specs.List.{AllByRecursion}
 use Rattle.wl_draft.specs.Tables.{Table, find, put}
 use Rattle.wl_frames.specs.declared.frame.Operation.{Operation}
 use Rattle.wl_frames.specs.declared.frame.Operation.TheVariants.{Request, Release, Abort, Query}
@@ -14,7 +12,7 @@ use Rattle.wl_agent.specs.declared.status.Status.TheVariants.{Asked, Held, Query
 use Rattle.wl_agent.specs.Parts.{PartsState, with_part, is_whole}
 use Rattle.wl_agent.specs.Delivery.{with_part_come}
 use Rattle.wl_agent.specs.Tab.{TabState, is_live, keeps_number, is_querying, is_asked_probe, unless_asked, carried, count_of, without_row, kept_numbers, live_numbers}
-use Rattle.wl_agent.specs.Kept.{IsTidy, begun, Rises, RowsFit, Stands, can_become}
+use Rattle.wl_agent.specs.Kept.{IsTidy, begun, RowsFit, Stands, can_become}
 use Rattle.wl_agent.proofs.Rows.{weight, passing-without, passing-put, Rises-put, Rises-filter, AllRows-put, AllRows-filter, AllRows-weaker, AllRows-find, AllRows-map, Rises-map, passing-cons}
 
 -- ---- a number is over

@@ -1,5 +1,5 @@
 -- What the calls on a tab keep, over any of them in any order.
-use Rattle.std.specs.Prelude.{◌≡◌, ◌⊎◌, ℕ, ◌+◌, ◌<◌, ◌≤◌, List, [], ◌∷◌, Bool, true, false, not, ◌&&◌, ◌==◌, length, is_some, if◌then◌else◌, ⊤, Option, Some, None}
+use Rattle.std.specs.Prelude.{◌≡◌, ◌⊎◌, ℕ, ◌+◌, ◌<◌, ◌≤◌, List, [], ◌∷◌, Bool, ◌&&◌, ◌==◌, length, is_some, if◌then◌else◌, ⊤, Some, None}
 use Rattle.std.specs.List.{list_any, AllByRecursion}
 use Rattle.wl_draft.specs.declared.mode.Mode.{Mode}
 use Rattle.wl_draft.specs.declared.row.Entry.{Entry}
@@ -7,7 +7,7 @@ use Rattle.wl_frames.specs.declared.frame.Outcome.TheVariants as outcome
 use Rattle.wl_frames.specs.declared.frame.Frame.{Frame}
 use Rattle.wl_frames.specs.declared.frame.Frame.TheVariants as frame
 use Rattle.wl_agent.specs.declared.status.Status.TheVariants.{Held}
-use Rattle.wl_agent.specs.Tab.{TabState, newborn, status_of, is_issued, is_asked, is_querying, is_reported, ask_refusal, query_refusal, asked, queried, aborted, released, report_of, live_limit, kept_numbers, live_numbers}
+use Rattle.wl_agent.specs.Tab.{TabState, newborn, status_of, is_issued, is_asked, is_reported, ask_refusal, query_refusal, asked, queried, aborted, released, report_of, live_limit, kept_numbers, live_numbers}
 use Rattle.wl_agent.specs.Tokens.{is_pending, is_holding, is_asking, after_query}
 use Rattle.wl_agent.specs.Delivery.{delivery}
 

@@ -1,5 +1,5 @@
 -- What the tokens of a tab's numbers are told: a token's state is that of its number.
-use Rattle.std.specs.Prelude.{ℕ, Bool, not, ◌&&◌, ◌||◌, ◌==◌, is_some, Option, Some, None, if◌then◌else◌}
+use Rattle.std.specs.Prelude.{ℕ, Bool, not, ◌&&◌, ◌==◌, is_some, Option, Some, None, if◌then◌else◌}
 use Rattle.wl_agent.specs.declared.token.Pending.{Pending}
 use Rattle.wl_agent.specs.declared.token.Probe.{Probe}
 use Rattle.wl_agent.specs.declared.token.HeldLock.{HeldLock}

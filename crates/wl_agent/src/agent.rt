@@ -73,6 +73,3 @@ impl Agent {
         self.issued.len() as u32
     }
 }
-
-#[cfg(test)]
-mod tests;

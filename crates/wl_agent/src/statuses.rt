@@ -75,7 +75,7 @@ impl Statuses {
     pub(crate) fn keeps_number(&self, number: u32) -> bool
         ensures { result ≡ keeps_number (find self.now number) }
     {
-        self.is_asked(number) || self.is_held(number)
+        self.get(number).is_some_and(Status::keeps_number)
     }
 
     pub(crate) fn live(&self) -> usize

@@ -1,6 +1,7 @@
 //! The tests of all crates, one file a crate, through what each offers: a crate with tests is proved a second time with them,
 //! so they stand here, at the top.
 
+mod agent;
 mod broadcast;
 mod desk;
 mod draft;

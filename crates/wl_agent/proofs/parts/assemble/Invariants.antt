@@ -1,4 +1,4 @@
-use Rattle.std.proofs.Common.{◌≡◌, ◌++◌, map}
+use Rattle.std.proofs.Common.{◌≡◌, ◌++◌}
 use Rattle.std.specs.List.{flat_map}
 use Rattle.wl_agent.specs.Parts.{held_in, pending_in, all_entries}
 use Rattle.wl_agent.proofs.parts.assemble.Given as goal

@@ -1,4 +1,4 @@
-use Rattle.std.proofs.Common.{◌≡◌, sym, ap, ◌∙◌, arith}
+use Rattle.std.proofs.Common.{arith}
 use Rattle.wl_agent.proofs.Tidiness.{tidy-finish, finish-room}
 use Rattle.wl_agent.proofs.TabSteps.{step-finish}
 use Rattle.wl_agent.proofs.agent.Agent.finish.Goals as goal

@@ -1,4 +1,4 @@
-use Rattle.std.proofs.Common.{◌≡◌, sym, ap, ◌∙◌}
+use Rattle.std.proofs.Common.{sym, ap, ◌∙◌}
 use Rattle.wl_agent.specs.Delivery.{after_answer}
 use Rattle.wl_agent.proofs.Tidiness.{tidy-granted, tidy-lost, tidy-ended}
 use Rattle.wl_agent.proofs.TabSteps.{step-becomes, step-ended}

@@ -1,4 +1,4 @@
-use Rattle.std.proofs.Common.{◌≡◌, ltb, true, false, ap, sym, ◌∙◌}
+use Rattle.std.proofs.Common.{ltb, ap, sym, ◌∙◌}
 use Rattle.std.proofs.lemmas.Bool.{lt-ltb, le-ltb}
 use Rattle.wl_agent.specs.Tab.{TabState}
 use Rattle.wl_agent.proofs.Outcomes.{on_err}

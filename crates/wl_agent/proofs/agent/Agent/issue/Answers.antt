@@ -1,4 +1,4 @@
-use Rattle.std.proofs.Common.{◌≡◌, [], ◌∷◌, ◌++◌, length, Some, refl, sym, ap, ◌∙◌, arith}
+use Rattle.std.proofs.Common.{[], ◌∷◌, ◌++◌, length, Some, refl, sym, ap, ◌∙◌, arith}
 use Rattle.wl_draft.specs.Tables.{find}
 use Rattle.wl_agent.specs.Tab.{TabState, keeps_number}
 use Rattle.wl_agent.proofs.Rows.{weighs}

@@ -1,4 +1,3 @@
-use Rattle.std.proofs.Common.{◌≡◌, sym, ap, ◌∙◌, arith}
 use Rattle.wl_agent.proofs.TabSteps.{step-noted}
 use Rattle.wl_agent.proofs.agent.Agent.note.Goals as goal
 

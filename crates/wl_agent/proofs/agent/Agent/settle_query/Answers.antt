@@ -1,4 +1,3 @@
-use Rattle.std.proofs.Common.{◌≡◌, sym, ap, ◌∙◌}
 use Rattle.wl_agent.proofs.Tidiness.{tidy-ended}
 use Rattle.wl_agent.proofs.TabSteps.{step-query}
 use Rattle.wl_agent.proofs.agent.Agent.settle_query.Goals as goal

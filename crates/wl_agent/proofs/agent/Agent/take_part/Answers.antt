@@ -1,4 +1,4 @@
-use Rattle.std.proofs.Common.{◌≡◌, None, sym, ap, ◌∙◌}
+use Rattle.std.proofs.Common.{sym, ◌∙◌}
 use Rattle.wl_agent.proofs.Tidiness.{tidy-part}
 use Rattle.wl_agent.proofs.Deliveries.{not-refused, step-part}
 use Rattle.wl_agent.proofs.agent.Agent.take_part.Goals as goal

@@ -1,4 +1,4 @@
-use Rattle.std.proofs.Common.{◌≡◌, None, sym, ap, ◌∙◌, refl, arith}
+use Rattle.std.proofs.Common.{ap, ◌∙◌, arith}
 use Rattle.wl_draft.specs.Tables.{find, put}
 use Rattle.wl_draft.proofs.TableLemmas.{insert_entry-put}
 use Rattle.wl_agent.specs.Tab.{is_live, count_of}

@@ -1,4 +1,4 @@
-use Rattle.std.proofs.Common.{◌≡◌, Some, None, sym, ap, ◌∙◌}
+use Rattle.std.proofs.Common.{Some, sym, ap, ◌∙◌}
 use Rattle.wl_draft.specs.Tables.{find}
 use Rattle.wl_draft.proofs.TableLemmas.{lookup-find}
 use Rattle.wl_agent.specs.Tab.{without_row}

@@ -1,4 +1,4 @@
-use Rattle.std.proofs.Common.{◌≡◌, Bool, true, false, Some, None, is_some, sym, ap, ◌∙◌, arith}
+use Rattle.std.proofs.Common.{◌≡◌, true, false, Some, sym, ap, ◌∙◌, arith}
 use Rattle.wl_draft.specs.Tables.{find, put}
 use Rattle.wl_draft.proofs.TableLemmas.{lookup-find}
 use Rattle.wl_agent.specs.Tab.{is_live, count_of}

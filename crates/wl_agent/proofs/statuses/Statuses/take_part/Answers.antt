@@ -1,4 +1,4 @@
-use Rattle.std.proofs.Common.{◌≡◌, Bool, true, false, Some, None, sym, ap, ◌∙◌, subst, rules}
+use Rattle.std.proofs.Common.{◌≡◌, true, false, sym, ap, ◌∙◌, subst}
 use Rattle.wl_draft.specs.Tables.{Table, find, put, has_row}
 use Rattle.wl_draft.proofs.TableLemmas.{lookup-find}
 use Rattle.wl_agent.specs.declared.status.Status.{Status}

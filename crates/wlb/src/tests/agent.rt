@@ -1,0 +1,544 @@
+//! A tab's locks. A call that is refused for memory is made again, and has to give the row's answer then: so these tests
+//! pass whichever allocation is refused.
+
+use std::alloc::{AllocError, Global};
+use std::process::Abort;
+use std::str;
+use wl_agent::{
+    Agent, AgentFault, Asking, DeadAgent, Delivered, Foreign, HeldLock, LockInfo, MessageFault,
+    Mode, Name, Pending, Probe, ProbeSettled, QuerySettled, Resend, Settled, Snapshot, Token,
+    Unheard,
+};
+use wl_frames::{Answer, Frame, Hello, Outcome, Sequence, SnapshotEntry, encode};
+
+/// How many commands a tab may issue, where a row does not say.
+const NUMBERS: u32 = 1_000_000;
+
+/// The report of generation 1, base 0, without entries.
+const FIRST_REPORT: &[u8] = b"\0\0\0\x0c\x01\x02\0\0\0\x01\0\0\0\0\0\0";
+
+/// The report of generation 2, base 2, without entries.
+const EMPTY_REPORT: &[u8] = b"\0\0\0\x0c\x01\x02\0\0\0\x02\0\0\0\x02\0\0";
+
+/// The report of generation 2, base 1: number 0 waits for `a`, exclusive.
+const ASKED_REPORT: &[u8] = b"\0\0\0\x14\x01\x02\0\0\0\x02\0\0\0\x01\0\x01\0\0\0\0\x02\x02\x01a";
+
+/// The report of generation 2, base 1: number 0 holds `a`, exclusive.
+const HELD_REPORT: &[u8] = b"\0\0\0\x14\x01\x02\0\0\0\x02\0\0\0\x01\0\x01\0\0\0\0\x01\x02\x01a";
+
+/// The report of generation 2, base 3: number 0 holds `a`, exclusive.
+const LATER_REPORT: &[u8] = b"\0\0\0\x14\x01\x02\0\0\0\x02\0\0\0\x03\0\x01\0\0\0\0\x01\x02\x01a";
+
+/// Command 0 of generation 1: a request for `a`, exclusive.
+const REQUEST: &[u8] = b"\0\0\0\x0f\x01\x01\0\0\0\x01\0\0\0\0\x01\x02\0\x01a";
+
+/// Command 3 of generation 2: the release of number 0.
+const RELEASE: &[u8] = b"\0\0\0\x0f\x01\x01\0\0\0\x02\0\0\0\x03\x02\0\0\0\0";
+
+// ---- calls on a tab
+
+fn request(agent: &mut Agent, name: &str, mode: Mode) -> Result<Pending, AgentFault> {
+    match agent.request(name, mode) {
+        Err(AgentFault::Memory) => agent.request(name, mode),
+        answer => answer,
+    }
+}
+
+fn probe(rt: &impl Abort, agent: &mut Agent, name: &str, mode: Mode) -> Probe {
+    match agent.probe(name, mode) {
+        Ok(probe) => probe,
+        Err(_) => agent.probe(name, mode).expect(rt, "memory is back"),
+    }
+}
+
+fn query(agent: &mut Agent) -> Result<Asking, AgentFault> {
+    match agent.query() {
+        Err(AgentFault::Memory) => agent.query(),
+        answer => answer,
+    }
+}
+
+fn message(agent: &Agent, number: u32) -> Result<Frame, MessageFault> {
+    match agent.message(number) {
+        Err(MessageFault::Memory) => agent.message(number),
+        answer => answer,
+    }
+}
+
+fn report(agent: &Agent) -> Result<Frame, MessageFault> {
+    match agent.report_frame() {
+        Err(MessageFault::Memory) => agent.report_frame(),
+        answer => answer,
+    }
+}
+
+fn resend(rt: &impl Abort, agent: &Agent) -> Resend {
+    match agent.resend() {
+        Ok(resend) => resend,
+        Err(_) => agent.resend().expect(rt, "memory is back"),
+    }
+}
+
+fn deliver(agent: &mut Agent, frame: &Frame) -> Delivered {
+    match agent.deliver(frame) {
+        Delivered::Dropped(Unheard::Memory) => agent.deliver(frame),
+        delivered => delivered,
+    }
+}
+
+/// The number of a request, whose token is spent, or why it is refused.
+fn ask(agent: &mut Agent, dead: &DeadAgent, name: &str, mode: Mode) -> Result<u32, AgentFault> {
+    let pending = request(agent, name, mode)?;
+    let number = pending.number();
+    dead.void(Token::Pending(pending));
+    Ok(number)
+}
+
+// ---- what comes to the tab
+
+/// What an answer or a part was to the tab.
+#[derive(Clone, Copy, PartialEq, Eq)]
+enum Told {
+    Granted(u32),
+    Waiting(u32),
+    Lost(u32),
+    Taken(u32),
+    Part(u32),
+    Whole(u32),
+    Dropped(Unheard),
+    Other,
+}
+
+fn heard(delivered: Delivered) -> Told {
+    match delivered {
+        Delivered::Granted(number) => Told::Granted(number),
+        Delivered::Waiting(number) => Told::Waiting(number),
+        Delivered::Lost(number) => Told::Lost(number),
+        Delivered::Taken(number) => Told::Taken(number),
+        Delivered::Part(number) => Told::Part(number),
+        Delivered::Whole(number) => Told::Whole(number),
+        Delivered::Dropped(reason) => Told::Dropped(reason),
+        _ => Told::Other,
+    }
+}
+
+/// Delivers a frame, and asserts what it is to the tab.
+fn hears(rt: &impl Abort, agent: &mut Agent, frame: Frame, want: Told) {
+    assert!(rt; heard(deliver(agent, &frame)) == want);
+}
+
+fn hello(generation: u32) -> Frame {
+    Frame::Hello(Hello { generation })
+}
+
+fn answer(generation: u32, number: u32, outcome: Outcome, upto: u32) -> Frame {
+    Frame::Answer(Answer {
+        generation,
+        upto,
+        number,
+        outcome,
+    })
+}
+
+/// A part of the answer to a query of the first generation.
+fn part(number: u32, part: u16, parts: u16, entries: Vec<SnapshotEntry>) -> Frame {
+    Frame::Snapshot(wl_frames::Snapshot {
+        generation: 1,
+        number,
+        part,
+        parts,
+        entries: Sequence::new(entries),
+    })
+}
+
+fn entry(alloc: Global, held: bool, tab: u16, mode: Mode) -> Result<SnapshotEntry, AllocError> {
+    Ok(SnapshotEntry {
+        held,
+        tab,
+        mode,
+        name: Name::new(String::from_str(alloc, "a")?),
+    })
+}
+
+/// Tab 1 holds `a` alone, and tab 2 waits to share it.
+fn entries(alloc: Global) -> Result<Vec<SnapshotEntry>, AllocError> {
+    let mut entries = Vec::with_capacity(alloc, 2)?;
+    entries.push(entry(alloc, true, 1, Mode::Exclusive)?)?;
+    entries.push(entry(alloc, false, 2, Mode::Shared)?)?;
+    Ok(entries)
+}
+
+fn locks(rt: &impl Abort, alloc: Global) -> Vec<SnapshotEntry> {
+    match entries(alloc) {
+        Ok(entries) => entries,
+        Err(_) => entries(alloc).expect(rt, "memory is back"),
+    }
+}
+
+// ---- what the tab sends
+
+fn spelling(rt: &impl Abort, alloc: Global, frame: &Frame) -> Vec<u8> {
+    assert!(rt; frame.is_well_formed());
+    match encode(alloc, frame) {
+        Ok(bytes) => bytes,
+        Err(_) => encode(alloc, frame).expect(rt, "memory is back"),
+    }
+}
+
+/// Asserts how a frame is spelled.
+fn spells(rt: &impl Abort, alloc: Global, frame: Frame, want: &[u8]) {
+    let bytes = spelling(rt, alloc, &frame);
+    assert_eq!(rt; bytes.as_slice(), want);
+}
+
+/// Asserts that a hello gives this report.
+fn enters(rt: &impl Abort, alloc: Global, agent: &mut Agent, generation: u32, want: &[u8]) {
+    match deliver(agent, &hello(generation)) {
+        Delivered::Entered(frame) => spells(rt, alloc, frame, want),
+        _ => panic!(rt; "no generation was entered"),
+    }
+}
+
+fn sends(rt: &impl Abort, alloc: Global, agent: &Agent, number: u32, want: &[u8]) {
+    let frame = message(agent, number).expect(rt, "issued");
+    spells(rt, alloc, frame, want);
+}
+
+fn reports(rt: &impl Abort, alloc: Global, agent: &Agent, want: &[u8]) {
+    let frame = report(agent).expect(rt, "entered");
+    spells(rt, alloc, frame, want);
+}
+
+fn sends_again(rt: &impl Abort, agent: &Agent, report: bool, numbers: &[u32]) {
+    let resend = resend(rt, agent);
+    assert_eq!(rt; resend.report, report);
+    assert_eq!(rt; resend.numbers.as_slice(), numbers);
+}
+
+// ---- what tokens are told
+
+fn aborts(rt: &impl Abort, agent: &mut Agent, pending: Pending, want: u32) {
+    let number = agent.abort(pending).expect(rt, "asked");
+    assert_eq!(rt; number, want);
+}
+
+fn releases(rt: &impl Abort, agent: &mut Agent, lock: HeldLock, want: u32) {
+    let number = agent.release(lock).expect(rt, "held");
+    assert_eq!(rt; number, want);
+}
+
+fn lock_of(rt: &impl Abort, agent: &mut Agent, pending: Pending) -> HeldLock {
+    match agent.settle(pending).expect(rt, "its own") {
+        Settled::Held(lock) => lock,
+        Settled::Waiting(_pending) => panic!(rt; "the request is asked still"),
+    }
+}
+
+fn is_null(rt: &impl Abort, agent: &mut Agent, probe: Probe) {
+    match agent.settle_probe(probe).expect(rt, "its own") {
+        ProbeSettled::Null => {}
+        ProbeSettled::Waiting(_probe) => panic!(rt; "the probe is asked still"),
+        ProbeSettled::Held(_lock) => panic!(rt; "the lock is held"),
+    }
+}
+
+fn is_lost(rt: &impl Abort, agent: &mut Agent, asking: Asking) {
+    match agent.settle_query(asking).expect(rt, "its own") {
+        QuerySettled::Lost => {}
+        QuerySettled::Whole(_) => panic!(rt; "the query is answered"),
+        QuerySettled::Waiting(_asking) => panic!(rt; "the query is asked still"),
+    }
+}
+
+fn is_info(infos: &[LockInfo], tab: u16, mode: Mode) -> bool {
+    match infos {
+        [info] => info.tab == tab && info.mode == mode && info.name.as_str() == "a",
+        _ => false,
+    }
+}
+
+fn has_locks(snapshot: &Snapshot) -> bool {
+    is_info(snapshot.held.as_slice(), 1, Mode::Exclusive)
+        && is_info(snapshot.pending.as_slice(), 2, Mode::Shared)
+}
+
+/// Asserts that the query is answered by the locks above.
+fn is_answered(rt: &impl Abort, agent: &mut Agent, asking: Asking) {
+    match agent.settle_query(asking).expect(rt, "its own") {
+        QuerySettled::Whole(snapshot) => assert!(rt; has_locks(&snapshot)),
+        QuerySettled::Lost => panic!(rt; "the query is lost"),
+        QuerySettled::Waiting(_asking) => panic!(rt; "the query is asked still"),
+    }
+}
+
+// ---- tabs
+
+/// A tab that has entered the first generation.
+fn entered(rt: &impl Abort, alloc: Global, tab: u16) -> Agent {
+    let mut agent = Agent::new(alloc, tab, NUMBERS);
+    enters(rt, alloc, &mut agent, 1, FIRST_REPORT);
+    agent
+}
+
+/// A tab that asks for `a`.
+fn asked(rt: &impl Abort, alloc: Global, tab: u16, mode: Mode) -> (Agent, Pending) {
+    let mut agent = entered(rt, alloc, tab);
+    let pending = request(&mut agent, "a", mode).expect(rt, "issued");
+    (agent, pending)
+}
+
+/// A tab that has been granted `a`.
+fn granted(rt: &impl Abort, alloc: Global, mode: Mode) -> (Agent, Pending) {
+    let (mut agent, pending) = asked(rt, alloc, 1, mode);
+    hears(
+        rt,
+        &mut agent,
+        answer(1, 0, Outcome::Granted, 1),
+        Told::Granted(0),
+    );
+    (agent, pending)
+}
+
+fn refuses_request(rt: &impl Abort, agent: &mut Agent, want: AgentFault) {
+    let fault = request(agent, "a", Mode::Exclusive).expect_err(rt, "refused");
+    assert_eq!(rt; fault, want);
+}
+
+fn refuses_query(rt: &impl Abort, agent: &mut Agent, want: AgentFault) {
+    let fault = query(agent).expect_err(rt, "refused");
+    assert_eq!(rt; fault, want);
+}
+
+fn refuses_message(rt: &impl Abort, agent: &Agent, number: u32, want: MessageFault) {
+    assert_eq!(rt; message(agent, number).err(), Some(want));
+}
+
+fn refuses_report(rt: &impl Abort, agent: &Agent, want: MessageFault) {
+    assert_eq!(rt; report(agent).err(), Some(want));
+}
+
+/// A tab of three numbers, of which a request keeps two and a query has one.
+fn full(rt: &impl Abort, alloc: Global) -> (Agent, Pending, Asking) {
+    let mut agent = Agent::new(alloc, 1, 3);
+    let pending = request(&mut agent, "a", Mode::Exclusive).expect(rt, "issued");
+    assert_eq!(rt; pending.number(), 0);
+    refuses_request(rt, &mut agent, AgentFault::NumbersUsedUp);
+    let asking = query(&mut agent).expect(rt, "issued");
+    assert_eq!(rt; asking.number(), 1);
+    refuses_query(rt, &mut agent, AgentFault::NumbersUsedUp);
+    (agent, pending, asking)
+}
+
+/// That tab when its request was taken back.
+fn used_up(rt: &impl Abort, alloc: Global) -> (Agent, Asking) {
+    let (mut agent, pending, asking) = full(rt, alloc);
+    aborts(rt, &mut agent, pending, 2);
+    refuses_query(rt, &mut agent, AgentFault::NumbersUsedUp);
+    (agent, asking)
+}
+
+// ---- rows
+
+#[test]
+fn agent_1(rt: HostRuntime) {
+    let (agent, pending, asking) = full(&rt, rt.alloc());
+    let dead = agent.die();
+    dead.void(Token::Pending(pending));
+    dead.void(Token::Asking(asking));
+}
+
+#[test]
+fn agent_2(rt: HostRuntime) {
+    let (agent, asking) = used_up(&rt, rt.alloc());
+    refuses_message(&rt, &agent, 2, MessageFault::NotEntered);
+    refuses_report(&rt, &agent, MessageFault::NotEntered);
+    agent.die().void(Token::Asking(asking));
+}
+
+#[test]
+fn agent_3(rt: HostRuntime) {
+    let alloc = rt.alloc();
+    let (mut agent, asking) = used_up(&rt, alloc);
+    enters(&rt, alloc, &mut agent, 1, FIRST_REPORT);
+    let late = answer(1, 0, Outcome::Granted, 1);
+    hears(&rt, &mut agent, late, Told::Dropped(Unheard::Over));
+    refuses_message(&rt, &agent, 3, MessageFault::NoSuchNumber);
+    agent.die().void(Token::Asking(asking));
+}
+
+#[test]
+fn agent_4(rt: HostRuntime) {
+    let mut agent = Agent::new(rt.alloc(), 1, 3);
+    let mut other = Agent::new(rt.alloc(), 2, 3);
+    let pending = request(&mut agent, "a", Mode::Exclusive).expect(&rt, "issued");
+    let Foreign { value: pending } = other.settle(pending).expect_err(&rt, "foreign");
+    assert_eq!(rt; pending.number(), 0);
+    aborts(&rt, &mut agent, pending, 1);
+}
+
+#[test]
+fn late_grant_after_abort(rt: HostRuntime) {
+    let alloc = rt.alloc();
+    let (mut agent, pending) = asked(&rt, alloc, 1, Mode::Exclusive);
+    sends(&rt, alloc, &agent, 0, REQUEST);
+    aborts(&rt, &mut agent, pending, 1);
+    let late = answer(1, 0, Outcome::Granted, 1);
+    hears(&rt, &mut agent, late, Told::Dropped(Unheard::Over));
+    let taken = answer(1, 1, Outcome::Taken, 2);
+    hears(&rt, &mut agent, taken, Told::Taken(1));
+    // Nothing is held.
+    enters(&rt, alloc, &mut agent, 2, EMPTY_REPORT);
+}
+
+#[test]
+fn repeated_request(rt: HostRuntime) {
+    let (mut agent, pending) = granted(&rt, rt.alloc(), Mode::Shared);
+    let lock = lock_of(&rt, &mut agent, pending);
+    releases(&rt, &mut agent, lock, 1);
+    let taken = answer(1, 1, Outcome::Taken, 2);
+    hears(&rt, &mut agent, taken, Told::Taken(1));
+    let gone = answer(1, 0, Outcome::Gone, 2);
+    hears(&rt, &mut agent, gone, Told::Dropped(Unheard::Over));
+}
+
+#[test]
+fn restart_while_asked(rt: HostRuntime) {
+    let alloc = rt.alloc();
+    let (mut agent, pending) = asked(&rt, alloc, 2, Mode::Exclusive);
+    let waiting = answer(1, 0, Outcome::Waiting, 1);
+    hears(&rt, &mut agent, waiting, Told::Waiting(0));
+    enters(&rt, alloc, &mut agent, 2, ASKED_REPORT);
+    let old = answer(1, 0, Outcome::Granted, 1);
+    hears(&rt, &mut agent, old, Told::Dropped(Unheard::OldGeneration));
+    let granted = answer(2, 0, Outcome::Granted, 1);
+    hears(&rt, &mut agent, granted, Told::Granted(0));
+    let lock = lock_of(&rt, &mut agent, pending);
+    agent.die().void(Token::HeldLock(lock));
+}
+
+#[test]
+fn restart_while_held(rt: HostRuntime) {
+    let alloc = rt.alloc();
+    let (mut agent, pending) = granted(&rt, alloc, Mode::Exclusive);
+    enters(&rt, alloc, &mut agent, 2, HELD_REPORT);
+    hears(
+        &rt,
+        &mut agent,
+        hello(2),
+        Told::Dropped(Unheard::OldGeneration),
+    );
+    let lock = lock_of(&rt, &mut agent, pending);
+    releases(&rt, &mut agent, lock, 1);
+    // The report stays what it was on entering.
+    reports(&rt, alloc, &agent, HELD_REPORT);
+}
+
+#[test]
+fn snapshot(rt: HostRuntime) {
+    let alloc = rt.alloc();
+    let (mut agent, pending) = granted(&rt, alloc, Mode::Exclusive);
+    let asking = query(&mut agent).expect(&rt, "issued");
+    let whole = part(1, 0, 1, locks(&rt, alloc));
+    hears(&rt, &mut agent, whole, Told::Whole(1));
+    is_answered(&rt, &mut agent, asking);
+    agent.die().void(Token::Pending(pending));
+}
+
+#[test]
+fn snapshot_in_parts(rt: HostRuntime) {
+    let alloc = rt.alloc();
+    let mut agent = entered(&rt, alloc, 1);
+    let asking = query(&mut agent).expect(&rt, "issued");
+    let last = part(0, 1, 2, locks(&rt, alloc));
+    hears(&rt, &mut agent, last, Told::Part(0));
+    let again = part(0, 1, 2, Vec::new(alloc));
+    hears(&rt, &mut agent, again, Told::Dropped(Unheard::Twice));
+    let of_three = part(0, 0, 3, Vec::new(alloc));
+    hears(&rt, &mut agent, of_three, Told::Dropped(Unheard::Odd));
+    let first = part(0, 0, 2, Vec::new(alloc));
+    hears(&rt, &mut agent, first, Told::Whole(0));
+    is_answered(&rt, &mut agent, asking);
+}
+
+#[test]
+fn snapshot_is_lost(rt: HostRuntime) {
+    let mut agent = entered(&rt, rt.alloc(), 2);
+    let asking = query(&mut agent).expect(&rt, "issued");
+    let gone = answer(1, 0, Outcome::Gone, 1);
+    hears(&rt, &mut agent, gone, Told::Lost(0));
+    is_lost(&rt, &mut agent, asking);
+}
+
+/// Issues requests for `b` up to the 64th live number.
+fn fill(rt: &impl Abort, agent: &mut Agent, dead: &DeadAgent) {
+    for number in 2..64 {
+        assert_eq!(rt; ask(agent, dead, "b", Mode::Shared), Ok(number));
+    }
+}
+
+/// Names at the limit of their length, and after `-`.
+fn names(rt: &impl Abort, agent: &mut Agent, dead: &DeadAgent) {
+    let letters = [b'a'; 256];
+    let too_long = str::from_utf8(&letters).expect(rt, "a text");
+    let longest = str::from_utf8(&letters[..255]).expect(rt, "a text");
+    let refused = ask(agent, dead, "-x", Mode::Exclusive);
+    assert_eq!(rt; refused, Err(AgentFault::NotSupported));
+    let issued = ask(agent, dead, longest, Mode::Exclusive);
+    assert_eq!(rt; issued, Ok(1));
+    let refused = ask(agent, dead, too_long, Mode::Exclusive);
+    assert_eq!(rt; refused, Err(AgentFault::NameTooLong));
+}
+
+#[test]
+fn refusals(rt: HostRuntime) {
+    let alloc = rt.alloc();
+    let dead = Agent::new(alloc, 9, 0).die();
+    let mut agent = entered(&rt, alloc, 1);
+    let empty = request(&mut agent, "", Mode::Exclusive).expect(&rt, "issued");
+    assert_eq!(rt; empty.number(), 0);
+    names(&rt, &mut agent, &dead);
+    fill(&rt, &mut agent, &dead);
+    refuses_request(&rt, &mut agent, AgentFault::TooMany);
+    refuses_query(&rt, &mut agent, AgentFault::TooMany);
+    aborts(&rt, &mut agent, empty, 64);
+    assert_eq!(rt; ask(&mut agent, &dead, "b", Mode::Shared), Ok(65));
+}
+
+/// A tab that holds `a`, probes for it and asks for a snapshot.
+fn busy(rt: &impl Abort, alloc: Global) -> (Agent, Pending, Probe, Asking) {
+    let (mut agent, pending) = granted(rt, alloc, Mode::Exclusive);
+    let probe = probe(rt, &mut agent, "a", Mode::Shared);
+    assert_eq!(rt; probe.number(), 1);
+    let asking = query(&mut agent).expect(rt, "issued");
+    assert_eq!(rt; asking.number(), 2);
+    (agent, pending, probe, asking)
+}
+
+#[test]
+fn generations_1(rt: HostRuntime) {
+    let alloc = rt.alloc();
+    let (mut agent, pending, probe, asking) = busy(&rt, alloc);
+    enters(&rt, alloc, &mut agent, 2, LATER_REPORT);
+    is_null(&rt, &mut agent, probe);
+    is_lost(&rt, &mut agent, asking);
+    let lock = lock_of(&rt, &mut agent, pending);
+    releases(&rt, &mut agent, lock, 3);
+    sends(&rt, alloc, &agent, 3, RELEASE);
+    let taken = answer(2, 3, Outcome::Taken, 4);
+    hears(&rt, &mut agent, taken, Told::Taken(3));
+}
+
+#[test]
+fn resend_all(rt: HostRuntime) {
+    let alloc = rt.alloc();
+    let mut agent = Agent::new(alloc, 1, NUMBERS);
+    sends_again(&rt, &agent, false, &[]);
+    enters(&rt, alloc, &mut agent, 1, FIRST_REPORT);
+    sends_again(&rt, &agent, true, &[]);
+    let pending = request(&mut agent, "a", Mode::Shared).expect(&rt, "issued");
+    sends_again(&rt, &agent, true, &[0]);
+    let granted = answer(1, 0, Outcome::Granted, 1);
+    hears(&rt, &mut agent, granted, Told::Granted(0));
+    sends_again(&rt, &agent, false, &[]);
+    agent.die().void(Token::Pending(pending));
+}
