@@ -1,5 +1,5 @@
 -- The kernel, cut to a partition: who is in it stays in it, and is found with the same number, hearers and life.
-use Rattle.std.proofs.Common.{◌≡◌, ◌⊎◌, inl, inr, ⊎_elim, ℕ, Bool, true, false, cond, not, ◌&&◌, List, [], ◌∷◌, map, filter, Option, Some, None, option_map, refl, sym, ap, ap₂, ◌∙◌, subst}
+use Rattle.std.proofs.Common.{◌≡◌, ◌≢◌, ◌⊎◌, inl, inr, ⊎_elim, ℕ, Bool, true, false, cond, not, ◌&&◌, List, [], ◌∷◌, map, filter, Option, Some, None, option_map, refl, sym, ap, ap₂, ◌∙◌, subst}
 use Rattle.std.specs.Prelude.{◌==◌, nat_lt}
 use Rattle.std.proofs.lemmas.Bool.{and_parts, cond-true, cond-false, eqb-true, eq-eqb, ne_eqb, cases_Bool}
 use Rattle.url.specs.Origin.{Triple}
@@ -180,6 +180,14 @@ hearers-side p k t u a = go (tab_of k t) refl
         let r = In-living (is_of o.partition) k.opened u c.0 in
         let e : r.0.partition ≡ o.partition = (triple_eq-decides r.0.partition o.partition).0 r.2 in
         ap (is_in p k) (sym r.3) ∙ side p k r.0 a r.1 ∙ ap (λ q. triple_eq q p) e
+
+-- it is another tab
+pub hearers-others : (k : KernelState) (t u : ℕ) → In u (hearers t k) → u ≢ t
+hearers-others k t u = go (tab_of k t)
+  where
+    go : (x : Option OpenedTab) → In u (hearers_beside k t x) → u ≢ t
+    go None i e = elim i [ ]
+    go (Some o) i e = apart (In-filter_cases (λ n. not (n == t)) (living_of k o.partition) i).1 (ap not (eq-eqb u t e))
 
 -- and was opened
 pub hearers-opened : (k : KernelState) (t u : ℕ) → In u (hearers t k) → (o : OpenedTab) × In o k.opened × (o.tab ≡ u)

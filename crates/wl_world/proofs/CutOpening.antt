@@ -98,12 +98,12 @@ module _ (g f g' f' : ℕ → Bool) (old : (k : ℕ) → g k ≡ true → g' k �
   old-Posted : (m : Message) → Posted g f m → Posted g' f' m
   old-Posted (Up s) m = old-Mates s.tab s.partition m
   old-Posted (Down v x) e = old x.tab e
-  old-Posted (Across t x) e = old t e
+  old-Posted (Across t x) m = old-Mates t x.source m
 
   posted-same : (m : Message) → Posted g f m → f' (tab_at m) ≡ f (tab_at m)
   posted-same (Up s) m = same s.tab m.left
   posted-same (Down v x) e = same x.tab e
-  posted-same (Across t x) e = same t e
+  posted-same (Across t x) m = same t m.left
 
   seated-same : (t : ℕ) (s : Seat) → Seated g f t s → f' t ≡ f t
   seated-same t (Joined p n) m = same t m.left

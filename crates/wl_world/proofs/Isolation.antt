@@ -148,7 +148,7 @@ part-twice p w h =
 
 -- ---- the clauses
 
-reached : (p : Triple) (events : List Event) → Orderly p (run events empty_world)
+pub reached : (p : Triple) (events : List Event) → Orderly p (run events empty_world)
 reached p events = run-Orderly p events empty_world (empty-Orderly p)
 
 pub dropped-leaves_alone : DroppedLeavesAlone

@@ -40,3 +40,5 @@ pub mod TabActs
 pub mod CutEvents
 pub mod CutOpening
 pub mod Isolation
+pub mod ChannelSteps
+pub mod Hearings

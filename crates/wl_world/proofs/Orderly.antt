@@ -32,11 +32,11 @@ use Rattle.wl_world.proofs.CutBroker.{taking_for, UnseenFrom}
 unfoldable pub opened : KernelState → ℕ → Bool
 opened k t = is_some (opened_tab k t)
 
--- a message's tab was opened, and a stamp goes with its partition
+-- a message's tab was opened; its stamp is of its partition, and so is who posts to it
 abbrev pub Posted : (g f : ℕ → Bool) → Message → Type 0
 Posted g f (Up s) = Mates g f s.tab s.partition
 Posted g f (Down v x) = g x.tab ≡ true
-Posted g f (Across t x) = g t ≡ true
+Posted g f (Across t x) = Mates g f t x.source
 
 abbrev pub FitsUp : (g f : ℕ → Bool) → Option BrokerState → Type 0
 FitsUp g f None = Unit {0}
@@ -122,7 +122,7 @@ changes w t (OfChannels c) ms = becomes w t c ms
 abbrev pub IsFrom : ℕ → Seen → Message → Type 0
 IsFrom t s (Up x) = (x.tab ≡ t) × (x.partition ≡ s.number)
 IsFrom t s (Down v x) = ⊥
-IsFrom t s (Across u x) = In u s.hearers
+IsFrom t s (Across u x) = In u s.hearers × (x.source ≡ t)
 
 -- a tab's act: whether it acts, what it becomes and what it sends
 pub record TabAct (t : ℕ) : Type 0 where
@@ -141,7 +141,7 @@ does t d w = does_at t d (seen w t) w
 from-side : (p : Triple) (w : WorldState) (t : ℕ) (m : Message) → AreTabs w.kernel.opened → IsFrom t (seen w t) m → is_in p w.kernel (tab_at m) ≡ is_in p w.kernel t
 from-side p w t (Up x) a i = ap (is_in p w.kernel) i.0
 from-side p w t (Down v x) a i = absurd i
-from-side p w t (Across u x) a i = hearers-side p w.kernel t u a i
+from-side p w t (Across u x) a i = hearers-side p w.kernel t u a i.0
 
 from-Posted : (p : Triple) (w : WorldState) (t : ℕ) (m : Message) → AreTabs w.kernel.opened → opened w.kernel t ≡ true → IsFrom t (seen w t) m → Posted (opened w.kernel) (is_in p w.kernel) m
 from-Posted p w t (Up x) a e i =
@@ -149,7 +149,12 @@ from-Posted p w t (Up x) a e i =
     (subst (λ z. Mates (opened w.kernel) (is_in p w.kernel) t z) (sym i.1) (number-Mates p w.kernel t a e))
 from-Posted p w t (Down v x) a e i = absurd i
 from-Posted p w t (Across u x) a e i =
-    let o = hearers-opened w.kernel t u i in ap (opened w.kernel) (sym o.2) ∙ listed-opened w.kernel o.0 a o.1
+    let o = hearers-opened w.kernel t u i.0 in
+    record {
+      left = ap (opened w.kernel) (sym o.2) ∙ listed-opened w.kernel o.0 a o.1;
+      right = ap (opened w.kernel) i.1 ∙ e;
+      alike = hearers-side p w.kernel t u a i.0 ∙ ap (is_in p w.kernel) (sym i.1);
+    }
 
 module _ (p : Triple) (w : WorldState) (t : ℕ) (h : Orderly p w) where
   changes-Orderly : (c : Change) (ms : List Message) → opened w.kernel t ≡ true → ((m : Message) → In m ms → IsFrom t (seen w t) m) → Orderly p (after w (changes w t c ms))

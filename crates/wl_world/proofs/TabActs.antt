@@ -154,7 +154,7 @@ posting t k bytes = record {
   change = λ s. OfChannels (posted k bytes s.channels);
   sends = λ s. map (across t k bytes s.channels) s.hearers;
   living = λ s e. first s.living (not (is_some (post_refusal t k bytes s.channels))) e;
-  from = λ s m i. let o = In-map_cases (across t k bytes s.channels) s.hearers i in subst (IsFrom t s) (sym o.2) o.1;
+  from = λ s m i. let o = In-map_cases (across t k bytes s.channels) s.hearers i in subst (IsFrom t s) (sym o.2) (o.1, refl);
 }
 
 pub posts-does : (w : WorldState) (t k : ℕ) (bytes : List ℕ) → posts w t k bytes ≡ does t (posting t k bytes) w

@@ -6,3 +6,4 @@ pub mod Replies
 pub mod ReplyRows
 pub mod Orders
 pub mod Apart
+pub mod Heard

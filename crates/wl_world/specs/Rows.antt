@@ -17,7 +17,8 @@ use Rattle.wl_world.specs.declared.message.Message.{Message}
 use Rattle.wl_world.specs.declared.message.Message.TheVariants.{Up, Down, Across}
 use Rattle.wl_world.specs.declared.event.Event.{Event}
 use Rattle.wl_world.specs.declared.event.Event.TheVariants as event
-use Rattle.wl_world.specs.World.{WorldState, empty_world, tab_of, lives, happens}
+use Rattle.wl_world.specs.World.{WorldState, empty_world, tab_of, lives, happens, run}
+use Rattle.wl_world.specs.Apart.{part, projected}
 use Rattle.wl_world.specs.Orders.{Reports, Commands, picked}
 
 -- ---- scripts
@@ -166,3 +167,39 @@ TakenOnce =
     (picked 1 taken_events).items
     ≡ record { tab = 1; partition = 1; act = Reports (record { generation = 1; base = 0; entries = [] }) }
     ∷ record { tab = 1; partition = 1; act = Commands 0 request } ∷ []
+
+-- ---- a partition alone
+
+-- a tab of another partition asks under a name that is held, and recovers alone while the others do not
+abbrev pub request_3 : Message
+request_3 = Up (record { tab = 3; partition = 3; inner = up.Command (record { generation = 1; number = 0; operation = request }) })
+
+abbrev pub report_3 : ℕ → ℕ → List Entry → Message
+report_3 g base entries = Up (record { tab = 3; partition = 3; inner = up.Report (record { generation = g; base = base; entries = entries }) })
+
+abbrev pub enters : ℕ → List Event
+enters t = event.Open t p ∷ event.Hello t ∷ event.Deliver (Down Kernel (hello_to 1 t)) ∷ event.Deliver (report 1 t 0 []) ∷ []
+
+abbrev pub enters_apart : List Event
+enters_apart = event.Open 3 q ∷ event.Hello 3 ∷ event.Deliver (Down Kernel (hello_to 1 3)) ∷ event.Deliver (report_3 1 0 []) ∷ []
+
+abbrev pub recovers_apart : List ℕ → List Event
+recovers_apart listed =
+    event.Ask 3 Exclusive a ∷ event.Stop ∷ event.Start listed ∷ event.Deliver (hello 2 3) ∷ event.Deliver (report_3 2 1 (entry false ∷ [])) ∷ []
+
+abbrev pub beside_others : List Event
+beside_others = event.Start [] ∷ (enters 1 ++ enters 2 ++ enters_apart ++ recovers_apart (1 ∷ 2 ∷ 3 ∷ []))
+
+abbrev pub without_others : List Event
+without_others = event.Start [] ∷ (enters_apart ++ recovers_apart (3 ∷ []))
+
+abbrev pub sent_apart : List Message
+sent_apart =
+    Down Kernel (hello_to 1 3) ∷ report_3 1 0 [] ∷ request_3 ∷ hello 2 3 ∷ report_3 2 1 (entry false ∷ []) ∷ answer 2 3 0 1 Granted ∷ []
+
+-- the projection to its partition is the script without the others, and sends what the whole sends to it and gets from it
+abbrev pub OtherOriginUnblocked : Type 0
+OtherOriginUnblocked =
+    (projected q empty_world beside_others ≡ without_others)
+    × ((run without_others empty_world).bag ≡ sent_apart)
+    × ((part q (run beside_others empty_world)).bag ≡ sent_apart)

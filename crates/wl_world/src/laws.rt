@@ -1,6 +1,7 @@
 //! What no list of events can break.
 
 ghost use Rattle.wl_world.specs.Apart.{DroppedLeavesAlone, KeptDoesAlike, RunsApart};
+ghost use Rattle.wl_world.specs.Heard.{HeardPosts, HeardRising, HeardTillClosed};
 ghost use Rattle.wl_world.specs.Holdings.{ExclusionForAll, OwnForAll};
 ghost use Rattle.wl_world.specs.Orders.{CommandsInOrder, GrantedWereHeld, GrantsWereSent, ManagerIsFold};
 
@@ -34,4 +35,14 @@ pub fn law_apart()
     ensures kept { KeptDoesAlike }
     // So after the whole list they are what the world is after the projection.
     ensures whole { RunsApart }
+{}
+
+/// Heard: over every list of events, what a channel object takes, read or not.
+pub fn law_heard()
+    // Of one source it takes posts with strictly rising numbers.
+    ensures rising { HeardRising }
+    // It takes nothing but posts of its partition's tabs to its name, none of them made on the object itself.
+    ensures posts { HeardPosts }
+    // It takes nothing after its close.
+    ensures closed { HeardTillClosed }
 {}

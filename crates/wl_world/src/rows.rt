@@ -1,7 +1,7 @@
 //! Worked rows, computed on the machine's definition.
 
-ghost use Rattle.wl_world.specs.Rows.{FirstGrant, ReleaseHandsOver, LateGrantAfterAbort, RestartWhileAsked, RestartWhileHeld, DeathHandsOver, PostsInThePartition, TakenOnce};
 ghost use Rattle.wl_world.specs.ReplyRows.{Joining, LateGrant, Snapshots, Recovery, Ending, Posts, FullInbox, Refusals};
+ghost use Rattle.wl_world.specs.Rows.{FirstGrant, ReleaseHandsOver, LateGrantAfterAbort, RestartWhileAsked, RestartWhileHeld, DeathHandsOver, PostsInThePartition, TakenOnce, OtherOriginUnblocked};
 
 /// What the definition makes of short scripts.
 pub fn law_rows()
@@ -13,6 +13,7 @@ pub fn law_rows()
     ensures death_hands_over { DeathHandsOver }
     ensures posts_in_the_partition { PostsInThePartition }
     ensures taken_once { TakenOnce }
+    ensures other_origin_unblocked { OtherOriginUnblocked }
 {}
 
 /// What the definition answers to the lines of short scripts.

@@ -7,6 +7,7 @@ use Rattle.wl_agent.specs.Tab.{issue, ended as ended_number, finish, report_of, 
 use Rattle.wl_agent.specs.Delivery.{noted, becomes as becomes_status, delivery}
 use Rattle.wl_world.specs.Messages.{is_sent}
 use Rattle.wl_world.specs.World.{acts, becomes, told, deed, happens}
+use Rattle.wl_world.specs.Apart.{is_in}
 use Rattle.wl_world.specs.Orders.{takes_report, takes_command, picks}
 use Rattle.wl_world.proofs.rows.law_rows.Goals as goal
 
@@ -41,3 +42,7 @@ returns-clause-posts_in_the_partition c = refl
 pub returns-clause-taken_once : goal.returns-clause-taken_once
 unfolding is_grantable newly settle queued probed released aborted ended restored is_active place_of is_misplaced settled_at newly_at join take_report perform take_command taking burial with_part snapshot_of issue ended_number finish report_of enter_first enter_later due noted becomes_status delivery is_sent acts becomes told deed happens takes_report takes_command picks
 returns-clause-taken_once c = refl
+
+pub returns-clause-other_origin_unblocked : goal.returns-clause-other_origin_unblocked
+unfolding is_grantable newly settle queued probed released aborted ended restored is_active place_of is_misplaced settled_at newly_at join take_report perform take_command taking burial with_part snapshot_of issue ended_number finish report_of enter_first enter_later due noted becomes_status delivery is_sent acts becomes told deed happens is_in
+returns-clause-other_origin_unblocked c = (refl, refl, refl)
