@@ -1,7 +1,7 @@
-use wl_draft::{Entry, Grant, Manager, Mode, Name, Row, Standing};
 use std::alloc::{AllocError, Global};
 use std::process::Abort;
 use std::test::Fail;
+use wl_draft::{Entry, Grant, Manager, Mode, Name, Row, Standing};
 
 fn name_of(alloc: Global, text: &str) -> Result<Name, AllocError> {
     Ok(Name::from(String::from_str(alloc, text)?))

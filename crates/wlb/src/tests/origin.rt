@@ -1,6 +1,6 @@
-use wl_origin::{OriginFault, partition};
 use std::cmp::Ordering;
 use std::test::Fail;
+use wl_origin::{OriginFault, partition};
 
 // RFC 6454, section 5: two origins are the same where scheme, host and port are. Section 4: a URL with no port has its
 // scheme's default port.
