@@ -36,12 +36,12 @@ IsNoPost (Up s) = Unit {0}
 IsNoPost (Down v x) = Unit {0}
 IsNoPost (Across t x) = ⊥
 
--- a post is its event's, and is allowed; a post that comes was sent to this tab
+-- a post is its event's, and is allowed; a post that comes was sent to this tab; a reading is its event's
 abbrev pub Caused : WorldState → ℕ → Event → Call → Type 0
 Caused w u e (Opens name) = Unit {0}
 Caused w u e (Posts j bytes) = (e ≡ event.Post u j bytes) × (may_post w u j bytes ≡ true)
 Caused w u e (Hears x) = In (Across u x) w.bag
-Caused w u e (Reads k) = Unit {0}
+Caused w u e (Reads k) = e ≡ event.Read u k
 Caused w u e (Closes k) = Unit {0}
 
 -- what a call sends
@@ -147,7 +147,7 @@ kind w (event.Read t k) own =
     let c = channels_of w t in
     allowed-kind w (event.Read t k) (lives w t && is_own_channel c t k) (becomes w t (read_at k c) [])
     (λ e. becomes-kind w (event.Read t k) t (Reads k) (read_at k c) []
-    (sym (ap (λ z. cond (is_own_channel c z k) (read_at k c) c) (own t) ∙ cond-true _ _ _ (and_parts (lives w t) (is_own_channel c t k) e).1)) tt (λ m i. absurd (In-nil i)))
+    (sym (ap (λ z. cond (is_own_channel c z k) (read_at k c) c) (own t) ∙ cond-true _ _ _ (and_parts (lives w t) (is_own_channel c t k) e).1)) refl (λ m i. absurd (In-nil i)))
 kind w (event.Close t k) own =
     let c = channels_of w t in
     allowed-kind w (event.Close t k) (lives w t && is_own_channel c t k) (becomes w t (closed_at k c) [])

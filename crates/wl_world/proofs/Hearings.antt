@@ -153,7 +153,7 @@ took-open c k (Hears h) l =
 took-open c k (Reads j) l = either (TookOpen c k l) (is_own c c.tab j) (read_at j c) c (λ _. never c k l (read_at j c) (nothing_read k j c)) (λ _. never c k l c (nothing_itself k c))
 took-open c k (Closes j) l = either (TookOpen c k l) (is_own c c.tab j) (closed_at j c) c (λ _. never c k l (closed_at j c) (nothing_closed k j c)) (λ _. never c k l c (nothing_itself k c))
 
-open-there : (os : List Object) (k : ℕ) → is_open_at os k ≡ true → k < length os
+pub open-there : (os : List Object) (k : ℕ) → is_open_at os k ≡ true → k < length os
 open-there [] k e = apart e refl
 open-there (o ∷ os) zero e = omega arith
 open-there (o ∷ os) (suc k) e = let l = open-there os k (sym (is_open_at-suc o os k) ∙ e) in omega arith

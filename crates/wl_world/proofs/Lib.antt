@@ -42,3 +42,4 @@ pub mod CutOpening
 pub mod Isolation
 pub mod ChannelSteps
 pub mod Hearings
+pub mod Readings

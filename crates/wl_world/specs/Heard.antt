@@ -1,7 +1,7 @@
 -- What a channel object hears, over every list of events (HTML, "BroadcastChannel").
-use Rattle.std.specs.Prelude.{◌≡◌, ℕ, ◌<◌, List, [], ◌∷◌, ◌++◌, Bool, true, false, not, ◌&&◌, length, drop, is_some}
+use Rattle.std.specs.Prelude.{◌≡◌, ℕ, ◌<◌, List, [], ◌∷◌, ◌++◌, Bool, true, false, not, ◌&&◌, ◌==◌, length, drop, is_some, if◌then◌else◌}
 use Rattle.wl_broadcast.specs.declared.letter.Letter.{Letter}
-use Rattle.wl_broadcast.specs.Channels.{Object, post_refusal, name_at, inbox_at, is_open_at}
+use Rattle.wl_broadcast.specs.Channels.{Object, post_refusal, is_own, name_at, inbox_at, is_open_at}
 use Rattle.wl_broadcast.specs.Heard.{of_source, RisesFrom}
 use Rattle.wl_world.specs.declared.event.Event.{Event}
 use Rattle.wl_world.specs.declared.event.Event.TheVariants as event
@@ -23,6 +23,22 @@ taken_in t k (e ∷ es) w = takes_at t k w e ++ taken_in t k es (happens w e)
 
 abbrev pub taken : ℕ → ℕ → List Event → List Letter
 taken t k events = taken_in t k events empty_world
+
+-- the oldest of the posts that wait
+abbrev pub oldest : List Letter → List Letter
+oldest [] = []
+oldest (l ∷ ls) = l ∷ []
+
+-- what tab t reads from its object k at an event
+abbrev pub reads_at : ℕ → ℕ → WorldState → Event → List Letter
+reads_at t k w (event.Read u j) =
+    if u == t && j == k && (lives w t && is_own (channels_of w t) t k) then oldest (inbox_at (objects_of w t) k) else []
+reads_at t k w e = []
+
+-- all that it reads from it at these events
+abbrev pub read_in : ℕ → ℕ → List Event → WorldState → List Letter
+read_in t k [] w = []
+read_in t k (e ∷ es) w = reads_at t k w e ++ read_in t k es (happens w e)
 
 -- ---- posts
 
@@ -61,3 +77,9 @@ abbrev pub HeardTillClosed : Type 0
 HeardTillClosed =
     (before later : List Event) (t k : ℕ) → let w = run before empty_world in
     k < length (objects_of w t) → is_open_at (objects_of w t) k ≡ false → taken_in t k later w ≡ []
+
+-- while it is open, all that it took was read or waits in its inbox
+abbrev pub HeardIsReadOrWaits : Type 0
+HeardIsReadOrWaits =
+    (events : List Event) (t k : ℕ) → let w = run events empty_world in
+    is_open_at (objects_of w t) k ≡ true → taken t k events ≡ read_in t k events empty_world ++ inbox_at (objects_of w t) k

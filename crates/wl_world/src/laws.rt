@@ -1,7 +1,7 @@
 //! What no list of events can break.
 
 ghost use Rattle.wl_world.specs.Apart.{DroppedLeavesAlone, KeptDoesAlike, RunsApart};
-ghost use Rattle.wl_world.specs.Heard.{HeardPosts, HeardRising, HeardTillClosed};
+ghost use Rattle.wl_world.specs.Heard.{HeardIsReadOrWaits, HeardPosts, HeardRising, HeardTillClosed};
 ghost use Rattle.wl_world.specs.Holdings.{ExclusionForAll, OwnForAll};
 ghost use Rattle.wl_world.specs.Orders.{CommandsInOrder, GrantedWereHeld, GrantsWereSent, ManagerIsFold};
 
@@ -45,4 +45,6 @@ pub fn law_heard()
     ensures posts { HeardPosts }
     // It takes nothing after its close.
     ensures closed { HeardTillClosed }
+    // While it is open, all that it took was read or waits in its inbox.
+    ensures told { HeardIsReadOrWaits }
 {}
