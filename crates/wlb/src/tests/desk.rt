@@ -186,6 +186,44 @@ fn unexpected_frames(rt: HostRuntime) -> Result<(), Fail> {
     Ok(())
 }
 
+/// The first row, this fault behind it, and the row's frames again: the desk answers what stood before the fault.
+fn expect_bad_field(
+    rt: &impl Abort,
+    alloc: Global,
+    fault: &[u8],
+    name: &str,
+) -> Result<(), AllocError> {
+    let (mut input, output) = first_exchange(alloc)?;
+    let (again, _output) = first_exchange(alloc)?;
+    input.extend_from_slice(fault)?;
+    input.extend_from_slice(again.as_slice())?;
+    let end = Err(DeskFault::Frame(FrameFault::BadField));
+    expect(rt, alloc, input.as_slice(), end, output.as_slice(), name);
+    Ok(())
+}
+
+#[test]
+fn names_out_of_form(rt: HostRuntime) -> Result<(), Fail> {
+    let alloc = rt.alloc();
+    let dash = bytes_of(alloc, &["0000000F 01 01 00000001 00000000 01 02 00 01 2D"])?;
+    expect_bad_field(&rt, alloc, dash.as_slice(), "a dash first")?;
+    let broken = bytes_of(alloc, &["0000000F 01 01 00000001 00000000 01 02 00 01 FF"])?;
+    expect_bad_field(&rt, alloc, broken.as_slice(), "no UTF-8")?;
+    Ok(())
+}
+
+#[test]
+fn report_of_65(rt: HostRuntime) -> Result<(), Fail> {
+    let alloc = rt.alloc();
+    let mut report = bytes_of(alloc, &["000001D3 01 02 00000001 00000041 0041"])?;
+    for number in 0..65_u32 {
+        report.extend_from_slice(&number.to_be_bytes())?;
+        report.extend_from_slice(&[2, 1, 0])?;
+    }
+    expect_bad_field(&rt, alloc, report.as_slice(), "65 entries")?;
+    Ok(())
+}
+
 #[test]
 fn cut_input(rt: HostRuntime) -> Result<(), Fail> {
     let alloc = rt.alloc();
