@@ -18,7 +18,7 @@ use Rattle.wl_world.specs.declared.event.Event.TheVariants as event
 use Rattle.wl_world.specs.World.{WorldState, empty_world, channels_of, across, deed, happens, run}
 use Rattle.wl_world.specs.Holdings.{In, partition_in, partition_at}
 use Rattle.wl_world.specs.Apart.{was_opened_in, is_in}
-use Rattle.wl_world.specs.Heard.{objects_of, takes_at, taken_in, may_post, WasPosted, IsPostFor, HeardRising, HeardPosts, HeardTillClosed}
+use Rattle.wl_world.specs.Heard.{objects_of, takes_at, taken_in, may_post, WasPosted, IsPostFor, HeardRisingForAll, HeardPostsForAll, HeardTillClosedForAll}
 use Rattle.wl_world.proofs.Basics.{apart, either, In-nil, In-cons_cases, In-append_cases}
 use Rattle.wl_world.proofs.Same.{sent_all-keeps, sent_all-cases}
 use Rattle.wl_world.proofs.CutKernel.{in-found, hearers-others}
@@ -269,15 +269,15 @@ called-in done (e ∷ es) t =
 
 -- ---- the laws
 
-pub heard-rising : HeardRising
+pub heard-rising : HeardRisingForAll
 heard-rising events t k source =
     let a = called-in [] events t in
     subst (λ z. RisesFrom 0 (of_source source z)) (sym (a.2 k)) (takes_rising t k source a.0 a.1)
 
-pub heard-posts : HeardPosts
+pub heard-posts : HeardPostsForAll
 heard-posts events t k l i = took-in [] events t k l i
 
-pub heard-till_closed : HeardTillClosed
-heard-till_closed before later t k there closed =
+pub heard-till_closed : HeardTillClosedForAll
+heard-till_closed events before later t k _ there closed =
     let a = called-in before later t in
     a.2 k ∙ closed_takes_nothing (channels_of (run before empty_world) t) k a.0 there closed

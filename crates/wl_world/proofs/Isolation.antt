@@ -10,7 +10,7 @@ use Rattle.wl_world.specs.declared.event.Event.{Event}
 use Rattle.wl_world.specs.declared.event.Event.TheVariants as event
 use Rattle.wl_world.specs.Messages.{is_sent}
 use Rattle.wl_world.specs.World.{WorldState, empty_world, Deed, where_allowed, comes, deed, happens, run}
-use Rattle.wl_world.specs.Apart.{is_in, mail, tab_at, up_for, world_for, part, IsAlone, stops_now, starts_now, is_own_open, when, kept, followed_by, projected, happens_if, DroppedLeavesAlone, KeptDoesAlike, RunsApart}
+use Rattle.wl_world.specs.Apart.{is_in, mail, tab_at, up_for, world_for, part, IsAlone, stops_now, starts_now, is_own_open, when, kept, followed_by, projected, happens_if, DroppedLeavesAlone, KeptDoesAlike, RunsApartForAll}
 use Rattle.wl_world.proofs.Basics.{In-nil}
 use Rattle.wl_world.proofs.Same.{is_sent-In}
 use Rattle.wl_world.proofs.Calm.{after}
@@ -164,5 +164,5 @@ kept-does_alike p events e d v k alone agrees =
     let twice = part-twice p (happens w e) l.orderly in
     (subst (IsAlone p) s twice, ap (part p) (sym s) ∙ twice)
 
-pub runs-apart : RunsApart
-runs-apart p events = run-part p events empty_world (empty-Orderly p)
+pub runs-apart : RunsApartForAll
+runs-apart events p = run-part p events empty_world (empty-Orderly p)

@@ -43,3 +43,26 @@ pub mod Isolation
 pub mod ChannelSteps
 pub mod Hearings
 pub mod Readings
+pub mod SameLists
+pub mod Indexing
+pub mod Finding
+mod Positions
+mod OpenChannels
+mod KeptTokens
+mod Advancing
+mod Arriving
+mod Fates
+mod Heard
+mod Spending
+mod TabTables
+mod Parted
+mod Sends
+mod Commanded
+mod Merged
+mod Crossed
+mod Posted
+mod PostedRows
+mod Stepped
+mod TabNumbers
+mod HeldLocks
+mod Reporting

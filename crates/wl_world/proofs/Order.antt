@@ -18,7 +18,7 @@ use Rattle.wl_world.specs.declared.event.Event.TheVariants as event
 use Rattle.wl_world.specs.Messages.{is_sent, sent_all}
 use Rattle.wl_world.specs.World.{WorldState, empty_world, command_limit, tab_of, lives, partition_of, nothing, where_allowed, from_broker, follows, comes_up, comes, buries, tells, stops, begins, starts, greets, deed, happens, run}
 use Rattle.wl_world.specs.Holdings.{In}
-use Rattle.wl_world.specs.Orders.{Dies, Item, Picked, of_partition, of_tab, has_death, commands_of, base_of, adds, is_up, takes_death, begins_now, picks_message, picks, picked_from, picked, IsPrefix, numbered, WasHeld, CommandsInOrder, ManagerIsFold, GrantedWereHeld, GrantsWereSent}
+use Rattle.wl_world.specs.Orders.{Dies, Item, Picked, of_partition, of_tab, has_death, commands_of, base_of, adds, is_up, takes_death, begins_now, picks_message, picks, picked_from, picked, IsPrefix, numbered, WasHeld, CommandsInOrderForAll, ManagerIsFoldForAll, GrantedWereHeldForAll, GrantsWereSentForAll}
 use Rattle.wl_world.proofs.Basics.{apart, In-nil, In-map_cases}
 use Rattle.wl_world.proofs.Same.{is_sent-In, sent_all-keeps, sent_all-cases, down-same, answer-no_hello}
 use Rattle.wl_world.proofs.Invariant.{Sound, limit_in, broker_in, was_opened, HasGrant, up_message}
@@ -317,8 +317,8 @@ ordering g events = all g events empty_world (record { listed = []; items = [] }
 
 -- ---- the laws
 
-pub commands-in_order : CommandsInOrder
-commands-in_order g p t events =
+pub commands-in_order : CommandsInOrderForAll
+commands-in_order events g p t =
     let w = run events empty_world in
     let k = picked g events in
     let y = ordering g events in
@@ -327,11 +327,11 @@ commands-in_order g p t events =
     (λ n. subst (λ mine. IsPrefix (commands_of mine) (numbered (base_of mine) (drop (base_of mine) (tab_of w t).issued))) (sym (of_tab-off t p k.items (λ x i s q. n (sym (ap (partition_of w) s) ∙ (sym (y.kept.placed x i).1 ∙ q))))) (_, refl))
     (cases_eq (partition_of w t) p)
 
-pub manager-is_fold : ManagerIsFold
-manager-is_fold g p events b v e = (tied-at g (run events empty_world) (picked g events) b v (ordering g events) e).managers p
+pub manager-is_fold : ManagerIsFoldForAll
+manager-is_fold events g p b v e = (tied-at g (run events empty_world) (picked g events) b v (ordering g events) e).managers p
 
-pub granted-were_held : GrantedWereHeld
-granted-were_held g t s x events i e o = ((ordering g events).kept.held t x.number (s, x, i, e, refl, o)).1
+pub granted-were_held : GrantedWereHeldForAll
+granted-were_held events g t s x i e o = ((ordering g events).kept.held t x.number (s, x, i, e, refl, o)).1
 
-pub grants-were_sent : GrantsWereSent
-grants-were_sent g p events before later x r s i = (ordering g events).kept.told p before later x r s i
+pub grants-were_sent : GrantsWereSentForAll
+grants-were_sent events g p before later x r s i = (ordering g events).kept.told p before later x r s i

@@ -142,5 +142,8 @@ abbrev pub KeptDoesAlike : Type 0
 KeptDoesAlike = (p : Triple) (events : List Event) (e : Event) → DoesAlike p (run events empty_world) e
 
 -- after the whole list the partition's part is the world after the projection
-abbrev pub RunsApart : Type 0
-RunsApart = (p : Triple) (events : List Event) → part p (run events empty_world) ≡ run (projected p empty_world events) empty_world
+abbrev pub RunsApart : List Event → WorldState → Type 0
+RunsApart events w = (p : Triple) → part p w ≡ run (projected p empty_world events) empty_world
+
+abbrev pub RunsApartForAll : Type 0
+RunsApartForAll = (events : List Event) → RunsApart events (run events empty_world)

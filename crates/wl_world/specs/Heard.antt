@@ -5,7 +5,10 @@ use Rattle.wl_broadcast.specs.Channels.{Object, post_refusal, is_own, name_at, i
 use Rattle.wl_broadcast.specs.Heard.{of_source, RisesFrom}
 use Rattle.wl_world.specs.declared.event.Event.{Event}
 use Rattle.wl_world.specs.declared.event.Event.TheVariants as event
+use Rattle.wl_world.specs.declared.reply.Said.{Said}
+use Rattle.wl_world.specs.declared.reply.Said.TheVariants as said
 use Rattle.wl_world.specs.World.{WorldState, empty_world, channels_of, lives, happens, run}
+use Rattle.wl_world.specs.Replies.{reply_of}
 use Rattle.wl_world.specs.Holdings.{In, partition_at}
 
 -- a tab's channel objects, in the order of opening
@@ -24,21 +27,20 @@ taken_in t k (e ∷ es) w = takes_at t k w e ++ taken_in t k es (happens w e)
 abbrev pub taken : ℕ → ℕ → List Event → List Letter
 taken t k events = taken_in t k events empty_world
 
--- the oldest of the posts that wait
-abbrev pub oldest : List Letter → List Letter
-oldest [] = []
-oldest (l ∷ ls) = l ∷ []
+-- the post that a reply says was read
+abbrev pub letters_in : Said → List Letter
+letters_in (said.Read l) = l ∷ []
+letters_in s = []
 
--- what tab t reads from its object k at an event
-abbrev pub reads_at : ℕ → ℕ → WorldState → Event → List Letter
-reads_at t k w (event.Read u j) =
-    if u == t && j == k && (lives w t && is_own (channels_of w t) t k) then oldest (inbox_at (objects_of w t) k) else []
-reads_at t k w e = []
+-- what tab t is told, by the reply to an event, that it read from its object k
+abbrev pub told_by : ℕ → ℕ → Event → Said → List Letter
+told_by t k (event.Read u j) s = if u == t && j == k then letters_in s else []
+told_by t k e s = []
 
--- all that it reads from it at these events
+-- all that it is told so by the replies to these events
 abbrev pub read_in : ℕ → ℕ → List Event → WorldState → List Letter
 read_in t k [] w = []
-read_in t k (e ∷ es) w = reads_at t k w e ++ read_in t k es (happens w e)
+read_in t k (e ∷ es) w = told_by t k e (reply_of w e).said ++ read_in t k es (happens w e)
 
 -- ---- posts
 
@@ -62,24 +64,37 @@ pub record IsPostFor (events : List Event) (t k : ℕ) (l : Letter) : Type 0 whe
   pub partition : partition_at (run events empty_world) l.source ≡ partition_at (run events empty_world) t
   pub another : (l.source ≡ t) × (object ≡ k) → ⊥
 
--- ---- the laws, over every list of events
+-- ---- what is said of a list of events and the world that it has made, of every object
 
 -- what an object takes of one source has strictly rising numbers
-abbrev pub HeardRising : Type 0
-HeardRising = (events : List Event) (t k source : ℕ) → RisesFrom 0 (of_source source (taken t k events))
+abbrev pub HeardRising : List Event → Type 0
+HeardRising events = (t k source : ℕ) → RisesFrom 0 (of_source source (taken t k events))
 
 -- it takes nothing but posts for it
-abbrev pub HeardPosts : Type 0
-HeardPosts = (events : List Event) (t k : ℕ) (l : Letter) → In l (taken t k events) → IsPostFor events t k l
+abbrev pub HeardPosts : List Event → Type 0
+HeardPosts events = (t k : ℕ) (l : Letter) → In l (taken t k events) → IsPostFor events t k l
 
 -- and nothing after it is closed
-abbrev pub HeardTillClosed : Type 0
-HeardTillClosed =
+abbrev pub HeardTillClosed : List Event → Type 0
+HeardTillClosed events =
     (before later : List Event) (t k : ℕ) → let w = run before empty_world in
-    k < length (objects_of w t) → is_open_at (objects_of w t) k ≡ false → taken_in t k later w ≡ []
+    before ++ later ≡ events → k < length (objects_of w t) → is_open_at (objects_of w t) k ≡ false → taken_in t k later w ≡ []
 
--- while it is open, all that it took was read or waits in its inbox
-abbrev pub HeardIsReadOrWaits : Type 0
-HeardIsReadOrWaits =
-    (events : List Event) (t k : ℕ) → let w = run events empty_world in
-    is_open_at (objects_of w t) k ≡ true → taken t k events ≡ read_in t k events empty_world ++ inbox_at (objects_of w t) k
+-- while it is open, all that it took was read, as the replies say, or waits in its inbox
+abbrev pub HeardIsReadOrWaits : List Event → WorldState → Type 0
+HeardIsReadOrWaits events w =
+    (t k : ℕ) → is_open_at (objects_of w t) k ≡ true → taken t k events ≡ read_in t k events empty_world ++ inbox_at (objects_of w t) k
+
+-- ---- the laws, over every list of events
+
+abbrev pub HeardRisingForAll : Type 0
+HeardRisingForAll = (events : List Event) → HeardRising events
+
+abbrev pub HeardPostsForAll : Type 0
+HeardPostsForAll = (events : List Event) → HeardPosts events
+
+abbrev pub HeardTillClosedForAll : Type 0
+HeardTillClosedForAll = (events : List Event) → HeardTillClosed events
+
+abbrev pub HeardIsReadOrWaitsForAll : Type 0
+HeardIsReadOrWaitsForAll = (events : List Event) → HeardIsReadOrWaits events (run events empty_world)

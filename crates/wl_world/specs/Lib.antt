@@ -1,4 +1,6 @@
 pub mod Messages
+pub mod Keys
+pub mod Index
 pub mod World
 pub mod Holdings
 pub mod Rows
@@ -7,3 +9,9 @@ pub mod ReplyRows
 pub mod Orders
 pub mod Apart
 pub mod Heard
+pub mod TabTokens
+pub mod TabChannels
+pub mod Settling
+pub mod Supervised
+pub mod Machine
+pub mod Merging

@@ -196,7 +196,7 @@ picked_from g (e ∷ es) w k = picked_from g es (happens w e) (picks g w k e)
 abbrev pub picked : ℕ → List Event → Picked
 picked g events = picked_from g events empty_world (record { listed = []; items = [] })
 
--- ---- the laws
+-- ---- what is said of a list of events and the world that it has made, of every generation and partition
 
 abbrev pub IsPrefix : {X : Type 0} → List X → List X → Type 0
 IsPrefix {X} xs ys = (rest : List X) × (xs ++ rest ≡ ys)
@@ -207,16 +207,16 @@ numbered k [] = []
 numbered k (o ∷ os) = (k, o) ∷ numbered (k + 1) os
 
 -- each tab's commands in the partition's list are a prefix of its issued list from its report's base on, each once, in order
-abbrev pub CommandsInOrder : Type 0
-CommandsInOrder =
-    (g p t : ℕ) (events : List Event) →
-    IsPrefix (commands_of (of_tab t (of_partition p (picked g events).items)))
-    (numbered (base_of (of_tab t (of_partition p (picked g events).items))) (drop (base_of (of_tab t (of_partition p (picked g events).items))) (tab_of (run events empty_world) t).issued))
+abbrev pub CommandsInOrder : List Event → WorldState → Type 0
+CommandsInOrder events w =
+    (g p t : ℕ) →
+    let mine = of_tab t (of_partition p (picked g events).items) in
+    IsPrefix (commands_of mine) (numbered (base_of mine) (drop (base_of mine) (tab_of w t).issued))
 
 -- while the generation is up, its broker's locks of the partition are the fold over the whole list
-abbrev pub ManagerIsFold : Type 0
-ManagerIsFold =
-    (g p : ℕ) (events : List Event) (b : BrokerState) → (run events empty_world).broker ≡ Some b → b.generation ≡ g →
+abbrev pub ManagerIsFold : List Event → WorldState → Type 0
+ManagerIsFold events w =
+    (g p : ℕ) (b : BrokerState) → w.broker ≡ Some b → b.generation ≡ g →
     manager_of b p ≡ managed p (picked g events).listed (of_partition p (picked g events).items)
 
 -- the pair is held after some prefix of its partition's list
@@ -225,17 +225,31 @@ WasHeld k p t n =
     (before : List Item) × (later : List Item) × (before ++ later ≡ of_partition p k.items) × (has_pair t n (managed p k.listed before).held ≡ true)
 
 -- a granted answer of g for a pair is in the bag only where the pair is held after some prefix of the list
-abbrev pub GrantedWereHeld : Type 0
-GrantedWereHeld =
-    (g t : ℕ) (s : Sender) (x : Answer) (events : List Event) → In (Down s (record { tab = t; inner = down.Answer x })) (run events empty_world).bag →
-    x.generation ≡ g → x.outcome ≡ Granted → WasHeld (picked g events) (partition_of (run events empty_world) t) t x.number
+abbrev pub GrantedWereHeld : List Event → WorldState → Type 0
+GrantedWereHeld events w =
+    (g t : ℕ) (s : Sender) (x : Answer) → In (Down s (record { tab = t; inner = down.Answer x })) w.bag → x.generation ≡ g → x.outcome ≡ Granted →
+    WasHeld (picked g events) (partition_of w t) t x.number
 
 -- each pair that an item of the list newly grants, by a probe or by settling, has a granted answer of g in the bag
 abbrev pub HasAnswer : List Message → ℕ → Row → Type 0
 HasAnswer bag g r =
     (upto : ℕ) × In (Down Broker (record { tab = r.client; inner = down.Answer (record { generation = g; upto = upto; number = r.number; outcome = Granted }) })) bag
 
-abbrev pub GrantsWereSent : Type 0
-GrantsWereSent =
-    (g p : ℕ) (events : List Event) (before later : List Item) (x : Item) (r : Row) → before ++ x ∷ later ≡ of_partition p (picked g events).items →
-    In r (grants_of p (picked g events).listed before x) → HasAnswer (run events empty_world).bag g r
+abbrev pub GrantsWereSent : List Event → WorldState → Type 0
+GrantsWereSent events w =
+    (g p : ℕ) (before later : List Item) (x : Item) (r : Row) → before ++ x ∷ later ≡ of_partition p (picked g events).items →
+    In r (grants_of p (picked g events).listed before x) → HasAnswer w.bag g r
+
+-- ---- the laws, over every list of events
+
+abbrev pub CommandsInOrderForAll : Type 0
+CommandsInOrderForAll = (events : List Event) → CommandsInOrder events (run events empty_world)
+
+abbrev pub ManagerIsFoldForAll : Type 0
+ManagerIsFoldForAll = (events : List Event) → ManagerIsFold events (run events empty_world)
+
+abbrev pub GrantedWereHeldForAll : Type 0
+GrantedWereHeldForAll = (events : List Event) → GrantedWereHeld events (run events empty_world)
+
+abbrev pub GrantsWereSentForAll : Type 0
+GrantsWereSentForAll = (events : List Event) → GrantsWereSent events (run events empty_world)

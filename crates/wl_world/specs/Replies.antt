@@ -1,5 +1,5 @@
 -- What an event is answered: what it did, or why it did nothing, and what it sent.
-use Rattle.std.specs.Prelude.{ℕ, ◌+◌, List, [], ◌∷◌, not, nat_lt, ◌==◌, length, option_map, Option, Some, None, if◌then◌else◌}
+use Rattle.std.specs.Prelude.{ℕ, ◌+◌, List, [], ◌∷◌, not, nat_lt, nat_le, ◌==◌, length, option_map, Option, Some, None, if◌then◌else◌}
 use Rattle.wl_frames.specs.declared.frame.Frame.{Frame}
 use Rattle.wl_frames.specs.declared.frame.Frame.TheVariants as frame
 use Rattle.wl_frames.specs.declared.frame.Operation.{Operation}
@@ -51,23 +51,10 @@ use Rattle.wl_world.specs.declared.reply.Refusal.{Refusal}
 use Rattle.wl_world.specs.declared.reply.Refusal.TheVariants as refusal
 use Rattle.wl_world.specs.declared.reply.Reason.{Reason}
 use Rattle.wl_world.specs.declared.reply.Reason.TheVariants as reason
-use Rattle.wl_world.specs.Messages.{same_message, is_sent, sent}
+use Rattle.wl_world.specs.Messages.{is_sent, sent, sending}
 use Rattle.wl_world.specs.World.{WorldState, tab_of, channels_of, lives, resent, deed}
 
 -- ---- messages as they are sent
-
--- where a message stands in the bag: the place of the first that is the same
-abbrev pub place_of : Message → List Message → Option ℕ
-place_of m [] = None
-place_of m (x ∷ xs) = if same_message m x then Some 0 else option_map (λ i. i + 1) (place_of m xs)
-
--- a new one comes behind all others
-abbrev pub or_behind : List Message → Option ℕ → ℕ
-or_behind bag None = length bag
-or_behind bag (Some i) = i
-
-unfoldable pub sending : Message → List Message → Sent
-sending m bag = record { message = m; place = or_behind bag (place_of m bag); is_new = not (is_sent m bag) }
 
 abbrev pub sendings : List Message → List Message → List Sent
 sendings [] bag = []
@@ -200,8 +187,8 @@ abbrev pub posting : WorldState → ℕ → ℕ → List ℕ → Said
 posting w t k bytes =
     let c = channels_of w t in
     living_or w t (open_or c t k (if nat_lt 16384 (length bytes) then refused refusal.DataTooLong
-    else if nat_lt c.posts post_limit then said.Posted t c.posts bytes (reached (Some k) (name_at c.objects k) c.objects)
-    else refused refusal.PostsUsedUp))
+    else if nat_le post_limit c.posts then refused refusal.PostsUsedUp
+    else said.Posted t c.posts bytes (reached (Some k) (name_at c.objects k) c.objects)))
 
 abbrev pub read_letter : Option Letter → Said
 read_letter None = refused refusal.Nothing

@@ -1,7 +1,10 @@
 //! What may happen.
 
+ghost use Rattle.std.specs.Prelude.{◌≡◌, IfOk};
+
 use crate::message::Message;
 use bytes::Bytes;
+use std::alloc::{AllocError, Global};
 use wl_draft::{Mode, Name};
 use wl_frames::Sequence;
 use wl_origin::Partition;
@@ -72,4 +75,65 @@ pub enum Event {
     Hello {
         tab: u16,
     },
+}
+
+impl Event {
+    /// An equal event. The bytes of a post are shared with this one, and all else is in memory of its own.
+    pub fn copy(&self, alloc: Global) -> Result<Event, AllocError>
+        ensures equals { IfOk result (λ copy. copy ≡ self.now) }
+    {
+        Ok(match self {
+            Event::Open { tab, partition } => Event::Open {
+                tab: *tab,
+                partition: partition.copy(alloc)?,
+            },
+            Event::Ask { tab, mode, name } => Event::Ask {
+                tab: *tab,
+                mode: *mode,
+                name: name.copy(alloc)?,
+            },
+            Event::Probe { tab, mode, name } => Event::Probe {
+                tab: *tab,
+                mode: *mode,
+                name: name.copy(alloc)?,
+            },
+            Event::Query { tab } => Event::Query { tab: *tab },
+            Event::Abort { tab, number } => Event::Abort {
+                tab: *tab,
+                number: *number,
+            },
+            Event::Release { tab, number } => Event::Release {
+                tab: *tab,
+                number: *number,
+            },
+            Event::Resend { tab } => Event::Resend { tab: *tab },
+            Event::Channel { tab, name } => Event::Channel {
+                tab: *tab,
+                name: name.copy(alloc)?,
+            },
+            Event::Post {
+                tab,
+                channel,
+                bytes,
+            } => Event::Post {
+                tab: *tab,
+                channel: *channel,
+                bytes: bytes.clone()?,
+            },
+            Event::Read { tab, channel } => Event::Read {
+                tab: *tab,
+                channel: *channel,
+            },
+            Event::Close { tab, channel } => Event::Close {
+                tab: *tab,
+                channel: *channel,
+            },
+            Event::Deliver(message) => Event::Deliver(message.copy(alloc)?),
+            Event::Kill { tab } => Event::Kill { tab: *tab },
+            Event::Tell { tab } => Event::Tell { tab: *tab },
+            Event::Stop => Event::Stop,
+            Event::Start(tabs) => Event::Start(Sequence::new(tabs.as_slice().to_vec(alloc)?)),
+            Event::Hello { tab } => Event::Hello { tab: *tab },
+        })
+    }
 }

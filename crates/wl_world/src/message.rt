@@ -1,5 +1,8 @@
 //! What tabs, kernel and broker send each other.
 
+ghost use Rattle.std.specs.Prelude.{◌≡◌, IfOk};
+
+use std::alloc::{AllocError, Global};
 use wl_frames::{Addressed, Heard, Stamped};
 
 /// Who sends a tab what comes from above.
@@ -24,4 +27,23 @@ pub enum Message {
         tab: u16,
         heard: Heard,
     },
+}
+
+impl Message {
+    /// An equal message. The bytes of a post are shared with this one, and all else is in memory of its own.
+    pub fn copy(&self, alloc: Global) -> Result<Message, AllocError>
+        ensures equals { IfOk result (λ copy. copy ≡ self.now) }
+    {
+        Ok(match self {
+            Message::Up(stamped) => Message::Up(stamped.copy(alloc)?),
+            Message::Down { sender, addressed } => Message::Down {
+                sender: *sender,
+                addressed: addressed.copy(alloc)?,
+            },
+            Message::Across { tab, heard } => Message::Across {
+                tab: *tab,
+                heard: heard.copy(alloc)?,
+            },
+        })
+    }
 }

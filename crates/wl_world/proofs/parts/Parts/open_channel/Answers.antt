@@ -1,0 +1,12 @@
+use Rattle.std.proofs.Common.{◌≡◌, true, arith}
+use Rattle.std.proofs.lemmas.Grind.{common_steps}
+use Rattle.wl_draft.specs.Tables.{find}
+use Rattle.wl_broadcast.specs.Channels.{opened, read_at}
+use Rattle.wl_world.specs.World.{channels_in, lives}
+use Rattle.wl_world.proofs.Parted.{always}
+use Rattle.wl_world.proofs.PostedRows.{own-after, reads-world}
+use Rattle.wl_world.proofs.parts.Parts.open_channel.Goals as goal
+
+pub invariant_of-self-2 : goal.invariant_of-self-2
+invariant_of-self-2 c =
+    own-after c.open_at.result c.args.tab (opened c.args.name.now (channels_in c.args.tab (find c.self.inside.channels.entries c.args.tab))) c.self.inside.channels.entries _ c.open_at.ensures.ok c.open_at.ensures.err (c.self.invariant c.args.tab) c.self.invariant

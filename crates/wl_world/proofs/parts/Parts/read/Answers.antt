@@ -1,0 +1,17 @@
+use Rattle.std.proofs.Common.{◌≡◌, true, arith}
+use Rattle.std.proofs.lemmas.Grind.{common_steps}
+use Rattle.wl_draft.specs.Tables.{find}
+use Rattle.wl_broadcast.specs.Channels.{opened, read_at}
+use Rattle.wl_world.specs.World.{channels_in, lives}
+use Rattle.wl_world.proofs.Parted.{always}
+use Rattle.wl_world.proofs.PostedRows.{own-after, reads-world}
+use Rattle.wl_world.proofs.parts.Parts.read.Goals as goal
+
+pub invariant_of-self-2 : goal.invariant_of-self-2
+invariant_of-self-2 c =
+    own-after c.read_at.result c.args.tab (read_at c.args.channel (channels_in c.args.tab (find c.self.inside.channels.entries c.args.tab))) c.self.inside.channels.entries _ c.read_at.ensures.ok c.read_at.ensures.err (c.self.invariant c.args.tab) c.self.invariant
+
+pub returns-clause-world : goal.returns-clause-world
+returns-clause-world c =
+    let live : lives c.args.self.now c.args.tab ≡ true = grind (arith, common_steps) in
+    always c.match-read_at.result (reads-world c.read_at.result c.self.inside.tabs.entries c.self.inside.channels.entries _ c.self.inside.supervisor c.self.inside.bag c.args.self.now c.self.view_is c.args.tab c.args.channel live c.self.invariant c.read_at.ensures.ok c.read_at.ensures.allowed c.read_at.ensures.refused c.read_at.ensures.err)

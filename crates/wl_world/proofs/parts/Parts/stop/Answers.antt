@@ -1,0 +1,15 @@
+use Rattle.std.proofs.Common.{◌≡◌, sym, ap, ◌∙◌}
+use Rattle.wl_world.specs.declared.supervisor.Supervisor.{Supervisor}
+use Rattle.wl_world.specs.World.{WorldState, stops}
+use Rattle.wl_world.specs.Supervised.{world_of}
+use Rattle.wl_world.proofs.Parted.{stops-after, stops-silent}
+use Rattle.wl_world.proofs.parts.Parts.stop.Goals as goal
+
+pub returns-clause-world : goal.returns-clause-world
+returns-clause-world c =
+    ap (λ (s : Supervisor). world_of c.self.inside.tabs.entries c.self.inside.channels.entries s c.self.inside.bag) c.stop-supervisor.ensures.supervisor
+    ∙ stops-after c.self.inside.tabs.entries c.self.inside.channels.entries c.self.inside.supervisor c.self.inside.bag
+    ∙ ap (λ (w : WorldState). (stops w w.broker).world) c.self.view_is
+
+pub returns-clause-sends : goal.returns-clause-sends
+returns-clause-sends c = c.silent.ensures.sends ∙ sym (stops-silent c.args.self c.args.self.broker)

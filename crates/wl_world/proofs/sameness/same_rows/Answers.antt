@@ -1,0 +1,18 @@
+use Rattle.std.proofs.Common.{◌≡◌, ◌∙◌, sym, ap, nat_eq, false, rules}
+use Rattle.std.specs.List.{list_all, zip}
+use Rattle.std.proofs.lemmas.Iterator.{YieldsList-from_slice, YieldsList-from_zip}
+use Rattle.std.proofs.lemmas.Iterator.Search.{all_from_yields_List}
+use borrow.Author.Tests.{tests}
+use Rattle.wl_world.specs.Messages.{same_row}
+use Rattle.wl_world.proofs.SameLists.{list_all-zip, same_list-apart, nat_eq-apart}
+use Rattle.wl_world.proofs.sameness.same_rows.Goals as goal
+
+pub returns-then-one-other : goal.returns-then-one-other
+returns-then-one-other c =
+    all_from_yields_List (λ p. same_row p.0 p.1) c.all.new.self _ c.all.result c.all.ensures.ran
+    (YieldsList-from_zip (YieldsList-from_slice c.args.one.now cc) (YieldsList-from_slice c.args.other.now cc))
+    (λ x b q k. search (rules, tests))
+    ∙ list_all-zip same_row c.args.one.now c.args.other.now (search rules)
+
+pub returns-else-one-other : goal.returns-else-one-other
+returns-else-one-other c = nat_eq-apart _ _ c.if-one-other.false ∙ sym (same_list-apart same_row _ _ c.if-one-other.false)

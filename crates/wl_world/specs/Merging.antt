@@ -1,0 +1,43 @@
+-- Only a helper: what a post reached, from the lists of its destinations, and what other tabs are sent of it.
+use Rattle.std.specs.Prelude.{ℕ, List, [], ◌∷◌, ◌++◌, map, take, drop, nat_lt, Option, Some, None}
+use Rattle.std.specs.List.{prefix_len}
+use Rattle.wl_frames.specs.declared.frame.Frame.{Frame}
+use Rattle.wl_frames.specs.declared.frame.Frame.TheVariants as frame
+use Rattle.wl_frames.specs.declared.frame.Heard.{Heard}
+use Rattle.wl_broadcast.specs.declared.letter.Posted.{Posted}
+use Rattle.wl_broadcast.specs.declared.letter.Hearing.{Hearing}
+use Rattle.wl_broadcast.specs.declared.letter.Hearing.TheVariants.{Old, New}
+use Rattle.wl_world.specs.declared.message.Message.{Message}
+use Rattle.wl_world.specs.declared.message.Message.TheVariants.{Across}
+use Rattle.wl_world.specs.declared.reply.Said.{Said}
+use Rattle.wl_world.specs.declared.reply.Said.TheVariants as said
+use Rattle.wl_world.specs.declared.reply.Reason.TheVariants as reason
+use Rattle.wl_world.specs.declared.reply.Reached.{Reached}
+use Rattle.wl_world.specs.declared.reply.Reached.TheVariants.{Took, Full}
+use Rattle.wl_world.specs.Replies.{letter_of}
+
+-- how many of the first numbers are below a bound
+abbrev pub count_below : ℕ → List ℕ → ℕ
+count_below bound numbers = prefix_len (λ n. nat_lt n bound) numbers
+
+-- the destinations that took a post and those that were full, put together by rising number
+abbrev pub merged : List ℕ → List ℕ → List Reached
+merged took [] = map Took took
+merged took (f ∷ fs) = map Took (take (count_below f took) took) ++ Full f ∷ merged (drop (count_below f took) took) fs
+
+-- a frame that the kernel passes on to a tab, as the message that comes there
+abbrev pub across_to : ℕ → Frame → Option Message
+across_to t (frame.Heard x) = Some (Across t x)
+across_to t f = None
+
+abbrev pub number_in : Frame → ℕ
+number_in (frame.Post p) = p.number
+number_in f = 0
+
+-- what is said of a post, and of a post of another tab
+abbrev pub posted_said : ℕ → List ℕ → Posted → Said
+posted_said t bytes p = said.Posted t (number_in p.frame) bytes (merged p.took p.full)
+
+abbrev pub hearing_said : ℕ → Heard → Hearing → Said
+hearing_said t x Old = said.Dropped reason.OldPost
+hearing_said t x (New took full) = said.Heard t (letter_of x) (merged took full)

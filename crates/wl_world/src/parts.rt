@@ -1,0 +1,144 @@
+//! The parts of the world: tabs, channels, the supervisor with its broker, and the bag.
+
+ghost use Rattle.std.specs.Prelude.{◌≡◌, [], ◌++◌, IfOk, OnOk, is_some, map, slice_get};
+ghost use Rattle.std.specs.Option.{option_copied};
+ghost use Rattle.wl_world.specs.Machine.{held_by_living};
+ghost use Rattle.wl_world.specs.TabTokens.{holdings_of};
+ghost use Rattle.wl_kernel.specs.Kernel.{living_tabs};
+ghost use Rattle.wl_world.specs.World.{empty_world, lives, tab_of, from_broker};
+ghost use Rattle.wl_world.specs.declared.reply.Said.TheVariants as said;
+
+mod acting;
+mod commanding;
+mod delivering;
+mod posting;
+mod supervising;
+
+use crate::bag::Bag;
+use crate::channels::TabChannels;
+use crate::holding::Holding;
+use crate::locks::TabLocks;
+use crate::message::Message;
+use crate::reply::{Refusal, Said};
+use crate::sending::from_broker;
+use crate::supervisor::{Outcome, Supervisor};
+use std::alloc::{AllocError, Global};
+use std::collections::BTreeMap;
+use std::marker::Model;
+
+/// All parts of the world.
+#[derive(Drop)]
+pub struct Parts {
+    alloc: Global,
+    tabs: BTreeMap<u16, TabLocks>,
+    channels: BTreeMap<u16, TabChannels>,
+    supervisor: Supervisor,
+    bag: Bag,
+}
+
+impl Model for Parts {
+    ghost use Rattle.wl_world.specs.World.{WorldState};
+    ghost use Rattle.wl_world.specs.Supervised.{world_of, OwnRows};
+
+    ghost Value = { WorldState };
+
+    ghost view = { λ p. world_of p.tabs.entries p.channels.entries p.supervisor p.bag };
+
+    ghost invariant = { λ p. OwnRows p.channels.entries };
+}
+
+/// What came of an event, and what was sent, in its order.
+#[derive(Drop)]
+pub struct Done {
+    pub said: Said,
+    pub sends: Vec<Message>,
+}
+
+impl Parts {
+    pub fn new(alloc: Global) -> Parts
+        ensures { result ≡ empty_world }
+    {
+        Parts {
+            alloc,
+            tabs: BTreeMap::new(alloc),
+            channels: BTreeMap::new(alloc),
+            supervisor: Supervisor::new(alloc),
+            bag: Bag::new(alloc),
+        }
+    }
+
+    pub fn is_up(&self) -> bool
+        ensures { result ≡ is_some self.now.broker }
+    {
+        self.supervisor.is_up()
+    }
+
+    /// The living tabs, by rising number.
+    pub fn living(&self) -> &[u16]
+        ensures { result.now ≡ living_tabs self.now.kernel }
+    {
+        self.supervisor.tabs().living()
+    }
+
+    /// The message at a place of the bag.
+    pub fn message(&self, place: usize) -> Option<&Message>
+        ensures { option_copied result ≡ slice_get self.now.bag place }
+    {
+        self.bag.get(place)
+    }
+
+    /// What living tabs hold, by tab and then by number.
+    pub fn holdings(&self) -> Result<Vec<Holding>, AllocError>
+        ensures { IfOk result (λ holdings. holdings.items ≡ held_by_living self.now) }
+    {
+        let mut holdings = Vec::new(self.alloc);
+        for tab in self.living() {
+            self.add_holdings(*tab, &mut holdings)?;
+        }
+        Ok(holdings)
+    }
+
+    fn add_holdings(&self, tab: u16, holdings: &mut Vec<Holding>) -> Result<(), AllocError>
+        ensures { OnOk result (holdings.new.items ≡ holdings.old.items ++ holdings_of (tab_of self.now tab)) }
+    {
+        match self.tabs.get(&tab) {
+            Some(locks) => locks.add_holdings(holdings),
+            None => Ok(()),
+        }
+    }
+
+    fn lives(&self, tab: u16) -> bool
+        ensures { result ≡ lives self.now tab }
+    {
+        self.supervisor.tabs().is_living(tab)
+    }
+}
+
+/// An event that sends nothing.
+fn silent(alloc: Global, said: Said) -> Done
+    ensures said { result.said ≡ said }
+    ensures sends { result.sends.items ≡ [] }
+{
+    Done {
+        said,
+        sends: Vec::new(alloc),
+    }
+}
+
+/// An event that does nothing.
+fn refused(alloc: Global, refusal: Refusal) -> Done
+    ensures said { result.said ≡ said.Refused refusal }
+    ensures sends { result.sends.items ≡ [] }
+{
+    silent(alloc, Said::Refused(refusal))
+}
+
+/// What came of an event at the broker.
+fn of_broker(alloc: Global, outcome: Outcome) -> Result<Done, AllocError>
+    ensures said { IfOk result (λ done. done.said ≡ outcome.said) }
+    ensures sends { IfOk result (λ done. done.sends.items ≡ map from_broker outcome.outs) }
+{
+    let Outcome { said, outs } = outcome;
+    let sends = from_broker(alloc, outs)?;
+    Ok(Done { said, sends })
+}

@@ -1,0 +1,89 @@
+//! One event.
+
+ghost use Rattle.std.specs.Prelude.{◌≡◌, true, IfOk, OnOk};
+ghost use Rattle.wl_world.specs.World.{deed};
+ghost use Rattle.wl_world.specs.Messages.{sent_all};
+ghost use Rattle.wl_world.specs.Replies.{said_of, sendings};
+ghost use Rattle.wl_world.specs.Supervised.{is_in_place};
+
+use crate::bag::Bag;
+use crate::event::Event;
+use crate::message::Message;
+use crate::parts::{Done, Parts, refused};
+use crate::reply::{Refusal, Sent};
+use std::alloc::{AllocError, Global};
+
+impl Parts {
+    /// An event happens. What it sends is not in the bag yet.
+    #[tactic(auto, unfolding(crate::specs::World::deed, crate::specs::Replies::said_of))]
+    pub fn act(self, event: &Event) -> Result<(Parts, Done), AllocError>
+        ensures world { IfOk result (λ r. r.0 ≡ (deed self event.now).world) }
+        ensures said { IfOk result (λ r. r.1.said ≡ said_of self event.now) }
+        ensures sends { IfOk result (λ r. r.1.sends.items ≡ (deed self event.now).sends) }
+    {
+        match event {
+            Event::Start(listed) => self.start(listed.as_slice()),
+            Event::Stop => Ok(self.stop()),
+            _ => {
+                let mut parts = self;
+                let done = parts.act_in_place(event)?;
+                Ok((parts, done))
+            }
+        }
+    }
+
+    /// An event other than a start or a stop happens.
+    #[tactic(auto, unfolding(crate::specs::World::deed, crate::specs::Replies::said_of))]
+    fn act_in_place(&mut self, event: &Event) -> Result<Done, AllocError>
+        requires { is_in_place event.now ≡ true }
+        ensures world { OnOk result (self.new ≡ (deed self.old event.now).world) }
+        ensures said { IfOk result (λ done. done.said ≡ said_of self.old event.now) }
+        ensures sends { IfOk result (λ done. done.sends.items ≡ (deed self.old event.now).sends) }
+    {
+        match event {
+            Event::Open { tab, partition } => self.open(*tab, partition),
+            Event::Ask { tab, mode, name } => self.ask(*tab, *mode, false, name),
+            Event::Probe { tab, mode, name } => self.ask(*tab, *mode, true, name),
+            Event::Query { tab } => self.query(*tab),
+            Event::Abort { tab, number } => self.abort(*tab, *number),
+            Event::Release { tab, number } => self.release(*tab, *number),
+            Event::Resend { tab } => self.resend(*tab),
+            Event::Channel { tab, name } => self.open_channel(*tab, name),
+            Event::Post {
+                tab,
+                channel,
+                bytes,
+            } => self.post(*tab, *channel, bytes),
+            Event::Read { tab, channel } => self.read(*tab, *channel),
+            Event::Close { tab, channel } => Ok(self.close(*tab, *channel)),
+            Event::Deliver(message) => self.deliver(message),
+            Event::Kill { tab } => Ok(self.kill(*tab)),
+            Event::Tell { tab } => self.tell(*tab),
+            Event::Hello { tab } => self.greet(*tab),
+            Event::Stop | Event::Start(_) => unreachable!(),
+        }
+    }
+
+    /// These messages are sent.
+    pub fn send(&mut self, messages: Vec<Message>) -> Result<Vec<Sent>, AllocError>
+        ensures bag { OnOk result (self.new ≡ record self.old { bag = sent_all messages.items self.old.bag }) }
+        ensures sent { IfOk result (λ sent. sent.items ≡ sendings messages.items self.old.bag) }
+    {
+        send_all(self.alloc, &mut self.bag, messages)
+    }
+}
+
+fn send_all(
+    alloc: Global,
+    bag: &mut Bag,
+    messages: Vec<Message>,
+) -> Result<Vec<Sent>, AllocError>
+    ensures bag { OnOk result (bag.new ≡ sent_all messages.items bag.old) }
+    ensures sent { IfOk result (λ sent. sent.items ≡ sendings messages.items bag.old) }
+{
+    let mut sent = Vec::new(alloc);
+    for message in messages {
+        sent.push(bag.put(message)?)?;
+    }
+    Ok(sent)
+}

@@ -1,0 +1,159 @@
+//! Tabs ask for locks, give them up, and send again.
+
+ghost use Rattle.std.specs.Prelude.{◌≡◌, ◌≢◌, ◌∷◌, true, IfOk, OnOk};
+ghost use Rattle.wl_draft.specs.Tables.{find};
+ghost use Rattle.wl_world.specs.World.{WorldState, tab_of, tab_in, lives, asks, queries, aborts, releases, resends, resent};
+ghost use Rattle.wl_world.specs.Replies.{asking, querying, aborting, releasing, resending, some_resent, of_agent};
+ghost use Rattle.wl_world.specs.Supervised.{kernel_of, issued_in};
+ghost use Rattle.wl_world.specs.declared.reply.Said.TheVariants as said;
+
+use crate::locks::Abortion;
+use crate::message::Message;
+use crate::parts::{Done, Parts, refused, silent};
+use crate::reply::{Refusal, Said};
+use crate::{sending, tables};
+use std::alloc::{AllocError, Global};
+use wl_agent::AgentFault;
+use wl_draft::{Mode, Name};
+
+impl Parts {
+    /// A tab asks for a lock.
+    #[tactic(auto, unfolding(crate::specs::World::acts))]
+    pub fn ask(
+        &mut self,
+        tab: u16,
+        mode: Mode,
+        if_available: bool,
+        name: &Name,
+    ) -> Result<Done, AllocError>
+        ensures world { OnOk result (self.new ≡ (asks self.old tab mode if_available name.now).world) }
+        ensures said { IfOk result (λ done. done.said ≡ asking self.old tab name.now) }
+        ensures sends { IfOk result (λ done. done.sends.items ≡ (asks self.old tab mode if_available name.now).sends) }
+    {
+        if !self.lives(tab) {
+            return Ok(refused(self.alloc, Refusal::NoTab));
+        }
+        match tables::ask_at(self.alloc, &mut self.tabs, tab, mode, if_available, name) {
+            Ok(number) => self.issued(tab, number),
+            Err(fault) => Ok(refused(self.alloc, agent_refusal(fault)?)),
+        }
+    }
+
+    /// A tab asks for a snapshot.
+    #[tactic(auto, unfolding(crate::specs::World::acts))]
+    pub fn query(&mut self, tab: u16) -> Result<Done, AllocError>
+        ensures world { OnOk result (self.new ≡ (queries self.old tab).world) }
+        ensures said { IfOk result (λ done. done.said ≡ querying self.old tab) }
+        ensures sends { IfOk result (λ done. done.sends.items ≡ (queries self.old tab).sends) }
+    {
+        if !self.lives(tab) {
+            return Ok(refused(self.alloc, Refusal::NoTab));
+        }
+        match tables::query_at(self.alloc, &mut self.tabs, tab) {
+            Ok(number) => self.issued(tab, number),
+            Err(fault) => Ok(refused(self.alloc, agent_refusal(fault)?)),
+        }
+    }
+
+    /// A tab takes a request back.
+    #[tactic(auto, unfolding(crate::specs::World::acts))]
+    pub fn abort(&mut self, tab: u16, number: u32) -> Result<Done, AllocError>
+        ensures world { OnOk result (self.new ≡ (aborts self.old tab number).world) }
+        ensures said { IfOk result (λ done. done.said ≡ aborting self.old tab number) }
+        ensures sends { IfOk result (λ done. done.sends.items ≡ (aborts self.old tab number).sends) }
+    {
+        if !self.lives(tab) {
+            return Ok(refused(self.alloc, Refusal::NoTab));
+        }
+        match tables::abort_at(&mut self.tabs, tab, number) {
+            Abortion::Issued(next) => self.issued(tab, next),
+            Abortion::Held => Ok(refused(self.alloc, Refusal::Held)),
+            Abortion::Nothing => Ok(refused(self.alloc, Refusal::Nothing)),
+        }
+    }
+
+    /// A tab releases a lock.
+    #[tactic(auto, unfolding(crate::specs::World::acts))]
+    pub fn release(&mut self, tab: u16, number: u32) -> Result<Done, AllocError>
+        ensures world { OnOk result (self.new ≡ (releases self.old tab number).world) }
+        ensures said { IfOk result (λ done. done.said ≡ releasing self.old tab number) }
+        ensures sends { IfOk result (λ done. done.sends.items ≡ (releases self.old tab number).sends) }
+    {
+        if !self.lives(tab) {
+            return Ok(refused(self.alloc, Refusal::NoTab));
+        }
+        match tables::release_at(&mut self.tabs, tab, number) {
+            Some(next) => self.issued(tab, next),
+            None => Ok(refused(self.alloc, Refusal::Nothing)),
+        }
+    }
+
+    /// A tab sends again whatever may have been lost.
+    #[tactic(auto, unfolding(crate::specs::World::acts))]
+    pub fn resend(&mut self, tab: u16) -> Result<Done, AllocError>
+        ensures world { OnOk result (self.new ≡ (resends self.old tab).world) }
+        ensures said { IfOk result (λ done. done.said ≡ resending self.old tab) }
+        ensures sends { IfOk result (λ done. done.sends.items ≡ (resends self.old tab).sends) }
+    {
+        if !self.lives(tab) {
+            return Ok(refused(self.alloc, Refusal::NoTab));
+        }
+        let sends = self.resent(tab)?;
+        tables::keep_at(self.alloc, &mut self.tabs, tab)?;
+        let said = resent_said(&sends);
+        Ok(Done { said, sends })
+    }
+
+    /// What the tab sends again.
+    fn resent(&self, tab: u16) -> Result<Vec<Message>, AllocError>
+        ensures { IfOk result (λ ms. ms.items ≡ resent self.now tab (tab_of self.now tab)) }
+    {
+        match self.tabs.get(&tab) {
+            Some(locks) => sending::resent(self.alloc, self.supervisor.tabs(), tab, locks),
+            // It has entered no generation.
+            None => Ok(Vec::new(self.alloc)),
+        }
+    }
+
+    /// The tab has issued this command.
+    fn issued(&self, tab: u16, number: u32) -> Result<Done, AllocError>
+        ensures said { IfOk result (λ done. done.said ≡ said.Issued tab number) }
+        ensures sends { IfOk result (λ done. done.sends.items ≡ issued_in self.now.kernel tab (tab_of self.now tab) number) }
+    {
+        let said = Said::Issued { tab, number };
+        match self.tabs.get(&tab) {
+            Some(locks) => {
+                let kernel = self.supervisor.tabs();
+                let sends = sending::issued(self.alloc, kernel, tab, locks, number)?;
+                Ok(Done { said, sends })
+            }
+            // It has entered no generation.
+            None => Ok(silent(self.alloc, said)),
+        }
+    }
+}
+
+/// What is said of what is sent again.
+fn resent_said(sends: &[Message]) -> Said
+    ensures { result ≡ some_resent sends.now }
+{
+    if sends.is_empty() {
+        Said::Refused(Refusal::Nothing)
+    } else {
+        Said::Resent
+    }
+}
+
+/// Why a command was not issued, unless memory was refused.
+fn agent_refusal(fault: AgentFault) -> Result<Refusal, AllocError>
+    ensures refusal { IfOk result (λ refusal. refusal ≡ of_agent fault) }
+    ensures fault { OnOk result (fault ≢ AgentFault.Memory) }
+{
+    match fault {
+        AgentFault::NotSupported => Ok(Refusal::NotSupported),
+        AgentFault::NameTooLong => Ok(Refusal::NameTooLong),
+        AgentFault::TooMany => Ok(Refusal::TooMany),
+        AgentFault::NumbersUsedUp => Ok(Refusal::NumbersUsedUp),
+        AgentFault::Memory => Err(AllocError),
+    }
+}

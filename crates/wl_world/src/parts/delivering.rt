@@ -1,0 +1,99 @@
+//! Messages come.
+
+ghost use Rattle.std.specs.Prelude.{◌≡◌, IfOk, OnOk, true, not, is_some, if◌then◌else◌};
+ghost use Rattle.wl_draft.specs.Tables.{find};
+ghost use Rattle.wl_frames.specs.declared.frame.Frame.TheVariants as frame;
+ghost use Rattle.wl_kernel.specs.Routes.{frame_of};
+ghost use Rattle.wl_world.specs.Messages.{is_sent};
+ghost use Rattle.wl_world.specs.World.{lives, hears, comes, comes_up, where_allowed};
+ghost use Rattle.wl_world.specs.declared.reply.Said.TheVariants as said;
+ghost use Rattle.wl_world.specs.declared.reply.Refusal.TheVariants.{NoMessage};
+ghost use Rattle.wl_world.specs.Replies.{alive_or, arrival, brought, delivering};
+ghost use Rattle.wl_world.specs.World.{tab_of};
+ghost use Rattle.wl_world.specs.Supervised.{reported_in};
+
+use crate::message::Message;
+use crate::parts::{Done, Parts, of_broker, refused, silent};
+use crate::reply::{Reason, Refusal, Said};
+use crate::{sending, tables};
+use std::alloc::{AllocError, Global};
+use wl_frames::{Addressed, Answer, Downward, Frame, Hello, Stamped};
+
+impl Parts {
+    /// A message that was sent once comes.
+    pub fn deliver(&mut self, message: &Message) -> Result<Done, AllocError>
+        ensures world { OnOk result (self.new ≡ (where_allowed (is_sent message.now self.old.bag) self.old (comes self.old message.now)).world) }
+        ensures said { IfOk result (λ done. done.said ≡ (if is_sent message.now self.old.bag then delivering self.old message.now else said.Refused NoMessage)) }
+        ensures sends { IfOk result (λ done. done.sends.items ≡ (where_allowed (is_sent message.now self.old.bag) self.old (comes self.old message.now)).sends) }
+    {
+        if self.bag.find(message).is_none() {
+            return Ok(refused(self.alloc, Refusal::NoMessage));
+        }
+        match message {
+            Message::Up(stamped) => self.bring(stamped),
+            Message::Down { addressed, .. } => self.hear(addressed),
+            Message::Across { tab, heard } => self.hear_post(*tab, heard),
+        }
+    }
+
+    /// A command or a report comes to the broker.
+    pub fn bring(&mut self, stamped: &Stamped) -> Result<Done, AllocError>
+        ensures world { OnOk result (self.new ≡ (comes_up self.old stamped.now self.old.broker).world) }
+        ensures said { IfOk result (λ done. done.said ≡ brought stamped.now self.old.broker) }
+        ensures sends { IfOk result (λ done. done.sends.items ≡ (comes_up self.old stamped.now self.old.broker).sends) }
+    {
+        let outcome = self.supervisor.take(self.alloc, stamped)?;
+        of_broker(self.alloc, outcome)
+    }
+
+    /// A message from above comes to a tab.
+    #[tactic(auto, unfolding(crate::specs::World::acts, crate::specs::Replies::arrival))]
+    pub fn hear(&mut self, addressed: &Addressed) -> Result<Done, AllocError>
+        ensures world { OnOk result (self.new ≡ (where_allowed (lives self.old addressed.now.tab) self.old (hears self.old addressed.now.tab (frame_of addressed.now.inner))).world) }
+        ensures said { IfOk result (λ done. done.said ≡ alive_or self.old addressed.now.tab (arrival (frame_of addressed.now.inner) (tab_of self.old addressed.now.tab))) }
+        ensures sends { IfOk result (λ done. done.sends.items ≡ (where_allowed (lives self.old addressed.now.tab) self.old (hears self.old addressed.now.tab (frame_of addressed.now.inner))).sends) }
+    {
+        let tab = addressed.tab;
+        if !self.lives(tab) {
+            return Ok(silent(self.alloc, Said::Dropped(Reason::DeadTab)));
+        }
+        let frame = frame_of(self.alloc, &addressed.inner)?;
+        let said = tables::deliver_at(self.alloc, &mut self.tabs, tab, &frame)?;
+        let sends = self.reported(tab, &said)?;
+        Ok(Done { said, sends })
+    }
+
+    /// What a tab that has heard a frame sends, by what was said of it: its report, where it has entered a generation.
+    fn reported(&self, tab: u16, said: &Said) -> Result<Vec<Message>, AllocError>
+        requires { is_some (find self.now.tabs tab) ≡ true }
+        ensures { IfOk result (λ ms. ms.items ≡ reported_in self.now.kernel tab (tab_of self.now tab) said.now) }
+    {
+        let Said::Entered { .. } = said else {
+            return Ok(Vec::new(self.alloc));
+        };
+        let Some(locks) = self.tabs.get(&tab) else {
+            unreachable!()
+        };
+        let mut sends = Vec::new(self.alloc);
+        sending::add_report(self.supervisor.tabs(), tab, locks, &mut sends)?;
+        Ok(sends)
+    }
+}
+
+/// What the broker or the kernel says to a tab, as the tab gets it.
+fn frame_of(alloc: Global, inner: &Downward) -> Result<Frame, AllocError>
+    ensures { IfOk result (λ f. f ≡ frame_of inner.now) }
+{
+    Ok(match inner {
+        Downward::Hello(hello) => Frame::Hello(Hello {
+            generation: hello.generation,
+        }),
+        Downward::Answer(answer) => Frame::Answer(Answer {
+            generation: answer.generation,
+            upto: answer.upto,
+            number: answer.number,
+            outcome: answer.outcome,
+        }),
+        Downward::Snapshot(snapshot) => Frame::Snapshot(snapshot.copy(alloc)?),
+    })
+}

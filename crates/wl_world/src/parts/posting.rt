@@ -1,0 +1,267 @@
+//! Tabs open channels, post on them, read and close them.
+
+ghost use Rattle.std.specs.Prelude.{◌≡◌, ◌≢◌, ◌≤◌, [], ◌++◌, length, map, IfOk, OnOk, None};
+ghost use Rattle.std.specs.List.{filter_map};
+ghost use Rattle.wl_frames.specs.declared.frame.Frame.TheVariants as frame;
+ghost use Rattle.wl_broadcast.specs.Channels.{after_hearing};
+ghost use Rattle.wl_world.specs.World.{WorldState, opens_channel, posts, reads, closes, becomes, channels_of, where_allowed, lives};
+ghost use Rattle.wl_world.specs.Replies.{opening_channel, posting, reading, closing, hearing, alive_or, of_channel};
+ghost use Rattle.wl_world.specs.Merging.{count_below, merged, across_to, number_in, posted_said, hearing_said};
+ghost use Rattle.wl_world.specs.declared.reply.Reached.TheVariants.{Took};
+ghost use Rattle.wl_world.specs.Supervised.{crossed, of_posting};
+
+use crate::channel_tables;
+use crate::channels::ChannelRefusal;
+use crate::message::Message;
+use crate::parts::{Done, Parts, refused, silent};
+use crate::reply::{Reached, Reason, Refusal, Said};
+use bytes::Bytes;
+use std::alloc::{AllocError, Global};
+use wl_broadcast::{ChannelFault, Hearing, Letter, Posted};
+use wl_draft::Name;
+use wl_frames::{Frame, Heard, Sequence};
+use wl_kernel::{Routed, Tabs};
+
+impl Parts {
+    /// A tab opens a channel object.
+    #[tactic(auto, unfolding(crate::specs::World::becomes))]
+    pub fn open_channel(&mut self, tab: u16, name: &Name) -> Result<Done, AllocError>
+        ensures world { OnOk result (self.new ≡ (opens_channel self.old tab name.now).world) }
+        ensures said { IfOk result (λ done. done.said ≡ opening_channel self.old tab name.now) }
+        ensures sends { IfOk result (λ done. done.sends.items ≡ (opens_channel self.old tab name.now).sends) }
+    {
+        if !self.lives(tab) {
+            return Ok(refused(self.alloc, Refusal::NoTab));
+        }
+        match channel_tables::open_at(self.alloc, &mut self.channels, tab, name) {
+            Ok(channel) => Ok(silent(self.alloc, Said::ChannelOpened { channel })),
+            Err(fault) => Ok(refused(self.alloc, open_refusal(fault)?)),
+        }
+    }
+
+    /// A tab posts: its own other objects get the post at once, and the other tabs are sent it.
+    #[tactic(auto, unfolding(crate::specs::World::becomes))]
+    pub fn post(
+        &mut self,
+        tab: u16,
+        channel: usize,
+        bytes: &Bytes,
+    ) -> Result<Done, AllocError>
+        ensures world { OnOk result (self.new ≡ (posts self.old tab channel bytes.now).world) }
+        ensures said { IfOk result (λ done. done.said ≡ posting self.old tab channel bytes.now) }
+        ensures sends { IfOk result (λ done. done.sends.items ≡ (posts self.old tab channel bytes.now).sends) }
+    {
+        if !self.lives(tab) {
+            return Ok(refused(self.alloc, Refusal::NoTab));
+        }
+        match channel_tables::post_at(&mut self.channels, tab, channel, bytes.as_slice()) {
+            Ok(posted) => posting(self.alloc, self.supervisor.tabs(), tab, bytes, posted),
+            Err(refusal) => Ok(refused(self.alloc, post_refusal(refusal)?)),
+        }
+    }
+
+    /// A tab takes the oldest post out of an inbox.
+    #[tactic(auto, unfolding(crate::specs::World::becomes))]
+    pub fn read(&mut self, tab: u16, channel: usize) -> Result<Done, AllocError>
+        ensures world { OnOk result (self.new ≡ (reads self.old tab channel).world) }
+        ensures said { IfOk result (λ done. done.said ≡ reading self.old tab channel) }
+        ensures sends { IfOk result (λ done. done.sends.items ≡ (reads self.old tab channel).sends) }
+    {
+        if !self.lives(tab) {
+            return Ok(refused(self.alloc, Refusal::NoTab));
+        }
+        match channel_tables::read_at(&mut self.channels, tab, channel) {
+            Ok(Some(letter)) => Ok(silent(self.alloc, Said::Read(letter))),
+            Ok(None) => Ok(refused(self.alloc, Refusal::Nothing)),
+            Err(refusal) => Ok(refused(self.alloc, post_refusal(refusal)?)),
+        }
+    }
+
+    /// A tab closes a channel object. One that is closed stays so.
+    #[tactic(auto, unfolding(crate::specs::World::becomes))]
+    pub fn close(&mut self, tab: u16, channel: usize) -> Done
+        ensures world { self.new ≡ (closes self.old tab channel).world }
+        ensures said { result.said ≡ closing self.old tab channel }
+        ensures sends { result.sends.items ≡ (closes self.old tab channel).sends }
+    {
+        if !self.lives(tab) {
+            return refused(self.alloc, Refusal::NoTab);
+        }
+        match channel_tables::close_at(&mut self.channels, tab, channel) {
+            Ok(()) => silent(self.alloc, Said::Closed { channel }),
+            Err(_) => refused(self.alloc, Refusal::NoChannel),
+        }
+    }
+
+    /// A post comes to another tab.
+    #[tactic(auto, unfolding(crate::specs::World::becomes))]
+    pub fn hear_post(&mut self, tab: u16, heard: &Heard) -> Result<Done, AllocError>
+        ensures world { OnOk result (self.new ≡ (where_allowed (lives self.old tab) self.old (becomes self.old tab (after_hearing (frame.Heard heard.now) (channels_of self.old tab)) [])).world) }
+        ensures said { IfOk result (λ done. done.said ≡ alive_or self.old tab (hearing tab heard.now (channels_of self.old tab))) }
+        ensures sends { IfOk result (λ done. done.sends.items ≡ []) }
+    {
+        if !self.lives(tab) {
+            return Ok(silent(self.alloc, Said::Dropped(Reason::DeadTab)));
+        }
+        let frame = Frame::Heard(heard.copy(self.alloc)?);
+        let hearing = channel_tables::hear_at(self.alloc, &mut self.channels, tab, &frame)?;
+        let said = hearing_said(self.alloc, tab, heard, hearing)?;
+        Ok(silent(self.alloc, said))
+    }
+}
+
+/// What came of a post.
+fn posting(
+    alloc: Global,
+    kernel: &Tabs,
+    tab: u16,
+    bytes: &Bytes,
+    posted: Posted,
+) -> Result<Done, AllocError>
+    ensures said { IfOk result (λ done. done.said ≡ posted_said tab bytes.now posted) }
+    ensures sends { IfOk result (λ done. done.sends.items ≡ crossed kernel.now tab posted.frame) }
+{
+    let Posted { frame, took, full } = posted;
+    let said = Said::Posted {
+        tab,
+        number: number_in(&frame),
+        bytes: bytes.clone()?,
+        objects: Sequence::new(reached(alloc, took.as_slice(), full.as_slice())?),
+    };
+    let sends = to_others(alloc, kernel, tab, frame)?;
+    Ok(Done { said, sends })
+}
+
+/// The number of a post.
+fn number_in(frame: &Frame) -> u32
+    ensures { result ≡ number_in frame.now }
+{
+    match frame {
+        Frame::Post(post) => post.number,
+        _ => 0,
+    }
+}
+
+/// What came of a post of another tab.
+fn hearing_said(
+    alloc: Global,
+    tab: u16,
+    heard: &Heard,
+    hearing: Hearing,
+) -> Result<Said, AllocError>
+    ensures { IfOk result (λ said. said ≡ hearing_said tab heard.now hearing) }
+{
+    match hearing {
+        Hearing::Old => Ok(Said::Dropped(Reason::OldPost)),
+        Hearing::New { took, full } => Ok(Said::Heard {
+            tab,
+            letter: Letter {
+                source: heard.source,
+                number: heard.number,
+                bytes: heard.bytes.clone()?,
+            },
+            objects: Sequence::new(reached(alloc, took.as_slice(), full.as_slice())?),
+        }),
+    }
+}
+
+/// Why a channel was not opened, unless memory was refused.
+fn open_refusal(fault: ChannelFault) -> Result<Refusal, AllocError>
+    ensures refusal { IfOk result (λ refusal. refusal ≡ of_channel fault) }
+    ensures fault { OnOk result (fault ≢ ChannelFault.Memory) }
+{
+    match fault {
+        ChannelFault::NameTooLong => Ok(Refusal::NameTooLong),
+        ChannelFault::Memory => Err(AllocError),
+        _ => Ok(Refusal::TooManyChannels),
+    }
+}
+
+/// Why nothing was posted or read, unless memory was refused.
+fn post_refusal(refusal: ChannelRefusal) -> Result<Refusal, AllocError>
+    ensures refusal { IfOk result (λ r. r ≡ of_posting refusal) }
+    ensures fault { OnOk result (refusal ≢ ChannelRefusal.Fault ChannelFault.Memory) }
+{
+    match refusal {
+        ChannelRefusal::NoChannel => Ok(Refusal::NoChannel),
+        ChannelRefusal::Closed => Ok(Refusal::InvalidState),
+        ChannelRefusal::Fault(ChannelFault::DataTooLong) => Ok(Refusal::DataTooLong),
+        ChannelRefusal::Fault(ChannelFault::Memory) => Err(AllocError),
+        ChannelRefusal::Fault(_) => Ok(Refusal::PostsUsedUp),
+    }
+}
+
+/// What became of a post at each destination, oldest first.
+fn reached(alloc: Global, took: &[usize], full: &[usize]) -> Result<Vec<Reached>, AllocError>
+    ensures { IfOk result (λ objects. objects.items ≡ merged took.now full.now) }
+{
+    let mut objects = Vec::new(alloc);
+    let mut rest = took;
+    for number in full {
+        let below = count_below(rest, *number);
+        add_taking(&rest[..below], &mut objects)?;
+        objects.push(Reached::Full(*number))?;
+        rest = &rest[below..];
+    }
+    add_taking(rest, &mut objects)?;
+    Ok(objects)
+}
+
+/// How many of the first numbers are below the bound.
+fn count_below(numbers: &[usize], bound: usize) -> usize
+    ensures count { result ≡ count_below bound numbers.now }
+    ensures within { result ≤ length numbers.now }
+{
+    numbers
+        .iter()
+        .take_while(|number| **number < bound)
+        .count()
+}
+
+fn add_taking(took: &[usize], objects: &mut Vec<Reached>) -> Result<(), AllocError>
+    ensures { OnOk result (objects.new.items ≡ objects.old.items ++ map Took took.now) }
+{
+    for number in took {
+        objects.push(Reached::Took(*number))?;
+    }
+    Ok(())
+}
+
+/// The post of a tab, for each other living tab of its partition.
+fn to_others(
+    alloc: Global,
+    kernel: &Tabs,
+    tab: u16,
+    frame: Frame,
+) -> Result<Vec<Message>, AllocError>
+    ensures { IfOk result (λ ms. ms.items ≡ crossed kernel.now tab frame) }
+{
+    match kernel.route_up(tab, frame) {
+        Ok(Routed::Tabs(posts)) => all_across(alloc, posts),
+        // A living tab's post goes to tabs, so memory was refused.
+        _ => Err(AllocError),
+    }
+}
+
+fn all_across(
+    alloc: Global,
+    posts: Sequence<(u16, Frame)>,
+) -> Result<Vec<Message>, AllocError>
+    ensures { IfOk result (λ ms. ms.items ≡ filter_map (λ p. across_to p.0 p.1) posts) }
+{
+    posts
+        .into_vec()
+        .into_iter()
+        .filter_map(|(tab, frame)| across(tab, frame))
+        .collect(alloc)
+}
+
+/// A post on its way to a tab.
+fn across(tab: u16, frame: Frame) -> Option<Message>
+    ensures { result ≡ across_to tab frame }
+{
+    match frame {
+        Frame::Heard(heard) => Some(Message::Across { tab, heard }),
+        _ => None,
+    }
+}

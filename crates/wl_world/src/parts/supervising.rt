@@ -1,0 +1,135 @@
+//! Tabs are opened and killed, the broker starts and stops.
+
+ghost use Rattle.std.specs.Prelude.{◌≡◌, ◌≢◌, IfOk, OnOk};
+ghost use Rattle.wl_world.specs.World.{opens, kills, tells, stops, starts, greets};
+ghost use Rattle.wl_world.specs.Replies.{opening, killing, telling, stopping, starting, greeting, of_open};
+
+use crate::message::{Message, Sender};
+use crate::parts::{Done, Parts, of_broker, refused, silent};
+use crate::reply::{Refusal, Said};
+use std::alloc::AllocError;
+use wl_frames::{Addressed, Downward, Hello};
+use wl_kernel::OpenFault;
+use wl_origin::Partition;
+
+impl Parts {
+    pub fn open(&mut self, tab: u16, partition: &Partition) -> Result<Done, AllocError>
+        ensures world { OnOk result (self.new ≡ (opens self.old tab partition.now).world) }
+        ensures said { IfOk result (λ done. done.said ≡ opening self.old.kernel tab partition.now) }
+        ensures sends { IfOk result (λ done. done.sends.items ≡ (opens self.old tab partition.now).sends) }
+    {
+        let copy = partition.copy(self.alloc)?;
+        match self.supervisor.open(tab, copy) {
+            Ok(_) => {
+                let partition = partition.copy(self.alloc)?;
+                Ok(silent(self.alloc, Said::Opened { tab, partition }))
+            }
+            Err(fault) => Ok(refused(self.alloc, open_refusal(fault)?)),
+        }
+    }
+
+    pub fn kill(&mut self, tab: u16) -> Done
+        ensures world { self.new ≡ (kills self.old tab).world }
+        ensures said { result.said ≡ killing self.old.kernel tab }
+        ensures sends { result.sends.items ≡ (kills self.old tab).sends }
+    {
+        let said = self.supervisor.kill(tab);
+        silent(self.alloc, said)
+    }
+
+    pub fn tell(&mut self, tab: u16) -> Result<Done, AllocError>
+        ensures world { OnOk result (self.new ≡ (tells self.old tab self.old.broker).world) }
+        ensures said { IfOk result (λ done. done.said ≡ telling self.old.kernel tab self.old.broker) }
+        ensures sends { IfOk result (λ done. done.sends.items ≡ (tells self.old tab self.old.broker).sends) }
+    {
+        let outcome = self.supervisor.tell(self.alloc, tab)?;
+        of_broker(self.alloc, outcome)
+    }
+
+    pub fn stop(self) -> (Parts, Done)
+        ensures world { result.0 ≡ (stops self self.broker).world }
+        ensures said { result.1.said ≡ stopping self.kernel self.broker }
+        ensures sends { result.1.sends.items ≡ (stops self self.broker).sends }
+    {
+        let Parts {
+            alloc,
+            tabs,
+            channels,
+            supervisor,
+            bag,
+        } = self;
+        let (supervisor, said) = supervisor.stop();
+        let parts = Parts {
+            alloc,
+            tabs,
+            channels,
+            supervisor,
+            bag,
+        };
+        (parts, silent(alloc, said))
+    }
+
+    pub fn start(self, listed: &[u16]) -> Result<(Parts, Done), AllocError>
+        ensures world { IfOk result (λ r. r.0 ≡ (starts self listed.now self.broker).world) }
+        ensures said { IfOk result (λ r. r.1.said ≡ starting self.kernel listed.now self.broker) }
+        ensures sends { IfOk result (λ r. r.1.sends.items ≡ (starts self listed.now self.broker).sends) }
+    {
+        let Parts {
+            alloc,
+            tabs,
+            channels,
+            supervisor,
+            bag,
+        } = self;
+        let (supervisor, outcome) = supervisor.start(alloc, listed)?;
+        let parts = Parts {
+            alloc,
+            tabs,
+            channels,
+            supervisor,
+            bag,
+        };
+        Ok((parts, of_broker(alloc, outcome)?))
+    }
+
+    /// The kernel greets one tab.
+    pub fn greet(&self, tab: u16) -> Result<Done, AllocError>
+        ensures said { IfOk result (λ done. done.said ≡ greeting self.now.kernel tab self.now.broker) }
+        ensures sends { IfOk result (λ done. done.sends.items ≡ (greets self.now tab self.now.broker).sends) }
+        ensures world { (greets self.now tab self.now.broker).world ≡ self.now }
+    {
+        if !self.lives(tab) {
+            return Ok(refused(self.alloc, Refusal::NoTab));
+        }
+        if !self.supervisor.is_up() {
+            return Ok(refused(self.alloc, Refusal::Down));
+        }
+        let generation = self.supervisor.tabs().generation();
+        let hello = Message::Down {
+            sender: Sender::Kernel,
+            addressed: Addressed {
+                tab,
+                inner: Downward::Hello(Hello { generation }),
+            },
+        };
+        let mut sends = Vec::new(self.alloc);
+        sends.push(hello)?;
+        Ok(Done {
+            said: Said::Greeted,
+            sends,
+        })
+    }
+}
+
+/// Why a tab was not opened, unless memory was refused.
+fn open_refusal(fault: OpenFault) -> Result<Refusal, AllocError>
+    ensures refusal { IfOk result (λ refusal. refusal ≡ of_open fault) }
+    ensures fault { OnOk result (fault ≢ OpenFault.Memory) }
+{
+    match fault {
+        OpenFault::NumberTaken => Ok(Refusal::NumberTaken),
+        OpenFault::TooManyLiving => Ok(Refusal::TooManyLiving),
+        OpenFault::PartitionFull => Ok(Refusal::PartitionFull),
+        OpenFault::Memory => Err(AllocError),
+    }
+}

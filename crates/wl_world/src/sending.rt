@@ -1,0 +1,114 @@
+//! What tabs and the broker send, as messages of the bag.
+
+ghost use Rattle.std.specs.Prelude.{◌≡◌, ◌++◌, [], ◌∷◌, true, IfOk, OnOk, map};
+ghost use Rattle.wl_frames.specs.declared.frame.Upward.TheVariants as up;
+ghost use Rattle.wl_world.specs.Supervised.{issued_in, command_in, passed_on, resent_in, is_upward, stamped_in};
+ghost use Rattle.wl_world.specs.World.{from_broker};
+
+use crate::locks::TabLocks;
+use crate::message::{Message, Sender};
+use std::alloc::{AllocError, Global};
+use wl_broker::Outs;
+use wl_frames::Frame;
+use wl_kernel::{Routed, Tabs};
+
+/// What the broker sends.
+pub fn from_broker(alloc: Global, outs: Outs) -> Result<Vec<Message>, AllocError>
+    ensures { IfOk result (λ ms. ms.items ≡ map from_broker outs) }
+{
+    outs.into_vec()
+        .into_iter()
+        .map(|addressed| Message::Down {
+            sender: Sender::Broker,
+            addressed,
+        })
+        .collect(alloc)
+}
+
+/// Adds a tab's command or report, with the kernel's stamp.
+pub fn add_stamped(
+    kernel: &Tabs,
+    tab: u16,
+    frame: Frame,
+    sends: &mut Vec<Message>,
+) -> Result<(), AllocError>
+    requires { is_upward frame ≡ true }
+    ensures { OnOk result (sends.new.items ≡ sends.old.items ++ stamped_in kernel.now tab frame) }
+{
+    match kernel.route_up(tab, frame) {
+        Ok(Routed::Broker(Frame::Stamped(stamped))) => sends.push(Message::Up(stamped))?,
+        // A living tab's command or report goes to the broker, so memory was refused.
+        _ => return Err(AllocError),
+    }
+    Ok(())
+}
+
+/// The message of a new command, once a generation is entered.
+pub fn issued(
+    alloc: Global,
+    kernel: &Tabs,
+    tab: u16,
+    locks: &TabLocks,
+    number: u32,
+) -> Result<Vec<Message>, AllocError>
+    ensures { IfOk result (λ ms. ms.items ≡ issued_in kernel.now tab locks.now number) }
+{
+    let mut sends = Vec::new(alloc);
+    if locks.entered() != 0 {
+        add_command(kernel, tab, locks, number, &mut sends)?;
+    }
+    Ok(sends)
+}
+
+/// Adds the message of a command.
+fn add_command(
+    kernel: &Tabs,
+    tab: u16,
+    locks: &TabLocks,
+    number: u32,
+    sends: &mut Vec<Message>,
+) -> Result<(), AllocError>
+    ensures { OnOk result (sends.new.items ≡ sends.old.items ++ command_in kernel.now tab locks.now number ∷ []) }
+{
+    match locks.message(number) {
+        Ok(frame) => add_stamped(kernel, tab, frame, sends),
+        // The tab has issued the command and entered a generation, so memory was refused.
+        Err(_) => Err(AllocError),
+    }
+}
+
+/// Adds the tab's report.
+pub fn add_report(
+    kernel: &Tabs,
+    tab: u16,
+    locks: &TabLocks,
+    sends: &mut Vec<Message>,
+) -> Result<(), AllocError>
+    ensures { OnOk result (sends.new.items ≡ sends.old.items ++ passed_on kernel.now tab (up.Report locks.now.report) ∷ []) }
+{
+    match locks.report_frame() {
+        Ok(frame) => add_stamped(kernel, tab, frame, sends),
+        // The tab has entered a generation, so memory was refused.
+        Err(_) => Err(AllocError),
+    }
+}
+
+/// What the tab sends again.
+pub fn resent(
+    alloc: Global,
+    kernel: &Tabs,
+    tab: u16,
+    locks: &TabLocks,
+) -> Result<Vec<Message>, AllocError>
+    ensures { IfOk result (λ ms. ms.items ≡ resent_in kernel.now tab locks.now) }
+{
+    let resend = locks.resend()?;
+    let mut sends = Vec::new(alloc);
+    if resend.report {
+        add_report(kernel, tab, locks, &mut sends)?;
+    }
+    for number in &resend.numbers {
+        add_command(kernel, tab, locks, *number, &mut sends)?;
+    }
+    Ok(sends)
+}

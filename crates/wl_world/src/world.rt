@@ -1,0 +1,104 @@
+//! The world.
+
+ghost use Rattle.std.specs.Prelude.{◌≡◌, [], ◌∷◌, ◌++◌, IfOk, is_some, slice_get};
+ghost use Rattle.std.specs.Option.{option_copied};
+ghost use Rattle.wl_world.specs.Machine.{AreHoldings, held_by_living};
+ghost use Rattle.wl_kernel.specs.Kernel.{living_tabs};
+ghost use Rattle.wl_world.specs.World.{empty_world, happens, run};
+ghost use Rattle.wl_world.specs.Replies.{reply_of};
+
+use crate::event::Event;
+use crate::holding::Holding;
+use crate::message::Message;
+use crate::parts::{Done, Parts};
+use crate::reply::Reply;
+use std::alloc::{AllocError, Global};
+use std::marker::Model;
+use wl_frames::Sequence;
+
+/// A list of events, and what they made of the world. Its drop spends what it holds.
+#[derive(Drop)]
+pub struct World {
+    events: Vec<Event>,
+    parts: Parts,
+}
+
+impl Model for World {
+    ghost use Rattle.std.specs.Prelude.{◌≡◌};
+    ghost use Rattle.wl_world.specs.Machine.{Machine};
+    ghost use Rattle.wl_world.specs.World.{empty_world, run};
+
+    ghost Value = { Machine };
+
+    ghost view = { λ w. record { events = w.events.items; world = w.parts } };
+
+    ghost invariant = { λ w. w.parts ≡ run w.events.items empty_world };
+}
+
+impl World {
+    /// Nothing has happened.
+    pub fn new(alloc: Global) -> World
+        ensures events { result.events ≡ [] }
+        ensures world { result.world ≡ empty_world }
+    {
+        World {
+            events: Vec::new(alloc),
+            parts: Parts::new(alloc),
+        }
+    }
+
+    /// An event happens, and is answered. After a refusal of memory the world is gone.
+    pub fn step(self, event: Event) -> Result<(World, Reply), AllocError>
+        ensures events { IfOk result (λ r. r.0.events ≡ self.events ++ event ∷ []) }
+        ensures world { IfOk result (λ r. r.0.world ≡ happens self.world event) }
+        ensures reply { IfOk result (λ r. r.1 ≡ reply_of self.world event) }
+    {
+        let World { mut events, parts } = self;
+        let (mut parts, done) = parts.act(&event)?;
+        let Done { said, sends } = done;
+        let sent = parts.send(sends)?;
+        events.push(event)?;
+        let reply = Reply {
+            said,
+            sent: Sequence::new(sent),
+        };
+        Ok((World { events, parts }, reply))
+    }
+
+    /// All that has happened.
+    pub fn events(&self) -> &[Event]
+        ensures events { result.now ≡ self.now.events }
+        ensures world { self.now.world ≡ run self.now.events empty_world }
+    {
+        self.events.as_slice()
+    }
+
+    /// The message at a place of the bag.
+    pub fn message(&self, place: usize) -> Option<&Message>
+        ensures { option_copied result ≡ slice_get self.now.world.bag place }
+    {
+        self.parts.message(place)
+    }
+
+    /// What living tabs hold, by tab and then by number: each lock that is held, and no other.
+    pub fn holdings(&self) -> Result<Sequence<Holding>, AllocError>
+        ensures list { IfOk result (λ holdings. holdings ≡ held_by_living self.now.world) }
+        ensures exact { IfOk result (λ holdings. AreHoldings self.now.world holdings) }
+    {
+        Ok(Sequence::new(self.parts.holdings()?))
+    }
+
+    /// Whether a broker is up.
+    pub fn is_up(&self) -> bool
+        ensures { result ≡ is_some self.now.world.broker }
+    {
+        self.parts.is_up()
+    }
+
+    /// The living tabs, by rising number.
+    pub fn living(&self) -> &[u16]
+        ensures { result.now ≡ living_tabs self.now.world.kernel }
+    {
+        self.parts.living()
+    }
+}
