@@ -2,6 +2,7 @@ pub mod Forms
 pub mod Fields
 pub mod Loop
 pub mod Bodies
+pub mod DeviceLemmas
 pub mod Frames
 pub mod Decode
 pub mod BodyLength

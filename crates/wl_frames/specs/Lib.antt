@@ -4,3 +4,4 @@ pub mod Grammar
 pub mod Stream
 pub mod Reading
 pub mod Bodies
+pub mod Device

@@ -1,7 +1,9 @@
-//! Frames: what tabs, the kernel and the broker send each other, as values and as bytes.
+//! Frames: what tabs, the kernel and the broker send each other, as values and as bytes; and what bytes are read from and
+//! written to.
 #![tactic(auto)]
 
 mod copy;
+pub mod device;
 pub mod fault;
 pub mod feed;
 pub mod frame;

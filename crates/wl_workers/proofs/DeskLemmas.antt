@@ -17,11 +17,11 @@ use Rattle.wl_broker.specs.Broker.{BrokerState, started, hellos, Taking, Does, D
 use Rattle.wl_broker.specs.Speech.{IsSpellable}
 use Rattle.wl_workers.specs.declared.desk.DeskFault.{DeskFault}
 use Rattle.wl_workers.specs.declared.desk.DeskFault.TheVariants as desk
-use Rattle.wl_workers.specs.Device.{IsFrontOf}
+use Rattle.wl_frames.specs.Device.{IsFrontOf}
 use Rattle.wl_workers.specs.Desk.{DeskState, Opening, Serving, Refused, taken, desk_step, desk_after, desk_outs, IsServing, IsRefused}
 use Rattle.wl_workers.specs.DeskSteps.{state_of, IsSpeaking, spelled, due, Steps, Delivers, Deals}
 use Rattle.wl_broker.proofs.Speech.{spells_start, spells_taking, spells_burial}
-use Rattle.wl_workers.proofs.DeviceLemmas.{IsFrontOf-append, append-IsFrontOf}
+use Rattle.wl_frames.proofs.DeviceLemmas.{IsFrontOf-append, append-IsFrontOf}
 
 -- ---- one frame
 

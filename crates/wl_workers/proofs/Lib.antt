@@ -1,4 +1,3 @@
-pub mod DeviceLemmas
 pub mod DeskLemmas
 pub mod PieceLemmas
 pub mod RunLemmas

@@ -9,7 +9,7 @@ use Rattle.wl_frames.specs.Grammar.{IsWellFormed, spelling}
 use Rattle.wl_frames.specs.Stream.{Stop, Rest, Fault, Reads, IsPartial, Feeding, Takes, Refuses}
 use Rattle.wl_workers.specs.declared.desk.DeskFault.{DeskFault}
 use Rattle.wl_workers.specs.declared.desk.DeskFault.TheVariants as desk
-use Rattle.wl_workers.specs.Device.{IsFrontOf}
+use Rattle.wl_frames.specs.Device.{IsFrontOf}
 use Rattle.wl_workers.specs.Desk.{DeskState, desk_after, IsRefused, IsReadPart}
 use Rattle.wl_workers.specs.DeskSteps.{of_frame, due, Deals, EndsBy, Breaks, Treats}
 

@@ -6,12 +6,12 @@ use Rattle.wl_frames.specs.declared.frame.Frame.{Frame}
 use Rattle.wl_frames.specs.Stream.{Stop, Rest, Reads, IsPartial, Feeding, at_start}
 use Rattle.wl_workers.specs.declared.desk.DeskFault.{DeskFault}
 use Rattle.wl_workers.specs.declared.desk.DeskFault.TheVariants as desk
-use Rattle.wl_workers.specs.declared.device.ReadFault.{ReadFault}
-use Rattle.wl_workers.specs.declared.device.ReadFault.TheVariants as read
-use Rattle.wl_workers.specs.Device.{IsFrontOf}
+use Rattle.wl_frames.specs.declared.device.ReadFault.{ReadFault}
+use Rattle.wl_frames.specs.declared.device.ReadFault.TheVariants as read
+use Rattle.wl_frames.specs.Device.{IsFrontOf}
 use Rattle.wl_workers.specs.Desk.{DeskState, Opening, desk_after, written, IsServing, IsRefused, IsReadPart, Answered, Runs}
 use Rattle.wl_workers.specs.DeskSteps.{of_read, due, EndsBy, Passes, Breaks, Closes}
-use Rattle.wl_workers.proofs.DeviceLemmas.{append-IsFrontOf}
+use Rattle.wl_frames.proofs.DeviceLemmas.{append-IsFrontOf}
 use Rattle.wl_workers.proofs.DeskLemmas.{desk_after-append, due-append, frames_before_opening, IsWriteFault}
 use Rattle.wl_workers.proofs.PieceLemmas.{Reads-join}
 

@@ -12,7 +12,7 @@ use Rattle.wl_frames.specs.Stream.{Stop, Rest, Fault, Reads}
 use Rattle.wl_broker.specs.Broker.{BrokerState, started, hellos, Taking, Drops, Does, taking, burial}
 use Rattle.wl_workers.specs.declared.desk.DeskFault.{DeskFault}
 use Rattle.wl_workers.specs.declared.desk.DeskFault.TheVariants as desk
-use Rattle.wl_workers.specs.Device.{IsFrontOf}
+use Rattle.wl_frames.specs.Device.{IsFrontOf}
 
 -- before the first frame; with a broker; after a frame that was not expected
 pub data DeskState : Type 0 where

@@ -12,9 +12,9 @@ use Rattle.wl_broker.specs.Broker.{BrokerState}
 use Rattle.wl_broker.specs.Speech.{IsSpellable}
 use Rattle.wl_workers.specs.declared.desk.DeskFault.{DeskFault}
 use Rattle.wl_workers.specs.declared.desk.DeskFault.TheVariants as desk
-use Rattle.wl_workers.specs.declared.device.ReadFault.{ReadFault}
-use Rattle.wl_workers.specs.declared.device.ReadFault.TheVariants as read
-use Rattle.wl_workers.specs.Device.{IsFrontOf}
+use Rattle.wl_frames.specs.declared.device.ReadFault.{ReadFault}
+use Rattle.wl_frames.specs.declared.device.ReadFault.TheVariants as read
+use Rattle.wl_frames.specs.Device.{IsFrontOf}
 use Rattle.wl_workers.specs.Desk.{DeskState, Opening, Serving, Refused, desk_step, desk_after, desk_outs, IsServing, IsRefused, IsReadPart}
 
 -- ---- faults

@@ -9,12 +9,12 @@ ghost use Rattle.wl_workers.specs.declared.desk.DeskFault.TheVariants.{Write as 
 ghost use Rattle.wl_workers.specs.Desk.{Opening, IsRefused, Runs};
 ghost use Rattle.wl_workers.specs.DeskSteps.{of_read, of_frame, spelled, Steps, Delivers, Deals, Treats, Closes};
 
-use crate::device::{READ_LIMIT, ReadFault, Sink, Source, WriteFault};
 use std::alloc::{AllocError, Global};
 use std::io::{Read, Write};
 use std::marker::Model;
 use thiserror::Error;
 use wl_broker::{Broker, Dropped, LockTable, Outs};
+use wl_frames::device::{READ_LIMIT, ReadFault, Sink, Source, WriteFault};
 use wl_frames::{Addressed, Dead, Feed, Frame, FrameFault, Sequence, Stamped, Start, encode};
 use wl_table::PlainTable;
 

@@ -1,6 +1,6 @@
 use Rattle.std.proofs.Common.{◌+◌, Err, take, ap, ◌∙◌}
 use Rattle.std.proofs.lemmas.Result.{err_from_is_err_and}
-use Rattle.wl_workers.specs.Device.{Reading}
+use Rattle.wl_frames.specs.Device.{Reading}
 use Rattle.wl_workers.proofs.DeskLemmas.{sound_at_ok}
 use Rattle.wl_workers.proofs.RunLemmas.{Serves-started, Serves-partial, Serves-more, Runs-unread, Runs-limit, Runs-broken, Runs-end, unread_is_read, unread_is_no_write, end_is_no_read, end_is_no_write, break_is_no_read}
 use Rattle.wl_frames.specs.Stream.{Feeding}

@@ -1,8 +1,8 @@
 use Rattle.std.proofs.Common.{◌++◌, take}
 use Rattle.std.proofs.lemmas.List.{take_rest}
 use Rattle.std.proofs.KnownBytes.{Appends-trans}
-use Rattle.wl_workers.proofs.DeviceLemmas.{split_more}
-use Rattle.wl_workers.proofs.device.Sink.write.Goals as goal
+use Rattle.wl_frames.proofs.DeviceLemmas.{split_more}
+use Rattle.wl_frames.proofs.device.Sink.write.Goals as goal
 
 pub loop-rest-preserved : goal.loop-rest-preserved
 loop-rest-preserved g c =

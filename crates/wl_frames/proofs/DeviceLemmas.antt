@@ -1,6 +1,6 @@
 -- Lemmas on fronts of bytes.
 use Rattle.std.proofs.Common.{◌≡◌, ℕ, List, ◌++◌, take, drop, refl, sym, ap, ◌∙◌, append_assoc, take-append-drop}
-use Rattle.wl_workers.specs.Device.{IsFrontOf}
+use Rattle.wl_frames.specs.Device.{IsFrontOf}
 
 -- n more of the bytes were written
 pub split_more : (bytes done rest : List ℕ) (n : ℕ) → bytes ≡ done ++ rest → bytes ≡ done ++ take n rest ++ drop n rest

@@ -1,6 +1,6 @@
 use Rattle.std.proofs.Common.{◌≡◌, ℕ, List, ◌++◌, length}
 use Rattle.std.specs.Io.KnownBytes.{Appends}
-use Rattle.wl_workers.proofs.device.Sink.write.Given as goal
+use Rattle.wl_frames.proofs.device.Sink.write.Given as goal
 
 -- what was written so far, and then the rest, are the bytes
 abbrev pub invariant-loop-rest : goal.invariant-loop-rest

@@ -2,7 +2,7 @@
 
 ghost use Rattle.std.specs.Prelude.{◌≡◌, ◌≤◌, ◌<◌, ◌+◌, length, take, true, false, Err, IfOk, OnOk, OnErr};
 ghost use Rattle.std.specs.Io.KnownBytes.{Consumes, IsAtEnd, Keeps, Appends};
-ghost use Rattle.wl_workers.specs.Device.{fresh_reader, fresh_writer, WritesFront};
+ghost use Rattle.wl_frames.specs.Device.{fresh_reader, fresh_writer, WritesFront};
 
 use std::io::{Read, Write};
 use std::marker::Model;
@@ -32,7 +32,7 @@ pub struct Source<R> {
 }
 
 impl<R> Model for Source<R> {
-    ghost use Rattle.wl_workers.specs.Device.{Reading};
+    ghost use Rattle.wl_frames.specs.Device.{Reading};
     ghost use Rattle.std.specs.Prelude.{◌≤◌};
 
     ghost Value = { Reading R };
@@ -88,7 +88,7 @@ pub struct Sink<W> {
 }
 
 impl<W> Model for Sink<W> {
-    ghost use Rattle.wl_workers.specs.Device.{Writing};
+    ghost use Rattle.wl_frames.specs.Device.{Writing};
 
     ghost Value = { Writing W };
 
