@@ -1,5 +1,5 @@
 -- The list of what living tabs hold has each lock that is held, once, and no other.
-use Rattle.std.proofs.Common.{◌≡◌, ◌⊎◌, inl, inr, ⊎_elim, ℕ, ◌+◌, ◌<◌, ◌≤◌, Bool, true, false, cond, ◌&&◌, List, [], ◌∷◌, ◌++◌, map, filter, Option, Some, None, refl, sym, ap, ◌∙◌, subst, arith}
+use Rattle.std.proofs.Common.{◌≡◌, ◌⊎◌, inl, inr, ⊎_elim, ℕ, ◌+◌, ◌≤◌, Bool, true, false, ◌&&◌, List, [], ◌∷◌, ◌++◌, map, filter, Option, Some, None, refl, sym, ap, ◌∙◌, subst, arith}
 use Rattle.std.specs.Prelude.{◌==◌}
 use Rattle.std.specs.List.{AllByRecursion, flat_map, list_any}
 use Rattle.std.proofs.lemmas.Bool.{and_parts, cond-true, cond-false, eq-eqb, eqb-true, ne_eqb, leb-true, or_left, or_right}
@@ -9,7 +9,7 @@ use Rattle.wl_agent.specs.declared.status.Status.{Status}
 use Rattle.wl_agent.specs.declared.status.Status.TheVariants.{Held}
 use Rattle.wl_broker.specs.Kept.{Rises}
 use Rattle.wl_agent.specs.Tab.{TabState, status_of, is_held}
-use Rattle.wl_kernel.specs.Kernel.{OpenedTab, tab_in, any_tab, lives as lives_in, living_in, living_tabs, rises_from, is_listed}
+use Rattle.wl_kernel.specs.Kernel.{OpenedTab, tab_in, any_tab, lives as lives_in, living_tabs, rises_from, is_listed}
 use Rattle.wl_kernel.specs.Kept.{AreTabs}
 use Rattle.wl_kernel.proofs.Living.{passes, listed-living_in, rises-living_in}
 use Rattle.wl_world.specs.declared.event.Event.{Event}
@@ -90,12 +90,12 @@ holdings-whole a k e = In-map (λ row. holding_at a row.0) {x = (k, Held)} (In-f
 rows-ordered : (a : TabState) (least : ℕ) (ps : Table Status) → Rises least ps → AreOrdered (map (λ row. holding_at a row.0) ps)
 rows-ordered a least [] r = tt
 rows-ordered a least (p ∷ ps) r = (
-      all-In (IsBefore (holding_at a p.0)) (map (λ row. holding_at a row.0) ps) (λ y i.
-        let m = In-map_cases (λ row. holding_at a row.0) ps i in
-        let above : p.0 + 1 ≤ m.0.0 = In-above (p.0 + 1) ps m.0 r.1 m.1 in
-        subst (IsBefore (holding_at a p.0)) (sym m.2) (inr (refl, omega arith))),
-      rows-ordered a (p.0 + 1) ps r.1,
-    )
+  all-In (IsBefore (holding_at a p.0)) (map (λ row. holding_at a row.0) ps) (λ y i.
+      let m = In-map_cases (λ row. holding_at a row.0) ps i in
+      let above : p.0 + 1 ≤ m.0.0 = In-above (p.0 + 1) ps m.0 r.1 m.1 in
+      subst (IsBefore (holding_at a p.0)) (sym m.2) (inr (refl, omega arith))),
+  rows-ordered a (p.0 + 1) ps r.1,
+)
 
 holdings-ordered : (a : TabState) → Rises 0 a.statuses → AreOrdered (holdings_of a)
 holdings-ordered a r = rows-ordered a 0 (filter (λ row. is_held (Some row.1)) a.statuses) (Rises-filter (λ row. is_held (Some row.1)) 0 a.statuses r)
@@ -105,9 +105,9 @@ holdings-ordered a r = rows-ordered a 0 (filter (λ row. is_held (Some row.1)) a
 append-ordered : (xs ys : List Holding) → AreOrdered xs → AreOrdered ys → ((x y : Holding) → In x xs → In y ys → IsBefore x y) → AreOrdered (xs ++ ys)
 append-ordered [] ys a b before = b
 append-ordered (x ∷ xs) ys a b before = (
-      all-In (IsBefore x) (xs ++ ys) (λ y i. ⊎_elim (λ l. from_all (IsBefore x) xs a.0 y l) (λ r. before x y Here r) (In-append_cases xs ys i)),
-      append-ordered xs ys a.1 b (λ u v i j. before u v (Later i) j),
-    )
+  all-In (IsBefore x) (xs ++ ys) (λ y i. ⊎_elim (λ l. from_all (IsBefore x) xs a.0 y l) (λ r. before x y Here r) (In-append_cases xs ys i)),
+  append-ordered xs ys a.1 b (λ u v i j. before u v (Later i) j),
+)
   where
     from_all : (P : Holding → Type 0) (zs : List Holding) → AllByRecursion P zs → (z : Holding) → In z zs → P z
     from_all P [] f z i = absurd (In-nil i)

@@ -36,26 +36,6 @@ after_hearing-tab h c = elim (is_old c h.source h.number) as (λ b. (cond b c (h
 pub own-open : (c : ChannelState) (t k : ℕ) → c.tab ≡ t → is_own c t k ≡ is_open_at c.objects k
 own-open c t k e = ap (λ b. b && is_open_at c.objects k) (eq-eqb t c.tab (sym e))
 
--- ---- opening
-
-pub opens_channel-dead : (w : WorldState) (t : ℕ) (name : List ℕ) → lives w t ≡ false → opens_channel w t name ≡ nothing w
-opens_channel-dead w t name dead = rw dead refl
-
-pub opens_channel-refused : (w : WorldState) (t : ℕ) (name : List ℕ) (e : ChannelFault) → lives w t ≡ true → open_refusal name (channels_of w t) ≡ Some e → opens_channel w t name ≡ nothing w
-opens_channel-refused w t name e live r = rw (live, r) refl
-
-pub opens_channel-done : (w : WorldState) (t : ℕ) (name : List ℕ) → lives w t ≡ true → open_refusal name (channels_of w t) ≡ None → opens_channel w t name ≡ becomes w t (opened name (channels_of w t)) []
-opens_channel-done w t name live r = rw (live, r) refl
-
-pub opening_channel-dead : (w : WorldState) (t : ℕ) (name : List ℕ) → lives w t ≡ false → opening_channel w t name ≡ refused refusal.NoTab
-opening_channel-dead w t name dead = rw dead refl
-
-pub opening_channel-refused : (w : WorldState) (t : ℕ) (name : List ℕ) (e : ChannelFault) → lives w t ≡ true → open_refusal name (channels_of w t) ≡ Some e → opening_channel w t name ≡ refused (of_channel e)
-opening_channel-refused w t name e live r = rw (live, r) refl
-
-pub opening_channel-done : (w : WorldState) (t : ℕ) (name : List ℕ) → lives w t ≡ true → open_refusal name (channels_of w t) ≡ None → opening_channel w t name ≡ said.ChannelOpened (length (channels_of w t).objects)
-opening_channel-done w t name live r = rw (live, r) refl
-
 -- ---- posting: no such number, closed, too long, used up
 
 abbrev refusal_by : (l o d p : Bool) → Option ChannelRefusal
@@ -98,12 +78,6 @@ posting-by k bytes c = post_shape (ltb k (length c.objects)) (is_open_at c.objec
 
 posting-said : (w : WorldState) (t k : ℕ) (bytes : List ℕ) → lives w t ≡ true → (channels_of w t).tab ≡ t → posting w t k bytes ≡ said_by (ltb k (length (channels_of w t).objects)) (is_open_at (channels_of w t).objects k) (ltb 16384 (length bytes)) (leb post_limit (channels_of w t).posts) (said.Posted t (channels_of w t).posts bytes (reached (Some k) (name_at (channels_of w t).objects k) (channels_of w t).objects))
 posting-said w t k bytes live own = rw (live, own-open (channels_of w t) t k own) refl
-
-pub posting-dead : (w : WorldState) (t k : ℕ) (bytes : List ℕ) → lives w t ≡ false → posting w t k bytes ≡ refused refusal.NoTab
-posting-dead w t k bytes dead = rw dead refl
-
-pub posts-dead : (w : WorldState) (t k : ℕ) (bytes : List ℕ) → lives w t ≡ false → posts w t k bytes ≡ nothing w
-posts-dead w t k bytes dead = rw dead refl
 
 pub posting-refused : (w : WorldState) (t k : ℕ) (bytes : List ℕ) (e : ChannelRefusal) → lives w t ≡ true → (channels_of w t).tab ≡ t → posting_refusal k bytes (channels_of w t) ≡ Some e → posting w t k bytes ≡ refused (of_posting e)
 posting-refused w t k bytes e live own h =
@@ -151,28 +125,17 @@ posts-done w t k bytes live own h =
     let none : is_some (post_refusal t k bytes c) ≡ false = may_post (ltb k (length c.objects)) (is_open_at c.objects k) (ltb 16384 (length bytes)) (leb post_limit c.posts) (is_own c t k) (own-open c t k own) (sym (posting-by k bytes c) ∙ h) in
     rw (live, none) refl
 
--- ---- reading and closing
+-- ---- reading
 
 number_allowed : (l o : Bool) → cond l (cond o None (Some why.Closed)) (Some why.NoChannel) ≡ None → (l ≡ true) × (o ≡ true)
 number_allowed true true h = (refl, refl)
 number_allowed true false h = cc
 number_allowed false o h = cc
 
-number_refused : (l o : Bool) (s : Said) (e : ChannelRefusal) → cond l (cond o None (Some why.Closed)) (Some why.NoChannel) ≡ Some e → cond l (cond o s (refused refusal.InvalidState)) (refused refusal.NoChannel) ≡ refused (of_posting e)
-number_refused true true s e h = cc
-number_refused true false s e h = let k : why.Closed ≡ e = cc in ap (λ x. refused (of_posting x)) k
-number_refused false o s e h = let k : why.NoChannel ≡ e = cc in ap (λ x. refused (of_posting x)) k
-
 number_not_open : (l o : Bool) (e : ChannelRefusal) → (l ≡ false → o ≡ false) → cond l (cond o None (Some why.Closed)) (Some why.NoChannel) ≡ Some e → o ≡ false
 number_not_open true true e b h = cc
 number_not_open true false e b h = refl
 number_not_open false o e b h = b refl
-
-pub reads-dead : (w : WorldState) (t k : ℕ) → lives w t ≡ false → reads w t k ≡ nothing w
-reads-dead w t k dead = rw dead refl
-
-pub reading-dead : (w : WorldState) (t k : ℕ) → lives w t ≡ false → reading w t k ≡ refused refusal.NoTab
-reading-dead w t k dead = rw dead refl
 
 pub reads-done : (w : WorldState) (t k : ℕ) → lives w t ≡ true → (channels_of w t).tab ≡ t → number_refusal k (channels_of w t) ≡ None → reads w t k ≡ becomes w t (read_at k (channels_of w t)) []
 reads-done w t k live own h =
@@ -185,32 +148,3 @@ reads-refused w t k e live own h =
     let c = channels_of w t in
     let no : is_own c t k ≡ false = own-open c t k own ∙ number_not_open (ltb k (length c.objects)) (is_open_at c.objects k) e (open_beyond c.objects k) h in
     rw (live, no) refl
-
-reading-said : (w : WorldState) (t k : ℕ) → lives w t ≡ true → (channels_of w t).tab ≡ t → reading w t k ≡ cond (ltb k (length (channels_of w t).objects)) (cond (is_open_at (channels_of w t).objects k) (read_letter (first_of (inbox_at (channels_of w t).objects k))) (refused refusal.InvalidState)) (refused refusal.NoChannel)
-reading-said w t k live own = rw (live, own-open (channels_of w t) t k own) refl
-
-pub reading-done : (w : WorldState) (t k : ℕ) → lives w t ≡ true → (channels_of w t).tab ≡ t → number_refusal k (channels_of w t) ≡ None → reading w t k ≡ read_letter (first_of (inbox_at (channels_of w t).objects k))
-reading-done w t k live own h =
-    let c = channels_of w t in
-    let a = number_allowed (ltb k (length c.objects)) (is_open_at c.objects k) h in
-    reading-said w t k live own ∙ (rw (a.0, a.1) refl)
-
-pub reading-refused : (w : WorldState) (t k : ℕ) (e : ChannelRefusal) → lives w t ≡ true → (channels_of w t).tab ≡ t → number_refusal k (channels_of w t) ≡ Some e → reading w t k ≡ refused (of_posting e)
-reading-refused w t k e live own h =
-    let c = channels_of w t in
-    reading-said w t k live own ∙ number_refused (ltb k (length c.objects)) (is_open_at c.objects k) (read_letter (first_of (inbox_at c.objects k))) e h
-
-pub closes-dead : (w : WorldState) (t k : ℕ) → lives w t ≡ false → closes w t k ≡ nothing w
-closes-dead w t k dead = rw dead refl
-
-pub closing-dead : (w : WorldState) (t k : ℕ) → lives w t ≡ false → closing w t k ≡ refused refusal.NoTab
-closing-dead w t k dead = rw dead refl
-
-pub closes-open : (w : WorldState) (t k : ℕ) → lives w t ≡ true → (channels_of w t).tab ≡ t → is_open_at (channels_of w t).objects k ≡ true → closes w t k ≡ becomes w t (closed_at k (channels_of w t)) []
-closes-open w t k live own o = let yes : is_own (channels_of w t) t k ≡ true = own-open (channels_of w t) t k own ∙ o in rw (live, yes) refl
-
-pub closes-closed : (w : WorldState) (t k : ℕ) → lives w t ≡ true → (channels_of w t).tab ≡ t → is_open_at (channels_of w t).objects k ≡ false → closes w t k ≡ nothing w
-closes-closed w t k live own o = let no : is_own (channels_of w t) t k ≡ false = own-open (channels_of w t) t k own ∙ o in rw (live, no) refl
-
-pub closing-said : (w : WorldState) (t k : ℕ) → lives w t ≡ true → closing w t k ≡ cond (ltb k (length (channels_of w t).objects)) (said.Closed k) (refused refusal.NoChannel)
-closing-said w t k live = rw live refl

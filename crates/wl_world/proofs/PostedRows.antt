@@ -16,13 +16,16 @@ use Rattle.wl_world.specs.declared.channels.ChannelRefusal.{ChannelRefusal}
 use Rattle.wl_world.specs.declared.reply.Said.TheVariants as said
 use Rattle.wl_world.specs.declared.reply.Reason.TheVariants as reason
 use Rattle.wl_world.specs.declared.reply.Reached.{Reached}
-use Rattle.wl_world.specs.World.{WorldState, Deed, channels_in, channels_of, where_allowed, lives, becomes, nothing, posts, reads}
+use Rattle.wl_world.specs.World.{WorldState, Deed, channels_in, channels_of, lives, becomes, nothing, posts, reads}
 use Rattle.wl_world.specs.Replies.{refused, posting, reached, hearing, letter_of, alive_or}
 use Rattle.wl_world.specs.Merging.{merged, number_in, posted_said, hearing_said}
 use Rattle.wl_world.specs.TabChannels.{number_refusal, posting_refusal}
 use Rattle.wl_world.specs.Supervised.{OwnRows, world_of, kernel_of, crossed, of_posting}
 use Rattle.wl_world.proofs.Merged.{merged-reached}
 use Rattle.wl_world.proofs.Posted.{OwnRows-put, after_hearing-tab, posts-done, posts-refused, posting-done, posting-refused, reads-done, reads-refused}
+
+abbrev pub row_of : ℕ → Table ChannelState → ChannelState
+row_of t cs = channels_in t (find cs t)
 
 -- no number is below none
 pub ltb_zero : (k : ℕ) → ltb k 0 ≡ false
@@ -38,7 +41,9 @@ pub own-after_if : (b : Bool) (t : ℕ) (c : ChannelState) (rows us : Table Chan
 own-after_if true t c rows us is e own = subst OwnRows (sym is) (OwnRows-put t c rows e own)
 own-after_if false t c rows us is e own = subst OwnRows (sym is) own
 
-pub reads-world : {X : Type 0} (r : Result X ChannelRefusal) (ts : Table TabState) (cs us : Table ChannelState) (s : Supervisor) (bag : List Message) (w : WorldState) → world_of ts cs s bag ≡ w → (t k : ℕ) → lives w t ≡ true → OwnRows cs → OnOk r (us ≡ put t (read_at k (channels_in t (find cs t))) cs) → OnOk r (number_refusal k (channels_in t (find cs t)) ≡ None) → IfErr r (λ e. number_refusal k (channels_in t (find cs t)) ≡ Some e) → OnErr r (us ≡ cs) → world_of ts us s bag ≡ (reads w t k).world
+-- ---- reading
+
+pub reads-world : {X : Type 0} (r : Result X ChannelRefusal) (ts : Table TabState) (cs us : Table ChannelState) (s : Supervisor) (bag : List Message) (w : WorldState) → world_of ts cs s bag ≡ w → (t k : ℕ) → lives w t ≡ true → OwnRows cs → OnOk r (us ≡ put t (read_at k (row_of t cs)) cs) → OnOk r (number_refusal k (row_of t cs) ≡ None) → IfErr r (λ e. number_refusal k (row_of t cs) ≡ Some e) → OnErr r (us ≡ cs) → world_of ts us s bag ≡ (reads w t k).world
 unfolding becomes
 reads-world (Ok x) ts cs us s bag w v t k live own ok none refused err =
     subst (λ (z : WorldState). lives z t ≡ true → world_of ts us s bag ≡ (reads z t k).world) v
@@ -51,72 +56,72 @@ reads-world (Err e) ts cs us s bag w v t k live own ok none refused err =
 
 -- ---- posting
 
-pub posted-world : (ts : Table TabState) (cs us : Table ChannelState) (s : Supervisor) (bag : List Message) (w : WorldState) → world_of ts cs s bag ≡ w → (t k : ℕ) (bytes : List ℕ) → lives w t ≡ true → OwnRows cs → us ≡ put t (posted k bytes (channels_in t (find cs t))) cs → posting_refusal k bytes (channels_in t (find cs t)) ≡ None → world_of ts us s bag ≡ (posts w t k bytes).world
-unfolding becomes
-posted-world ts cs us s bag w v t k bytes live own is none =
-    subst (λ (z : WorldState). lives z t ≡ true → world_of ts us s bag ≡ (posts z t k bytes).world) v
-    (λ alive. ap (λ z. world_of ts z s bag) is ∙ ap (λ (d : Deed). d.world) (sym (posts-done (world_of ts cs s bag) t k bytes alive (own t) none)))
-    live
+-- what is posted goes to the other objects of the name, and each of them takes it or is full
+pub record IsPostOf (k : ℕ) (bytes : List ℕ) (c : ChannelState) (p : Posted) : Type 0 where
+  pub frame : p.frame ≡ post_frame c.posts (name_at c.objects k) bytes
+  pub took : p.took ≡ taking (Some k) (name_at c.objects k) c.objects
+  pub full : p.full ≡ full (Some k) (name_at c.objects k) c.objects
 
-pub posted-sends : (ts : Table TabState) (cs : Table ChannelState) (s : Supervisor) (bag : List Message) (w : WorldState) → world_of ts cs s bag ≡ w → (t k : ℕ) (bytes : List ℕ) → lives w t ≡ true → OwnRows cs → posting_refusal k bytes (channels_in t (find cs t)) ≡ None → (f : Frame) → f ≡ post_frame (channels_in t (find cs t)).posts (name_at (channels_in t (find cs t)).objects k) bytes → crossed (kernel_of s) t f ≡ (posts w t k bytes).sends
-unfolding becomes
-posted-sends ts cs s bag w v t k bytes live own none f is =
-    subst (λ (z : WorldState). lives z t ≡ true → crossed (kernel_of s) t f ≡ (posts z t k bytes).sends) v
-    (λ alive. ap (λ (g : Frame). crossed (kernel_of s) t g) is ∙ ap (λ (d : Deed). d.sends) (sym (posts-done (world_of ts cs s bag) t k bytes alive (own t) none)))
-    live
-
-said-posted : (k : ℕ) (bytes : List ℕ) (t : ℕ) (c : ChannelState) (p : Posted) → p.frame ≡ post_frame c.posts (name_at c.objects k) bytes → p.took ≡ taking (Some k) (name_at c.objects k) c.objects → p.full ≡ full (Some k) (name_at c.objects k) c.objects → posted_said t bytes p ≡ said.Posted t c.posts bytes (reached (Some k) (name_at c.objects k) c.objects)
-said-posted k bytes t c p frame-is took-is full-is =
-    ap (λ (f : Frame). said.Posted t (number_in f) bytes (merged p.took p.full)) frame-is
-    ∙ ap (λ (took : List ℕ). said.Posted t c.posts bytes (merged took p.full)) took-is
-    ∙ ap (λ (fs : List ℕ). said.Posted t c.posts bytes (merged (taking (Some k) (name_at c.objects k) c.objects) fs)) full-is
+said-posted : (k : ℕ) (bytes : List ℕ) (t : ℕ) (c : ChannelState) (p : Posted) → IsPostOf k bytes c p → posted_said t bytes p ≡ said.Posted t c.posts bytes (reached (Some k) (name_at c.objects k) c.objects)
+said-posted k bytes t c p is =
+    ap (λ (f : Frame). said.Posted t (number_in f) bytes (merged p.took p.full)) is.frame
+    ∙ ap (λ (took : List ℕ). said.Posted t c.posts bytes (merged took p.full)) is.took
+    ∙ ap (λ (fs : List ℕ). said.Posted t c.posts bytes (merged (taking (Some k) (name_at c.objects k) c.objects) fs)) is.full
     ∙ ap (λ (objects : List Reached). said.Posted t c.posts bytes objects) (merged-reached 0 (Some k) (name_at c.objects k) c.objects)
 
-pub posted-said : (ts : Table TabState) (cs : Table ChannelState) (s : Supervisor) (bag : List Message) (w : WorldState) → world_of ts cs s bag ≡ w → (t k : ℕ) (bytes : List ℕ) → lives w t ≡ true → OwnRows cs → posting_refusal k bytes (channels_in t (find cs t)) ≡ None → (p : Posted) → p.frame ≡ post_frame (channels_in t (find cs t)).posts (name_at (channels_in t (find cs t)).objects k) bytes → p.took ≡ taking (Some k) (name_at (channels_in t (find cs t)).objects k) (channels_in t (find cs t)).objects → p.full ≡ full (Some k) (name_at (channels_in t (find cs t)).objects k) (channels_in t (find cs t)).objects → posted_said t bytes p ≡ posting w t k bytes
-posted-said ts cs s bag w v t k bytes live own none p frame-is took-is full-is =
-    subst (λ (z : WorldState). lives z t ≡ true → posted_said t bytes p ≡ posting z t k bytes) v
-    (λ alive. said-posted k bytes t (channels_in t (find cs t)) p frame-is took-is full-is ∙ sym (posting-done (world_of ts cs s bag) t k bytes alive (own t) none))
-    live
+module _ (ts : Table TabState) (cs : Table ChannelState) (s : Supervisor) (bag : List Message) (w : WorldState) (v : world_of ts cs s bag ≡ w) (t k : ℕ) (bytes : List ℕ) (live : lives w t ≡ true) (own : OwnRows cs) where
+  pub posted-world : (us : Table ChannelState) → us ≡ put t (posted k bytes (row_of t cs)) cs → posting_refusal k bytes (row_of t cs) ≡ None → world_of ts us s bag ≡ (posts w t k bytes).world
+  unfolding becomes
+  posted-world us is none =
+      subst (λ (z : WorldState). lives z t ≡ true → world_of ts us s bag ≡ (posts z t k bytes).world) v
+      (λ alive. ap (λ z. world_of ts z s bag) is ∙ ap (λ (d : Deed). d.world) (sym (posts-done (world_of ts cs s bag) t k bytes alive (own t) none)))
+      live
 
--- what was refused changes nothing
-unposted : (ts : Table TabState) (cs : Table ChannelState) (s : Supervisor) (bag : List Message) (w : WorldState) → world_of ts cs s bag ≡ w → (t k : ℕ) (bytes : List ℕ) (e : ChannelRefusal) → lives w t ≡ true → OwnRows cs → posting_refusal k bytes (channels_in t (find cs t)) ≡ Some e → posts w t k bytes ≡ nothing w
-unposted ts cs s bag w v t k bytes e live own some =
-    subst (λ (z : WorldState). lives z t ≡ true → posts z t k bytes ≡ nothing z) v
-    (λ alive. posts-refused (world_of ts cs s bag) t k bytes e alive (own t) some)
-    live
+  pub posted-sends : posting_refusal k bytes (row_of t cs) ≡ None → (f : Frame) → f ≡ post_frame (row_of t cs).posts (name_at (row_of t cs).objects k) bytes → crossed (kernel_of s) t f ≡ (posts w t k bytes).sends
+  unfolding becomes
+  posted-sends none f is =
+      subst (λ (z : WorldState). lives z t ≡ true → crossed (kernel_of s) t f ≡ (posts z t k bytes).sends) v
+      (λ alive. ap (λ (g : Frame). crossed (kernel_of s) t g) is ∙ ap (λ (d : Deed). d.sends) (sym (posts-done (world_of ts cs s bag) t k bytes alive (own t) none)))
+      live
 
-pub unposted-world : (ts : Table TabState) (cs us : Table ChannelState) (s : Supervisor) (bag : List Message) (w : WorldState) → world_of ts cs s bag ≡ w → (t k : ℕ) (bytes : List ℕ) (e : ChannelRefusal) → lives w t ≡ true → OwnRows cs → us ≡ cs → posting_refusal k bytes (channels_in t (find cs t)) ≡ Some e → world_of ts us s bag ≡ (posts w t k bytes).world
-unposted-world ts cs us s bag w v t k bytes e live own same some =
-    ap (λ (rows : Table ChannelState). world_of ts rows s bag) same ∙ v ∙ ap (λ (d : Deed). d.world) (sym (unposted ts cs s bag w v t k bytes e live own some))
+  pub posted-said : posting_refusal k bytes (row_of t cs) ≡ None → (p : Posted) → IsPostOf k bytes (row_of t cs) p → posted_said t bytes p ≡ posting w t k bytes
+  posted-said none p is =
+      subst (λ (z : WorldState). lives z t ≡ true → posted_said t bytes p ≡ posting z t k bytes) v
+      (λ alive. said-posted k bytes t (row_of t cs) p is ∙ sym (posting-done (world_of ts cs s bag) t k bytes alive (own t) none))
+      live
 
-pub unposted-sends : (ts : Table TabState) (cs : Table ChannelState) (s : Supervisor) (bag : List Message) (w : WorldState) → world_of ts cs s bag ≡ w → (t k : ℕ) (bytes : List ℕ) (e : ChannelRefusal) → lives w t ≡ true → OwnRows cs → posting_refusal k bytes (channels_in t (find cs t)) ≡ Some e → [] ≡ (posts w t k bytes).sends
-unposted-sends ts cs s bag w v t k bytes e live own some = ap (λ (d : Deed). d.sends) (sym (unposted ts cs s bag w v t k bytes e live own some))
+  -- what was refused changes nothing
+  unposted : (e : ChannelRefusal) → posting_refusal k bytes (row_of t cs) ≡ Some e → posts w t k bytes ≡ nothing w
+  unposted e some =
+      subst (λ (z : WorldState). lives z t ≡ true → posts z t k bytes ≡ nothing z) v
+      (λ alive. posts-refused (world_of ts cs s bag) t k bytes e alive (own t) some)
+      live
 
-pub unposted-said : (ts : Table TabState) (cs : Table ChannelState) (s : Supervisor) (bag : List Message) (w : WorldState) → world_of ts cs s bag ≡ w → (t k : ℕ) (bytes : List ℕ) (e : ChannelRefusal) → lives w t ≡ true → OwnRows cs → posting_refusal k bytes (channels_in t (find cs t)) ≡ Some e → refused (of_posting e) ≡ posting w t k bytes
-unposted-said ts cs s bag w v t k bytes e live own some =
-    subst (λ (z : WorldState). lives z t ≡ true → refused (of_posting e) ≡ posting z t k bytes) v
-    (λ alive. sym (posting-refused (world_of ts cs s bag) t k bytes e alive (own t) some))
-    live
+  pub unposted-world : (us : Table ChannelState) → us ≡ cs → (e : ChannelRefusal) → posting_refusal k bytes (row_of t cs) ≡ Some e → world_of ts us s bag ≡ (posts w t k bytes).world
+  unposted-world us same e some =
+      ap (λ (rows : Table ChannelState). world_of ts rows s bag) same ∙ v ∙ ap (λ (d : Deed). d.world) (sym (unposted e some))
+
+  pub unposted-sends : (e : ChannelRefusal) → posting_refusal k bytes (row_of t cs) ≡ Some e → [] ≡ (posts w t k bytes).sends
+  unposted-sends e some = ap (λ (d : Deed). d.sends) (sym (unposted e some))
+
+  pub unposted-said : (e : ChannelRefusal) → posting_refusal k bytes (row_of t cs) ≡ Some e → refused (of_posting e) ≡ posting w t k bytes
+  unposted-said e some =
+      subst (λ (z : WorldState). lives z t ≡ true → refused (of_posting e) ≡ posting z t k bytes) v
+      (λ alive. sym (posting-refused (world_of ts cs s bag) t k bytes e alive (own t) some))
+      live
 
 -- ---- hearing
-
-pub heard-world : (ts : Table TabState) (cs us : Table ChannelState) (s : Supervisor) (bag : List Message) (w : WorldState) → world_of ts cs s bag ≡ w → (t : ℕ) (x : Heard) → lives w t ≡ true → us ≡ put t (after_hearing (frame.Heard x) (channels_in t (find cs t))) cs → world_of ts us s bag ≡ (where_allowed (lives w t) w (becomes w t (after_hearing (frame.Heard x) (channels_of w t)) [])).world
-unfolding becomes
-heard-world ts cs us s bag w v t x live is =
-    subst (λ (z : WorldState). lives z t ≡ true → world_of ts us s bag ≡ (where_allowed (lives z t) z (becomes z t (after_hearing (frame.Heard x) (channels_of z t)) [])).world) v
-    (λ alive. let z = world_of ts cs s bag in ap (λ rows. world_of ts rows s bag) is ∙ ap (λ b. (where_allowed b z (becomes z t (after_hearing (frame.Heard x) (channels_of z t)) [])).world) (sym alive))
-    live
 
 said-heard : (b : Bool) (t : ℕ) (x : Heard) (os : List Object) → hearing_said t x (cond b Old (New (taking None x.channel os) (full None x.channel os))) ≡ cond b (said.Dropped reason.OldPost) (said.Heard t (letter_of x) (reached None x.channel os))
 said-heard true t x os = refl
 said-heard false t x os = ap (λ (objects : List Reached). said.Heard t (letter_of x) objects) (merged-reached 0 None x.channel os)
 
-pub heard-said : (ts : Table TabState) (cs : Table ChannelState) (s : Supervisor) (bag : List Message) (w : WorldState) → world_of ts cs s bag ≡ w → (t : ℕ) (x : Heard) → lives w t ≡ true → (h : Hearing) → h ≡ hearing_of (frame.Heard x) (channels_in t (find cs t)) → hearing_said t x h ≡ alive_or w t (hearing t x (channels_of w t))
+pub heard-said : (ts : Table TabState) (cs : Table ChannelState) (s : Supervisor) (bag : List Message) (w : WorldState) → world_of ts cs s bag ≡ w → (t : ℕ) (x : Heard) → lives w t ≡ true → (h : Hearing) → h ≡ hearing_of (frame.Heard x) (row_of t cs) → hearing_said t x h ≡ alive_or w t (hearing t x (channels_of w t))
 heard-said ts cs s bag w v t x live h is =
     subst (λ (z : WorldState). lives z t ≡ true → hearing_said t x h ≡ alive_or z t (hearing t x (channels_of z t))) v
-    (λ alive. let c = channels_in t (find cs t) in ap (λ (g : Hearing). hearing_said t x g) is ∙ said-heard (is_old c x.source x.number) t x c.objects ∙ sym (rw alive refl))
+    (λ alive. let c = row_of t cs in ap (λ (g : Hearing). hearing_said t x g) is ∙ said-heard (is_old c x.source x.number) t x c.objects ∙ sym (rw alive refl))
     live
 
 -- hearing leaves each row its tab's
-pub own-heard : (t : ℕ) (x : Heard) (cs us : Table ChannelState) → us ≡ put t (after_hearing (frame.Heard x) (channels_in t (find cs t))) cs → OwnRows cs → OwnRows us
-own-heard t x cs us is own = subst OwnRows (sym is) (OwnRows-put t (after_hearing (frame.Heard x) (channels_in t (find cs t))) cs (after_hearing-tab x (channels_in t (find cs t)) ∙ own t) own)
+pub own-heard : (t : ℕ) (x : Heard) (cs us : Table ChannelState) → us ≡ put t (after_hearing (frame.Heard x) (row_of t cs)) cs → OwnRows cs → OwnRows us
+own-heard t x cs us is own = subst OwnRows (sym is) (OwnRows-put t (after_hearing (frame.Heard x) (row_of t cs)) cs (after_hearing-tab x (row_of t cs) ∙ own t) own)

@@ -4,23 +4,21 @@ use Rattle.std.specs.Prelude.{◌==◌, nat_lt}
 use Rattle.wl_draft.specs.declared.mode.Mode.{Mode}
 use Rattle.wl_frames.specs.declared.frame.Frame.{Frame}
 use Rattle.wl_frames.specs.declared.frame.Frame.TheVariants as frame
+use Rattle.wl_frames.specs.declared.frame.Snapshot.{Snapshot}
 use Rattle.wl_frames.specs.declared.frame.Stamped.{Stamped}
 use Rattle.wl_broker.specs.Broker.{BrokerState, Taking, Drops, Does, taking}
 use Rattle.wl_broadcast.specs.Channels.{ChannelState}
 use Rattle.wl_agent.specs.declared.delivered.Delivered.{Delivered}
 use Rattle.wl_agent.specs.declared.delivered.Delivered.TheVariants as heard
-use Rattle.wl_agent.specs.declared.status.Status.{Status}
-use Rattle.wl_agent.specs.Tab.{TabState, issue, finish, ended, asked, queried, aborted, released, enter_first, enter_later, enter}
-use Rattle.wl_agent.specs.Delivery.{noted, becomes as becomes_status, after_answer, after_part, told_by_answer, told_by_part, part_refusal, parts_of, with_part_come, delivery}
-use Rattle.wl_agent.specs.Tab.{status_of}
-use Rattle.wl_frames.specs.declared.frame.Snapshot.{Snapshot}
+use Rattle.wl_agent.specs.Tab.{TabState, status_of, issue, finish, ended, asked, queried, aborted, released, enter_first, enter_later, enter}
+use Rattle.wl_agent.specs.Delivery.{noted, becomes as becomes_status, after_answer, after_part, told_by_answer, part_refusal, parts_of, with_part_come, delivery}
 use Rattle.wl_kernel.specs.Routes.{frame_of}
 use Rattle.wl_world.specs.declared.message.Message.{Message}
 use Rattle.wl_world.specs.declared.message.Message.TheVariants.{Up, Down, Across}
 use Rattle.wl_world.specs.declared.event.Event.{Event}
 use Rattle.wl_world.specs.declared.event.Event.TheVariants as event
 use Rattle.wl_world.specs.Messages.{is_sent}
-use Rattle.wl_world.specs.World.{WorldState, empty_world, tab_of, lives, Deed, nothing, where_allowed, acts, issues, asks, queries, aborts, releases, resends, becomes, told, report_if_entered, hears, follows, comes_up, comes, tells, stops, starts, greets, deed, happens, run}
+use Rattle.wl_world.specs.World.{WorldState, empty_world, tab_of, lives, Deed, nothing, where_allowed, acts, asks, queries, aborts, releases, resends, becomes, told, report_if_entered, hears, follows, comes_up, comes, tells, stops, starts, greets, deed, happens, run}
 use Rattle.wl_world.proofs.Basics.{either}
 use Rattle.wl_world.proofs.Grown.{tab_at}
 use Rattle.wl_world.proofs.Calm.{each_tab}

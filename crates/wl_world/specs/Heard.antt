@@ -1,7 +1,7 @@
 -- What a channel object hears, over every list of events (HTML, "BroadcastChannel").
 use Rattle.std.specs.Prelude.{◌≡◌, ℕ, ◌<◌, List, [], ◌∷◌, ◌++◌, Bool, true, false, not, ◌&&◌, ◌==◌, length, drop, is_some, if◌then◌else◌}
 use Rattle.wl_broadcast.specs.declared.letter.Letter.{Letter}
-use Rattle.wl_broadcast.specs.Channels.{Object, post_refusal, is_own, name_at, inbox_at, is_open_at}
+use Rattle.wl_broadcast.specs.Channels.{Object, post_refusal, name_at, inbox_at, is_open_at}
 use Rattle.wl_broadcast.specs.Heard.{of_source, RisesFrom}
 use Rattle.wl_world.specs.declared.event.Event.{Event}
 use Rattle.wl_world.specs.declared.event.Event.TheVariants as event

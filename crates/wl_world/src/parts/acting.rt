@@ -9,8 +9,8 @@ ghost use Rattle.wl_world.specs.Supervised.{is_in_place};
 use crate::bag::Bag;
 use crate::event::Event;
 use crate::message::Message;
-use crate::parts::{Done, Parts, refused};
-use crate::reply::{Refusal, Sent};
+use crate::parts::{Done, Parts};
+use crate::reply::Sent;
 use std::alloc::{AllocError, Global};
 
 impl Parts {
@@ -73,11 +73,7 @@ impl Parts {
     }
 }
 
-fn send_all(
-    alloc: Global,
-    bag: &mut Bag,
-    messages: Vec<Message>,
-) -> Result<Vec<Sent>, AllocError>
+fn send_all(alloc: Global, bag: &mut Bag, messages: Vec<Message>) -> Result<Vec<Sent>, AllocError>
     ensures bag { OnOk result (bag.new ≡ sent_all messages.items bag.old) }
     ensures sent { IfOk result (λ sent. sent.items ≡ sendings messages.items bag.old) }
 {

@@ -26,7 +26,7 @@ impl Parts {
         ensures said { IfOk result (λ done. done.said ≡ (if is_sent message.now self.old.bag then delivering self.old message.now else said.Refused NoMessage)) }
         ensures sends { IfOk result (λ done. done.sends.items ≡ (where_allowed (is_sent message.now self.old.bag) self.old (comes self.old message.now)).sends) }
     {
-        if self.bag.find(message).is_none() {
+        if !self.was_sent(message) {
             return Ok(refused(self.alloc, Refusal::NoMessage));
         }
         match message {
@@ -34,6 +34,12 @@ impl Parts {
             Message::Down { addressed, .. } => self.hear(addressed),
             Message::Across { tab, heard } => self.hear_post(*tab, heard),
         }
+    }
+
+    fn was_sent(&self, message: &Message) -> bool
+        ensures { result ≡ is_sent message.now self.now.bag }
+    {
+        self.bag.find(message).is_some()
     }
 
     /// A command or a report comes to the broker.

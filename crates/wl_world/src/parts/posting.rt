@@ -41,12 +41,7 @@ impl Parts {
 
     /// A tab posts: its own other objects get the post at once, and the other tabs are sent it.
     #[tactic(auto, unfolding(crate::specs::World::becomes))]
-    pub fn post(
-        &mut self,
-        tab: u16,
-        channel: usize,
-        bytes: &Bytes,
-    ) -> Result<Done, AllocError>
+    pub fn post(&mut self, tab: u16, channel: usize, bytes: &Bytes) -> Result<Done, AllocError>
         ensures world { OnOk result (self.new ≡ (posts self.old tab channel bytes.now).world) }
         ensures said { IfOk result (λ done. done.said ≡ posting self.old tab channel bytes.now) }
         ensures sends { IfOk result (λ done. done.sends.items ≡ (posts self.old tab channel bytes.now).sends) }
@@ -212,10 +207,7 @@ fn count_below(numbers: &[usize], bound: usize) -> usize
     ensures count { result ≡ count_below bound numbers.now }
     ensures within { result ≤ length numbers.now }
 {
-    numbers
-        .iter()
-        .take_while(|number| **number < bound)
-        .count()
+    numbers.iter().take_while(|number| **number < bound).count()
 }
 
 fn add_taking(took: &[usize], objects: &mut Vec<Reached>) -> Result<(), AllocError>
@@ -243,10 +235,7 @@ fn to_others(
     }
 }
 
-fn all_across(
-    alloc: Global,
-    posts: Sequence<(u16, Frame)>,
-) -> Result<Vec<Message>, AllocError>
+fn all_across(alloc: Global, posts: Sequence<(u16, Frame)>) -> Result<Vec<Message>, AllocError>
     ensures { IfOk result (λ ms. ms.items ≡ filter_map (λ p. across_to p.0 p.1) posts) }
 {
     posts

@@ -1,30 +1,33 @@
-use Rattle.std.proofs.Common.{◌≡◌, ℕ, List, true, sym, ap, ◌∙◌, subst, arith}
+use Rattle.std.proofs.Common.{◌≡◌, ℕ, List, true, ap, ◌∙◌, subst, arith}
 use Rattle.std.proofs.lemmas.Grind.{common_steps}
 use Rattle.std.proofs.lemmas.Result.{IfOk-weaker}
-use Rattle.wl_draft.specs.Tables.{find}
 use Rattle.wl_broadcast.specs.Channels.{posted}
 use Rattle.wl_kernel.specs.Kernel.{KernelState}
 use Rattle.wl_world.specs.declared.reply.Refusal.{Refusal}
-use Rattle.wl_world.specs.World.{channels_in, lives, posts}
+use Rattle.wl_world.specs.World.{lives}
 use Rattle.wl_world.specs.Replies.{posting, refused}
 use Rattle.wl_world.specs.Merging.{posted_said}
 use Rattle.wl_world.specs.Supervised.{crossed}
 use Rattle.wl_world.proofs.Parted.{always}
-use Rattle.wl_world.proofs.PostedRows.{own-after, posted-world, posted-sends, posted-said, unposted-world, unposted-sends, unposted-said}
+use Rattle.wl_world.proofs.PostedRows.{row_of, own-after, IsPostOf, posted-world, posted-sends, posted-said, unposted-world, unposted-sends, unposted-said}
 use Rattle.wl_world.proofs.parts.Parts.post.Goals as goal
 use Rattle.wl_world.proofs.parts.Parts.post.Goals.{in-Ok, in-Err+in_ok-post_refusal-in-Err}
 
 pub invariant_of-self-2 : goal.invariant_of-self-2
 invariant_of-self-2 c =
-    own-after c.post_at.result c.args.tab (posted c.args.channel c.as_slice.result.now (channels_in c.args.tab (find c.self.inside.channels.entries c.args.tab))) c.self.inside.channels.entries _ c.post_at.ensures.ok c.post_at.ensures.err (c.self.invariant c.args.tab) c.self.invariant
+    let rows = c.self.inside.channels.entries in
+    own-after c.post_at.result c.args.tab (posted c.args.channel c.as_slice.result.now (row_of c.args.tab rows)) rows _ c.post_at.ensures.ok c.post_at.ensures.err (c.self.invariant c.args.tab) c.self.invariant
 
 pub returns-clause-world : goal.returns-clause-world
 returns-clause-world c =
     let live : lives c.args.self.now c.args.tab ≡ true = grind (arith, common_steps) in
     let p = c.self.inside in
     rw (← c.as_slice.ensures) (elim c.match-post_at.branch [
-      in-Ok w ↦ always c.match-post_at.result (posted-world p.tabs.entries p.channels.entries c.post_at.new.rows.entries p.supervisor p.bag c.args.self.now c.self.view_is c.args.tab c.args.channel c.as_slice.result.now live c.self.invariant w.in-Ok.ensures.ok w.in-Ok.ensures.allowed)
-      | in-Err+in_ok-post_refusal-in-Err w ↦ always c.match-post_at.result (unposted-world p.tabs.entries p.channels.entries c.post_at.new.rows.entries p.supervisor p.bag c.args.self.now c.self.view_is c.args.tab c.args.channel c.as_slice.result.now w.in-Err.refusal live c.self.invariant w.in-Err.ensures.err (w.in-Err.ensures.refused w.in_ok-post_refusal-in-Err.ensures.fault))
+      | in-Ok w ↦
+          always c.match-post_at.result (posted-world p.tabs.entries p.channels.entries p.supervisor p.bag c.args.self.now c.self.view_is c.args.tab c.args.channel c.as_slice.result.now live c.self.invariant c.post_at.new.rows.entries w.in-Ok.ensures.ok w.in-Ok.ensures.allowed)
+      | in-Err+in_ok-post_refusal-in-Err w ↦
+          let refusal = w.in-Err.ensures.refused w.in_ok-post_refusal-in-Err.ensures.fault in
+          always c.match-post_at.result (unposted-world p.tabs.entries p.channels.entries p.supervisor p.bag c.args.self.now c.self.view_is c.args.tab c.args.channel c.as_slice.result.now live c.self.invariant c.post_at.new.rows.entries w.in-Err.ensures.err w.in-Err.refusal refusal)
     ])
 
 pub returns-clause-said : goal.returns-clause-said
@@ -32,17 +35,19 @@ returns-clause-said c =
     let live : lives c.args.self.now c.args.tab ≡ true = grind (arith, common_steps) in
     let p = c.self.inside in
     elim c.match-post_at.branch [
-      in-Ok w ↦
-        let h = w.in-Ok.ensures.posted in
-        let said : posted_said c.args.tab c.args.bytes.now w.in-Ok.posted ≡ posting c.args.self.now c.args.tab c.args.channel c.args.bytes.now =
-            subst (λ (bytes : List ℕ). posted_said c.args.tab bytes w.in-Ok.posted ≡ posting c.args.self.now c.args.tab c.args.channel bytes) c.as_slice.ensures
-            (posted-said p.tabs.entries p.channels.entries p.supervisor p.bag c.args.self.now c.self.view_is c.args.tab c.args.channel c.as_slice.result.now live c.self.invariant w.in-Ok.ensures.allowed w.in-Ok.posted h.0 h.1 h.2) in
-        rw w.result-is (IfOk-weaker w.posting.result _ _ (λ d e. e ∙ said) w.posting.ensures.said)
+      | in-Ok w ↦
+          let posted = w.in-Ok.posted in
+          let is : IsPostOf c.args.channel c.as_slice.result.now (row_of c.args.tab p.channels.entries) posted = record { frame = w.in-Ok.ensures.posted.0; took = w.in-Ok.ensures.posted.1; full = w.in-Ok.ensures.posted.2 } in
+          let said : posted_said c.args.tab c.args.bytes.now posted ≡ posting c.args.self.now c.args.tab c.args.channel c.args.bytes.now =
+          subst (λ (bytes : List ℕ). posted_said c.args.tab bytes posted ≡ posting c.args.self.now c.args.tab c.args.channel bytes) c.as_slice.ensures
+          (posted-said p.tabs.entries p.channels.entries p.supervisor p.bag c.args.self.now c.self.view_is c.args.tab c.args.channel c.as_slice.result.now live c.self.invariant w.in-Ok.ensures.allowed posted is) in
+          rw w.result-is (IfOk-weaker w.posting.result _ _ (λ d e. e ∙ said) w.posting.ensures.said)
       | in-Err+in_ok-post_refusal-in-Err w ↦
-        let said : refused w.in_ok-post_refusal-in-Err.field-0 ≡ posting c.args.self.now c.args.tab c.args.channel c.args.bytes.now =
-            ap (λ (r : Refusal). refused r) w.in_ok-post_refusal-in-Err.ensures.refusal
-            ∙ rw (← c.as_slice.ensures) (unposted-said p.tabs.entries p.channels.entries p.supervisor p.bag c.args.self.now c.self.view_is c.args.tab c.args.channel c.as_slice.result.now w.in-Err.refusal live c.self.invariant (w.in-Err.ensures.refused w.in_ok-post_refusal-in-Err.ensures.fault)) in
-        rw w.result-is (w.refused-in-Err.ensures.said ∙ said)
+          let refusal = w.in-Err.ensures.refused w.in_ok-post_refusal-in-Err.ensures.fault in
+          let said : refused w.in_ok-post_refusal-in-Err.field-0 ≡ posting c.args.self.now c.args.tab c.args.channel c.args.bytes.now =
+          ap (λ (r : Refusal). refused r) w.in_ok-post_refusal-in-Err.ensures.refusal
+          ∙ rw (← c.as_slice.ensures) (unposted-said p.tabs.entries p.channels.entries p.supervisor p.bag c.args.self.now c.self.view_is c.args.tab c.args.channel c.as_slice.result.now live c.self.invariant w.in-Err.refusal refusal) in
+          rw w.result-is (w.refused-in-Err.ensures.said ∙ said)
     ]
 
 pub returns-clause-sends : goal.returns-clause-sends
@@ -50,9 +55,11 @@ returns-clause-sends c =
     let live : lives c.args.self.now c.args.tab ≡ true = grind (arith, common_steps) in
     let p = c.self.inside in
     rw (← c.as_slice.ensures) (elim c.match-post_at.branch [
-      in-Ok w ↦
-        let sends = posted-sends p.tabs.entries p.channels.entries p.supervisor p.bag c.args.self.now c.self.view_is c.args.tab c.args.channel c.as_slice.result.now live c.self.invariant w.in-Ok.ensures.allowed w.in-Ok.posted.frame w.in-Ok.ensures.posted.0 in
-        rw (w.result-is) (IfOk-weaker w.posting.result _ _ (λ d e. e ∙ ap (λ (k : KernelState). crossed k c.args.tab w.in-Ok.posted.frame) w.tabs.ensures ∙ sends) w.posting.ensures.sends)
+      | in-Ok w ↦
+          let frame = w.in-Ok.posted.frame in
+          let sends = posted-sends p.tabs.entries p.channels.entries p.supervisor p.bag c.args.self.now c.self.view_is c.args.tab c.args.channel c.as_slice.result.now live c.self.invariant w.in-Ok.ensures.allowed frame w.in-Ok.ensures.posted.0 in
+          rw w.result-is (IfOk-weaker w.posting.result _ _ (λ d e. e ∙ ap (λ (k : KernelState). crossed k c.args.tab frame) w.tabs.ensures ∙ sends) w.posting.ensures.sends)
       | in-Err+in_ok-post_refusal-in-Err w ↦
-        rw w.result-is (w.refused-in-Err.ensures.sends ∙ unposted-sends p.tabs.entries p.channels.entries p.supervisor p.bag c.args.self.now c.self.view_is c.args.tab c.args.channel c.as_slice.result.now w.in-Err.refusal live c.self.invariant (w.in-Err.ensures.refused w.in_ok-post_refusal-in-Err.ensures.fault))
+          let refusal = w.in-Err.ensures.refused w.in_ok-post_refusal-in-Err.ensures.fault in
+          rw w.result-is (w.refused-in-Err.ensures.sends ∙ unposted-sends p.tabs.entries p.channels.entries p.supervisor p.bag c.args.self.now c.self.view_is c.args.tab c.args.channel c.as_slice.result.now live c.self.invariant w.in-Err.refusal refusal)
     ])

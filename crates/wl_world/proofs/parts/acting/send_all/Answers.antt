@@ -13,5 +13,5 @@ loop-message-preserved c =
     let before = c.loop-message.invariant in
     record {
       bag = c.in_ok-put.ensures.ok ∙ ap (λ (bag : List Message). sent m bag) before.bag ∙ sym (sent_all-push c.loop-message.yielded m old);
-      sent = c.in_ok-push.ensures.items ∙ ap (λ (s : Sent). c.loop-message.sent.items ++ s ∷ []) (c.in_ok-put.ensures.sending ∙ ap (λ (bag : List Message). sending m bag) before.bag) ∙ ap (λ (ss : List Sent). ss ++ sending m (sent_all c.loop-message.yielded old) ∷ []) before.sent ∙ sym (sendings-push c.loop-message.yielded m old)
+      sent = c.in_ok-push.ensures.items ∙ ap (λ (s : Sent). c.loop-message.sent.items ++ s ∷ []) (c.in_ok-put.ensures.sending ∙ ap (λ (bag : List Message). sending m bag) before.bag) ∙ ap (λ (ss : List Sent). ss ++ sending m (sent_all c.loop-message.yielded old) ∷ []) before.sent ∙ sym (sendings-push c.loop-message.yielded m old);
     }

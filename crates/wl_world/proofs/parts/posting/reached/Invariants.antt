@@ -6,5 +6,5 @@ use Rattle.wl_world.proofs.parts.posting.reached.Given as goal
 abbrev pub invariant-loop-number : goal.invariant-loop-number
 invariant-loop-number l = record {
   within : length l.rest ≤ length l.fn.took;
-  sum : l.objects.items ++ merged l.rest (drop l.number-index l.full) ≡ merged l.fn.took l.full
+  sum : l.objects.items ++ merged l.rest (drop l.number-index l.full) ≡ merged l.fn.took l.full;
 }
