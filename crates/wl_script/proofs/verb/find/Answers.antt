@@ -1,0 +1,18 @@
+use Rattle.std.proofs.Common.{ap, sym, ◌∙◌, []}
+use Rattle.std.specs.Prelude.{bytes_eq}
+use Rattle.wl_script.specs.declared.verb.Verb.TheVariants.{Open}
+use Rattle.wl_script.proofs.Texts.{found, not_here, nowhere}
+use Rattle.wl_script.proofs.verb.find.Goals as goal
+
+pub returns-then-eq : goal.returns-then-eq
+returns-then-eq c =
+    found c.args.rows.now c.args.word.now c.loop-text.text-index (record { ref_ptr = (0, 0); now = [] }, Open) c.loop-text-test.true
+    (ap (λ text. bytes_eq text c.args.word.now) (sym c.as_bytes.ensures.value) ∙ sym c.eq.ensures ∙ c.if-eq.true) c.loop-text.invariant
+
+pub loop-text-preserved : goal.loop-text-preserved
+loop-text-preserved c =
+    not_here c.args.rows.now c.args.word.now c.loop-text.text-index (record { ref_ptr = (0, 0); now = [] }, Open) c.loop-text-test.true
+    (ap (λ text. bytes_eq text c.args.word.now) (sym c.as_bytes.ensures.value) ∙ sym c.eq.ensures ∙ c.if-eq.false) c.loop-text.invariant
+
+pub returns : goal.returns
+returns c = nowhere c.args.rows.now c.args.word.now c.loop-text.text-index c.loop-text-test.false c.loop-text.invariant

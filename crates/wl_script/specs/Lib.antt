@@ -1,0 +1,8 @@
+pub use Rattle.wl_frames.specs.Grammar
+pub mod Words
+pub mod Lines
+pub mod Texts
+pub mod ReplyTexts
+pub mod Played
+pub mod Sim
+pub mod SimSteps

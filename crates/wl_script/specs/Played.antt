@@ -1,0 +1,98 @@
+-- What a line makes of a world, and what is written for it.
+use Rattle.std.specs.Prelude.{ℕ, ◌-◌, ◌==◌, ◌&&◌, List, [], ◌∷◌, ◌++◌, slice_get, Option, Some, None, is_some, is_none, Result, Ok, Err, codes, decimal, if◌then◌else◌}
+use Rattle.std.specs.List.{flat_map}
+use Rattle.url.specs.Origin.{Triple}
+use Rattle.wl_origin.specs.Partition.{partition_of}
+use Rattle.wl_origin.specs.declared.fault.OriginFault.{OriginFault}
+use Rattle.wl_origin.specs.declared.fault.OriginFault.TheVariants as origin
+use Rattle.wl_kernel.specs.Kernel.{open_refusal, living_tabs}
+use Rattle.wl_world.specs.declared.holding.Holding.{Holding}
+use Rattle.wl_world.specs.declared.message.Message.{Message}
+use Rattle.wl_world.specs.declared.event.Event.{Event}
+use Rattle.wl_world.specs.declared.event.Event.TheVariants as event
+use Rattle.wl_world.specs.World.{WorldState, happens}
+use Rattle.wl_world.specs.Replies.{reply_of}
+use Rattle.wl_world.specs.Machine.{held_by_living}
+use Rattle.wl_script.specs.declared.line.Line.{Line}
+use Rattle.wl_script.specs.declared.line.Line.TheVariants as line
+use Rattle.wl_script.specs.Texts.{lock_text}
+use Rattle.wl_script.specs.ReplyTexts.{reply_text}
+use Rattle.wl_script.specs.ReplyTexts.{line as text_line}
+
+pub record Played : Type 0 where
+  pub world : WorldState
+  pub written : List ℕ
+
+-- an event happens, and its reply is written
+abbrev pub plays : WorldState → Event → Played
+plays w e = record { world = happens w e; written = reply_text (reply_of w e) }
+
+-- nothing happens, and a line is written
+abbrev pub says : WorldState → List ℕ → Played
+says w text = record { world = w; written = text_line text }
+
+-- ---- openings
+
+-- a second event, after this
+abbrev pub and_plays : Played → Event → Played
+and_plays p e = let q = plays p.world e in record { world = q.world; written = p.written ++ q.written }
+
+-- where the tab is opened and a broker is up, the kernel greets it
+abbrev pub opens : WorldState → ℕ → Triple → Played
+opens w t partition =
+    let p = plays w (event.Open t partition) in
+    if is_none (open_refusal t partition w.kernel) && is_some w.broker then and_plays p (event.Hello t) else p
+
+-- want of memory is no answer
+abbrev pub fault_text : OriginFault → List ℕ
+fault_text origin.BadUrl = codes "BadUrl"
+fault_text origin.Security = codes "SecurityError"
+fault_text origin.Memory = []
+
+abbrev pub opens_url : WorldState → ℕ → Result Triple OriginFault → Played
+opens_url w t (Ok partition) = opens w t partition
+opens_url w t (Err fault) = says w (fault_text fault)
+
+-- ---- deliveries
+
+-- messages are named from 1 on, in the order in which they were first sent
+abbrev pub named : WorldState → ℕ → Option Message
+named w name = if name == 0 then None else slice_get w.bag (name - 1)
+
+abbrev pub delivers : WorldState → Option Message → Played
+delivers w None = says w (codes "no message")
+delivers w (Some m) = plays w (event.Deliver m)
+
+-- ---- holdings
+
+-- T#K MODE NAME
+unfoldable pub holding_text : Holding → List ℕ
+holding_text h = text_line (decimal h.tab ++ codes "#" ++ decimal h.number ++ codes " " ++ lock_text h.mode h.name)
+
+unfoldable pub holdings_text : List Holding → List ℕ
+holdings_text [] = text_line (codes "nothing held")
+holdings_text (h ∷ hs) = flat_map holding_text (h ∷ hs)
+
+-- ---- lines
+
+unfoldable pub played : WorldState → Line → Played
+played w line.Blank = record { world = w; written = [] }
+played w (line.Open t url) = opens_url w t (partition_of url)
+played w line.StartAll = plays w (event.Start (living_tabs w.kernel))
+played w (line.Start ts) = plays w (event.Start ts)
+played w line.Stop = plays w event.Stop
+played w (line.Hello t) = plays w (event.Hello t)
+played w (line.Kill t) = plays w (event.Kill t)
+played w (line.Tell t) = plays w (event.Tell t)
+played w (line.Ask t mode name) = plays w (event.Ask t mode name)
+played w (line.Probe t mode name) = plays w (event.Probe t mode name)
+played w (line.Query t) = plays w (event.Query t)
+played w (line.Abort t k) = plays w (event.Abort t k)
+played w (line.Release t k) = plays w (event.Release t k)
+played w (line.Resend t) = plays w (event.Resend t)
+played w (line.Deliver name) = delivers w (named w name)
+played w (line.Channel t name) = plays w (event.Channel t name)
+played w (line.Post t c bytes) = plays w (event.Post t c bytes)
+played w (line.Read t c) = plays w (event.Read t c)
+played w (line.Close t c) = plays w (event.Close t c)
+played w line.Show = record { world = w; written = holdings_text (held_by_living w) }

@@ -1,0 +1,250 @@
+//! The text of messages. Each function appends to what was written before.
+
+ghost use Rattle.std.specs.Prelude.{◌≡◌, ◌++◌, OnOk, decimal};
+ghost use Rattle.std.specs.List.{flat_map};
+ghost use Rattle.wl_script.specs.Texts.{mode_text, held_text, outcome_text, lock_text, command_number, operation_text, command_text, entry_text, report_text, upward_text, hello_text, answer_text, row_text, part_text, snapshot_text, downward_text, post_text};
+
+use crate::words::put_word;
+use itoa::Buffer;
+use std::alloc::AllocError;
+use wl_frames::{
+    Answer, Command, Downward, Entry, Heard, Hello, Mode, Name, Operation, Outcome, Report,
+    Snapshot, SnapshotEntry, Upward,
+};
+
+// ---- parts
+
+pub(crate) fn put(out: &mut Vec<u8>, text: &str) -> Result<(), AllocError>
+    ensures { OnOk result (out.new.items ≡ out.old.items ++ text.now) }
+{
+    out.extend_from_slice(text.as_bytes())
+}
+
+/// A number in decimal.
+pub(crate) fn put_number(out: &mut Vec<u8>, number: u64) -> Result<(), AllocError>
+    ensures { OnOk result (out.new.items ≡ out.old.items ++ decimal number) }
+{
+    let mut buffer = Buffer::new();
+    out.extend_from_slice(buffer.format(number).as_bytes())
+}
+
+#[tactic(auto, unfolding(crate::specs::Texts::mode_text))]
+pub(crate) fn mode_word(mode: Mode) -> &'static str
+    ensures { result.now ≡ mode_text mode }
+{
+    match mode {
+        Mode::Shared => "shared",
+        Mode::Exclusive => "exclusive",
+    }
+}
+
+#[tactic(auto, unfolding(crate::specs::Texts::held_text))]
+fn held_word(held: bool) -> &'static str
+    ensures { result.now ≡ held_text held }
+{
+    if held { "held" } else { "waiting" }
+}
+
+#[tactic(auto, unfolding(crate::specs::Texts::outcome_text))]
+fn outcome_word(outcome: Outcome) -> &'static str
+    ensures { result.now ≡ outcome_text outcome }
+{
+    match outcome {
+        Outcome::Waiting => "waiting",
+        Outcome::Granted => "granted",
+        Outcome::Gone => "gone",
+        Outcome::Taken => "taken",
+    }
+}
+
+/// A lock's mode and name.
+#[tactic(auto, unfolding(crate::specs::Texts::lock_text))]
+pub(crate) fn put_lock(out: &mut Vec<u8>, mode: Mode, name: &Name) -> Result<(), AllocError>
+    ensures { OnOk result (out.new.items ≡ out.old.items ++ lock_text mode name.now) }
+{
+    put(out, mode_word(mode))?;
+    put(out, " ")?;
+    put_word(out, name.as_str().as_bytes())
+}
+
+#[tactic(auto, unfolding(crate::specs::Texts::command_number))]
+fn put_command_number(out: &mut Vec<u8>, generation: u32, number: u32) -> Result<(), AllocError>
+    ensures { OnOk result (out.new.items ≡ out.old.items ++ command_number generation number) }
+{
+    put(out, "gen ")?;
+    put_number(out, u64::from(generation))?;
+    put(out, " #")?;
+    put_number(out, u64::from(number))
+}
+
+// ---- from tabs to the broker
+
+#[tactic(auto, unfolding(crate::specs::Texts::operation_text))]
+fn put_operation(out: &mut Vec<u8>, operation: &Operation) -> Result<(), AllocError>
+    ensures { OnOk result (out.new.items ≡ out.old.items ++ operation_text operation.now) }
+{
+    match operation {
+        Operation::Request {
+            mode,
+            if_available,
+            name,
+        } => {
+            if *if_available {
+                put(out, " probe ")?;
+            } else {
+                put(out, " request ")?;
+            }
+            put_lock(out, *mode, name)
+        }
+        Operation::Release { number } => {
+            put(out, " release ")?;
+            put_number(out, u64::from(*number))
+        }
+        Operation::Abort { number } => {
+            put(out, " abort ")?;
+            put_number(out, u64::from(*number))
+        }
+        Operation::Query => put(out, " query"),
+    }
+}
+
+#[tactic(auto, unfolding(crate::specs::Texts::command_text))]
+fn put_command(out: &mut Vec<u8>, command: &Command) -> Result<(), AllocError>
+    ensures { OnOk result (out.new.items ≡ out.old.items ++ command_text command.now) }
+{
+    put_command_number(out, command.generation, command.number)?;
+    put_operation(out, &command.operation)
+}
+
+#[tactic(auto, unfolding(crate::specs::Texts::entry_text))]
+fn put_entry(out: &mut Vec<u8>, entry: &Entry) -> Result<(), AllocError>
+    ensures { OnOk result (out.new.items ≡ out.old.items ++ entry_text entry.now) }
+{
+    put(out, " #")?;
+    put_number(out, u64::from(entry.number))?;
+    put(out, " ")?;
+    put(out, held_word(entry.held))?;
+    put(out, " ")?;
+    put_lock(out, entry.mode, &entry.name)
+}
+
+fn put_entries(out: &mut Vec<u8>, entries: &[Entry]) -> Result<(), AllocError>
+    ensures { OnOk result (out.new.items ≡ out.old.items ++ flat_map entry_text entries.now) }
+{
+    for entry in entries {
+        put_entry(out, entry)?;
+    }
+    Ok(())
+}
+
+#[tactic(auto, unfolding(crate::specs::Texts::report_text))]
+fn put_report(out: &mut Vec<u8>, report: &Report) -> Result<(), AllocError>
+    ensures { OnOk result (out.new.items ≡ out.old.items ++ report_text report.now) }
+{
+    put(out, "report ")?;
+    put_number(out, u64::from(report.generation))?;
+    put(out, " base ")?;
+    put_number(out, u64::from(report.base))?;
+    put_entries(out, report.entries.as_slice())
+}
+
+/// What a tab sends to the broker.
+#[tactic(auto, unfolding(crate::specs::Texts::upward_text))]
+pub(crate) fn put_upward(out: &mut Vec<u8>, upward: &Upward) -> Result<(), AllocError>
+    ensures { OnOk result (out.new.items ≡ out.old.items ++ upward_text upward.now) }
+{
+    match upward {
+        Upward::Command(command) => put_command(out, command),
+        Upward::Report(report) => put_report(out, report),
+    }
+}
+
+// ---- to tabs
+
+#[tactic(auto, unfolding(crate::specs::Texts::hello_text))]
+fn put_hello(out: &mut Vec<u8>, hello: &Hello) -> Result<(), AllocError>
+    ensures { OnOk result (out.new.items ≡ out.old.items ++ hello_text hello.now) }
+{
+    put(out, "hello ")?;
+    put_number(out, u64::from(hello.generation))
+}
+
+#[tactic(auto, unfolding(crate::specs::Texts::answer_text))]
+fn put_answer(out: &mut Vec<u8>, answer: &Answer) -> Result<(), AllocError>
+    ensures { OnOk result (out.new.items ≡ out.old.items ++ answer_text answer.now) }
+{
+    put_command_number(out, answer.generation, answer.number)?;
+    put(out, " ")?;
+    put(out, outcome_word(answer.outcome))?;
+    put(out, " upto ")?;
+    put_number(out, u64::from(answer.upto))
+}
+
+#[tactic(auto, unfolding(crate::specs::Texts::row_text))]
+fn put_row(out: &mut Vec<u8>, row: &SnapshotEntry) -> Result<(), AllocError>
+    ensures { OnOk result (out.new.items ≡ out.old.items ++ row_text row.now) }
+{
+    put(out, " ")?;
+    put(out, held_word(row.held))?;
+    put(out, " ")?;
+    put_number(out, u64::from(row.tab))?;
+    put(out, " ")?;
+    put_lock(out, row.mode, &row.name)
+}
+
+fn put_rows(out: &mut Vec<u8>, rows: &[SnapshotEntry]) -> Result<(), AllocError>
+    ensures { OnOk result (out.new.items ≡ out.old.items ++ flat_map row_text rows.now) }
+{
+    for row in rows {
+        put_row(out, row)?;
+    }
+    Ok(())
+}
+
+/// Which part of how many.
+#[tactic(auto, unfolding(crate::specs::Texts::part_text))]
+pub(crate) fn put_part(out: &mut Vec<u8>, part: u16, parts: u16) -> Result<(), AllocError>
+    ensures { OnOk result (out.new.items ≡ out.old.items ++ part_text part parts) }
+{
+    put(out, "part ")?;
+    put_number(out, u64::from(part))?;
+    put(out, " of ")?;
+    put_number(out, u64::from(parts))
+}
+
+#[tactic(auto, unfolding(crate::specs::Texts::snapshot_text))]
+fn put_snapshot(out: &mut Vec<u8>, snapshot: &Snapshot) -> Result<(), AllocError>
+    ensures { OnOk result (out.new.items ≡ out.old.items ++ snapshot_text snapshot.now) }
+{
+    put_command_number(out, snapshot.generation, snapshot.number)?;
+    put(out, " ")?;
+    put_part(out, snapshot.part, snapshot.parts)?;
+    put_rows(out, snapshot.entries.as_slice())
+}
+
+/// What the broker sends to a tab.
+#[tactic(auto, unfolding(crate::specs::Texts::downward_text))]
+pub(crate) fn put_downward(out: &mut Vec<u8>, downward: &Downward) -> Result<(), AllocError>
+    ensures { OnOk result (out.new.items ≡ out.old.items ++ downward_text downward.now) }
+{
+    match downward {
+        Downward::Hello(hello) => put_hello(out, hello),
+        Downward::Answer(answer) => put_answer(out, answer),
+        Downward::Snapshot(snapshot) => put_snapshot(out, snapshot),
+    }
+}
+
+// ---- between tabs
+
+/// A post on its way to a tab.
+#[tactic(auto, unfolding(crate::specs::Texts::post_text))]
+pub(crate) fn put_post(out: &mut Vec<u8>, post: &Heard) -> Result<(), AllocError>
+    ensures { OnOk result (out.new.items ≡ out.old.items ++ post_text post.now) }
+{
+    put(out, "post ")?;
+    put_number(out, u64::from(post.number))?;
+    put(out, " ")?;
+    put_word(out, post.channel.as_str().as_bytes())?;
+    put(out, " ")?;
+    put_word(out, &post.bytes)
+}

@@ -1,0 +1,230 @@
+//! What a line makes of the world, and what is written for it. Each function appends to what was written before.
+
+ghost use Rattle.std.specs.Prelude.{◌≡◌, ◌++◌, is_none, IfOk, OnOk};
+ghost use Rattle.std.specs.List.{flat_map};
+ghost use Rattle.std.specs.Option.{option_copied};
+ghost use Rattle.wl_origin.specs.Partition.{partition_of};
+ghost use Rattle.wl_kernel.specs.Kernel.{open_refusal};
+ghost use Rattle.wl_script.specs.ReplyTexts.{reply_text};
+ghost use Rattle.wl_script.specs.Played.{plays, says, opens, opens_url, named as message_named, delivers, holding_text, holdings_text, played};
+ghost use Rattle.wl_script.specs.SimSteps.{Becomes, is_opened};
+
+use crate::line::Line;
+use crate::messages::{put, put_lock, put_number};
+use crate::replies::put_reply;
+use std::alloc::{AllocError, Global};
+use wl_frames::Sequence;
+use wl_origin::{OriginFault, Partition, partition};
+use wl_world::event::Event;
+use wl_world::holding::Holding;
+use wl_world::message::Message;
+use wl_world::reply::{Reply, Said};
+use wl_world::world::World;
+
+/// Plays a line.
+#[tactic(auto, unfolding(crate::specs::Played::played))]
+pub(crate) fn play(
+    alloc: Global,
+    world: World,
+    line: Line,
+    out: &mut Vec<u8>,
+) -> Result<World, AllocError>
+    ensures { IfOk result (λ after. Becomes (played world.world line) after out.old.items out.new.items) }
+{
+    match line {
+        Line::Blank => Ok(world),
+        Line::Open { tab, url } => open(alloc, world, tab, url.as_str(), out),
+        Line::StartAll => {
+            let living = Sequence::new(world.living().to_vec(alloc)?);
+            happen(alloc, world, Event::Start(living), out)
+        }
+        Line::Start(tabs) => happen(alloc, world, Event::Start(tabs), out),
+        Line::Stop => happen(alloc, world, Event::Stop, out),
+        Line::Hello { tab } => happen(alloc, world, Event::Hello { tab }, out),
+        Line::Kill { tab } => happen(alloc, world, Event::Kill { tab }, out),
+        Line::Tell { tab } => happen(alloc, world, Event::Tell { tab }, out),
+        Line::Ask { tab, mode, name } => happen(alloc, world, Event::Ask { tab, mode, name }, out),
+        Line::Probe { tab, mode, name } => {
+            happen(alloc, world, Event::Probe { tab, mode, name }, out)
+        }
+        Line::Query { tab } => happen(alloc, world, Event::Query { tab }, out),
+        Line::Abort { tab, number } => happen(alloc, world, Event::Abort { tab, number }, out),
+        Line::Release { tab, number } => happen(alloc, world, Event::Release { tab, number }, out),
+        Line::Resend { tab } => happen(alloc, world, Event::Resend { tab }, out),
+        Line::Deliver { name } => deliver(alloc, world, name, out),
+        Line::Channel { tab, name } => happen(alloc, world, Event::Channel { tab, name }, out),
+        Line::Post {
+            tab,
+            channel,
+            bytes,
+        } => happen(
+            alloc,
+            world,
+            Event::Post {
+                tab,
+                channel,
+                bytes,
+            },
+            out,
+        ),
+        Line::Read { tab, channel } => happen(alloc, world, Event::Read { tab, channel }, out),
+        Line::Close { tab, channel } => happen(alloc, world, Event::Close { tab, channel }, out),
+        Line::Show => show(world, out),
+    }
+}
+
+/// An event happens, and is answered.
+fn happen(alloc: Global, world: World, event: Event, out: &mut Vec<u8>) -> Result<World, AllocError>
+    ensures { IfOk result (λ after. Becomes (plays world.world event) after out.old.items out.new.items) }
+{
+    let (world, reply) = world.step(event)?;
+    answer(alloc, reply, out)?;
+    Ok(world)
+}
+
+/// A reply is written, and is of no further use.
+fn answer(alloc: Global, reply: Reply, out: &mut Vec<u8>) -> Result<(), AllocError>
+    ensures { OnOk result (out.new.items ≡ out.old.items ++ reply_text reply) }
+{
+    put_reply(alloc, out, &reply)
+}
+
+/// Nothing happens.
+fn say(world: World, text: &str, out: &mut Vec<u8>) -> Result<World, AllocError>
+    ensures { IfOk result (λ after. Becomes (says world.world text.now) after out.old.items out.new.items) }
+{
+    put(out, text)?;
+    put(out, "\n")?;
+    Ok(world)
+}
+
+// ---- openings
+
+/// A tab is opened, if the URL has a partition.
+fn open(
+    alloc: Global,
+    world: World,
+    tab: u16,
+    url: &str,
+    out: &mut Vec<u8>,
+) -> Result<World, AllocError>
+    ensures { IfOk result (λ after.
+        Becomes (opens_url world.world tab (partition_of url.now)) after out.old.items out.new.items) }
+{
+    match partition(alloc, url) {
+        Ok(partition) => open_in(alloc, world, tab, partition, out),
+        Err(OriginFault::BadUrl) => say(world, "BadUrl", out),
+        Err(OriginFault::Security) => say(world, "SecurityError", out),
+        Err(OriginFault::Memory) => Err(AllocError),
+    }
+}
+
+/// A tab is opened, if the kernel opens it. Where a broker is up, the kernel greets it then.
+fn open_in(
+    alloc: Global,
+    world: World,
+    tab: u16,
+    partition: Partition,
+    out: &mut Vec<u8>,
+) -> Result<World, AllocError>
+    ensures { IfOk result (λ after.
+        Becomes (opens world.world tab partition) after out.old.items out.new.items) }
+{
+    let is_up = world.is_up();
+    let (world, is_opened) = try_open(alloc, world, tab, partition, out)?;
+    if is_opened && is_up {
+        return happen(alloc, world, Event::Hello { tab }, out);
+    }
+    Ok(world)
+}
+
+/// The event of an opening, and whether the tab was opened.
+fn try_open(
+    alloc: Global,
+    world: World,
+    tab: u16,
+    partition: Partition,
+    out: &mut Vec<u8>,
+) -> Result<(World, bool), AllocError>
+    ensures plays { IfOk result (λ r.
+        Becomes (plays world.world (Event.Open tab partition)) r.0 out.old.items out.new.items) }
+    ensures opened { IfOk result (λ r. r.1 ≡ is_none (open_refusal tab partition world.world.kernel)) }
+{
+    let (world, reply) = world.step(Event::Open { tab, partition })?;
+    let is_opened = is_opening(&reply);
+    answer(alloc, reply, out)?;
+    Ok((world, is_opened))
+}
+
+fn is_opening(reply: &Reply) -> bool
+    ensures { result ≡ is_opened reply.now.said }
+{
+    matches!(&reply.said, Said::Opened { .. })
+}
+
+// ---- deliveries
+
+/// A message comes.
+fn deliver(alloc: Global, world: World, name: u64, out: &mut Vec<u8>) -> Result<World, AllocError>
+    ensures { IfOk result (λ after.
+        Becomes (delivers world.world (message_named world.world name)) after out.old.items out.new.items) }
+{
+    let Some(message) = named(&world, name) else {
+        return say(world, "no message", out);
+    };
+    let message = message.copy(alloc)?;
+    happen(alloc, world, Event::Deliver(message), out)
+}
+
+/// The message of this name: the first one that was sent is 1.
+fn named(world: &World, name: u64) -> Option<&Message>
+    ensures { option_copied result ≡ message_named world.now.world name }
+{
+    if name == 0 {
+        return None;
+    }
+    world.message((name - 1) as usize)
+}
+
+// ---- holdings
+
+/// What living tabs hold is shown.
+#[tactic(auto, unfolding(crate::specs::Played::played))]
+fn show(world: World, out: &mut Vec<u8>) -> Result<World, AllocError>
+    ensures { IfOk result (λ after. Becomes (played world.world Line.Show) after out.old.items out.new.items) }
+{
+    let holdings = world.holdings()?;
+    put_holdings(out, holdings.as_slice())?;
+    Ok(world)
+}
+
+#[tactic(auto, unfolding(crate::specs::Played::holdings_text))]
+fn put_holdings(out: &mut Vec<u8>, holdings: &[Holding]) -> Result<(), AllocError>
+    ensures { OnOk result (out.new.items ≡ out.old.items ++ holdings_text holdings.now) }
+{
+    match holdings {
+        [] => put(out, "nothing held\n"),
+        _ => put_all_holdings(out, holdings),
+    }
+}
+
+fn put_all_holdings(out: &mut Vec<u8>, holdings: &[Holding]) -> Result<(), AllocError>
+    ensures { OnOk result (out.new.items ≡ out.old.items ++ flat_map holding_text holdings.now) }
+{
+    for holding in holdings {
+        put_holding(out, holding)?;
+    }
+    Ok(())
+}
+
+#[tactic(auto, unfolding(crate::specs::Played::holding_text))]
+fn put_holding(out: &mut Vec<u8>, holding: &Holding) -> Result<(), AllocError>
+    ensures { OnOk result (out.new.items ≡ out.old.items ++ holding_text holding.now) }
+{
+    put_number(out, u64::from(holding.tab))?;
+    put(out, "#")?;
+    put_number(out, u64::from(holding.number))?;
+    put(out, " ")?;
+    put_lock(out, holding.mode, &holding.name)?;
+    put(out, "\n")
+}

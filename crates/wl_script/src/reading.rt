@@ -1,0 +1,349 @@
+//! Reading a line of a script.
+
+ghost use Rattle.std.specs.Prelude.{◌≡◌, ℕ, ◌+◌, ◌^◌, ◌<◌, length, IfOk};
+ghost use Rattle.wl_script.specs.Lines.{has_leading_zero as leading_zero, number_at, tab_at, message_name_at, mode_at, name_at, text_of, url_at, none, one, two, three, tab_alone, tab_and_url, tab_mode_name, tab_and_name, tab_and_number, tab_channel_data, tabs_at, start_at, said_by, said_in, line_at, words_of, texts, most_command, most_name};
+ghost use Rattle.wl_script.specs.Words.{Gives, unescaped};
+
+use crate::line::Line;
+use crate::unread::Unread;
+use crate::verb::{Verb, verb_of};
+use crate::words::unescape;
+use bytes::Bytes;
+use std::alloc::{AllocError, Global};
+use std::str;
+use wl_frames::{Mode, Name, Sequence};
+
+/// How many bytes a line may have.
+pub const LINE_LIMIT: usize = 65_536;
+
+/// What a line says, without its line feed.
+#[tactic(auto, unfolding(crate::specs::Lines::line_at))]
+pub fn read_line(alloc: Global, text: &[u8]) -> Result<Line, Unread>
+    ensures { Gives (λ line. line) result (line_at text.now) }
+{
+    if text.len() > LINE_LIMIT {
+        return Err(Unread::Form);
+    }
+    match text {
+        [] | [b'#', ..] => Ok(Line::Blank),
+        _ => {
+            let words = words_of(alloc, text)?;
+            read_words(alloc, words.as_slice())
+        }
+    }
+}
+
+/// What stands between single spaces.
+fn words_of(alloc: Global, text: &[u8]) -> Result<Vec<&[u8]>, AllocError>
+    ensures { IfOk result (λ words. texts words.items ≡ words_of text.now) }
+{
+    text.split(|byte| *byte == b' ').collect(alloc)
+}
+
+#[tactic(auto, unfolding(crate::specs::Lines::said_in))]
+fn read_words(alloc: Global, words: &[&[u8]]) -> Result<Line, Unread>
+    ensures { Gives (λ line. line) result (said_in (texts words.now)) }
+{
+    match words {
+        [] => Err(Unread::Form),
+        [verb, rest @ ..] => said(alloc, verb_of(verb)?, rest),
+    }
+}
+
+#[tactic(auto, unfolding(crate::specs::Lines::said_by))]
+fn said(alloc: Global, verb: Verb, words: &[&[u8]]) -> Result<Line, Unread>
+    ensures { Gives (λ line. line) result (said_by verb (texts words.now)) }
+{
+    match verb {
+        Verb::Open => {
+            let (tab, url) = tab_and_url(alloc, words)?;
+            Ok(Line::Open { tab, url })
+        }
+        Verb::Start => start(alloc, words),
+        Verb::Stop => {
+            nothing(words)?;
+            Ok(Line::Stop)
+        }
+        Verb::Hello => Ok(Line::Hello {
+            tab: tab_alone(words)?,
+        }),
+        Verb::Kill => Ok(Line::Kill {
+            tab: tab_alone(words)?,
+        }),
+        Verb::Tell => Ok(Line::Tell {
+            tab: tab_alone(words)?,
+        }),
+        Verb::Ask => {
+            let (tab, mode, name) = tab_mode_name(alloc, words)?;
+            Ok(Line::Ask { tab, mode, name })
+        }
+        Verb::Probe => {
+            let (tab, mode, name) = tab_mode_name(alloc, words)?;
+            Ok(Line::Probe { tab, mode, name })
+        }
+        Verb::Query => Ok(Line::Query {
+            tab: tab_alone(words)?,
+        }),
+        Verb::Abort => {
+            let (tab, number) = tab_and_command(words)?;
+            Ok(Line::Abort { tab, number })
+        }
+        Verb::Release => {
+            let (tab, number) = tab_and_command(words)?;
+            Ok(Line::Release { tab, number })
+        }
+        Verb::Resend => Ok(Line::Resend {
+            tab: tab_alone(words)?,
+        }),
+        Verb::Deliver => Ok(Line::Deliver {
+            name: message_name(one(words)?)?,
+        }),
+        Verb::Channel => {
+            let (tab, name) = tab_and_name(alloc, words)?;
+            Ok(Line::Channel { tab, name })
+        }
+        Verb::Post => {
+            let (tab, channel, bytes) = tab_channel_data(alloc, words)?;
+            Ok(Line::Post {
+                tab,
+                channel,
+                bytes,
+            })
+        }
+        Verb::Read => {
+            let (tab, channel) = tab_and_channel(words)?;
+            Ok(Line::Read { tab, channel })
+        }
+        Verb::Close => {
+            let (tab, channel) = tab_and_channel(words)?;
+            Ok(Line::Close { tab, channel })
+        }
+        Verb::Show => {
+            nothing(words)?;
+            Ok(Line::Show)
+        }
+    }
+}
+
+// ---- the words after the verb
+
+fn nothing(words: &[&[u8]]) -> Result<(), Unread>
+    ensures { Gives (λ _. 0) result (none (texts words.now)) }
+{
+    match words {
+        [] => Ok(()),
+        _ => Err(Unread::Form),
+    }
+}
+
+fn one<'a>(words: &[&'a [u8]]) -> Result<&'a [u8], Unread>
+    ensures { Gives (λ x. x.now) result (one (texts words.now)) }
+{
+    match words {
+        [first] => Ok(first),
+        _ => Err(Unread::Form),
+    }
+}
+
+fn two<'a>(words: &[&'a [u8]]) -> Result<(&'a [u8], &'a [u8]), Unread>
+    ensures { Gives (λ x. (x.0.now, x.1.now)) result (two (texts words.now)) }
+{
+    match words {
+        [first, second] => Ok((first, second)),
+        _ => Err(Unread::Form),
+    }
+}
+
+fn three<'a>(words: &[&'a [u8]]) -> Result<(&'a [u8], &'a [u8], &'a [u8]), Unread>
+    ensures { Gives (λ x. (x.0.now, x.1.now, x.2.now)) result (three (texts words.now)) }
+{
+    match words {
+        [first, second, third] => Ok((first, second, third)),
+        _ => Err(Unread::Form),
+    }
+}
+
+#[tactic(auto, unfolding(crate::specs::Lines::tab_alone))]
+fn tab_alone(words: &[&[u8]]) -> Result<u16, Unread>
+    ensures { Gives (λ tab. tab) result (tab_alone (texts words.now)) }
+{
+    tab_of(one(words)?)
+}
+
+#[tactic(auto, unfolding(crate::specs::Lines::tab_and_url))]
+fn tab_and_url(alloc: Global, words: &[&[u8]]) -> Result<(u16, Name), Unread>
+    ensures { Gives (λ x. x) result (tab_and_url (texts words.now)) }
+{
+    let (tab, url) = two(words)?;
+    Ok((tab_of(tab)?, url_of(alloc, url)?))
+}
+
+#[tactic(auto, unfolding(crate::specs::Lines::tab_mode_name))]
+fn tab_mode_name(alloc: Global, words: &[&[u8]]) -> Result<(u16, Mode, Name), Unread>
+    ensures { Gives (λ x. x) result (tab_mode_name (texts words.now)) }
+{
+    let (tab, mode, name) = three(words)?;
+    Ok((tab_of(tab)?, mode_of(mode)?, name_of(alloc, name)?))
+}
+
+#[tactic(auto, unfolding(crate::specs::Lines::tab_and_name))]
+fn tab_and_name(alloc: Global, words: &[&[u8]]) -> Result<(u16, Name), Unread>
+    ensures { Gives (λ x. x) result (tab_and_name (texts words.now)) }
+{
+    let (tab, name) = two(words)?;
+    Ok((tab_of(tab)?, name_of(alloc, name)?))
+}
+
+#[tactic(auto, unfolding(crate::specs::Lines::tab_and_number))]
+fn tab_and_command(words: &[&[u8]]) -> Result<(u16, u32), Unread>
+    ensures { Gives (λ x. x) result (tab_and_number most_command (texts words.now)) }
+{
+    let (tab, number) = two(words)?;
+    Ok((tab_of(tab)?, command_of(number)?))
+}
+
+#[tactic(auto, unfolding(crate::specs::Lines::tab_and_number))]
+fn tab_and_channel(words: &[&[u8]]) -> Result<(u16, usize), Unread>
+    ensures { Gives (λ x. x) result (tab_and_number most_name (texts words.now)) }
+{
+    let (tab, channel) = two(words)?;
+    Ok((tab_of(tab)?, number_of(channel)? as usize))
+}
+
+#[tactic(auto, unfolding(crate::specs::Lines::tab_channel_data))]
+fn tab_channel_data(alloc: Global, words: &[&[u8]]) -> Result<(u16, usize, Bytes), Unread>
+    ensures { Gives (λ x. x) result (tab_channel_data (texts words.now)) }
+{
+    let (tab, channel, word) = three(words)?;
+    Ok((
+        tab_of(tab)?,
+        number_of(channel)? as usize,
+        data_of(alloc, word)?,
+    ))
+}
+
+/// All living tabs, none, or those given.
+#[tactic(auto, unfolding(crate::specs::Lines::start_at))]
+fn start(alloc: Global, words: &[&[u8]]) -> Result<Line, Unread>
+    ensures { Gives (λ line. line) result (start_at (texts words.now)) }
+{
+    match words {
+        [] => Ok(Line::StartAll),
+        [word] if *word == b"-".as_slice() => Ok(Line::Start(Sequence::new(Vec::new(alloc)))),
+        _ => Ok(Line::Start(tabs_of(alloc, words)?)),
+    }
+}
+
+fn tabs_of(alloc: Global, words: &[&[u8]]) -> Result<Sequence<u16>, Unread>
+    ensures { Gives (λ tabs. tabs) result (tabs_at (texts words.now)) }
+{
+    let mut tabs = Vec::new(alloc);
+    for word in words {
+        tabs.push(tab_of(word)?)?;
+    }
+    Ok(Sequence::new(tabs))
+}
+
+// ---- words
+
+fn has_leading_zero(word: &[u8]) -> bool
+    ensures { result ≡ leading_zero word.now }
+{
+    word.len() > 1 && word[0] == b'0'
+}
+
+/// A number; one above the greatest `u64` is read as that.
+fn number_of(word: &[u8]) -> Result<u64, Unread>
+    ensures { Gives (λ n. n) result (number_at most_name word.now) }
+{
+    if word.is_empty() {
+        return Err(Unread::Form);
+    }
+    if has_leading_zero(word) {
+        return Err(Unread::Form);
+    }
+    let mut number: u64 = 0;
+    for digit in word {
+        if !digit.is_ascii_digit() {
+            return Err(Unread::Form);
+        }
+        number = number
+            .saturating_mul(10)
+            .saturating_add(u64::from(*digit - b'0'));
+    }
+    Ok(number)
+}
+
+/// The number of a command; one above the greatest `u32` is read as that.
+fn command_of(word: &[u8]) -> Result<u32, Unread>
+    ensures { Gives (λ n. n) result (number_at most_command word.now) }
+{
+    let number = number_of(word)?;
+    Ok(number.min(u64::from(u32::MAX)) as u32)
+}
+
+#[tactic(auto, unfolding(crate::specs::Lines::tab_at))]
+fn tab_of(word: &[u8]) -> Result<u16, Unread>
+    ensures { Gives (λ n. n) result (tab_at word.now) }
+{
+    let number = number_of(word)?;
+    if number < 1 || number > 65_535 {
+        return Err(Unread::Form);
+    }
+    Ok(number as u16)
+}
+
+#[tactic(auto, unfolding(crate::specs::Lines::message_name_at))]
+fn message_name(word: &[u8]) -> Result<u64, Unread>
+    ensures { Gives (λ n. n) result (message_name_at word.now) }
+{
+    match word {
+        [b'm', number @ ..] => number_of(number),
+        _ => Err(Unread::Form),
+    }
+}
+
+#[tactic(auto, unfolding(crate::specs::Lines::mode_at))]
+fn mode_of(word: &[u8]) -> Result<Mode, Unread>
+    ensures { Gives (λ mode. mode) result (mode_at word.now) }
+{
+    if word == b"shared".as_slice() {
+        return Ok(Mode::Shared);
+    }
+    if word == b"exclusive".as_slice() {
+        return Ok(Mode::Exclusive);
+    }
+    Err(Unread::Form)
+}
+
+fn text_of(alloc: Global, text: &[u8]) -> Result<Name, Unread>
+    ensures { Gives (λ name. name) result (text_of text.now) }
+{
+    let text = str::from_utf8(text)?;
+    Ok(Name::new(String::from_str(alloc, text)?))
+}
+
+#[tactic(auto, unfolding(crate::specs::Lines::name_at))]
+fn name_of(alloc: Global, word: &[u8]) -> Result<Name, Unread>
+    ensures { Gives (λ name. name) result (name_at word.now) }
+{
+    let bytes = unescape(alloc, word)?;
+    text_of(alloc, bytes.as_slice())
+}
+
+#[tactic(auto, unfolding(crate::specs::Lines::url_at))]
+fn url_of(alloc: Global, word: &[u8]) -> Result<Name, Unread>
+    ensures { Gives (λ url. url) result (url_at word.now) }
+{
+    if word.is_empty() {
+        return Err(Unread::Form);
+    }
+    text_of(alloc, word)
+}
+
+fn data_of(alloc: Global, word: &[u8]) -> Result<Bytes, Unread>
+    ensures { Gives (λ bytes. bytes) result (unescaped word.now) }
+{
+    let bytes = unescape(alloc, word)?;
+    Ok(Bytes::copy_from_slice(alloc, bytes.as_slice())?)
+}

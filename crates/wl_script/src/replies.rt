@@ -1,0 +1,427 @@
+//! The text of replies. Each function appends to what was written before.
+
+ghost use Rattle.std.specs.Prelude.{◌≡◌, ◌++◌, OnOk, IfOk};
+ghost use Rattle.std.specs.List.{flat_map};
+ghost use Rattle.wl_origin.specs.Partition.{origin_text};
+ghost use Rattle.wl_script.specs.ReplyTexts.{sender_text, message_text, name_text, sent_text, refusal_text, reason_text, numbered, ended_text, letter_text, reached_text, heard_text, said_text, reply_text};
+
+use crate::messages::{put, put_downward, put_number, put_part, put_post, put_upward};
+use crate::snapshots::snapshot_json;
+use crate::words::put_word;
+use bytes::Bytes;
+use itoa::Buffer;
+use std::alloc::{AllocError, Global};
+use wl_agent::Snapshot;
+use wl_broadcast::Letter;
+use wl_origin::Partition;
+use wl_world::message::{Message, Sender};
+use wl_world::reply::{Ended, Reached, Reason, Refusal, Reply, Said, Sent};
+
+// ---- messages
+
+#[tactic(auto, unfolding(crate::specs::ReplyTexts::sender_text))]
+fn sender_word(sender: Sender) -> &'static str
+    ensures { result.now ≡ sender_text sender }
+{
+    match sender {
+        Sender::Kernel => "k>",
+        Sender::Broker => "b>",
+    }
+}
+
+/// A message with its ends.
+#[tactic(auto, unfolding(crate::specs::ReplyTexts::message_text))]
+pub fn put_message(out: &mut Vec<u8>, message: &Message) -> Result<(), AllocError>
+    ensures { OnOk result (out.new.items ≡ out.old.items ++ message_text message.now) }
+{
+    match message {
+        Message::Up(stamped) => {
+            put_number(out, u64::from(stamped.tab))?;
+            put(out, ">b ")?;
+            put_upward(out, &stamped.inner)
+        }
+        Message::Down { sender, addressed } => {
+            put(out, sender_word(*sender))?;
+            put_number(out, u64::from(addressed.tab))?;
+            put(out, " ")?;
+            put_downward(out, &addressed.inner)
+        }
+        Message::Across { tab, heard } => {
+            put_number(out, u64::from(heard.source))?;
+            put(out, ">")?;
+            put_number(out, u64::from(*tab))?;
+            put(out, " ")?;
+            put_post(out, heard)
+        }
+    }
+}
+
+/// The name of the message at a place of the bag.
+#[tactic(auto, unfolding(crate::specs::ReplyTexts::name_text))]
+fn put_name(out: &mut Vec<u8>, place: usize) -> Result<(), AllocError>
+    ensures { OnOk result (out.new.items ≡ out.old.items ++ name_text place) }
+{
+    put(out, "m")?;
+    let mut buffer = Buffer::new();
+    out.extend_from_slice(buffer.format(place as u128 + 1).as_bytes())
+}
+
+/// A message that was sent, or sent again.
+#[tactic(auto, unfolding(crate::specs::ReplyTexts::sent_text))]
+fn put_sent(out: &mut Vec<u8>, sent: &Sent) -> Result<(), AllocError>
+    ensures { OnOk result (out.new.items ≡ out.old.items ++ sent_text sent.now) }
+{
+    if !sent.is_new {
+        put(out, "again ")?;
+        put_name(out, sent.place)?;
+        return put(out, "\n");
+    }
+    put_name(out, sent.place)?;
+    put(out, " ")?;
+    put_message(out, &sent.message)?;
+    put(out, "\n")
+}
+
+fn put_all_sent(out: &mut Vec<u8>, sent: &[Sent]) -> Result<(), AllocError>
+    ensures { OnOk result (out.new.items ≡ out.old.items ++ flat_map sent_text sent.now) }
+{
+    for one in sent {
+        put_sent(out, one)?;
+    }
+    Ok(())
+}
+
+// ---- refusals and drops
+
+#[tactic(auto, unfolding(crate::specs::ReplyTexts::refusal_text))]
+fn put_refusal(out: &mut Vec<u8>, refusal: Refusal) -> Result<(), AllocError>
+    ensures { OnOk result (out.new.items ≡ out.old.items ++ refusal_text refusal) }
+{
+    match refusal {
+        Refusal::NoTab => put(out, "no tab"),
+        Refusal::NumberTaken => put(out, "NumberTaken"),
+        Refusal::TooManyLiving => put(out, "TooManyLiving"),
+        Refusal::PartitionFull => put(out, "PartitionFull"),
+        Refusal::AlreadyUp => put(out, "already up"),
+        Refusal::TooManyListed => put(out, "too many"),
+        Refusal::NotRising => put(out, "not rising"),
+        Refusal::Stranger(tab) => {
+            put(out, "stranger ")?;
+            put_number(out, u64::from(tab))
+        }
+        Refusal::Missing(tab) => {
+            put(out, "missing ")?;
+            put_number(out, u64::from(tab))
+        }
+        Refusal::AlreadyDown => put(out, "already down"),
+        Refusal::GenerationsUsedUp => put(out, "GenerationsUsedUp"),
+        Refusal::Down => put(out, "down"),
+        Refusal::Living => put(out, "living"),
+        Refusal::NotSupported => put(out, "NotSupportedError"),
+        Refusal::NameTooLong => put(out, "NameTooLong"),
+        Refusal::TooMany => put(out, "TooMany"),
+        Refusal::NumbersUsedUp => put(out, "NumbersUsedUp"),
+        Refusal::Held => put(out, "held"),
+        Refusal::Nothing => put(out, "nothing"),
+        Refusal::NoMessage => put(out, "no message"),
+        Refusal::TooManyChannels => put(out, "TooManyChannels"),
+        Refusal::NoChannel => put(out, "no channel"),
+        Refusal::InvalidState => put(out, "InvalidStateError"),
+        Refusal::DataTooLong => put(out, "DataTooLong"),
+        Refusal::PostsUsedUp => put(out, "PostsUsedUp"),
+    }
+}
+
+#[tactic(auto, unfolding(crate::specs::ReplyTexts::reason_text))]
+fn reason_words(reason: Reason) -> &'static str
+    ensures { result.now ≡ reason_text reason }
+{
+    match reason {
+        Reason::OldGeneration => "old generation",
+        Reason::LaterGeneration => "later generation",
+        Reason::Held => "held",
+        Reason::Over => "over",
+        Reason::Odd => "odd",
+        Reason::Twice => "twice",
+        Reason::DeadTab => "dead tab",
+        Reason::OldPost => "old post",
+        Reason::Down => "down",
+        Reason::NotJoined => "not joined",
+        Reason::Recovering => "recovering",
+        Reason::OutOfTurn => "out of turn",
+        Reason::AlreadyJoined => "already joined",
+        Reason::HeldByNewcomer => "held by newcomer",
+        Reason::BadReport => "bad report",
+        Reason::Misplaced => "misplaced",
+        Reason::TooMany => "too many",
+    }
+}
+
+// ---- what was said
+
+/// A line of a word and a number.
+fn put_numbered(out: &mut Vec<u8>, word: &str, number: u64) -> Result<(), AllocError>
+    ensures { OnOk result (out.new.items ≡ out.old.items ++ numbered word.now number) }
+{
+    put(out, word)?;
+    put(out, " ")?;
+    put_number(out, number)?;
+    put(out, "\n")
+}
+
+#[tactic(auto, unfolding(crate::specs::ReplyTexts::ended_text))]
+fn put_ended(out: &mut Vec<u8>, ended: Ended) -> Result<(), AllocError>
+    ensures { OnOk result (out.new.items ≡ out.old.items ++ ended_text ended) }
+{
+    match ended {
+        Ended::Null(number) => put_numbered(out, "null", u64::from(number)),
+        Ended::Lost(number) => put_numbered(out, "lost", u64::from(number)),
+    }
+}
+
+fn put_all_ended(out: &mut Vec<u8>, endings: &[Ended]) -> Result<(), AllocError>
+    ensures { OnOk result (out.new.items ≡ out.old.items ++ flat_map ended_text endings.now) }
+{
+    for ended in endings {
+        put_ended(out, *ended)?;
+    }
+    Ok(())
+}
+
+/// A post as its hearers know it.
+#[tactic(auto, unfolding(crate::specs::ReplyTexts::letter_text))]
+fn put_letter(out: &mut Vec<u8>, source: u16, number: u32, bytes: &[u8]) -> Result<(), AllocError>
+    ensures { OnOk result (out.new.items ≡ out.old.items ++ letter_text source number bytes.now) }
+{
+    put_number(out, u64::from(source))?;
+    put(out, "#")?;
+    put_number(out, u64::from(number))?;
+    put(out, " ")?;
+    put_word(out, bytes)
+}
+
+/// What became of a post at an object of the tab.
+#[tactic(auto, unfolding(crate::specs::ReplyTexts::reached_text))]
+fn put_reached(
+    out: &mut Vec<u8>,
+    tab: u16,
+    letter: &[u8],
+    reached: Reached,
+) -> Result<(), AllocError>
+    ensures { OnOk result (out.new.items ≡ out.old.items ++ reached_text tab letter.now reached) }
+{
+    put_number(out, u64::from(tab))?;
+    put(out, "*")?;
+    match reached {
+        Reached::Took(channel) => {
+            put_number(out, channel as u64)?;
+            put(out, " heard ")?;
+            out.extend_from_slice(letter)?;
+            put(out, "\n")
+        }
+        Reached::Full(channel) => {
+            put_number(out, channel as u64)?;
+            put(out, " full\n")
+        }
+    }
+}
+
+fn put_all_reached(
+    out: &mut Vec<u8>,
+    tab: u16,
+    letter: &[u8],
+    objects: &[Reached],
+) -> Result<(), AllocError>
+    ensures { OnOk result (out.new.items ≡ out.old.items ++ flat_map (reached_text tab letter.now) objects.now) }
+{
+    for reached in objects {
+        put_reached(out, tab, letter, *reached)?;
+    }
+    Ok(())
+}
+
+#[tactic(auto, unfolding(crate::specs::ReplyTexts::heard_text))]
+fn put_heard(
+    out: &mut Vec<u8>,
+    tab: u16,
+    letter: &[u8],
+    objects: &[Reached],
+) -> Result<(), AllocError>
+    ensures { OnOk result (out.new.items ≡ out.old.items ++ heard_text tab letter.now objects.now) }
+{
+    match objects {
+        [] => put(out, "heard none\n"),
+        _ => put_all_reached(out, tab, letter, objects),
+    }
+}
+
+fn letter_of(alloc: Global, source: u16, number: u32, bytes: &[u8]) -> Result<Vec<u8>, AllocError>
+    ensures { IfOk result (λ letter. letter.items ≡ letter_text source number bytes.now) }
+{
+    let mut letter = Vec::new(alloc);
+    put_letter(&mut letter, source, number, bytes)?;
+    Ok(letter)
+}
+
+#[tactic(auto, unfolding(crate::specs::ReplyTexts::said_text))]
+fn put_refused(out: &mut Vec<u8>, refusal: Refusal) -> Result<(), AllocError>
+    ensures { OnOk result (out.new.items ≡ out.old.items ++ said_text (Said.Refused refusal)) }
+{
+    put_refusal(out, refusal)?;
+    put(out, "\n")
+}
+
+#[tactic(auto, unfolding(crate::specs::ReplyTexts::said_text))]
+fn put_dropped(out: &mut Vec<u8>, reason: Reason) -> Result<(), AllocError>
+    ensures { OnOk result (out.new.items ≡ out.old.items ++ said_text (Said.Dropped reason)) }
+{
+    put(out, "dropped ")?;
+    put(out, reason_words(reason))?;
+    put(out, "\n")
+}
+
+#[tactic(auto, unfolding(crate::specs::ReplyTexts::said_text))]
+fn put_opened(out: &mut Vec<u8>, tab: u16, partition: &Partition) -> Result<(), AllocError>
+    ensures { OnOk result (out.new.items ≡ out.old.items ++ said_text (Said.Opened tab partition.now)) }
+{
+    put(out, "opened ")?;
+    put_number(out, u64::from(tab))?;
+    put(out, " ")?;
+    put(out, partition.text())?;
+    put(out, "\n")
+}
+
+#[tactic(auto, unfolding(crate::specs::ReplyTexts::said_text))]
+fn put_issued(out: &mut Vec<u8>, tab: u16, number: u32) -> Result<(), AllocError>
+    ensures { OnOk result (out.new.items ≡ out.old.items ++ said_text (Said.Issued tab number)) }
+{
+    put_number(out, u64::from(tab))?;
+    put(out, "#")?;
+    put_number(out, u64::from(number))?;
+    put(out, "\n")
+}
+
+#[tactic(auto, unfolding(crate::specs::ReplyTexts::said_text))]
+fn put_entered(out: &mut Vec<u8>, generation: u32, ended: &[Ended]) -> Result<(), AllocError>
+    ensures { OnOk result (out.new.items ≡ out.old.items ++ said_text (Said.Entered generation ended.now)) }
+{
+    put_numbered(out, "entered", u64::from(generation))?;
+    put_all_ended(out, ended)
+}
+
+#[tactic(auto, unfolding(crate::specs::ReplyTexts::said_text))]
+fn put_one_part(out: &mut Vec<u8>, part: u16, parts: u16) -> Result<(), AllocError>
+    ensures { OnOk result (out.new.items ≡ out.old.items ++ said_text (Said.Part part parts)) }
+{
+    put_part(out, part, parts)?;
+    put(out, "\n")
+}
+
+#[tactic(auto, unfolding(crate::specs::ReplyTexts::said_text))]
+fn put_whole(
+    alloc: Global,
+    out: &mut Vec<u8>,
+    number: u32,
+    snapshot: &Snapshot,
+) -> Result<(), AllocError>
+    ensures { OnOk result (out.new.items ≡ out.old.items ++ said_text (Said.Whole number snapshot.now)) }
+{
+    put_numbered(out, "whole", u64::from(number))?;
+    let json = snapshot_json(alloc, snapshot)?;
+    put(out, json.as_str())?;
+    put(out, "\n")
+}
+
+/// A post has come to the tab.
+#[tactic(auto, unfolding(crate::specs::ReplyTexts::said_text))]
+fn put_hearing(
+    alloc: Global,
+    out: &mut Vec<u8>,
+    tab: u16,
+    letter: &Letter,
+    objects: &[Reached],
+) -> Result<(), AllocError>
+    ensures { OnOk result (out.new.items ≡ out.old.items ++ said_text (Said.Heard tab letter.now objects.now)) }
+{
+    let letter = letter_of(alloc, letter.source, letter.number, &letter.bytes)?;
+    put_heard(out, tab, letter.as_slice(), objects)
+}
+
+/// The tab has posted.
+#[tactic(auto, unfolding(crate::specs::ReplyTexts::said_text))]
+fn put_posted(
+    alloc: Global,
+    out: &mut Vec<u8>,
+    tab: u16,
+    number: u32,
+    bytes: &Bytes,
+    objects: &[Reached],
+) -> Result<(), AllocError>
+    ensures { OnOk result (out.new.items
+        ≡ out.old.items ++ said_text (Said.Posted tab number bytes.now objects.now)) }
+{
+    let letter = letter_of(alloc, tab, number, bytes)?;
+    put_numbered(out, "post", u64::from(number))?;
+    put_all_reached(out, tab, letter.as_slice(), objects)
+}
+
+#[tactic(auto, unfolding(crate::specs::ReplyTexts::said_text))]
+fn put_read(out: &mut Vec<u8>, letter: &Letter) -> Result<(), AllocError>
+    ensures { OnOk result (out.new.items ≡ out.old.items ++ said_text (Said.Read letter.now)) }
+{
+    put(out, "read ")?;
+    put_letter(out, letter.source, letter.number, &letter.bytes)?;
+    put(out, "\n")
+}
+
+/// What an event did, the messages apart.
+#[tactic(auto, unfolding(crate::specs::ReplyTexts::said_text))]
+fn put_said(alloc: Global, out: &mut Vec<u8>, said: &Said) -> Result<(), AllocError>
+    ensures { OnOk result (out.new.items ≡ out.old.items ++ said_text said.now) }
+{
+    match said {
+        Said::Refused(refusal) => put_refused(out, *refusal),
+        Said::Dropped(reason) => put_dropped(out, *reason),
+        Said::Opened { tab, partition } => put_opened(out, *tab, partition),
+        Said::Started { generation } => put_numbered(out, "up", u64::from(*generation)),
+        Said::Stopped { generation } => put_numbered(out, "stopped", u64::from(*generation)),
+        Said::Greeted | Said::Resent | Said::Answered => Ok(()),
+        Said::Killed { tab } => put_numbered(out, "killed", u64::from(*tab)),
+        Said::Told { tab } => put_numbered(out, "told", u64::from(*tab)),
+        Said::Issued { tab, number } => put_issued(out, *tab, *number),
+        Said::Joined { tab } => put_numbered(out, "joined", u64::from(*tab)),
+        Said::Entered { generation, ended } => put_entered(out, *generation, ended.as_slice()),
+        Said::Granted(number) => put_numbered(out, "granted", u64::from(*number)),
+        Said::Waiting(number) => put_numbered(out, "waiting", u64::from(*number)),
+        Said::Null(number) => put_numbered(out, "null", u64::from(*number)),
+        Said::Lost(number) => put_numbered(out, "lost", u64::from(*number)),
+        Said::Taken(number) => put_numbered(out, "taken", u64::from(*number)),
+        Said::Part { part, parts } => put_one_part(out, *part, *parts),
+        Said::Whole { number, snapshot } => put_whole(alloc, out, *number, snapshot),
+        Said::Heard {
+            tab,
+            letter,
+            objects,
+        } => put_hearing(alloc, out, *tab, letter, objects.as_slice()),
+        Said::ChannelOpened { channel } => put_numbered(out, "channel", *channel as u64),
+        Said::Posted {
+            tab,
+            number,
+            bytes,
+            objects,
+        } => put_posted(alloc, out, *tab, *number, bytes, objects.as_slice()),
+        Said::Read(letter) => put_read(out, letter),
+        Said::Closed { channel } => put_numbered(out, "closed", *channel as u64),
+    }
+}
+
+// ---- replies
+
+/// The whole answer to one event, as lines.
+#[tactic(auto, unfolding(crate::specs::ReplyTexts::reply_text))]
+pub fn put_reply(alloc: Global, out: &mut Vec<u8>, reply: &Reply) -> Result<(), AllocError>
+    ensures { OnOk result (out.new.items ≡ out.old.items ++ reply_text reply.now) }
+{
+    put_said(alloc, out, &reply.said)?;
+    put_all_sent(out, reply.sent.as_slice())
+}

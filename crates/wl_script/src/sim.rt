@@ -1,0 +1,208 @@
+//! The sim: a script in, the replies out.
+
+ghost use Rattle.std.specs.Prelude.{◌≡◌, ◌↔◌, ◌+◌, ◌<◌, ℕ, List, length, true, false, Err, OnOk};
+ghost use Rattle.std.specs.Io.KnownBytes.{Appends, IsAtEnd};
+ghost use Rattle.wl_script.specs.declared.sim.SimFault.TheVariants.{Write as write_fault, Memory as memory};
+ghost use Rattle.wl_script.specs.Sim.{Runs};
+ghost use Rattle.wl_script.specs.SimSteps.{of_read, at_first, PlaysLine, Takes, Closes};
+
+use crate::play::play;
+use crate::reading::{LINE_LIMIT, read_line};
+use crate::unread::Unread;
+use std::alloc::{AllocError, AllocFailed, Global};
+use std::io::{Read, Write};
+use std::marker::Model;
+use thiserror::Error;
+use wl_frames::device::{READ_LIMIT, ReadFault, Sink, Source, WriteFault};
+use wl_world::world::World;
+
+/// How many bytes are read at once, at most.
+const PIECE_LEN: usize = 4096;
+
+/// Why the sim ended before its script did.
+#[derive(Clone, Copy, Debug, PartialEq, Eq, Error)]
+pub enum SimFault {
+    /// The line of this number, counted from 1, is of another form.
+    #[error("line {0}")]
+    Line(u32),
+    /// The reader failed.
+    #[error("Read")]
+    Read,
+    /// The writer failed.
+    #[error("Write")]
+    Write,
+    /// The reader was read as often as it may be.
+    #[error("TooManyReads")]
+    TooManyReads,
+    /// Memory was refused.
+    #[error("Memory")]
+    Memory,
+}
+
+impl From<ReadFault> for SimFault {
+    ghost from_gives = { λ fault e. e ≡ of_read fault };
+
+    fn from(fault: ReadFault) -> SimFault {
+        match fault {
+            ReadFault::Failed => SimFault::Read,
+            ReadFault::TooManyReads => SimFault::TooManyReads,
+        }
+    }
+}
+
+impl From<WriteFault> for SimFault {
+    ghost from_gives = { λ _ e. e ≡ write_fault };
+
+    fn from(_fault: WriteFault) -> SimFault {
+        SimFault::Write
+    }
+}
+
+impl From<AllocError> for SimFault {
+    ghost from_gives = { λ _ e. e ≡ memory };
+
+    fn from(_fault: AllocError) -> SimFault {
+        SimFault::Memory
+    }
+}
+
+impl<T: Drop> From<AllocFailed<T>> for SimFault {
+    ghost from_gives = { λ _ e. e ≡ memory };
+
+    fn from(_fault: AllocFailed<T>) -> SimFault {
+        SimFault::Memory
+    }
+}
+
+/// A script as far as it was read: the world, and the line that is not whole yet with its number, counted from 1.
+#[derive(Drop)]
+struct Sim {
+    world: World,
+    number: u32,
+    text: Vec<u8>,
+}
+
+impl Model for Sim {
+    ghost use Rattle.wl_script.specs.SimSteps.{SimState};
+
+    ghost Value = { SimState };
+
+    ghost view = { λ s. record { world = s.world.world; number = s.number; text = s.text.items } };
+}
+
+impl Sim {
+    fn new(alloc: Global) -> Sim
+        ensures { result ≡ at_first }
+    {
+        Sim {
+            world: World::new(alloc),
+            number: 1,
+            text: Vec::new(alloc),
+        }
+    }
+
+    /// Reads a piece of the script, and plays the lines that end in it.
+    fn take_piece<W: Write>(
+        self,
+        alloc: Global,
+        piece: &[u8],
+        sink: &mut Sink<W>,
+    ) -> Result<Sim, SimFault>
+        requires number { self.number + length piece.now < 4294967296 }
+        requires sink { sink.old.has_failed ≡ false }
+        ensures taken { (output : List ℕ) × Appends (W.contents sink.old.writer) (W.contents sink.new.writer) output
+            × Takes self piece.now result output }
+        ensures write { (result ≡ Err SimFault.Write) ↔ (sink.new.has_failed ≡ true) }
+    {
+        let Sim {
+            mut world,
+            mut number,
+            mut text,
+        } = self;
+        for byte in piece {
+            if *byte == b'\n' {
+                world = play_line(alloc, world, number, text.as_slice(), sink)?;
+                number += 1;
+                text.clear();
+            } else if text.len() >= LINE_LIMIT {
+                return Err(SimFault::Line(number));
+            } else {
+                text.push(*byte)?;
+            }
+        }
+        Ok(Sim {
+            world,
+            number,
+            text,
+        })
+    }
+
+    /// The script has ended: what has come of the last line is all of it.
+    fn end<W: Write>(self, alloc: Global, sink: &mut Sink<W>) -> Result<(), SimFault>
+        requires sink { sink.old.has_failed ≡ false }
+        ensures closed { (output : List ℕ) × Appends (W.contents sink.old.writer) (W.contents sink.new.writer) output
+            × Closes self result output }
+        ensures write { (result ≡ Err SimFault.Write) ↔ (sink.new.has_failed ≡ true) }
+    {
+        play_line(alloc, self.world, self.number, self.text.as_slice(), sink)?;
+        Ok(())
+    }
+}
+
+/// Plays a whole line, and writes what is due for it.
+fn play_line<W: Write>(
+    alloc: Global,
+    world: World,
+    number: u32,
+    text: &[u8],
+    sink: &mut Sink<W>,
+) -> Result<World, SimFault>
+    requires sink { sink.old.has_failed ≡ false }
+    ensures played { (output : List ℕ) × Appends (W.contents sink.old.writer) (W.contents sink.new.writer) output
+        × PlaysLine number world.world text.now result output }
+    ensures write { (result ≡ Err SimFault.Write) ↔ (sink.new.has_failed ≡ true) }
+{
+    let line = match read_line(alloc, text) {
+        Ok(line) => line,
+        Err(Unread::Form) => return Err(SimFault::Line(number)),
+        Err(Unread::Memory) => return Err(SimFault::Memory),
+    };
+    let mut out = Vec::new(alloc);
+    let world = play(alloc, world, line, &mut out)?;
+    sink.write(out.as_slice())?;
+    Ok(world)
+}
+
+/// Plays a script: reads its lines, and writes the reply to each as it is made, up to the end of the script, the first line
+/// of another form or the first fault.
+pub fn sim_run<R: Read, W: Write>(
+    alloc: Global,
+    source: &mut Source<R>,
+    sink: &mut Sink<W>,
+) -> Result<(), SimFault>
+    requires source { source.old.has_failed ≡ false }
+    requires reads { source.old.reads ≡ 0 }
+    requires sink { sink.old.has_failed ≡ false }
+
+    // What is written is the text of the replies to the lines that were read, and nothing else.
+    ensures runs { Runs (R.remaining source.old.reader) (R.remaining source.new.reader)
+        (W.contents sink.old.writer) (W.contents sink.new.writer) result }
+    ensures end { OnOk result (IsAtEnd (R.remaining source.new.reader)) }
+
+    // A fault of a device comes exactly where that device failed.
+    ensures read { (result ≡ Err SimFault.Read) ↔ (source.new.has_failed ≡ true) }
+    ensures write { (result ≡ Err SimFault.Write) ↔ (sink.new.has_failed ≡ true) }
+    ensures limit { result ≡ Err SimFault.TooManyReads → source.new.reads ≡ 1000000 }
+{
+    let mut sim = Sim::new(alloc);
+    let mut buffer = [0; PIECE_LEN];
+    // A loop is proved to end, so this one counts the reads too.
+    for _reads in 0..READ_LIMIT {
+        let n = source.read(&mut buffer)?;
+        if n == 0 {
+            return sim.end(alloc, sink);
+        }
+        sim = sim.take_piece(alloc, &buffer[..n], sink)?;
+    }
+    Err(SimFault::TooManyReads)
+}

@@ -1,0 +1,71 @@
+//! The first word of a line.
+
+ghost use Rattle.wl_script.specs.Lines.{value_of, verb_at, shown};
+ghost use Rattle.wl_script.specs.Words.{Gives};
+
+use crate::unread::Unread;
+
+/// What a line asks for.
+#[derive(Clone, Copy, Debug, PartialEq, Eq)]
+pub enum Verb {
+    Open,
+    Start,
+    Stop,
+    Hello,
+    Kill,
+    Tell,
+    Ask,
+    Probe,
+    Query,
+    Abort,
+    Release,
+    Resend,
+    Deliver,
+    Channel,
+    Post,
+    Read,
+    Close,
+    Show,
+}
+
+/// Each verb and its word.
+const VERBS: [(&'static str, Verb); 18] = [
+    ("open", Verb::Open),
+    ("start", Verb::Start),
+    ("stop", Verb::Stop),
+    ("hello", Verb::Hello),
+    ("kill", Verb::Kill),
+    ("tell", Verb::Tell),
+    ("ask", Verb::Ask),
+    ("probe", Verb::Probe),
+    ("query", Verb::Query),
+    ("abort", Verb::Abort),
+    ("release", Verb::Release),
+    ("resend", Verb::Resend),
+    ("deliver", Verb::Deliver),
+    ("channel", Verb::Channel),
+    ("post", Verb::Post),
+    ("read", Verb::Read),
+    ("close", Verb::Close),
+    ("show", Verb::Show),
+];
+
+/// The verb of a word.
+#[tactic(auto, unfolding(crate::specs::Lines::verb_at))]
+pub(crate) fn verb_of(word: &[u8]) -> Result<Verb, Unread>
+    ensures { Gives (λ verb. verb) result (verb_at word.now) }
+{
+    find(&VERBS, word)
+}
+
+/// The verb of a word, in a table.
+fn find(rows: &[(&'static str, Verb)], word: &[u8]) -> Result<Verb, Unread>
+    ensures { Gives (λ verb. verb) result (value_of (shown rows.now) word.now) }
+{
+    for (text, verb) in rows {
+        if text.as_bytes() == word {
+            return Ok(*verb);
+        }
+    }
+    Err(Unread::Form)
+}
