@@ -1,8 +1,10 @@
-"""Feeds the frames of an example file to `wlb desk`, and prints what goes in and what comes out, a frame a line.
+"""Shows `wlb` at work on an example file.
 
 usage: demo.py EXAMPLE PROGRAM
 
-An example file has hexadecimal digits; what stands behind `#` is a comment.
+A script (NAME.sim) is played line by line: each line behind `>`, and under it what `wlb sim` prints for it. Any other example
+has the frames for `wlb desk` as hexadecimal digits, and what stands behind `#` is a comment: it prints what goes in and what
+comes out, a frame a line, with what each means.
 """
 
 import subprocess
@@ -106,14 +108,33 @@ def show(title, stream):
         print(f"    {meaning(Body(frame[4:]))}")
 
 
-def main():
-    example, program = sys.argv[1:]
+def play(example, program):
+    """Each line with what it adds to the output: a script is answered line by line, so a front of it prints a front."""
+    with open(example, "rb") as script:
+        lines = script.read().splitlines(keepends=True)
+    printed, done = b"", None
+    for count, line in enumerate(lines, 1):
+        done = subprocess.run([program, "sim"], input=b"".join(lines[:count]), capture_output=True, check=False)
+        text = line.decode().rstrip("\n")
+        print(f"> {text}" if text and not text.startswith("#") else text)
+        print(done.stdout[len(printed) :].decode(), end="")
+        printed = done.stdout
+    return done
+
+
+def converse(example, program):
     with open(example, encoding="utf-8") as lines:
         digits = "".join(line.split("#")[0] for line in lines)
     given = bytes.fromhex("".join(digits.split()))
     show("In:", given)
     done = subprocess.run([program, "desk"], input=given, capture_output=True, check=False)
     show("Out:", done.stdout)
+    return done
+
+
+def main():
+    example, program = sys.argv[1:]
+    done = play(example, program) if example.endswith(".sim") else converse(example, program)
     if done.stderr:
         print(done.stderr.decode(), end="")
     print(f"status {done.returncode}")

@@ -10,6 +10,8 @@ use std::alloc::AllocError;
 pub enum Line {
     /// Run a broker between standard input and standard output.
     Desk,
+    /// Play a script from standard input, and print the replies.
+    Sim,
 }
 
 /// Why the words are no command.

@@ -8,7 +8,9 @@ mod words;
 
 use command::{Line, LineFault};
 use std::process::ExitCode;
-use wl_workers::{DeskFault, Sink, Source, desk_run};
+use wl_frames::device::{Sink, Source};
+use wl_script::sim::{SimFault, sim_run};
+use wl_workers::{DeskFault, desk_run};
 
 /// What is wrong with the input; the command line; a device or memory.
 const REFUSED_INPUT: u8 = 1;
@@ -34,6 +36,14 @@ fn main(rt: HostRuntime) -> ExitCode {
                 Err(fault) => failed(&rt, fault, desk_status(fault)),
             }
         }
+        Ok(Line::Sim) => {
+            let mut source = Source::new(rt.stdin());
+            let mut sink = Sink::new(rt.stdout());
+            match sim_run(alloc, &mut source, &mut sink) {
+                Ok(()) => ExitCode::SUCCESS,
+                Err(fault) => failed(&rt, fault, sim_status(fault)),
+            }
+        }
         Err(LineFault::Usage(text)) => {
             let _ = eprint!(rt; "{text}");
             ExitCode::from(USAGE)
@@ -52,5 +62,12 @@ fn desk_status(fault: DeskFault) -> u8 {
     match fault {
         DeskFault::Frame(_) | DeskFault::Unexpected | DeskFault::TooManyReads => REFUSED_INPUT,
         DeskFault::Read | DeskFault::Write | DeskFault::Memory => DEVICE_OR_MEMORY,
+    }
+}
+
+fn sim_status(fault: SimFault) -> u8 {
+    match fault {
+        SimFault::Line(_) | SimFault::TooManyReads => REFUSED_INPUT,
+        SimFault::Read | SimFault::Write | SimFault::Memory => DEVICE_OR_MEMORY,
     }
 }

@@ -3,8 +3,11 @@
 
 mod agent;
 mod broadcast;
+mod broker;
 mod desk;
 mod draft;
 mod frames;
 mod kernel;
 mod origin;
+mod script;
+mod world;

@@ -1,6 +1,6 @@
 mod devices;
-mod fakes;
-mod rows;
+pub mod fakes;
+pub mod rows;
 
 use fakes::{SlowReader, SlowWriter};
 use rows::{FIRST_GRANT, Row};
@@ -11,7 +11,7 @@ use wl_frames::FrameFault;
 use wl_workers::{DeskFault, Sink, Source, desk_run};
 
 /// The bytes that the hexadecimal digits of these lines spell.
-fn bytes_of(alloc: Global, lines: &[&str]) -> Result<Vec<u8>, AllocError> {
+pub fn bytes_of(alloc: Global, lines: &[&str]) -> Result<Vec<u8>, AllocError> {
     let mut bytes = Vec::new(alloc);
     let mut high = None;
     for line in lines {

@@ -1,0 +1,325 @@
+// Scripts through the sim.
+mod rows;
+mod texts;
+
+use crate::tests::desk::fakes::{SlowReader, SlowWriter};
+use rows::{JOINED_1, Row, Step};
+use std::alloc::{AllocError, Global};
+use std::process::Abort;
+use std::test::Fail;
+use wl_frames::device::{Sink, Source};
+use wl_script::sim::{SimFault, sim_run};
+
+/// A script, and what is due for it.
+#[derive(Drop)]
+struct Play {
+    script: Vec<u8>,
+    output: Vec<u8>,
+}
+
+impl Play {
+    fn new(alloc: Global) -> Play {
+        Play {
+            script: Vec::new(alloc),
+            output: Vec::new(alloc),
+        }
+    }
+
+    /// One more line, and what is written for it.
+    fn line(&mut self, line: &str, replies: &[&str]) -> Result<(), AllocError> {
+        self.script.extend_from_slice(line.as_bytes())?;
+        self.script.extend_from_slice(b"\n")?;
+        for reply in replies {
+            self.output.extend_from_slice(reply.as_bytes())?;
+            self.output.extend_from_slice(b"\n")?;
+        }
+        Ok(())
+    }
+
+    fn steps(&mut self, steps: &[Step]) -> Result<(), AllocError> {
+        for (line, replies) in steps {
+            self.line(line, replies)?;
+        }
+        Ok(())
+    }
+
+    fn expect(&self, rt: &impl Abort, alloc: Global, name: &str) {
+        let (script, output) = (self.script.as_slice(), self.output.as_slice());
+        expect(rt, alloc, script, Ok(()), output, name);
+    }
+}
+
+/// Plays a script, and compares how it ends and what is written.
+fn expect(
+    rt: &impl Abort,
+    alloc: Global,
+    script: &[u8],
+    end: Result<(), SimFault>,
+    output: &[u8],
+    name: &str,
+) {
+    let mut source = Source::new(script);
+    let mut written = Vec::new(alloc);
+    let mut sink = Sink::new(&mut written);
+    assert_eq!(rt; sim_run(alloc, &mut source, &mut sink), end, "{name}");
+    assert_eq!(rt; written.as_slice(), output, "{name}");
+}
+
+fn expect_row(rt: &impl Abort, alloc: Global, row: &Row) -> Result<(), Fail> {
+    let mut play = Play::new(alloc);
+    for part in row.parts {
+        play.steps(part)?;
+    }
+    play.expect(rt, alloc, row.name);
+    Ok(())
+}
+
+#[test]
+fn shared_then_exclusive(rt: HostRuntime) -> Result<(), Fail> {
+    expect_row(&rt, rt.alloc(), &rows::SHARED_THEN_EXCLUSIVE)
+}
+
+#[test]
+fn probe_behind_queue(rt: HostRuntime) -> Result<(), Fail> {
+    expect_row(&rt, rt.alloc(), &rows::PROBE_BEHIND_QUEUE)
+}
+
+#[test]
+fn abort_unblocks(rt: HostRuntime) -> Result<(), Fail> {
+    expect_row(&rt, rt.alloc(), &rows::ABORT_UNBLOCKS)
+}
+
+#[test]
+fn release_hands_over(rt: HostRuntime) -> Result<(), Fail> {
+    expect_row(&rt, rt.alloc(), &rows::RELEASE_HANDS_OVER)
+}
+
+#[test]
+fn late_grant_after_abort(rt: HostRuntime) -> Result<(), Fail> {
+    expect_row(&rt, rt.alloc(), &rows::LATE_GRANT_AFTER_ABORT)
+}
+
+#[test]
+fn repeated_request(rt: HostRuntime) -> Result<(), Fail> {
+    expect_row(&rt, rt.alloc(), &rows::REPEATED_REQUEST)
+}
+
+#[test]
+fn restart_while_asked(rt: HostRuntime) -> Result<(), Fail> {
+    expect_row(&rt, rt.alloc(), &rows::RESTART_WHILE_ASKED)
+}
+
+#[test]
+fn restart_while_held(rt: HostRuntime) -> Result<(), Fail> {
+    expect_row(&rt, rt.alloc(), &rows::RESTART_WHILE_HELD)
+}
+
+#[test]
+fn death_hands_over(rt: HostRuntime) -> Result<(), Fail> {
+    expect_row(&rt, rt.alloc(), &rows::DEATH_HANDS_OVER)
+}
+
+#[test]
+fn other_origin_unblocked(rt: HostRuntime) -> Result<(), Fail> {
+    expect_row(&rt, rt.alloc(), &rows::OTHER_ORIGIN_UNBLOCKED)
+}
+
+#[test]
+fn origins_apart(rt: HostRuntime) -> Result<(), Fail> {
+    expect_row(&rt, rt.alloc(), &rows::ORIGINS_APART)
+}
+
+#[test]
+fn snapshot(rt: HostRuntime) -> Result<(), Fail> {
+    expect_row(&rt, rt.alloc(), &rows::SNAPSHOT)
+}
+
+#[test]
+fn missing_tab(rt: HostRuntime) -> Result<(), Fail> {
+    expect_row(&rt, rt.alloc(), &rows::MISSING_TAB)
+}
+
+#[test]
+fn out_of_turn(rt: HostRuntime) -> Result<(), Fail> {
+    expect_row(&rt, rt.alloc(), &rows::OUT_OF_TURN)
+}
+
+#[test]
+fn broadcast(rt: HostRuntime) -> Result<(), Fail> {
+    expect_row(&rt, rt.alloc(), &rows::BROADCAST)
+}
+
+#[test]
+fn resend_all(rt: HostRuntime) -> Result<(), Fail> {
+    expect_row(&rt, rt.alloc(), &rows::RESEND_ALL)
+}
+
+#[test]
+fn recovery_waits_for_the_listed(rt: HostRuntime) -> Result<(), Fail> {
+    expect_row(&rt, rt.alloc(), &rows::RECOVERY_WAITS_FOR_THE_LISTED)
+}
+
+#[test]
+fn generation_ends_probes_and_queries(rt: HostRuntime) -> Result<(), Fail> {
+    expect_row(&rt, rt.alloc(), &rows::GENERATION_ENDS_PROBES_AND_QUERIES)
+}
+
+#[test]
+fn posts_in_order(rt: HostRuntime) -> Result<(), Fail> {
+    expect_row(&rt, rt.alloc(), &rows::POSTS_IN_ORDER)
+}
+
+#[test]
+fn origin_alone(rt: HostRuntime) -> Result<(), Fail> {
+    expect_row(&rt, rt.alloc(), &rows::ORIGIN_ALONE)
+}
+
+#[test]
+fn each_refusal(rt: HostRuntime) -> Result<(), Fail> {
+    expect_row(&rt, rt.alloc(), &rows::EACH_REFUSAL)
+}
+
+fn letters(alloc: Global, count: usize) -> Result<String, AllocError> {
+    let mut text = String::new(alloc);
+    for _ in 0..count {
+        text.push('n')?;
+    }
+    Ok(text)
+}
+
+#[test]
+fn refusals(rt: HostRuntime) -> Result<(), Fail> {
+    let alloc = rt.alloc();
+    let mut play = Play::new(alloc);
+    play.steps(JOINED_1)?;
+    play.line("ask 1 exclusive -x", &["NotSupportedError"])?;
+    let asked = ["1#0", "m3 1>b gen 1 #0 request exclusive %"];
+    play.line("ask 1 exclusive %", &asked)?;
+    let name = letters(alloc, 255)?;
+    let line = format!(in alloc; "ask 1 shared {name}")?;
+    let message = format!(in alloc; "m4 1>b gen 1 #1 request shared {name}")?;
+    play.line(line.as_str(), &["1#1", message.as_str()])?;
+    let line = format!(in alloc; "ask 1 shared {name}n")?;
+    play.line(line.as_str(), &["NameTooLong"])?;
+    for number in 2..64_u32 {
+        let place = number + 3;
+        let issued = format!(in alloc; "1#{number}")?;
+        let message = format!(in alloc; "m{place} 1>b gen 1 #{number} request shared b")?;
+        play.line("ask 1 shared b", &[issued.as_str(), message.as_str()])?;
+    }
+    play.line("ask 1 shared b", &["TooMany"])?;
+    play.line("abort 1 0", &["1#64", "m67 1>b gen 1 #64 abort 0"])?;
+    let asked = ["1#65", "m68 1>b gen 1 #65 request shared b"];
+    play.line("ask 1 shared b", &asked)?;
+    play.expect(&rt, alloc, "refusals");
+    Ok(())
+}
+
+#[test]
+fn a_full_inbox(rt: HostRuntime) -> Result<(), Fail> {
+    let alloc = rt.alloc();
+    let mut play = Play::new(alloc);
+    play.line("open 1 https://a.test/", &["opened 1 https://a.test"])?;
+    play.line("open 2 https://a.test/", &["opened 2 https://a.test"])?;
+    play.line("channel 1 n", &["channel 0"])?;
+    play.line("channel 2 n", &["channel 0"])?;
+    for number in 0..256_u32 {
+        let place = number + 1;
+        let posted = format!(in alloc; "post {number}")?;
+        let message = format!(in alloc; "m{place} 1>2 post {number} n x")?;
+        play.line("post 1 0 x", &[posted.as_str(), message.as_str()])?;
+        let line = format!(in alloc; "deliver m{place}")?;
+        let heard = format!(in alloc; "2*0 heard 1#{number} x")?;
+        play.line(line.as_str(), &[heard.as_str()])?;
+    }
+    play.line("post 1 0 x", &["post 256", "m257 1>2 post 256 n x"])?;
+    play.line("deliver m257", &["2*0 full"])?;
+    play.line("deliver m257", &["dropped old post"])?;
+    play.line("read 2 0", &["read 1#0 x"])?;
+    play.line("read 1 0", &["nothing"])?;
+    play.expect(&rt, alloc, "a full inbox");
+    Ok(())
+}
+
+// ---- how a run ends
+
+#[test]
+fn lines_of_other_forms(rt: HostRuntime) {
+    let cases: [(&[u8], u32, &[u8]); 6] = [
+        (b"stop\n# a comment\n\nstopp\nstop\n", 4, b"already down\n"),
+        (b"stop \nstop\n", 1, b""),
+        (b"stop\r\n", 1, b""),
+        (b"stop\nstart 0", 2, b"already down\n"),
+        (
+            b"stop\nopen2 1 https://a.test/ https://a.test/\n",
+            2,
+            b"already down\n",
+        ),
+        (b"ask 1 shared %FF\n", 1, b""),
+    ];
+    for (script, number, output) in cases {
+        let end = Err(SimFault::Line(number));
+        expect(&rt, rt.alloc(), script, end, output, "another form");
+    }
+}
+
+#[test]
+fn the_last_line_may_lack_its_feed(rt: HostRuntime) {
+    let output = b"already down\nnothing held\n".as_slice();
+    for script in [b"stop\nshow\n".as_slice(), b"stop\nshow".as_slice()] {
+        expect(&rt, rt.alloc(), script, Ok(()), output, "two lines");
+    }
+    expect(&rt, rt.alloc(), b"", Ok(()), b"", "no line");
+}
+
+#[test]
+fn a_line_that_is_too_long(rt: HostRuntime) -> Result<(), Fail> {
+    let mut script = Vec::new(rt.alloc());
+    script.extend_from_slice(b"stop\n")?;
+    for _ in 0..65_536 {
+        script.push(b'#')?;
+    }
+    let output = b"already down\n".as_slice();
+    expect(&rt, rt.alloc(), script.as_slice(), Ok(()), output, "long");
+    // Whatever comes behind.
+    script.extend_from_slice(b"#\nstop\n")?;
+    let end = Err(SimFault::Line(2));
+    expect(&rt, rt.alloc(), script.as_slice(), end, output, "too long");
+    Ok(())
+}
+
+#[test]
+fn a_reader_that_fails(rt: HostRuntime) {
+    let script = b"stop\nstop".as_slice();
+    let due = b"already down\nalready down\n".as_slice();
+    for reads in 0..11 {
+        let mut source = Source::new(SlowReader::new(script, reads));
+        let mut written = Vec::new(rt.alloc());
+        let end = sim_run(rt.alloc(), &mut source, &mut Sink::new(&mut written));
+        let (expected, output) = match reads {
+            0..=4 => (Err(SimFault::Read), &due[..0]),
+            5..=9 => (Err(SimFault::Read), &due[..13]),
+            _ => (Ok(()), due),
+        };
+        assert_eq!(rt; end, expected, "after {reads} reads");
+        assert_eq!(rt; written.as_slice(), output, "after {reads} reads");
+    }
+}
+
+#[test]
+fn a_writer_that_fails(rt: HostRuntime) {
+    let script = b"stop\nstop\n".as_slice();
+    let due = b"already down\nalready down\n".as_slice();
+    for writes in 0..28 {
+        let mut writer = SlowWriter::new(writes);
+        let mut source = Source::new(script);
+        let end = sim_run(rt.alloc(), &mut source, &mut Sink::new(&mut writer));
+        if writes < due.len() {
+            assert_eq!(rt; end, Err(SimFault::Write), "after {writes} writes");
+            assert_eq!(rt; writer.taken(), &due[..writes]);
+        } else {
+            assert_eq!(rt; end, Ok(()), "after {writes} writes");
+            assert_eq!(rt; writer.taken(), due);
+        }
+    }
+}

@@ -1,0 +1,267 @@
+// Words, lines that are refused, and the texts of messages. The rows have each form of a line.
+use bytes::Bytes;
+use std::alloc::{AllocError, Global};
+use std::test::Fail;
+use wl_frames::{
+    Addressed, Answer, Command, Downward, Entry, Heard, Hello, Mode, Name, Operation, Outcome,
+    Report, Sequence, Snapshot, SnapshotEntry, Stamped, Upward,
+};
+use wl_script::line::Line;
+use wl_script::reading::read_line;
+use wl_script::replies::put_message;
+use wl_script::unread::Unread;
+use wl_script::words::{put_word, unescape};
+use wl_world::message::{Message, Sender};
+
+#[test]
+fn words(rt: HostRuntime) -> Result<(), Fail> {
+    let cases = [
+        ("", "%"),
+        ("a", "a"),
+        ("!~-", "!~-"),
+        ("a b", "a%20b"),
+        ("%", "%25"),
+        ("\n", "%0A"),
+        ("\u{7f}", "%7F"),
+        ("é", "%C3%A9"),
+    ];
+    for (text, word) in cases {
+        let mut out = Vec::new(rt.alloc());
+        put_word(&mut out, text.as_bytes())?;
+        assert_eq!(rt; out.as_slice(), word.as_bytes(), "of {text}");
+        let back = unescape(rt.alloc(), word.as_bytes());
+        assert!(rt;
+            matches!(&back, Ok(bytes) if bytes.as_slice() == text.as_bytes()),
+            "of {word}"
+        );
+    }
+    Ok(())
+}
+
+#[test]
+fn other_spellings(rt: HostRuntime) {
+    // No word; one digit; a byte that stands for itself; lower case; bytes that do not stand for themselves; `%` alone
+    // within a word.
+    for word in ["", "%2", "%41", "%c3%a9", "a b", "é", "a%", "%%", "%G0"] {
+        let read = unescape(rt.alloc(), word.as_bytes());
+        assert!(rt; matches!(&read, Err(Unread::Form)), "of {word}");
+    }
+}
+
+#[test]
+fn other_forms(rt: HostRuntime) {
+    let cases = [
+        " ",
+        "show ",
+        " show",
+        "Show",
+        "shows",
+        "hello",
+        "hello  1",
+        "hello 0",
+        "hello 01",
+        "hello 65536",
+        "hello +1",
+        "hello 1 2",
+        "kill x",
+        "start - 1",
+        "start 1 -",
+        "open 1",
+        "open 1 ",
+        "ask 1 both a",
+        "ask 1 shared",
+        "ask 1 shared a b",
+        "ask 1 shared %FF",
+        "abort 1 -1",
+        "deliver 1",
+        "deliver m",
+        "deliver M1",
+        "deliver m01",
+        "post 1 0",
+        "show\r",
+    ];
+    for text in cases {
+        let read = read_line(rt.alloc(), text.as_bytes());
+        assert!(rt; matches!(&read, Err(Unread::Form)), "of {text}");
+    }
+    let not_utf8 = read_line(rt.alloc(), b"open 1 \xff");
+    assert!(rt; matches!(&not_utf8, Err(Unread::Form)));
+}
+
+#[test]
+fn a_line_of_65536_and_of_65537_bytes(rt: HostRuntime) -> Result<(), Fail> {
+    let mut text = Vec::new(rt.alloc());
+    for _ in 0..65_536 {
+        text.push(b'#')?;
+    }
+    let read = read_line(rt.alloc(), text.as_slice());
+    assert!(rt; matches!(&read, Ok(Line::Blank)));
+    text.push(b'#')?;
+    let read = read_line(rt.alloc(), text.as_slice());
+    assert!(rt; matches!(&read, Err(Unread::Form)));
+    Ok(())
+}
+
+fn name(alloc: Global, text: &str) -> Result<Name, AllocError> {
+    Ok(Name::new(String::from_str(alloc, text)?))
+}
+
+#[test]
+fn upward(rt: HostRuntime) -> Result<(), Fail> {
+    let alloc = rt.alloc();
+    let sent = |inner| {
+        Message::Up(Stamped {
+            tab: 2,
+            partition: 1,
+            inner,
+        })
+    };
+    let command = |number, operation| {
+        sent(Upward::Command(Command {
+            generation: 1,
+            number,
+            operation,
+        }))
+    };
+    let entries = vec![in alloc;
+        Entry {
+            number: 0,
+            held: false,
+            mode: Mode::Exclusive,
+            name: name(alloc, "a")?,
+        },
+    ]?;
+    let cases = [
+        (
+            command(
+                0,
+                Operation::Request {
+                    mode: Mode::Shared,
+                    if_available: false,
+                    name: name(alloc, "a")?,
+                },
+            ),
+            "2>b gen 1 #0 request shared a",
+        ),
+        (
+            command(
+                0,
+                Operation::Request {
+                    mode: Mode::Exclusive,
+                    if_available: true,
+                    name: name(alloc, "")?,
+                },
+            ),
+            "2>b gen 1 #0 probe exclusive %",
+        ),
+        (
+            command(2, Operation::Release { number: 0 }),
+            "2>b gen 1 #2 release 0",
+        ),
+        (
+            command(1, Operation::Abort { number: 0 }),
+            "2>b gen 1 #1 abort 0",
+        ),
+        (command(1, Operation::Query), "2>b gen 1 #1 query"),
+        (
+            sent(Upward::Report(Report {
+                generation: 2,
+                base: 1,
+                entries: Sequence::new(entries),
+            })),
+            "2>b report 2 base 1 #0 waiting exclusive a",
+        ),
+    ];
+    for (message, text) in cases {
+        let mut out = Vec::new(rt.alloc());
+        put_message(&mut out, &message)?;
+        assert_eq!(rt; out.as_slice(), text.as_bytes(), "of {text}");
+    }
+    Ok(())
+}
+
+#[test]
+fn downward(rt: HostRuntime) -> Result<(), Fail> {
+    let alloc = rt.alloc();
+    let entries = vec![in alloc;
+        SnapshotEntry {
+            held: true,
+            tab: 1,
+            mode: Mode::Exclusive,
+            name: name(alloc, "a")?,
+        },
+        SnapshotEntry {
+            held: false,
+            tab: 2,
+            mode: Mode::Shared,
+            name: name(alloc, "a")?,
+        },
+    ]?;
+    let sent = |sender, inner| Message::Down {
+        sender,
+        addressed: Addressed { tab: 1, inner },
+    };
+    let answer = |number, outcome, upto| {
+        sent(
+            Sender::Broker,
+            Downward::Answer(Answer {
+                generation: 1,
+                upto,
+                number,
+                outcome,
+            }),
+        )
+    };
+    let cases = [
+        (
+            sent(Sender::Kernel, Downward::Hello(Hello { generation: 2 })),
+            "k>1 hello 2",
+        ),
+        (
+            answer(0, Outcome::Waiting, 1),
+            "b>1 gen 1 #0 waiting upto 1",
+        ),
+        (
+            answer(2, Outcome::Granted, 3),
+            "b>1 gen 1 #2 granted upto 3",
+        ),
+        (answer(0, Outcome::Gone, 1), "b>1 gen 1 #0 gone upto 1"),
+        (answer(1, Outcome::Taken, 2), "b>1 gen 1 #1 taken upto 2"),
+        (
+            sent(
+                Sender::Broker,
+                Downward::Snapshot(Snapshot {
+                    generation: 1,
+                    number: 1,
+                    part: 0,
+                    parts: 1,
+                    entries: Sequence::new(entries),
+                }),
+            ),
+            "b>1 gen 1 #1 part 0 of 1 held 1 exclusive a waiting 2 shared a",
+        ),
+    ];
+    for (message, text) in cases {
+        let mut out = Vec::new(rt.alloc());
+        put_message(&mut out, &message)?;
+        assert_eq!(rt; out.as_slice(), text.as_bytes(), "of {text}");
+    }
+    Ok(())
+}
+
+#[test]
+fn across(rt: HostRuntime) -> Result<(), Fail> {
+    let message = Message::Across {
+        tab: 2,
+        heard: Heard {
+            source: 1,
+            number: 1,
+            channel: name(rt.alloc(), "n")?,
+            bytes: Bytes::copy_from_slice(rt.alloc(), b"")?,
+        },
+    };
+    let mut out = Vec::new(rt.alloc());
+    put_message(&mut out, &message)?;
+    assert_eq!(rt; out.as_slice(), b"1>2 post 1 n %".as_slice());
+    Ok(())
+}

@@ -1,0 +1,674 @@
+// Rows of tabs, brokers and messages, each as a list of events that is given to `run`, and what living tabs hold after it. A
+// row that meets a want of memory is played anew: so these tests pass whichever allocation is refused.
+use std::alloc::{AllocError, Global};
+use std::process::Abort;
+use wl_draft::{Mode, Name};
+use wl_frames::Sequence;
+use wl_origin::{Partition, partition};
+use wl_world::event::Event;
+use wl_world::holding::Holding;
+use wl_world::message::Message;
+use wl_world::run::run;
+use wl_world::world::World;
+
+/// One event of a row.
+#[derive(Clone, Copy)]
+enum Line {
+    Open(u16, &'static str),
+    Start(&'static [u16]),
+    Stop,
+    Hello(u16),
+    Kill(u16),
+    Tell(u16),
+    Ask(u16, Mode, &'static str),
+    Probe(u16, Mode, &'static str),
+    Query(u16),
+    Abort(u16, u32),
+    Release(u16, u32),
+    Resend(u16),
+    /// The message that was sent at this place comes. Places are counted from 1.
+    Deliver(usize),
+}
+
+const URL: &str = "https://a.test/";
+
+/// A broker is started with no tab listed, and tab 1 of https://a.test/ joins by the messages 1 and 2.
+const FIRST: [Line; 5] = [
+    Line::Start(&[]),
+    Line::Open(1, URL),
+    Line::Hello(1),
+    Line::Deliver(1),
+    Line::Deliver(2),
+];
+
+/// Further tabs of that partition join.
+const SECOND: [Line; 4] = [
+    Line::Open(2, URL),
+    Line::Hello(2),
+    Line::Deliver(3),
+    Line::Deliver(4),
+];
+
+const THIRD: [Line; 4] = [
+    Line::Open(3, URL),
+    Line::Hello(3),
+    Line::Deliver(5),
+    Line::Deliver(6),
+];
+
+const FOURTH: [Line; 4] = [
+    Line::Open(4, URL),
+    Line::Hello(4),
+    Line::Deliver(7),
+    Line::Deliver(8),
+];
+
+/// Tab 1 is granted an exclusive lock by the message 6, which has not come yet; for it tab 2 waits.
+const CONTENDED: [Line; 4] = [
+    Line::Ask(1, Mode::Exclusive, "a"),
+    Line::Deliver(5),
+    Line::Ask(2, Mode::Exclusive, "a"),
+    Line::Deliver(7),
+];
+
+/// Four tabs: the first is granted a shared lock by the message 10, behind it an exclusive and a shared one wait.
+const QUEUED: [Line; 6] = [
+    Line::Ask(1, Mode::Shared, "a"),
+    Line::Deliver(9),
+    Line::Ask(2, Mode::Exclusive, "a"),
+    Line::Deliver(11),
+    Line::Ask(3, Mode::Shared, "a"),
+    Line::Deliver(13),
+];
+
+/// A probe behind the queue gets null, and the abort of the exclusive request grants the last by the message 19.
+const UNBLOCKED: [Line; 5] = [
+    Line::Probe(4, Mode::Shared, "a"),
+    Line::Deliver(15),
+    Line::Deliver(16),
+    Line::Abort(2, 0),
+    Line::Deliver(17),
+];
+
+fn name(alloc: Global, text: &str) -> Result<Name, AllocError> {
+    Ok(Name::new(String::from_str(alloc, text)?))
+}
+
+/// The rows' URLs have origins.
+fn origin(alloc: Global, url: &str) -> Result<Partition, AllocError> {
+    partition(alloc, url).map_err(|_fault| AllocError)
+}
+
+fn message(
+    rt: &impl Abort,
+    alloc: Global,
+    world: &World,
+    place: usize,
+) -> Result<Message, AllocError> {
+    let message = world.message(place.saturating_sub(1));
+    message.expect(rt, "the message was sent").copy(alloc)
+}
+
+fn event(rt: &impl Abort, alloc: Global, world: &World, line: Line) -> Result<Event, AllocError> {
+    Ok(match line {
+        Line::Open(tab, url) => Event::Open {
+            tab,
+            partition: origin(alloc, url)?,
+        },
+        Line::Start(tabs) => Event::Start(Sequence::new(Vec::from_slice(alloc, tabs)?)),
+        Line::Stop => Event::Stop,
+        Line::Hello(tab) => Event::Hello { tab },
+        Line::Kill(tab) => Event::Kill { tab },
+        Line::Tell(tab) => Event::Tell { tab },
+        Line::Ask(tab, mode, text) => Event::Ask {
+            tab,
+            mode,
+            name: name(alloc, text)?,
+        },
+        Line::Probe(tab, mode, text) => Event::Probe {
+            tab,
+            mode,
+            name: name(alloc, text)?,
+        },
+        Line::Query(tab) => Event::Query { tab },
+        Line::Abort(tab, number) => Event::Abort { tab, number },
+        Line::Release(tab, number) => Event::Release { tab, number },
+        Line::Resend(tab) => Event::Resend { tab },
+        Line::Deliver(place) => Event::Deliver(message(rt, alloc, world, place)?),
+    })
+}
+
+/// The step alone: a caller that sees none of its clauses is checked much sooner.
+fn step_once(world: World, event: Event) -> Result<World, AllocError> {
+    let (world, _reply) = world.step(event)?;
+    Ok(world)
+}
+
+fn run_once(alloc: Global, events: &[Event]) -> Result<World, AllocError> {
+    run(alloc, events)
+}
+
+fn played(rt: &impl Abort, alloc: Global, row: &[&[Line]]) -> Result<World, AllocError> {
+    let mut world = World::new(alloc);
+    for lines in row {
+        for line in *lines {
+            let event = event(rt, alloc, &world, *line)?;
+            world = step_once(world, event)?;
+        }
+    }
+    Ok(world)
+}
+
+/// A lock that a tab holds: its tab, number, mode and name.
+type Held = (u16, u32, Mode, &'static str);
+
+fn is_held(holding: &Holding, held: &Held) -> bool {
+    let (tab, number, mode, name) = held;
+    holding.tab == *tab
+        && holding.number == *number
+        && holding.mode == *mode
+        && holding.name.as_str() == *name
+}
+
+/// Whether living tabs hold these locks and no others.
+fn holds(world: &World, held: &[Held]) -> Result<bool, AllocError> {
+    let holdings = world.holdings()?;
+    let holdings = holdings.as_slice();
+    Ok(
+        holdings.len() == held.len()
+            && holdings
+                .iter()
+                .zip(held)
+                .all(|(holding, held)| is_held(holding, held)),
+    )
+}
+
+/// Whether living tabs hold these locks after the row, event by event and as one run.
+fn ends_with(
+    rt: &impl Abort,
+    alloc: Global,
+    row: &[&[Line]],
+    held: &[Held],
+) -> Result<bool, AllocError> {
+    let world = played(rt, alloc, row)?;
+    let again = run_once(alloc, world.events())?;
+    Ok(again.events().len() == world.events().len() && holds(&world, held)? && holds(&again, held)?)
+}
+
+fn check(rt: &impl Abort, alloc: Global, row: &[&[Line]], held: &[Held]) {
+    let ends = match ends_with(rt, alloc, row, held) {
+        Ok(ends) => ends,
+        Err(AllocError) => ends_with(rt, alloc, row, held).expect(rt, "memory is back"),
+    };
+    assert!(rt; ends);
+}
+
+#[test]
+fn what_is_granted_is_held_once_the_tab_hears_of_it(rt: HostRuntime) {
+    let alloc = rt.alloc();
+    check(
+        &rt,
+        alloc,
+        &[&FIRST, &SECOND, &THIRD, &FOURTH, &QUEUED, &UNBLOCKED],
+        &[],
+    );
+    check(
+        &rt,
+        alloc,
+        &[
+            &FIRST,
+            &SECOND,
+            &THIRD,
+            &FOURTH,
+            &QUEUED,
+            &UNBLOCKED,
+            &[Line::Deliver(10), Line::Deliver(19)],
+        ],
+        &[(1, 0, Mode::Shared, "a"), (3, 0, Mode::Shared, "a")],
+    );
+}
+
+#[test]
+fn a_release_hands_over(rt: HostRuntime) {
+    let alloc = rt.alloc();
+    check(
+        &rt,
+        alloc,
+        &[
+            &FIRST,
+            &SECOND,
+            &THIRD,
+            &FOURTH,
+            &QUEUED,
+            &UNBLOCKED,
+            &[
+                Line::Deliver(10),
+                Line::Deliver(19),
+                Line::Ask(2, Mode::Exclusive, "a"),
+                Line::Deliver(20),
+                Line::Release(1, 0),
+            ],
+        ],
+        &[(3, 0, Mode::Shared, "a")],
+    );
+    check(
+        &rt,
+        alloc,
+        &[
+            &FIRST,
+            &SECOND,
+            &THIRD,
+            &FOURTH,
+            &QUEUED,
+            &UNBLOCKED,
+            &[
+                Line::Deliver(10),
+                Line::Deliver(19),
+                Line::Ask(2, Mode::Exclusive, "a"),
+                Line::Deliver(20),
+                Line::Release(1, 0),
+                Line::Deliver(22),
+                Line::Release(3, 0),
+                Line::Deliver(24),
+            ],
+        ],
+        &[],
+    );
+    check(
+        &rt,
+        alloc,
+        &[
+            &FIRST,
+            &SECOND,
+            &THIRD,
+            &FOURTH,
+            &QUEUED,
+            &UNBLOCKED,
+            &[
+                Line::Deliver(10),
+                Line::Deliver(19),
+                Line::Ask(2, Mode::Exclusive, "a"),
+                Line::Deliver(20),
+                Line::Release(1, 0),
+                Line::Deliver(22),
+                Line::Release(3, 0),
+                Line::Deliver(24),
+                Line::Deliver(26),
+            ],
+        ],
+        &[(2, 2, Mode::Exclusive, "a")],
+    );
+}
+
+#[test]
+fn a_grant_that_comes_after_the_abort_is_dropped(rt: HostRuntime) {
+    let alloc = rt.alloc();
+    check(
+        &rt,
+        alloc,
+        &[
+            &FIRST,
+            &SECOND,
+            &CONTENDED,
+            &[Line::Abort(1, 0), Line::Deliver(6)],
+        ],
+        &[],
+    );
+    check(
+        &rt,
+        alloc,
+        &[
+            &FIRST,
+            &SECOND,
+            &CONTENDED,
+            &[
+                Line::Abort(1, 0),
+                Line::Deliver(6),
+                Line::Deliver(9),
+                Line::Deliver(11),
+            ],
+        ],
+        &[(2, 0, Mode::Exclusive, "a")],
+    );
+}
+
+#[test]
+fn a_command_that_comes_again_is_done_once(rt: HostRuntime) {
+    let alloc = rt.alloc();
+    check(
+        &rt,
+        alloc,
+        &[
+            &FIRST,
+            &[
+                Line::Ask(1, Mode::Shared, "a"),
+                Line::Deliver(3),
+                Line::Deliver(3),
+                Line::Deliver(3),
+                Line::Deliver(4),
+            ],
+        ],
+        &[(1, 0, Mode::Shared, "a")],
+    );
+    check(
+        &rt,
+        alloc,
+        &[
+            &FIRST,
+            &[
+                Line::Ask(1, Mode::Shared, "a"),
+                Line::Deliver(3),
+                Line::Deliver(3),
+                Line::Deliver(3),
+                Line::Deliver(4),
+                Line::Release(1, 0),
+                Line::Deliver(5),
+                Line::Deliver(3),
+                Line::Deliver(7),
+            ],
+        ],
+        &[],
+    );
+}
+
+#[test]
+fn what_was_asked_is_asked_again_of_the_next_broker(rt: HostRuntime) {
+    let alloc = rt.alloc();
+    check(
+        &rt,
+        alloc,
+        &[
+            &FIRST,
+            &SECOND,
+            &CONTENDED,
+            &[
+                Line::Stop,
+                Line::Start(&[1, 2]),
+                Line::Deliver(9),
+                Line::Deliver(10),
+                Line::Deliver(12),
+                Line::Deliver(11),
+                Line::Deliver(6),
+            ],
+        ],
+        &[],
+    );
+    check(
+        &rt,
+        alloc,
+        &[
+            &FIRST,
+            &SECOND,
+            &CONTENDED,
+            &[
+                Line::Stop,
+                Line::Start(&[1, 2]),
+                Line::Deliver(9),
+                Line::Deliver(10),
+                Line::Deliver(12),
+                Line::Deliver(11),
+                Line::Deliver(6),
+                Line::Deliver(13),
+            ],
+        ],
+        &[(2, 0, Mode::Exclusive, "a")],
+    );
+}
+
+#[test]
+fn what_is_held_outlives_the_broker(rt: HostRuntime) {
+    let alloc = rt.alloc();
+    check(
+        &rt,
+        alloc,
+        &[
+            &FIRST,
+            &SECOND,
+            &CONTENDED,
+            &[
+                Line::Deliver(6),
+                Line::Stop,
+                Line::Start(&[1, 2]),
+                Line::Deliver(9),
+                Line::Deliver(10),
+                Line::Deliver(12),
+                Line::Deliver(11),
+            ],
+        ],
+        &[(1, 0, Mode::Exclusive, "a")],
+    );
+}
+
+#[test]
+fn what_was_held_is_released_at_the_next_broker(rt: HostRuntime) {
+    let alloc = rt.alloc();
+    check(
+        &rt,
+        alloc,
+        &[
+            &FIRST,
+            &[
+                Line::Ask(1, Mode::Exclusive, "a"),
+                Line::Deliver(3),
+                Line::Deliver(4),
+                Line::Probe(1, Mode::Shared, "a"),
+                Line::Query(1),
+                Line::Stop,
+                Line::Start(&[1]),
+                Line::Deliver(7),
+                Line::Deliver(8),
+                Line::Deliver(5),
+            ],
+        ],
+        &[(1, 0, Mode::Exclusive, "a")],
+    );
+    check(
+        &rt,
+        alloc,
+        &[
+            &FIRST,
+            &[
+                Line::Ask(1, Mode::Exclusive, "a"),
+                Line::Deliver(3),
+                Line::Deliver(4),
+                Line::Probe(1, Mode::Shared, "a"),
+                Line::Query(1),
+                Line::Stop,
+                Line::Start(&[1]),
+                Line::Deliver(7),
+                Line::Deliver(8),
+                Line::Deliver(5),
+                Line::Release(1, 0),
+                Line::Deliver(9),
+            ],
+        ],
+        &[],
+    );
+}
+
+#[test]
+fn a_death_hands_over(rt: HostRuntime) {
+    let alloc = rt.alloc();
+    check(
+        &rt,
+        alloc,
+        &[
+            &FIRST,
+            &SECOND,
+            &CONTENDED,
+            &[Line::Deliver(6), Line::Query(1), Line::Kill(1)],
+        ],
+        &[],
+    );
+    check(
+        &rt,
+        alloc,
+        &[
+            &FIRST,
+            &SECOND,
+            &CONTENDED,
+            &[
+                Line::Deliver(6),
+                Line::Query(1),
+                Line::Kill(1),
+                Line::Tell(1),
+                Line::Deliver(9),
+                Line::Deliver(10),
+            ],
+        ],
+        &[(2, 0, Mode::Exclusive, "a")],
+    );
+}
+
+#[test]
+fn a_partition_waits_for_no_other_partition(rt: HostRuntime) {
+    let alloc = rt.alloc();
+    check(
+        &rt,
+        alloc,
+        &[
+            &FIRST,
+            &SECOND,
+            &[
+                Line::Open(3, "http://b.test/"),
+                Line::Hello(3),
+                Line::Deliver(5),
+                Line::Deliver(6),
+                Line::Ask(3, Mode::Exclusive, "a"),
+                Line::Stop,
+                Line::Start(&[1, 2, 3]),
+                Line::Deliver(10),
+                Line::Deliver(11),
+                Line::Deliver(12),
+            ],
+        ],
+        &[(3, 0, Mode::Exclusive, "a")],
+    );
+}
+
+#[test]
+fn each_partition_has_names_of_its_own(rt: HostRuntime) {
+    let alloc = rt.alloc();
+    check(
+        &rt,
+        alloc,
+        &[&[
+            Line::Open(1, URL),
+            Line::Open(2, "https://a.test:443/x"),
+            Line::Open(3, "http://a.test/"),
+            Line::Start(&[1, 2, 3]),
+            Line::Deliver(1),
+            Line::Deliver(2),
+            Line::Deliver(3),
+            Line::Deliver(4),
+            Line::Deliver(5),
+            Line::Deliver(6),
+            Line::Ask(1, Mode::Exclusive, "a"),
+            Line::Deliver(7),
+            Line::Ask(3, Mode::Exclusive, "a"),
+            Line::Deliver(9),
+            Line::Ask(2, Mode::Exclusive, "a"),
+            Line::Deliver(11),
+            Line::Deliver(8),
+            Line::Deliver(10),
+            Line::Deliver(12),
+        ]],
+        &[(1, 0, Mode::Exclusive, "a"), (3, 0, Mode::Exclusive, "a")],
+    );
+}
+
+#[test]
+fn a_query_changes_nothing(rt: HostRuntime) {
+    let alloc = rt.alloc();
+    check(
+        &rt,
+        alloc,
+        &[
+            &FIRST,
+            &SECOND,
+            &[
+                Line::Ask(1, Mode::Exclusive, "a"),
+                Line::Deliver(5),
+                Line::Deliver(6),
+                Line::Ask(2, Mode::Shared, "a"),
+                Line::Deliver(7),
+                Line::Query(1),
+                Line::Deliver(9),
+                Line::Deliver(10),
+                Line::Query(2),
+                Line::Deliver(11),
+                Line::Deliver(11),
+                Line::Deliver(13),
+            ],
+        ],
+        &[(1, 0, Mode::Exclusive, "a")],
+    );
+}
+
+#[test]
+fn a_command_out_of_turn_is_taken_in_turn(rt: HostRuntime) {
+    let alloc = rt.alloc();
+    check(
+        &rt,
+        alloc,
+        &[
+            &FIRST,
+            &[
+                Line::Ask(1, Mode::Shared, "a"),
+                Line::Ask(1, Mode::Shared, "b"),
+                Line::Deliver(4),
+                Line::Deliver(3),
+                Line::Deliver(4),
+                Line::Deliver(5),
+                Line::Deliver(6),
+            ],
+        ],
+        &[(1, 0, Mode::Shared, "a"), (1, 1, Mode::Shared, "b")],
+    );
+}
+
+#[test]
+fn what_may_be_lost_is_sent_again(rt: HostRuntime) {
+    let alloc = rt.alloc();
+    check(
+        &rt,
+        alloc,
+        &[
+            &FIRST,
+            &[
+                Line::Resend(1),
+                Line::Ask(1, Mode::Shared, "a"),
+                Line::Resend(1),
+                Line::Deliver(2),
+                Line::Deliver(3),
+                Line::Deliver(4),
+                Line::Resend(1),
+            ],
+        ],
+        &[(1, 0, Mode::Shared, "a")],
+    );
+}
+
+#[test]
+fn a_partition_recovers_when_its_missing_tab_is_dead(rt: HostRuntime) {
+    let alloc = rt.alloc();
+    check(
+        &rt,
+        alloc,
+        &[&[
+            Line::Open(1, URL),
+            Line::Open(2, URL),
+            Line::Start(&[1, 2]),
+            Line::Deliver(1),
+            Line::Deliver(3),
+            Line::Ask(1, Mode::Shared, "a"),
+            Line::Deliver(4),
+            Line::Kill(2),
+            Line::Deliver(2),
+            Line::Tell(2),
+            Line::Deliver(4),
+            Line::Deliver(5),
+        ]],
+        &[(1, 0, Mode::Shared, "a")],
+    );
+}
