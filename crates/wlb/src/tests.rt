@@ -9,5 +9,6 @@ mod draft;
 mod frames;
 mod kernel;
 mod origin;
+mod random;
 mod script;
 mod world;

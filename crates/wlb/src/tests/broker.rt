@@ -16,13 +16,17 @@ fn nothing(alloc: Global) -> Outs {
     Sequence::new(Vec::new(alloc))
 }
 
-/// What is answered to a tab's message.
-fn take(rt: &impl Abort, broker: &mut PlainBroker, stamped: &Stamped) -> Outs {
-    match broker.take(stamped) {
+/// What is answered to a tab's message: nothing where it is dropped, for a cause other than memory.
+fn take(rt: &impl Abort, alloc: Global, broker: &mut PlainBroker, stamped: &Stamped) -> Outs {
+    let answer = match broker.take(stamped) {
+        Err(Dropped::Memory) => broker.take(stamped),
+        answer => answer,
+    };
+    match answer {
         Ok(outs) => outs,
         Err(dropped) => {
-            assert!(rt; dropped == Dropped::Memory);
-            broker.take(stamped).expect(rt, "memory is back")
+            assert!(rt; dropped != Dropped::Memory);
+            nothing(alloc)
         }
     }
 }
@@ -38,7 +42,7 @@ fn bury(rt: &impl Abort, broker: &mut PlainBroker, tab: u16) -> Outs {
 /// What is answered to a frame behind the one by which the broker was started.
 fn answer(rt: &impl Abort, alloc: Global, broker: &mut PlainBroker, frame: &Frame) -> Outs {
     match frame {
-        Frame::Stamped(stamped) => take(rt, broker, stamped),
+        Frame::Stamped(stamped) => take(rt, alloc, broker, stamped),
         Frame::Dead(dead) => bury(rt, broker, dead.tab),
         _ => nothing(alloc),
     }

@@ -1,0 +1,209 @@
+//! Thousands of random events in one world: opens, requests, releases, aborts, deliveries of any message of any age, deaths,
+//! stops and starts. After each event no two locks that are held conflict. It checks the definitions themselves, by what a
+//! person would look for.
+
+use std::alloc::{AllocError, Global};
+use std::process::Abort;
+use std::test::Fail;
+use wl_draft::{Mode, Name};
+use wl_frames::Sequence;
+use wl_origin::partition;
+use wl_world::event::Event;
+use wl_world::holding::Holding;
+use wl_world::world::World;
+
+const STEPS: u64 = 6_000;
+
+/// A sequence of numbers that look random: the high bits of a linear congruence.
+#[derive(Drop)]
+struct Dice {
+    state: u64,
+}
+
+impl Dice {
+    /// A number below this many.
+    fn below(&mut self, sides: u64) -> u64 {
+        self.state = self
+            .state
+            .wrapping_mul(6_364_136_223_846_793_005)
+            .wrapping_add(1_442_695_040_888_963_407);
+        (self.state >> 33).checked_rem(sides).unwrap_or(0)
+    }
+
+    fn name(&mut self, alloc: Global) -> Result<Name, AllocError> {
+        let text = match self.below(3) {
+            0 => "a",
+            1 => "b",
+            _ => "c",
+        };
+        Ok(Name::new(String::from_str(alloc, text)?))
+    }
+
+    fn mode(&mut self) -> Mode {
+        match self.below(2) {
+            0 => Mode::Shared,
+            _ => Mode::Exclusive,
+        }
+    }
+
+    /// One of the tabs of this time: as the run goes on, tabs with greater numbers come and the others are left alone.
+    fn tab(&mut self, step: u64) -> u16 {
+        let tab = (step / 400).saturating_mul(2).saturating_add(self.below(6));
+        u16::try_from(tab.saturating_add(1)).unwrap_or(u16::MAX)
+    }
+
+    fn number(&mut self) -> u32 {
+        u32::try_from(self.below(12)).unwrap_or(0)
+    }
+}
+
+/// A world, with how many messages were ever sent.
+#[derive(Drop)]
+struct Play {
+    world: World,
+    sent: usize,
+}
+
+/// Tabs with odd numbers are of one origin, those with even numbers of another.
+fn url_of(tab: u16) -> &'static str {
+    if tab % 2 == 0 {
+        "https://a.test/"
+    } else {
+        "https://b.test/"
+    }
+}
+
+fn open(alloc: Global, tab: u16) -> Result<Event, AllocError> {
+    match partition(alloc, url_of(tab)) {
+        Ok(partition) => Ok(Event::Open { tab, partition }),
+        // The text is a URL with an origin, so memory was refused.
+        Err(_) => Err(AllocError),
+    }
+}
+
+/// A delivery: most often of one of the latest messages, else of any.
+fn delivery(dice: &mut Dice, alloc: Global, play: &Play) -> Result<Event, AllocError> {
+    let sent = play.sent as u64;
+    let age = if dice.below(4) == 0 {
+        dice.below(sent)
+    } else {
+        dice.below(sent.min(12))
+    };
+    let place = sent.saturating_sub(age).saturating_sub(1) as usize;
+    match play.world.message(place) {
+        Some(message) => Ok(Event::Deliver(message.copy(alloc)?)),
+        None => Ok(Event::Stop),
+    }
+}
+
+/// The release of one of the locks that are held, or of any number.
+fn release(dice: &mut Dice, play: &Play, tab: u16) -> Result<Event, AllocError> {
+    let holdings = play.world.holdings()?;
+    let held = holdings.as_slice();
+    match held.get(dice.below(held.len() as u64) as usize) {
+        Some(holding) => Ok(Event::Release {
+            tab: holding.tab,
+            number: holding.number,
+        }),
+        None => Ok(Event::Release {
+            tab,
+            number: dice.number(),
+        }),
+    }
+}
+
+fn start(alloc: Global, play: &Play) -> Result<Event, AllocError> {
+    Ok(Event::Start(Sequence::new(play.world.living().to_vec(alloc)?)))
+}
+
+fn ask(dice: &mut Dice, alloc: Global, tab: u16) -> Result<Event, AllocError> {
+    let mode = dice.mode();
+    let name = dice.name(alloc)?;
+    if dice.below(4) == 0 {
+        Ok(Event::Probe { tab, mode, name })
+    } else {
+        Ok(Event::Ask { tab, mode, name })
+    }
+}
+
+/// An event of a tab or of the kernel.
+fn other(dice: &mut Dice, alloc: Global, play: &Play, tab: u16) -> Result<Event, AllocError> {
+    match dice.below(40) {
+        0 => Ok(Event::Kill { tab }),
+        1 | 2 => Ok(Event::Tell { tab }),
+        3 => Ok(Event::Stop),
+        4..=7 => start(alloc, play),
+        8..=12 => Ok(Event::Hello { tab }),
+        13..=16 => open(alloc, tab),
+        17..=19 => Ok(Event::Resend { tab }),
+        20 => Ok(Event::Query { tab }),
+        21..=23 => Ok(Event::Abort {
+            tab,
+            number: dice.number(),
+        }),
+        24..=29 => release(dice, play, tab),
+        _ => ask(dice, alloc, tab),
+    }
+}
+
+fn event(dice: &mut Dice, alloc: Global, play: &Play, step: u64) -> Result<Event, AllocError> {
+    let tab = dice.tab(step);
+    if dice.below(2) == 0 {
+        delivery(dice, alloc, play)
+    } else {
+        other(dice, alloc, play, tab)
+    }
+}
+
+fn then(play: Play, event: Event) -> Result<Play, AllocError> {
+    let (world, reply) = play.world.step(event)?;
+    let sent = reply
+        .sent
+        .as_slice()
+        .iter()
+        .map(|sent| sent.place.saturating_add(1))
+        .fold(play.sent, |most, count| most.max(count));
+    Ok(Play { world, sent })
+}
+
+fn conflict(one: &Holding, other: &Holding) -> bool {
+    one.tab % 2 == other.tab % 2
+        && one.name.as_str() == other.name.as_str()
+        && !(one.mode == Mode::Shared && other.mode == Mode::Shared)
+}
+
+/// Whether any two of these conflict.
+fn any_conflict(holdings: &[Holding]) -> bool {
+    for (place, first) in holdings.iter().enumerate() {
+        let mut others = holdings.iter().skip(place).skip(1);
+        if others.any(|other| conflict(first, other)) {
+            return true;
+        }
+    }
+    false
+}
+
+#[test]
+fn no_two_locks_that_are_held_conflict(rt: HostRuntime) -> Result<(), Fail> {
+    let alloc = rt.alloc();
+    let mut dice = Dice { state: 20_261_122 };
+    let mut play = Play {
+        world: World::new(alloc),
+        sent: 0,
+    };
+    let mut most: usize = 0;
+    let mut held: usize = 0;
+    for step in 0..STEPS {
+        let event = event(&mut dice, alloc, &play, step)?;
+        play = then(play, event)?;
+        let holdings = play.world.holdings()?;
+        assert!(rt; !any_conflict(holdings.as_slice()));
+        most = most.max(holdings.as_slice().len());
+        held = held.saturating_add(holdings.as_slice().len());
+    }
+    // Locks were held, and messages sent: else nothing was tried.
+    assert!(rt; most >= 4);
+    assert!(rt; held >= 1_000);
+    assert!(rt; play.sent >= 500);
+    Ok(())
+}
