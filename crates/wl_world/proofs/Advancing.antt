@@ -301,8 +301,8 @@ runs next (row ∷ R) m D run e before r fit moves =
     ∙ runs_as next R D k m n run (runs next R) e before r.0 r.1 fit.1 moves.1
 
 -- where all rows have gone on, all tokens are told
-pub run-advanced : (next : ℕ × Status → Option Status) (rows : Table Status) (b : TabState) → b.statuses ≡ advance next rows → Rises 0 rows → RowsFit b.issued rows → AllMove b.issued next rows → settle_run b (map (kept_for b.tab b.issued) rows) ≡ run_with (told b) (map (kept_for b.tab b.issued) (untold b.statuses)) (last_whole b.statuses None)
+pub run-advanced : (next : ℕ × Status → Option Status) (table : Table Status) (b : TabState) → b.statuses ≡ advance next table → Rises 0 table → RowsFit b.issued table → AllMove b.issued next table → settle_run b (map (kept_for b.tab b.issued) table) ≡ run_with (told b) (map (kept_for b.tab b.issued) (untold b.statuses)) (last_whole b.statuses None)
 unfolding settle_run told
-run-advanced next rows b e r fit moves =
-    runs next rows 0 [] (run_with b [] None) e tt r fit moves
+run-advanced next table b e r fit moves =
+    runs next table 0 [] (run_with b [] None) e tt r fit moves
     ∙ ap (λ (X : Table Status). run_with (with_rows (untold X) b) (map (kept_for b.tab b.issued) (untold X)) (last_whole X None)) (sym e)
