@@ -3,6 +3,7 @@
 ghost use Rattle.std.specs.Prelude.{◌≡◌};
 
 use crate::snapshot::Snapshot;
+use std::marker::Model;
 
 /// A request that was issued. It is spent by `Agent::settle` or `Agent::abort`.
 #[derive(Debug)]
@@ -32,23 +33,50 @@ pub struct Asking {
     pub(crate) number: u32,
 }
 
+impl Model for Pending {
+    ghost use Rattle.wl_agent.specs.Issued.{Issued};
+
+    ghost Value = { Issued };
+
+    ghost view = { λ token. record { tab = token.tab; number = token.number } };
+}
+
 impl Pending {
+    /// Its number, counted from 0 in the tab's life.
     pub fn number(&self) -> u32
         ensures { result ≡ self.now.number }
     {
         self.number
     }
+}
+
+impl Model for Probe {
+    ghost use Rattle.wl_agent.specs.Issued.{Issued};
+
+    ghost Value = { Issued };
+
+    ghost view = { λ token. record { tab = token.tab; number = token.number } };
 }
 
 impl Probe {
+    /// Its number, counted from 0 in the tab's life.
     pub fn number(&self) -> u32
         ensures { result ≡ self.now.number }
     {
         self.number
     }
+}
+
+impl Model for HeldLock {
+    ghost use Rattle.wl_agent.specs.Issued.{Issued};
+
+    ghost Value = { Issued };
+
+    ghost view = { λ token. record { tab = token.tab; number = token.number } };
 }
 
 impl HeldLock {
+    /// Its number, counted from 0 in the tab's life.
     pub fn number(&self) -> u32
         ensures { result ≡ self.now.number }
     {
@@ -56,7 +84,16 @@ impl HeldLock {
     }
 }
 
+impl Model for Asking {
+    ghost use Rattle.wl_agent.specs.Issued.{Issued};
+
+    ghost Value = { Issued };
+
+    ghost view = { λ token. record { tab = token.tab; number = token.number } };
+}
+
 impl Asking {
+    /// Its number, counted from 0 in the tab's life.
     pub fn number(&self) -> u32
         ensures { result ≡ self.now.number }
     {

@@ -1,10 +1,20 @@
 ghost use Rattle.std.specs.Prelude.{◌≡◌};
 
+use std::marker::Model;
+
 /// A channel object of a tab, as its owner holds it. It is spent by `Channels::close` or `Channels::end`.
 #[derive(Debug)]
 pub struct Channel {
     pub(crate) tab: u16,
     pub(crate) number: usize,
+}
+
+impl Model for Channel {
+    ghost use Rattle.wl_broadcast.specs.Owned.{Owned};
+
+    ghost Value = { Owned };
+
+    ghost view = { λ channel. record { tab = channel.tab; number = channel.number } };
 }
 
 impl Channel {

@@ -1,11 +1,9 @@
 -- The JSON of snapshots has no floats.
-use Rattle.std.proofs.Common.{◌≡◌, false, ◌||◌, List, [], ◌∷◌, map, refl, ap, ◌∙◌}
-use Rattle.serde_json.specs.Data.{array}
-use Rattle.serde_json.specs.View.{items_of}
+use Rattle.std.proofs.Common.{◌≡◌, false, ◌||◌, List, [], ◌∷◌, refl, ap, ◌∙◌}
 use Rattle.serde_json.specs.Written.{has_float, items_have_float}
 use Rattle.wl_agent.specs.declared.snapshot.LockInfo.{LockInfo}
 use Rattle.wl_agent.specs.declared.snapshot.Snapshot.{Snapshot}
-use Rattle.wl_script.specs.ReplyTexts.{info_data, infos_data, snapshot_data}
+use Rattle.wl_script.specs.ReplyTexts.{infos_data, snapshot_data}
 
 infos_no_float : (is : List LockInfo) → items_have_float (infos_data is) ≡ false
 infos_no_float [] = refl

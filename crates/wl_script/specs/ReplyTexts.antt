@@ -4,9 +4,7 @@ use Rattle.std.specs.List.{flat_map}
 use Rattle.serde_json.specs.Data.{Data, Items, string, array, object, no_members, member}
 use Rattle.serde_json.specs.View.{items_of}
 use Rattle.serde_json.specs.Written.{compact_text}
-use Rattle.url.specs.Origin.{Triple}
 use Rattle.wl_origin.specs.Partition.{origin_text}
-use Rattle.wl_draft.specs.declared.mode.Mode.{Mode}
 use Rattle.wl_agent.specs.declared.snapshot.LockInfo.{LockInfo}
 use Rattle.wl_agent.specs.declared.snapshot.Snapshot.{Snapshot}
 use Rattle.wl_broadcast.specs.declared.letter.Letter.{Letter}

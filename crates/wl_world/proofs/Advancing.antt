@@ -10,7 +10,7 @@ use Rattle.wl_agent.specs.declared.snapshot.Snapshot.{Snapshot}
 use Rattle.wl_agent.specs.declared.status.Status.{Status}
 use Rattle.wl_agent.specs.declared.status.Status.TheVariants.{Asked, Held, Querying, Whole, Lost}
 use Rattle.wl_agent.specs.declared.token.Token.TheVariants as token
-use Rattle.wl_agent.specs.declared.token.Asking.{Asking}
+use Rattle.wl_agent.specs.Issued.{Issued}
 use Rattle.wl_agent.specs.Parts.{PartsState}
 use Rattle.wl_agent.specs.Tab.{TabState, status_of, operation_of, is_probe, without_row, ended, is_querying}
 use Rattle.wl_agent.specs.Tokens.{is_own, is_asking, told_query, told_by_status, after_query}
@@ -196,13 +196,13 @@ asks_own a k s op own issued st = rw (own, issued, op, st) refl
 -- the telling of a query's token
 tells_query : (run : Run) (k : ℕ) (s : Status) → operation_of run.agent k ≡ Query → eqb run.agent.tab run.agent.tab ≡ true → ltb k (length run.agent.issued) ≡ true → status_of run.agent k ≡ Some s → settle_next run (kept_as Query (token.Asking (record { tab = run.agent.tab; number = k }))) ≡ with_fate (run_with (cond (is_querying (Some s)) run.agent (ended k run.agent)) run.kept run.snapshot) (kept_as Query (token.HeldLock (record { tab = run.agent.tab; number = k }))) (fate_by_query (told_by_status (Some s) (record { tab = run.agent.tab; number = k })))
 tells_query run k s op own issued st =
-    let q : Asking = record { tab = run.agent.tab; number = k } in
+    let q : Issued = record { tab = run.agent.tab; number = k } in
     let mine = asks_own run.agent k s op own issued st in
     let fate_is : fate_of run.agent (token.Asking q) ≡ fate_by_query (told_by_status (Some s) q) = ap (λ b. cond b (fate_by_query (told_query run.agent q)) (fate.Stays (token.Asking q))) mine ∙ ap (λ (o : Option Status). fate_by_query (told_by_status o q)) st in
     let left_is : settled (token.Asking q) run.agent ≡ cond (is_querying (Some s)) run.agent (ended k run.agent) = ap (λ b. cond b (after_query k run.agent) run.agent) mine ∙ ap (λ (o : Option Status). cond (is_querying o) run.agent (ended k run.agent)) st in
     ap (with_fate run (kept_as Query (token.Asking q))) fate_is ∙ moved_on (fate_by_query (told_by_status (Some s) q)) q left_is
   where
-    moved_on : (f : Fate) (q : Asking) → settled (token.Asking q) run.agent ≡ cond (is_querying (Some s)) run.agent (ended k run.agent) → with_fate run (kept_as Query (token.Asking q)) f ≡ with_fate (run_with (cond (is_querying (Some s)) run.agent (ended k run.agent)) run.kept run.snapshot) (kept_as Query (token.HeldLock (record { tab = run.agent.tab; number = k }))) f
+    moved_on : (f : Fate) (q : Issued) → settled (token.Asking q) run.agent ≡ cond (is_querying (Some s)) run.agent (ended k run.agent) → with_fate run (kept_as Query (token.Asking q)) f ≡ with_fate (run_with (cond (is_querying (Some s)) run.agent (ended k run.agent)) run.kept run.snapshot) (kept_as Query (token.HeldLock (record { tab = run.agent.tab; number = k }))) f
     moved_on (fate.Stays t) q e = ap (λ (a : TabState). run_with a (run.kept ++ kept_as Query t ∷ []) run.snapshot) e
     moved_on fate.Over q e = ap (λ (a : TabState). run_with a run.kept run.snapshot) e
     moved_on (fate.Whole w) q e = ap (λ (a : TabState). run_with a run.kept (Some w)) e

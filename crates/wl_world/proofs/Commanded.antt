@@ -1,5 +1,5 @@
 -- What a tab's command makes of its row is what it makes of the world.
-use Rattle.std.proofs.Common.{◌≡◌, ℕ, List, [], ◌∷◌, ◌++◌, length, map, Bool, true, false, not, ◌&&◌, cond, Option, Some, None, refl, sym, ap, ◌∙◌, subst}
+use Rattle.std.proofs.Common.{◌≡◌, ℕ, List, [], length, Bool, true, false, ◌&&◌, cond, Some, None, refl, sym, ap, ◌∙◌, subst}
 use Rattle.wl_draft.specs.declared.mode.Mode.{Mode}
 use Rattle.wl_draft.specs.Tables.{Table, find, put}
 use Rattle.wl_draft.proofs.TableLemmas.{find-put_same}
@@ -8,16 +8,13 @@ use Rattle.wl_agent.specs.declared.fault.AgentFault.{AgentFault}
 use Rattle.wl_agent.specs.Tab.{TabState, asked, queried, aborted, released, ask_refusal, query_refusal, status_of, is_asked, due}
 use Rattle.wl_agent.specs.Tokens.{is_pending, is_holding}
 use Rattle.wl_world.specs.declared.message.Message.{Message}
-use Rattle.wl_world.specs.declared.reply.Said.{Said}
-use Rattle.wl_world.specs.declared.reply.Said.TheVariants as said
 use Rattle.wl_world.specs.declared.reply.Refusal.TheVariants as refusal
 use Rattle.wl_world.specs.declared.supervisor.Supervisor.{Supervisor}
-use Rattle.wl_world.specs.declared.locks.Abortion.{Abortion}
 use Rattle.wl_world.specs.declared.locks.Abortion.TheVariants as a
 use Rattle.wl_world.specs.World.{WorldState, Deed, tab_in, tab_of, lives, acts, issues, asks, queries, aborts, releases, resends, resent, nothing}
 use Rattle.wl_world.specs.Replies.{asking, querying, aborting, releasing, resending, refused, issued_next, some_resent, of_agent}
 use Rattle.wl_world.specs.TabTokens.{abortion}
-use Rattle.wl_world.specs.Supervised.{kernel_of, world_of, issued_in, command_in, reports_in}
+use Rattle.wl_world.specs.Supervised.{kernel_of, world_of, issued_in}
 
 -- ---- a new command
 

@@ -6,7 +6,6 @@ use Rattle.wl_frames.specs.declared.frame.Frame.TheVariants as frame
 use Rattle.wl_frames.specs.declared.frame.Heard.{Heard}
 use Rattle.wl_kernel.specs.Kernel.{KernelState}
 use Rattle.wl_kernel.specs.Routes.{routed_up, heard_of, hearers}
-use Rattle.wl_kernel.specs.declared.routes.Routed.{Routed}
 use Rattle.wl_kernel.specs.declared.routes.Routed.TheVariants.{Tabs}
 use Rattle.wl_world.specs.declared.message.Message.{Message}
 use Rattle.wl_world.specs.declared.message.Message.TheVariants.{Across}

@@ -1,15 +1,13 @@
 -- A message is found in the bag by the places of its key.
-use Rattle.std.proofs.Common.{◌≡◌, ℕ, ◌+◌, Bool, true, false, cond, List, [], ◌∷◌, ◌++◌, length, Option, None, Some, unwrap_or, refl, sym, ap, ap₂, ◌∙◌, subst, arith, append_assoc, length-append, not}
-use Rattle.std.specs.Prelude.{slice_get, position, ◌||◌}
+use Rattle.std.proofs.Common.{◌≡◌, ℕ, ◌+◌, Bool, true, false, cond, List, [], ◌∷◌, ◌++◌, length, Option, None, Some, unwrap_or, refl, sym, ap, ap₂, ◌∙◌, subst, append_assoc, length-append, not}
+use Rattle.std.specs.Prelude.{slice_get, ◌||◌}
 use Rattle.std.specs.List.{find, position_from, list_any}
 use Rattle.std.specs.Option.{is_some}
 use Rattle.std.proofs.lemmas.Iterator.Adapters.{position_from-zero}
 use Rattle.wl_world.specs.declared.message.Message.{Message}
-use Rattle.wl_world.specs.declared.key.Key.{Key}
-use Rattle.wl_world.specs.declared.reply.Sent.{Sent}
 use Rattle.wl_world.specs.Messages.{same_message, is_sent, sent, place_of, sending}
 use Rattle.wl_world.specs.Keys.{key_of}
-use Rattle.wl_world.specs.Index.{same_key, places_at, places_from, is_same, is_at, IsIndexOf}
+use Rattle.wl_world.specs.Index.{same_key, places_from, is_same, is_at}
 use Rattle.wl_world.proofs.Basics.{apart}
 use Rattle.wl_world.proofs.Same.{message-same}
 use Rattle.wl_world.proofs.Indexing.{same_key-itself}

@@ -12,9 +12,7 @@ use Rattle.wl_frames.specs.declared.frame.Operation.TheVariants.{Request, Query}
 use Rattle.wl_agent.specs.declared.status.Status.{Status}
 use Rattle.wl_agent.specs.declared.status.Status.TheVariants.{Asked, Held, Querying, Whole, Lost}
 use Rattle.wl_agent.specs.declared.token.Token.TheVariants as token
-use Rattle.wl_agent.specs.declared.token.Pending.{Pending}
-use Rattle.wl_agent.specs.declared.token.Probe.{Probe}
-use Rattle.wl_agent.specs.declared.token.Asking.{Asking}
+use Rattle.wl_agent.specs.Issued.{Issued}
 use Rattle.wl_agent.specs.Parts.{no_parts}
 use Rattle.wl_draft.specs.declared.mode.Mode.{Mode}
 use Rattle.wl_agent.specs.Tab.{TabState, asked, queried, status_of, is_probe, without_row, issue, finish, operation_of, is_held, mode_of, name_of}
@@ -222,24 +220,24 @@ pub kept-same : (a b : TabState) (tab entered : ℕ) (kept xs : List Kept) → I
 kept-same a b tab entered kept xs is b_is xs_is =
     subst (λ (ks : List Kept). IsKept b tab entered ks) (sym xs_is) (subst (λ (c : TabState). IsKept c tab entered kept) (sym b_is) is)
 
-pub kept-requested : (a b : TabState) (tab entered : ℕ) (kept xs : List Kept) (o : Operation) (p : Pending) (mode : Mode) (name bytes : List ℕ) → IsKept a tab entered kept → xs ≡ kept ++ kept_as o (token.Pending p) ∷ [] → o ≡ Request mode false name → bytes ≡ name → p.tab ≡ a.tab → p.number ≡ length a.issued → b ≡ asked mode false bytes a → IsKept b tab entered xs
+pub kept-requested : (a b : TabState) (tab entered : ℕ) (kept xs : List Kept) (o : Operation) (p : Issued) (mode : Mode) (name bytes : List ℕ) → IsKept a tab entered kept → xs ≡ kept ++ kept_as o (token.Pending p) ∷ [] → o ≡ Request mode false name → bytes ≡ name → p.tab ≡ a.tab → p.number ≡ length a.issued → b ≡ asked mode false bytes a → IsKept b tab entered xs
 kept-requested a b tab entered kept xs o p mode name bytes is xs_are o_is bytes_are owner number_is b_is =
     let whole : Operation = Request mode false bytes in
     let p_is : p ≡ record { tab = a.tab; number = length a.issued } = ap (λ (t : ℕ). record { tab = t; number = p.number }) owner ∙ ap (λ (n : ℕ). record { tab = a.tab; number = n }) number_is in
-    let x_is : kept_as o (token.Pending p) ≡ kept_as whole (token_for a.tab whole (length a.issued) Asked) = ap (λ (q : Operation). kept_as q (token.Pending p)) (o_is ∙ ap (Request mode false) (sym bytes_are)) ∙ ap (λ (q : Pending). kept_as whole (token.Pending q)) p_is in
+    let x_is : kept_as o (token.Pending p) ≡ kept_as whole (token_for a.tab whole (length a.issued) Asked) = ap (λ (q : Operation). kept_as q (token.Pending p)) (o_is ∙ ap (Request mode false) (sym bytes_are)) ∙ ap (λ (q : Issued). kept_as whole (token.Pending q)) p_is in
     kept-issue a b tab entered kept xs whole Asked (kept_as o (token.Pending p)) is refl refl xs_are x_is b_is
 
-pub kept-probed : (a b : TabState) (tab entered : ℕ) (kept xs : List Kept) (o : Operation) (p : Probe) (mode : Mode) (name bytes : List ℕ) → IsKept a tab entered kept → xs ≡ kept ++ kept_as o (token.Probe p) ∷ [] → o ≡ Request mode true name → bytes ≡ name → p.tab ≡ a.tab → p.number ≡ length a.issued → b ≡ asked mode true bytes a → IsKept b tab entered xs
+pub kept-probed : (a b : TabState) (tab entered : ℕ) (kept xs : List Kept) (o : Operation) (p : Issued) (mode : Mode) (name bytes : List ℕ) → IsKept a tab entered kept → xs ≡ kept ++ kept_as o (token.Probe p) ∷ [] → o ≡ Request mode true name → bytes ≡ name → p.tab ≡ a.tab → p.number ≡ length a.issued → b ≡ asked mode true bytes a → IsKept b tab entered xs
 kept-probed a b tab entered kept xs o p mode name bytes is xs_are o_is bytes_are owner number_is b_is =
     let whole : Operation = Request mode true bytes in
     let p_is : p ≡ record { tab = a.tab; number = length a.issued } = ap (λ (t : ℕ). record { tab = t; number = p.number }) owner ∙ ap (λ (n : ℕ). record { tab = a.tab; number = n }) number_is in
-    let x_is : kept_as o (token.Probe p) ≡ kept_as whole (token_for a.tab whole (length a.issued) Asked) = ap (λ (q : Operation). kept_as q (token.Probe p)) (o_is ∙ ap (Request mode true) (sym bytes_are)) ∙ ap (λ (q : Probe). kept_as whole (token.Probe q)) p_is in
+    let x_is : kept_as o (token.Probe p) ≡ kept_as whole (token_for a.tab whole (length a.issued) Asked) = ap (λ (q : Operation). kept_as q (token.Probe p)) (o_is ∙ ap (Request mode true) (sym bytes_are)) ∙ ap (λ (q : Issued). kept_as whole (token.Probe q)) p_is in
     kept-issue a b tab entered kept xs whole Asked (kept_as o (token.Probe p)) is refl refl xs_are x_is b_is
 
-pub kept-queried : (a b : TabState) (tab entered : ℕ) (kept xs : List Kept) (q : Asking) → IsKept a tab entered kept → xs ≡ kept ++ kept_as Query (token.Asking q) ∷ [] → q.tab ≡ a.tab → q.number ≡ length a.issued → b ≡ queried a → IsKept b tab entered xs
+pub kept-queried : (a b : TabState) (tab entered : ℕ) (kept xs : List Kept) (q : Issued) → IsKept a tab entered kept → xs ≡ kept ++ kept_as Query (token.Asking q) ∷ [] → q.tab ≡ a.tab → q.number ≡ length a.issued → b ≡ queried a → IsKept b tab entered xs
 kept-queried a b tab entered kept xs q is xs_are owner number_is b_is =
     let q_is : q ≡ record { tab = a.tab; number = length a.issued } = ap (λ (t : ℕ). record { tab = t; number = q.number }) owner ∙ ap (λ (n : ℕ). record { tab = a.tab; number = n }) number_is in
-    kept-issue a b tab entered kept xs Query (Querying no_parts) (kept_as Query (token.Asking q)) is refl refl xs_are (ap (λ (r : Asking). kept_as Query (token.Asking r)) q_is) b_is
+    kept-issue a b tab entered kept xs Query (Querying no_parts) (kept_as Query (token.Asking q)) is refl refl xs_are (ap (λ (r : Issued). kept_as Query (token.Asking r)) q_is) b_is
 
 -- ---- what stands at a place
 

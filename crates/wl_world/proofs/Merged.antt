@@ -1,11 +1,11 @@
 -- Put together by rising number, what took a post and what was full is what the post reached.
-use Rattle.std.proofs.Common.{◌≡◌, ℕ, ◌+◌, ◌≤◌, ◌<◌, Bool, true, false, not, ◌&&◌, cond, ltb, List, [], ◌∷◌, ◌++◌, map, Option, refl, sym, ap, ◌∙◌, arith, one-add}
+use Rattle.std.proofs.Common.{◌≡◌, ℕ, ◌+◌, ◌≤◌, Bool, true, false, not, ◌&&◌, cond, ltb, List, [], ◌∷◌, Option, refl, ap, ◌∙◌, arith, one-add}
 use Rattle.std.proofs.lemmas.Bool.{lt-ltb, le-ltb}
 use Rattle.wl_broadcast.specs.Channels.{Object, is_destination, has_room, taking_from, full_from}
 use Rattle.wl_world.specs.declared.reply.Reached.{Reached}
 use Rattle.wl_world.specs.declared.reply.Reached.TheVariants.{Took, Full}
 use Rattle.wl_world.specs.Replies.{reached_from}
-use Rattle.wl_world.specs.Merging.{count_below, merged}
+use Rattle.wl_world.specs.Merging.{merged}
 
 -- the first number, if there is one, is not below a bound
 abbrev pub Head : ℕ → List ℕ → Type 0

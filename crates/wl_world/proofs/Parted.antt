@@ -1,13 +1,13 @@
 -- What the supervisor becomes is what the world's kernel and broker become.
-use Rattle.std.proofs.Common.{◌≡◌, ℕ, List, [], Bool, not, is_some, true, false, cond, map, Option, Some, None, Result, Ok, Err, OnOk, refl, sym, ap, ◌∙◌}
+use Rattle.std.proofs.Common.{◌≡◌, ℕ, List, [], not, is_some, true, false, cond, map, Option, Some, None, Result, Ok, Err, OnOk, refl}
 use Rattle.url.specs.Origin.{Triple}
 use Rattle.wl_draft.specs.Tables.{Table}
 use Rattle.wl_frames.specs.declared.frame.Stamped.{Stamped}
 use Rattle.wl_broadcast.specs.Channels.{ChannelState}
 use Rattle.wl_agent.specs.Tab.{TabState}
-use Rattle.wl_broker.specs.Broker.{BrokerState, started, hellos, Taking, Drops, Does, taking, burial}
+use Rattle.wl_broker.specs.Broker.{BrokerState, started, hellos, Drops, Does, taking, burial}
 use Rattle.wl_kernel.specs.declared.fault.OpenFault.{OpenFault}
-use Rattle.wl_kernel.specs.Kernel.{KernelState, open_refusal, opened, is_living, killed, may_stop, stopped, placed}
+use Rattle.wl_kernel.specs.Kernel.{open_refusal, opened, is_living, killed, may_stop, stopped, placed}
 use Rattle.wl_world.specs.declared.message.Message.{Message}
 use Rattle.wl_world.specs.declared.supervisor.Supervisor.{Supervisor}
 use Rattle.wl_world.specs.declared.supervisor.Supervisor.TheVariants.{Down, Up}

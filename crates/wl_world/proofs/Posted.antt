@@ -1,13 +1,12 @@
 -- What a call on a tab's channels makes of its row is what it makes of the world.
-use Rattle.std.proofs.Common.{◌≡◌, ℕ, zero, suc, arith, is_some, ◌∷◌, Bool, true, false, not, ◌&&◌, cond, eqb, length, ltb, leb, List, [], map, Option, Some, None, option_map, refl, sym, ap, ◌∙◌, subst, ⊎_elim}
+use Rattle.std.proofs.Common.{◌≡◌, ℕ, zero, suc, arith, is_some, ◌∷◌, Bool, true, false, ◌&&◌, cond, length, ltb, leb, List, [], map, Option, Some, None, option_map, refl, sym, ap, ◌∙◌, subst, ⊎_elim}
 use Rattle.std.proofs.lemmas.Bool.{cases_eq, eq-eqb, ltb-false, le-ltb}
 use Rattle.wl_draft.specs.Tables.{Table, find, put}
 use Rattle.wl_draft.proofs.TableLemmas.{find-put_same, find-put_other}
 use Rattle.wl_frames.specs.declared.frame.Heard.{Heard}
 use Rattle.wl_frames.specs.declared.frame.Frame.TheVariants as frame
-use Rattle.wl_broadcast.specs.declared.fault.ChannelFault.{ChannelFault}
 use Rattle.wl_broadcast.specs.declared.fault.ChannelFault.TheVariants as fault
-use Rattle.wl_broadcast.specs.Channels.{Object, ChannelState, after_hearing, heard, is_old, is_open_at, is_own, post_refusal, posted, opened, open_refusal, read_at, closed_at, post_limit, name_at, inbox_at, first_of}
+use Rattle.wl_broadcast.specs.Channels.{Object, ChannelState, after_hearing, heard, is_old, is_open_at, is_own, post_refusal, posted, read_at, post_limit, name_at}
 use Rattle.wl_broadcast.proofs.Numbered.{is_open_at-suc}
 use Rattle.wl_kernel.specs.Routes.{hearers}
 use Rattle.wl_world.specs.declared.reply.Said.{Said}
@@ -15,8 +14,8 @@ use Rattle.wl_world.specs.declared.reply.Said.TheVariants as said
 use Rattle.wl_world.specs.declared.reply.Refusal.TheVariants as refusal
 use Rattle.wl_world.specs.declared.channels.ChannelRefusal.{ChannelRefusal}
 use Rattle.wl_world.specs.declared.channels.ChannelRefusal.TheVariants as why
-use Rattle.wl_world.specs.World.{WorldState, channels_in, channels_of, lives, becomes, opens_channel, posts, reads, closes, across, nothing}
-use Rattle.wl_world.specs.Replies.{opening_channel, posting, reading, closing, refused, of_channel, open_or, read_letter, reached}
+use Rattle.wl_world.specs.World.{WorldState, channels_in, channels_of, lives, becomes, posts, reads, across, nothing}
+use Rattle.wl_world.specs.Replies.{posting, refused, reached}
 use Rattle.wl_world.specs.TabChannels.{number_refusal, posting_refusal, refusal_or}
 use Rattle.wl_world.specs.Supervised.{OwnRows, of_posting}
 

@@ -1,5 +1,5 @@
 -- A call on a tab's channels, over the parts of the world.
-use Rattle.std.proofs.Common.{◌≡◌, ℕ, List, [], ltb, Bool, cond, false, true, arith, Option, Some, None, Result, Ok, Err, OnOk, OnErr, IfErr, refl, sym, ap, ◌∙◌, subst}
+use Rattle.std.proofs.Common.{◌≡◌, ℕ, List, [], ltb, Bool, cond, false, true, arith, Some, None, Result, Ok, Err, OnOk, OnErr, IfErr, refl, sym, ap, ◌∙◌, subst}
 use Rattle.std.proofs.lemmas.Bool.{le-ltb}
 use Rattle.wl_draft.specs.Tables.{Table, find, put}
 use Rattle.wl_frames.specs.declared.frame.Frame.{Frame}

@@ -1,5 +1,5 @@
 -- What a tab sends on hearing a message: its report, where it says that it has entered a generation, and else nothing.
-use Rattle.std.proofs.Common.{◌≡◌, ℕ, List, [], ◌∷◌, Bool, true, false, Option, refl, sym, ap, ◌∙◌}
+use Rattle.std.proofs.Common.{◌≡◌, ℕ, List, [], Bool, true, false, Option, refl, sym, ap, ◌∙◌}
 use Rattle.wl_draft.specs.Tables.{Table, find, put}
 use Rattle.wl_draft.proofs.TableLemmas.{find-put_same}
 use Rattle.wl_frames.specs.declared.frame.Frame.{Frame}

@@ -1,5 +1,5 @@
 -- Messages that are sent one after another.
-use Rattle.std.proofs.Common.{◌≡◌, List, [], ◌∷◌, ◌++◌, refl, ap, ◌∙◌}
+use Rattle.std.proofs.Common.{◌≡◌, List, [], ◌∷◌, ◌++◌, refl, ap}
 use Rattle.wl_world.specs.declared.message.Message.{Message}
 use Rattle.wl_world.specs.Messages.{sent, sent_all, sending}
 use Rattle.wl_world.specs.Replies.{sendings}

@@ -1,5 +1,5 @@
 -- A run with one more event; no event but for its sends touches the bag.
-use Rattle.std.proofs.Common.{◌≡◌, ℕ, List, [], ◌∷◌, ◌++◌, Bool, true, false, cond, Option, Some, None, refl, sym, ap, ◌∙◌}
+use Rattle.std.proofs.Common.{◌≡◌, ℕ, List, [], ◌∷◌, ◌++◌, Bool, true, false, Option, Some, None, refl, ap, ◌∙◌}
 use Rattle.wl_frames.specs.declared.frame.Stamped.{Stamped}
 use Rattle.wl_broker.specs.Broker.{BrokerState, Taking, Drops, Does, taking}
 use Rattle.wl_world.specs.declared.message.Message.{Message}
@@ -7,7 +7,6 @@ use Rattle.wl_world.specs.declared.message.Message.TheVariants.{Up, Down, Across
 use Rattle.wl_world.specs.declared.event.Event.{Event}
 use Rattle.wl_world.specs.declared.event.Event.TheVariants as event
 use Rattle.wl_world.specs.declared.reply.Said.{Said}
-use Rattle.wl_world.specs.declared.reply.Reply.{Reply}
 use Rattle.wl_world.specs.Messages.{sent_all}
 use Rattle.wl_world.specs.World.{WorldState, Deed, where_allowed, acts, becomes, follows, comes_up, comes, tells, stops, starts, greets, deed, happens, run}
 use Rattle.wl_world.specs.Replies.{said_of, sendings, reply_of}

@@ -170,9 +170,9 @@ TakenOnce =
 
 -- ---- a partition alone
 
--- a tab of another partition asks under a name that is held, and recovers alone while the others do not
-abbrev pub request_3 : Message
-request_3 = Up (record { tab = 3; partition = 3; inner = up.Command (record { generation = 1; number = 0; operation = request }) })
+-- a tab of another partition asks under a name that is held; it recovers alone while the others do not, and its next command is answered
+abbrev pub request_3 : ℕ → ℕ → Message
+request_3 g n = Up (record { tab = 3; partition = 3; inner = up.Command (record { generation = g; number = n; operation = request }) })
 
 abbrev pub report_3 : ℕ → ℕ → List Entry → Message
 report_3 g base entries = Up (record { tab = 3; partition = 3; inner = up.Report (record { generation = g; base = base; entries = entries }) })
@@ -185,7 +185,9 @@ enters_apart = event.Open 3 q ∷ event.Hello 3 ∷ event.Deliver (Down Kernel (
 
 abbrev pub recovers_apart : List ℕ → List Event
 recovers_apart listed =
-    event.Ask 3 Exclusive a ∷ event.Stop ∷ event.Start listed ∷ event.Deliver (hello 2 3) ∷ event.Deliver (report_3 2 1 (entry false ∷ [])) ∷ []
+    event.Ask 3 Exclusive a
+    ∷ event.Stop ∷ event.Start listed ∷ event.Deliver (hello 2 3) ∷ event.Deliver (report_3 2 1 (entry false ∷ []))
+    ∷ event.Ask 3 Exclusive a ∷ event.Deliver (request_3 2 1) ∷ []
 
 abbrev pub beside_others : List Event
 beside_others = event.Start [] ∷ (enters 1 ++ enters 2 ++ enters_apart ++ recovers_apart (1 ∷ 2 ∷ 3 ∷ []))
@@ -195,7 +197,9 @@ without_others = event.Start [] ∷ (enters_apart ++ recovers_apart (3 ∷ []))
 
 abbrev pub sent_apart : List Message
 sent_apart =
-    Down Kernel (hello_to 1 3) ∷ report_3 1 0 [] ∷ request_3 ∷ hello 2 3 ∷ report_3 2 1 (entry false ∷ []) ∷ answer 2 3 0 1 Granted ∷ []
+    Down Kernel (hello_to 1 3) ∷ report_3 1 0 [] ∷ request_3 1 0
+    ∷ hello 2 3 ∷ report_3 2 1 (entry false ∷ []) ∷ answer 2 3 0 1 Granted
+    ∷ request_3 2 1 ∷ answer 2 3 1 2 Waiting ∷ []
 
 -- the projection to its partition is the script without the others, and sends what the whole sends to it and gets from it
 abbrev pub OtherOriginUnblocked : Type 0

@@ -2,7 +2,7 @@
 use Rattle.std.specs.Prelude.{◌≡◌, ℕ, ◌+◌, List, ◌==◌, nat_lt, length, map, position, option_map, Option, Some, None, Result, Ok, Err, if◌then◌else◌}
 use Rattle.wl_broadcast.specs.Channels.{ChannelState, is_open_at, post_refusal}
 use Rattle.wl_broadcast.specs.OpenObjects.{open_from}
-use Rattle.wl_broadcast.specs.declared.channel.Channel.{Channel}
+use Rattle.wl_broadcast.specs.Owned.{Owned}
 use Rattle.wl_world.specs.declared.channels.ChannelRefusal.{ChannelRefusal}
 use Rattle.wl_world.specs.declared.channels.ChannelRefusal.TheVariants.{NoChannel, Closed, Fault}
 
@@ -20,11 +20,11 @@ posting_refusal k bytes c = refusal_or (number_refusal k c) (option_map Fault (p
 
 -- ---- what is kept
 
-abbrev pub channel_of : ℕ → ℕ → Channel
+abbrev pub channel_of : ℕ → ℕ → Owned
 channel_of tab k = record { tab = tab; number = k }
 
 -- the open channels, oldest first
-abbrev pub open_channels : ChannelState → List Channel
+abbrev pub open_channels : ChannelState → List Owned
 open_channels c = map (channel_of c.tab) (open_from 0 c.objects)
 
 -- how many channels were opened, where this one was the last
@@ -32,7 +32,7 @@ abbrev pub opened_until : Option ℕ → ℕ
 opened_until None = 0
 opened_until (Some k) = k + 1
 
-pub record IsNumbered (c : ChannelState) (latest : Option ℕ) (kept : List Channel) : Type 0 where
+pub record IsNumbered (c : ChannelState) (latest : Option ℕ) (kept : List Owned) : Type 0 where
   pub tokens : kept ≡ open_channels c
   pub count : length c.objects ≡ opened_until latest
 
@@ -43,5 +43,5 @@ found_at (Some place) = Ok place
 found_at None = Err Closed
 
 -- where the open channel of a number stands, if there is one
-abbrev pub place_in : ℕ → Option ℕ → List Channel → Result ℕ ChannelRefusal
+abbrev pub place_in : ℕ → Option ℕ → List Owned → Result ℕ ChannelRefusal
 place_in k latest kept = if nat_lt k (opened_until latest) then found_at (position (λ channel. channel.number == k) kept) else Err NoChannel

@@ -3,7 +3,7 @@
 ghost use Rattle.std.specs.Prelude.{◌≡◌, ◌≢◌, [], None, Some, IfOk, OnOk, IfErr, OnErr, is_some, if◌then◌else◌};
 ghost use Rattle.wl_frames.specs.Grammar.{TabsRiseFrom};
 ghost use Rattle.wl_broker.specs.Broker.{started, hellos};
-ghost use Rattle.wl_kernel.specs.Kernel.{no_tabs, open_refusal, opened, is_living, killed};
+ghost use Rattle.wl_kernel.specs.Kernel.{no_tabs, number_for, open_refusal, opened, is_living, killed};
 ghost use Rattle.wl_world.specs.declared.supervisor.Supervisor.TheVariants.{Down as down_state, Up as up_with};
 ghost use Rattle.wl_world.specs.declared.reply.Said.TheVariants as said;
 ghost use Rattle.wl_world.specs.Replies.{killing, stopping, starting, brought, telling, of_start, of_dropped, taken_said};
@@ -69,8 +69,10 @@ impl Supervisor {
         }
     }
 
+    /// A tab is opened. Answers the number of its partition.
     pub fn open(&mut self, tab: u16, partition: Partition) -> Result<u16, OpenFault>
         ensures ok { OnOk result (self.new ≡ with_kernel (opened tab partition (kernel_of self.old)) self.old) }
+        ensures number { IfOk result (λ number. number ≡ number_for tab partition (kernel_of self.old)) }
         ensures allowed { OnOk result (open_refusal tab partition (kernel_of self.old) ≡ None) }
         ensures refused { IfErr result (λ e. e ≢ OpenFault.Memory → open_refusal tab partition (kernel_of self.old) ≡ Some e) }
         ensures err { OnErr result (self.new ≡ self.old) }

@@ -117,13 +117,14 @@ fn posting(
     ensures sends { IfOk result (λ done. done.sends.items ≡ crossed kernel.now tab posted.frame) }
 {
     let Posted { frame, took, full } = posted;
+    let number = number_in(&frame);
+    let sends = to_others(alloc, kernel, tab, frame)?;
     let said = Said::Posted {
         tab,
-        number: number_in(&frame),
+        number,
         bytes: bytes.clone()?,
         objects: Sequence::new(reached(alloc, took.as_slice(), full.as_slice())?),
     };
-    let sends = to_others(alloc, kernel, tab, frame)?;
     Ok(Done { said, sends })
 }
 

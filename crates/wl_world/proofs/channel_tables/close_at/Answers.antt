@@ -1,10 +1,8 @@
-use Rattle.std.proofs.Common.{ℕ, refl, sym, ap, ◌∙◌, length, Option, Some}
+use Rattle.std.proofs.Common.{ℕ, refl, ap}
 use Rattle.std.specs.BTreeMap.{BTreeMap}
-use Rattle.std.proofs.lemmas.Result.{IfOk-weaker, on_err_weaker}
-use Rattle.wl_broadcast.specs.Channels.{ChannelState, opened, open_refusal, posted, post_frame, name_at, taking, full, after_hearing, hearing_of, read_at, closed_at, is_open_at}
-use Rattle.wl_broker.proofs.PartitionRows.{written_same}
+use Rattle.wl_broadcast.specs.Channels.{ChannelState, is_open_at}
 use Rattle.wl_world.proofs.PostedRows.{ltb_zero}
-use Rattle.wl_world.proofs.TabTables.{find_there, find_absent, written_as, written_if, put_new}
+use Rattle.wl_world.proofs.TabTables.{find_there, find_absent, written_if}
 use Rattle.wl_world.proofs.channel_tables.close_at.Goals as goal
 
 pub returns-in-Some-clause-result : goal.returns-in-Some-clause-result

@@ -1,5 +1,9 @@
 use Rattle.wl_world.specs.World.{empty_world, run}
 use Rattle.wl_world.proofs.Cover.{Sound-exclusion}
+use Rattle.wl_world.proofs.Hearings.{heard-rising, heard-posts, heard-till_closed}
+use Rattle.wl_world.proofs.Isolation.{dropped-leaves_alone, kept-does_alike, runs-apart}
+use Rattle.wl_world.proofs.Order.{commands-in_order, granted-were_held, grants-were_sent, manager-is_fold}
+use Rattle.wl_world.proofs.Readings.{heard-is_read_or_waits}
 use Rattle.wl_world.proofs.Runs.{run-sound}
 use Rattle.wl_world.proofs.Sources.{run-own}
 use Rattle.wl_world.proofs.laws.law_safety.Goals as goal
@@ -9,3 +13,36 @@ returns-clause-exclusion c = λ events. Sound-exclusion (run events empty_world)
 
 pub returns-clause-own : goal.returns-clause-own
 returns-clause-own c = run-own
+
+pub returns-clause-commands : goal.returns-clause-commands
+returns-clause-commands c = commands-in_order
+
+pub returns-clause-held : goal.returns-clause-held
+returns-clause-held c = granted-were_held
+
+pub returns-clause-sent : goal.returns-clause-sent
+returns-clause-sent c = grants-were_sent
+
+pub returns-clause-fold : goal.returns-clause-fold
+returns-clause-fold c = manager-is_fold
+
+pub returns-clause-dropped : goal.returns-clause-dropped
+returns-clause-dropped c = dropped-leaves_alone
+
+pub returns-clause-kept : goal.returns-clause-kept
+returns-clause-kept c = kept-does_alike
+
+pub returns-clause-apart : goal.returns-clause-apart
+returns-clause-apart c = runs-apart
+
+pub returns-clause-rising : goal.returns-clause-rising
+returns-clause-rising c = heard-rising
+
+pub returns-clause-posts : goal.returns-clause-posts
+returns-clause-posts c = heard-posts
+
+pub returns-clause-closed : goal.returns-clause-closed
+returns-clause-closed c = heard-till_closed
+
+pub returns-clause-told : goal.returns-clause-told
+returns-clause-told c = heard-is_read_or_waits

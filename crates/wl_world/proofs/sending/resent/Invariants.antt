@@ -1,5 +1,4 @@
 use Rattle.std.proofs.Common.{◌≡◌, ◌++◌, map, take}
-use Rattle.wl_agent.specs.Tab.{due}
 use Rattle.wl_world.specs.Supervised.{command_in, reports_in}
 use Rattle.wl_world.proofs.sending.resent.Given as goal
 

@@ -1,13 +1,11 @@
-use Rattle.std.proofs.Common.{ℕ, refl, sym, ap, ◌∙◌, length}
+use Rattle.std.proofs.Common.{ℕ, ap, ◌∙◌}
 use Rattle.std.specs.BTreeMap.{BTreeMap}
-use Rattle.std.proofs.lemmas.Result.{IfOk-weaker, on_err_weaker}
-use Rattle.wl_agent.specs.Tab.{TabState, newborn, asked, queried, released, aborted, ask_refusal, query_refusal, status_of, is_asked}
-use Rattle.wl_agent.specs.Tokens.{is_holding, is_pending}
+use Rattle.std.proofs.lemmas.Result.{IfOk-weaker}
+use Rattle.wl_agent.specs.Tab.{TabState}
 use Rattle.wl_agent.specs.Delivery.{delivery}
-use Rattle.wl_broker.proofs.PartitionRows.{written_same}
-use Rattle.wl_world.specs.World.{command_limit, told}
+use Rattle.wl_world.specs.World.{told}
 use Rattle.wl_world.specs.Replies.{arrival}
-use Rattle.wl_world.proofs.TabTables.{find_there, find_absent, written_as, written_if, put_new}
+use Rattle.wl_world.proofs.TabTables.{find_there, find_absent, written_as, put_new}
 use Rattle.wl_world.proofs.tables.deliver_at.Goals as goal
 
 pub returns-in-Some-clause-tabs : goal.returns-in-Some-clause-tabs

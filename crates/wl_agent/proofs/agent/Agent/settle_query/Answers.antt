@@ -3,15 +3,15 @@ use Rattle.wl_agent.proofs.TabSteps.{step-query}
 use Rattle.wl_agent.proofs.agent.Agent.settle_query.Goals as goal
 
 pub invariant_of-self : goal.invariant_of-self
-invariant_of-self c = tidy-ended _ c.args.asking.number _ _ c.self.invariant c.remove.ensures.rest
+invariant_of-self c = tidy-ended _ c.asking.inside.number _ _ c.self.invariant c.remove.ensures.rest
 
 pub invariant_of-self-2 : goal.invariant_of-self-2
-invariant_of-self-2 c = tidy-ended _ c.args.asking.number _ _ c.self.invariant c.remove.ensures.rest
+invariant_of-self-2 c = tidy-ended _ c.asking.inside.number _ _ c.self.invariant c.remove.ensures.rest
 
 pub returns-in-Some-Whole-clause-ok : goal.returns-in-Some-Whole-clause-ok
 returns-in-Some-Whole-clause-ok c =
-    step-query _ _ c.args.asking.number _ _ c.self.view_is c.remove.ensures.rest c.is_querying.ensures c.if-is_querying.false
+    rw (← c.asking.view_is) (step-query _ _ c.asking.inside.number _ _ c.self.view_is c.remove.ensures.rest c.is_querying.ensures c.if-is_querying.false)
 
 pub returns-clause-ok : goal.returns-clause-ok
 returns-clause-ok c =
-    step-query _ _ c.args.asking.number _ _ c.self.view_is c.remove.ensures.rest c.is_querying.ensures c.if-is_querying.false
+    rw (← c.asking.view_is) (step-query _ _ c.asking.inside.number _ _ c.self.view_is c.remove.ensures.rest c.is_querying.ensures c.if-is_querying.false)

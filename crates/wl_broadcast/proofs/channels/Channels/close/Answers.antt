@@ -7,7 +7,7 @@ use Rattle.wl_broadcast.proofs.channels.Channels.close.Goals as goal
 
 pub invariant_of-self : goal.invariant_of-self
 invariant_of-self c =
-    let n = c.args.channel.number in
+    let n = c.channel.inside.number in
     let other : ℕ → Bool = λ j. not (j == n) in
     let whole = with_items_is c.self.inside.objects c.close_at.new.objects (omega (arith, c.close_at.auto.objects, c.deref_mut.ensures.len, c.self.inside.objects.ok.0)) in
     let closed = c.close_at.ensures ∙ ap (λ os. changed_at n (λ o. record o { is_open = false; inbox = [] }) (all_seen os)) c.deref_mut.ensures.value in

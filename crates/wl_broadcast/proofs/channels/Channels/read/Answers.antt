@@ -7,7 +7,7 @@ use Rattle.wl_broadcast.proofs.channels.Channels.read.Goals as goal
 
 pub invariant_of-self : goal.invariant_of-self
 invariant_of-self c =
-    let n = c.args.channel.now.number in
+    let n = c.channel.inside.number in
     let whole = with_items_is c.self.inside.objects c.read_at.new.objects (omega (arith, c.read_at.auto.objects, c.deref_mut.ensures.len, c.self.inside.objects.ok.0)) in
     let rest = c.read_at.ensures.rest ∙ ap (λ os. changed_at n (λ o. record o { inbox = rest_of o.inbox }) (all_seen os)) c.deref_mut.ensures.value in
     sym (ap (λ os. open_from 0 (all_seen os)) whole ∙ ap (open_from 0) rest ∙ open-read 0 n (all_seen c.self.inside.objects.items) ∙ sym c.self.invariant)

@@ -1,5 +1,5 @@
 use Rattle.std.proofs.Common.{cond, Err, ◌∙◌, sym, ap, subst}
-use Rattle.wl_broadcast.specs.declared.channel.Channel.{Channel}
+use Rattle.wl_broadcast.specs.Owned.{Owned}
 use Rattle.wl_broadcast.specs.declared.fault.ChannelFault.TheVariants.{ForeignChannel}
 use Rattle.wl_broadcast.specs.Channels.{ChannelState, closed_at}
 use Rattle.wl_world.specs.declared.channels.ChannelRefusal.TheVariants.{NoChannel, Closed}
@@ -16,7 +16,7 @@ invariant_of-self c =
 pub invariant_of-self-in_default : goal.invariant_of-self-in_default
 invariant_of-self-in_default c =
     let f = found_in c.self.inside.channels c.self.inside.latest c.self.inside.kept.items c.deref.result.now c.args.number c.in-Ok.place c.place_of.result c.self.invariant c.deref.ensures.value c.place_of.ensures c.in-Ok.is in
-    let number = ap (λ (x : Channel). x.number) (c.remove-channel.ensures.value ∙ f.channel c.remove-channel.result) in
+    let number = ap (λ (x : Owned). x.number) (c.remove-channel.ensures.value ∙ f.channel c.remove-channel.result) in
     numbered-closed c.self.inside.channels c.close.new.self c.self.inside.latest c.self.inside.kept.items c.remove-channel.new.self.items c.args.number c.in-Ok.place c.self.invariant f c.remove-channel.ensures.items (c.in_default.ensures.ok ∙ ap (λ k. closed_at k c.self.inside.channels) number)
 
 pub returns-in-Err-clause-new : goal.returns-in-Err-clause-new
@@ -29,7 +29,7 @@ pub returns-in_default-clause-new : goal.returns-in_default-clause-new
 returns-in_default-clause-new c =
     let n : IsNumbered c.args.self.now c.self.inside.latest c.self.inside.kept.items = subst (λ (s : ChannelState). IsNumbered s c.self.inside.latest c.self.inside.kept.items) c.self.view_is c.self.invariant in
     let f = found_in c.args.self.now c.self.inside.latest c.self.inside.kept.items c.deref.result.now c.args.number c.in-Ok.place c.place_of.result n c.deref.ensures.value c.place_of.ensures c.in-Ok.is in
-    let number = ap (λ (x : Channel). x.number) (c.remove-channel.ensures.value ∙ f.channel c.remove-channel.result) in
+    let number = ap (λ (x : Owned). x.number) (c.remove-channel.ensures.value ∙ f.channel c.remove-channel.result) in
     c.in_default.ensures.ok ∙ ap (λ k. closed_at k c.self.inside.channels) number ∙ ap (closed_at c.args.number) c.self.view_is ∙ sym (ap (λ b. cond b (closed_at c.args.number c.args.self.now) c.args.self.now) f.opened)
 
 pub returns-in-Err-NoChannel-clause-new : goal.returns-in-Err-NoChannel-clause-new

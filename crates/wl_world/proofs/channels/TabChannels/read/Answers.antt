@@ -1,6 +1,6 @@
 use Rattle.std.proofs.Common.{◌∙◌, ap, subst}
 use Rattle.std.proofs.lemmas.Result.{err_from_is_err_and}
-use Rattle.wl_broadcast.specs.declared.channel.Channel.{Channel}
+use Rattle.wl_broadcast.specs.Owned.{Owned}
 use Rattle.wl_broadcast.specs.Channels.{ChannelState, read_at, inbox_at, first_of}
 use Rattle.wl_world.specs.TabChannels.{IsNumbered}
 use Rattle.wl_world.proofs.OpenChannels.{found_in, refused_in, owned, never, numbered-read}
@@ -26,11 +26,11 @@ pub returns-clause-ok : goal.returns-clause-ok
 returns-clause-ok c =
     let n : IsNumbered c.args.self.now c.self.inside.latest c.self.inside.kept.items = subst (λ (s : ChannelState). IsNumbered s c.self.inside.latest c.self.inside.kept.items) c.self.view_is c.self.invariant in
     let f = found_in c.args.self.now c.self.inside.latest c.self.inside.kept.items c.deref.result.now c.args.number c.in_ok-place.place c.place_of.result n c.deref.ensures.value c.place_of.ensures c.in_ok-place.was in
-    let number = ap (λ (x : Channel). x.number) (c.index.ensures ∙ f.channel c.index.result.now) in
+    let number = ap (λ (x : Owned). x.number) (c.index.ensures ∙ f.channel c.index.result.now) in
     (c.in_ok-read.ensures.ok ∙ ap (λ k. read_at k c.self.inside.channels) number ∙ ap (read_at c.args.number) c.self.view_is, f.allowed)
 
 pub returns-clause-letter : goal.returns-clause-letter
 returns-clause-letter c =
     let f = found_in c.self.inside.channels c.self.inside.latest c.self.inside.kept.items c.deref.result.now c.args.number c.in_ok-place.place c.place_of.result c.self.invariant c.deref.ensures.value c.place_of.ensures c.in_ok-place.was in
-    let number = ap (λ (x : Channel). x.number) (c.index.ensures ∙ f.channel c.index.result.now) in
+    let number = ap (λ (x : Owned). x.number) (c.index.ensures ∙ f.channel c.index.result.now) in
     c.in_ok-read.ensures.letter ∙ ap (λ k. first_of (inbox_at c.self.inside.channels.objects k)) number ∙ ap (λ (s : ChannelState). first_of (inbox_at s.objects c.args.number)) c.self.view_is

@@ -1,11 +1,8 @@
-use Rattle.std.proofs.Common.{◌≡◌, true, sym, ap, ◌∙◌, arith}
+use Rattle.std.proofs.Common.{◌≡◌, true, sym, ◌∙◌, arith}
 use Rattle.std.proofs.lemmas.Grind.{common_steps}
 use Rattle.std.proofs.lemmas.Result.{IfOk-weaker}
-use Rattle.wl_kernel.specs.Kernel.{KernelState}
 use Rattle.wl_world.specs.World.{lives}
-use Rattle.wl_world.specs.Supervised.{issued_in}
-use Rattle.wl_world.proofs.TabTables.{find_there, find_absent}
-use Rattle.wl_world.proofs.Commanded.{asked-sends, queried-sends, aborted-sends, released-sends}
+use Rattle.wl_world.proofs.Commanded.{aborted-sends}
 use Rattle.wl_world.proofs.parts.Parts.abort.Goals as goal
 
 pub returns-in-Issued-clause-sends : goal.returns-in-Issued-clause-sends

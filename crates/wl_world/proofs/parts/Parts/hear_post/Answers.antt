@@ -1,9 +1,9 @@
-use Rattle.std.proofs.Common.{◌≡◌, true, sym, ap, ◌∙◌, arith}
+use Rattle.std.proofs.Common.{◌≡◌, true, ap, ◌∙◌, arith}
 use Rattle.std.proofs.lemmas.Grind.{common_steps}
-use Rattle.wl_draft.specs.Tables.{find, put}
+use Rattle.wl_draft.specs.Tables.{find}
 use Rattle.wl_frames.specs.declared.frame.Heard.{Heard}
 use Rattle.wl_frames.specs.declared.frame.Frame.TheVariants as frame
-use Rattle.wl_broadcast.specs.Channels.{after_hearing, hearing_of}
+use Rattle.wl_broadcast.specs.Channels.{hearing_of}
 use Rattle.wl_world.specs.World.{channels_in, lives}
 use Rattle.wl_world.proofs.PostedRows.{own-heard, heard-said}
 use Rattle.wl_world.proofs.parts.Parts.hear_post.Goals as goal

@@ -1,7 +1,7 @@
 use Rattle.std.proofs.Common.{◌≡◌, true, arith}
 use Rattle.std.proofs.lemmas.Grind.{common_steps}
 use Rattle.wl_draft.specs.Tables.{find}
-use Rattle.wl_broadcast.specs.Channels.{opened, read_at}
+use Rattle.wl_broadcast.specs.Channels.{read_at}
 use Rattle.wl_world.specs.World.{channels_in, lives}
 use Rattle.wl_world.proofs.Parted.{always}
 use Rattle.wl_world.proofs.PostedRows.{own-after, reads-world}

@@ -1,4 +1,4 @@
-use Rattle.std.proofs.Common.{◌≡◌, sym, ap, ◌∙◌}
+use Rattle.std.proofs.Common.{sym, ap, ◌∙◌}
 use Rattle.wl_world.specs.declared.supervisor.Supervisor.{Supervisor}
 use Rattle.wl_world.specs.World.{WorldState, stops}
 use Rattle.wl_world.specs.Supervised.{world_of}

@@ -1,6 +1,5 @@
-use Rattle.std.proofs.Common.{◌≡◌, List, sym, ap, ◌∙◌}
+use Rattle.std.proofs.Common.{List, sym, ap, ◌∙◌}
 use Rattle.wl_world.specs.declared.event.Event.{Event}
-use Rattle.wl_world.specs.declared.reply.Reply.{Reply}
 use Rattle.wl_world.specs.declared.reply.Sent.{Sent}
 use Rattle.wl_world.specs.Machine.{Machine}
 use Rattle.wl_world.specs.World.{WorldState, empty_world, happens, run}
