@@ -1,13 +1,48 @@
+//! The manager. Each row is a list of calls, each with the pairs that it grants.
+
 use std::alloc::{AllocError, Global};
 use std::process::Abort;
 use std::test::Fail;
 use wl_draft::{Entry, Grant, Manager, Mode, Name, Row, Standing};
 
+/// An entry of a report: its number, whether it is held, its mode and its name.
+type Reported = (u32, bool, Mode, &'static str);
+
+/// A call on a manager.
+#[derive(Clone, Copy)]
+enum Call {
+    /// Of a client, under the number 0, where nothing stands yet.
+    Request(u16, Mode, &'static str),
+    /// Of a client, under the number 1, where nothing stands yet.
+    Probe(u16, Mode, &'static str),
+    Release(u16, u32),
+    Abort(u16, u32),
+    /// Of a client, and whether the queues are settled.
+    End(u16, bool),
+    Restore(u16, &'static [Reported], bool),
+}
+
+/// A call with the clients and numbers that it grants.
+type Step = (Call, &'static [(u16, u32)]);
+
 fn name_of(alloc: Global, text: &str) -> Result<Name, AllocError> {
     Ok(Name::from(String::from_str(alloc, text)?))
 }
 
-// Requests with a pair that must be new.
+fn entries_of(alloc: Global, report: &[Reported]) -> Result<Vec<Entry>, AllocError> {
+    let mut entries = Vec::new(alloc);
+    for (number, held, mode, name) in report {
+        let name = name_of(alloc, name)?;
+        entries.push(Entry {
+            number: *number,
+            held: *held,
+            mode: *mode,
+            name,
+        })?;
+    }
+    Ok(entries)
+}
+
 fn request(
     rt: &impl Abort,
     manager: &mut Manager,
@@ -30,166 +65,183 @@ fn probe(
     manager.probe(client, 1, name, mode)
 }
 
-fn grant(client: u16, number: u32) -> Grant {
-    Grant { client, number }
+fn make(
+    rt: &impl Abort,
+    alloc: Global,
+    manager: &mut Manager,
+    call: Call,
+) -> Result<Vec<Grant>, AllocError> {
+    match call {
+        Call::Request(client, mode, name) => {
+            request(rt, manager, client, &name_of(alloc, name)?, mode)
+        }
+        Call::Probe(client, mode, name) => probe(rt, manager, client, &name_of(alloc, name)?, mode),
+        Call::Release(client, number) => manager.release(client, number),
+        Call::Abort(client, number) => manager.abort(client, number),
+        Call::End(client, settles) => manager.end_client(client, settles),
+        Call::Restore(client, report, settles) => {
+            manager.restore(client, entries_of(alloc, report)?.as_slice(), settles)
+        }
+    }
 }
 
-fn expect(rt: &impl Abort, granted: Vec<Grant>, expected: &[Grant]) {
-    assert_eq!(rt; granted.as_slice(), expected);
+fn are(granted: &[Grant], pairs: &[(u16, u32)]) -> bool {
+    granted.len() == pairs.len()
+        && granted.iter().zip(pairs).all(|(grant, pair)| grant.client == pair.0
+            && grant.number == pair.1)
 }
+
+fn plays(
+    rt: &impl Abort,
+    alloc: Global,
+    manager: &mut Manager,
+    row: &[Step],
+) -> Result<(), AllocError> {
+    for (place, (each, pairs)) in row.iter().enumerate() {
+        let granted = make(rt, alloc, manager, *each)?;
+        assert!(rt; are(granted.as_slice(), pairs), "call {place}");
+    }
+    Ok(())
+}
+
+/// A probe behind the queue gets nothing, and one of another name is granted.
+const QUEUED: [Step; 5] = [
+    (Call::Request(1, Mode::Shared, "a"), &[(1, 0)]),
+    (Call::Request(2, Mode::Exclusive, "a"), &[]),
+    (Call::Request(3, Mode::Shared, "a"), &[]),
+    (Call::Probe(3, Mode::Shared, "a"), &[]),
+    (Call::Probe(2, Mode::Exclusive, "b"), &[(2, 1)]),
+];
+
+/// Behind the aborted request the shared one moves up; the abort of a held lock releases it.
+const ABORTED: [Step; 3] = [
+    (Call::Abort(2, 0), &[(3, 0)]),
+    (Call::Request(4, Mode::Shared, "b"), &[]),
+    (Call::Abort(2, 1), &[(4, 0)]),
+];
 
 #[test]
 fn shared_exclusive_shared(rt: HostRuntime) -> Result<(), Fail> {
     let alloc = rt.alloc();
-    let a = name_of(alloc, "a")?;
-    let b = name_of(alloc, "b")?;
     let mut manager = Manager::new(alloc);
-    expect(
-        &rt,
-        request(&rt, &mut manager, 1, &a, Mode::Shared)?,
-        &[grant(1, 0)],
-    );
-    expect(
-        &rt,
-        request(&rt, &mut manager, 2, &a, Mode::Exclusive)?,
-        &[],
-    );
-    expect(&rt, request(&rt, &mut manager, 3, &a, Mode::Shared)?, &[]);
-    // A probe behind the queue gets nothing, and one of another name is granted.
-    expect(&rt, probe(&rt, &mut manager, 3, &a, Mode::Shared)?, &[]);
-    expect(
-        &rt,
-        probe(&rt, &mut manager, 2, &b, Mode::Exclusive)?,
-        &[grant(2, 1)],
-    );
+    plays(&rt, alloc, &mut manager, &QUEUED)?;
     assert_eq!(rt; manager.state(1, 0), Standing::Held);
     assert_eq!(rt; manager.state(3, 0), Standing::Waiting);
     assert_eq!(rt; manager.state(3, 1), Standing::Absent);
     assert_eq!(rt; manager.live(2), 2);
     assert_eq!(rt; manager.waiting(), 2);
     assert!(rt; !manager.grantable(2, 0));
-    // Behind the aborted request the shared one moves up; the abort of a held lock releases it.
-    expect(&rt, manager.abort(2, 0)?, &[grant(3, 0)]);
-    expect(&rt, request(&rt, &mut manager, 4, &b, Mode::Shared)?, &[]);
-    expect(&rt, manager.abort(2, 1)?, &[grant(4, 0)]);
+    plays(&rt, alloc, &mut manager, &ABORTED)?;
     assert_eq!(rt; manager.live(2), 0);
     Ok(())
 }
+
+fn is_row(row: &Row, client: u16) -> bool {
+    row.client == client
+        && row.number == 0
+        && row.name.as_str() == "a"
+        && row.mode == Mode::Exclusive
+}
+
+const TWO_REQUESTS: [Step; 2] = [
+    (Call::Request(1, Mode::Exclusive, "a"), &[(1, 0)]),
+    (Call::Request(2, Mode::Exclusive, "a"), &[]),
+];
 
 #[test]
 fn snapshot_has_both_lists(rt: HostRuntime) -> Result<(), Fail> {
     let alloc = rt.alloc();
     let mut manager = Manager::new(alloc);
-    for client in 1..3 {
-        let _granted = request(
-            &rt,
-            &mut manager,
-            client,
-            &name_of(alloc, "a")?,
-            Mode::Exclusive,
-        )?;
-    }
-    let row = |client| -> Result<Row, AllocError> {
-        Ok(Row {
-            client,
-            number: 0,
-            name: name_of(alloc, "a")?,
-            mode: Mode::Exclusive,
-        })
-    };
+    plays(&rt, alloc, &mut manager, &TWO_REQUESTS)?;
     let (held, waiting) = manager.snapshot()?;
-    assert_eq!(rt; held.as_slice(), [row(1)?].as_slice());
-    assert_eq!(rt; waiting.as_slice(), [row(2)?].as_slice());
+    assert_eq!(rt; (held.len(), waiting.len()), (1, 1));
+    assert!(rt; held.iter().all(|row| is_row(row, 1)));
+    assert!(rt; waiting.iter().all(|row| is_row(row, 2)));
     Ok(())
 }
+
+/// Neither another number nor a waiting pair is released.
+const RELEASED: [Step; 10] = [
+    (Call::Request(0, Mode::Exclusive, "a"), &[(0, 0)]),
+    (Call::Request(1, Mode::Shared, "a"), &[]),
+    (Call::Request(2, Mode::Shared, "a"), &[]),
+    (Call::Request(3, Mode::Exclusive, "a"), &[]),
+    (Call::Request(4, Mode::Shared, "a"), &[]),
+    (Call::Release(0, 1), &[]),
+    (Call::Release(1, 0), &[]),
+    (Call::Release(0, 0), &[(1, 0), (2, 0)]),
+    (Call::Release(1, 0), &[]),
+    (Call::Release(2, 0), &[(3, 0)]),
+];
 
 #[test]
 fn release_hands_over(rt: HostRuntime) -> Result<(), Fail> {
     let alloc = rt.alloc();
-    let a = name_of(alloc, "a")?;
     let mut manager = Manager::new(alloc);
-    expect(
-        &rt,
-        request(&rt, &mut manager, 0, &a, Mode::Exclusive)?,
-        &[grant(0, 0)],
-    );
-    for (client, mode) in [
-        (1, Mode::Shared),
-        (2, Mode::Shared),
-        (3, Mode::Exclusive),
-        (4, Mode::Shared),
-    ] {
-        expect(&rt, request(&rt, &mut manager, client, &a, mode)?, &[]);
-    }
-    // Neither another number nor a waiting pair is released.
-    expect(&rt, manager.release(0, 1)?, &[]);
-    expect(&rt, manager.release(1, 0)?, &[]);
-    expect(&rt, manager.release(0, 0)?, &[grant(1, 0), grant(2, 0)]);
-    expect(&rt, manager.release(1, 0)?, &[]);
-    expect(&rt, manager.release(2, 0)?, &[grant(3, 0)]);
+    plays(&rt, alloc, &mut manager, &RELEASED)?;
     assert_eq!(rt; manager.state(4, 0), Standing::Waiting);
     Ok(())
 }
 
+const RESTORED: [Step; 2] = [
+    (
+        Call::Restore(1, &[(7, true, Mode::Exclusive, "a")], false),
+        &[],
+    ),
+    (
+        Call::Restore(
+            2,
+            &[
+                (3, false, Mode::Shared, "a"),
+                (5, true, Mode::Shared, "b"),
+                (6, false, Mode::Shared, "b"),
+            ],
+            false,
+        ),
+        &[],
+    ),
+];
+
+const ENDED: [Step; 2] = [
+    (Call::End(9, false), &[]),
+    (Call::End(1, true), &[(2, 3), (2, 6)]),
+];
+
 #[test]
 fn restored_locks_wait_for_settling(rt: HostRuntime) -> Result<(), Fail> {
     let alloc = rt.alloc();
-    let entry = |number, held, mode, name: &str| -> Result<Entry, AllocError> {
-        Ok(Entry {
-            number,
-            held,
-            mode,
-            name: name_of(alloc, name)?,
-        })
-    };
     let mut manager = Manager::new(alloc);
-    expect(
-        &rt,
-        manager.restore(1, &[entry(7, true, Mode::Exclusive, "a")?], false)?,
-        &[],
-    );
-    let report = [
-        entry(3, false, Mode::Shared, "a")?,
-        entry(5, true, Mode::Shared, "b")?,
-        entry(6, false, Mode::Shared, "b")?,
-    ];
-    expect(&rt, manager.restore(2, &report, false)?, &[]);
+    plays(&rt, alloc, &mut manager, &RESTORED)?;
     assert_eq!(rt; manager.state(2, 5), Standing::Held);
     assert_eq!(rt; manager.waiting(), 2);
     assert!(rt; manager.grantable(2, 6));
     assert!(rt; !manager.grantable(2, 3));
-    expect(&rt, manager.end_client(9, false)?, &[]);
-    expect(
-        &rt,
-        manager.end_client(1, true)?,
-        &[grant(2, 3), grant(2, 6)],
-    );
+    plays(&rt, alloc, &mut manager, &ENDED)?;
     assert_eq!(rt; manager.live(2), 3);
     Ok(())
 }
 
-// The calls of the next test, in turn.
-fn call(
-    rt: &impl Abort,
-    manager: &mut Manager,
-    turn: u8,
-    name: &Name,
-    report: &[Entry],
-) -> Result<Vec<Grant>, AllocError> {
-    match turn {
-        0 => request(rt, manager, 1, name, Mode::Shared),
-        1 => request(rt, manager, 2, name, Mode::Exclusive),
-        2 => request(rt, manager, 3, name, Mode::Shared),
-        3 => probe(rt, manager, 3, name, Mode::Shared),
-        4 => manager.abort(2, 0),
-        5 => probe(rt, manager, 2, name, Mode::Shared),
-        6 => manager.restore(4, report, true),
-        7 => manager.release(1, 0),
-        _ => manager.end_client(3, true),
-    }
-}
+/// Each kind of call.
+const TURNS: [Call; 9] = [
+    Call::Request(1, Mode::Shared, "a"),
+    Call::Request(2, Mode::Exclusive, "a"),
+    Call::Request(3, Mode::Shared, "a"),
+    Call::Probe(3, Mode::Shared, "a"),
+    Call::Abort(2, 0),
+    Call::Probe(2, Mode::Shared, "a"),
+    Call::Restore(
+        4,
+        &[
+            (0, true, Mode::Shared, "a"),
+            (1, false, Mode::Exclusive, "a"),
+        ],
+        true,
+    ),
+    Call::Release(1, 0),
+    Call::End(3, true),
+];
 
-// The snapshot, asked for once more where memory was refused.
+/// The snapshot, asked for once more where memory was refused.
 fn rows_of(manager: &Manager) -> Result<(Vec<Row>, Vec<Row>), AllocError> {
     match manager.snapshot() {
         Ok(rows) => Ok(rows),
@@ -197,32 +249,28 @@ fn rows_of(manager: &Manager) -> Result<(Vec<Row>, Vec<Row>), AllocError> {
     }
 }
 
-// Passes whichever single allocation is refused, from the first of the calls on.
+/// Makes a call; where memory is refused nothing has changed, and the call is made again.
+fn call_again(
+    rt: &impl Abort,
+    alloc: Global,
+    manager: &mut Manager,
+    each: Call,
+) -> Result<(), AllocError> {
+    let before = rows_of(manager)?;
+    if make(rt, alloc, manager, each).is_err() {
+        assert_eq!(rt; rows_of(manager)?, before);
+        let _granted = make(rt, alloc, manager, each)?;
+    }
+    Ok(())
+}
+
+// Passes whichever single allocation is refused.
 #[test]
 fn refused_memory_changes_nothing(rt: HostRuntime) -> Result<(), Fail> {
     let alloc = rt.alloc();
-    let name = name_of(alloc, "a")?;
-    let report = [
-        Entry {
-            number: 0,
-            held: true,
-            mode: Mode::Shared,
-            name: name.copy(alloc)?,
-        },
-        Entry {
-            number: 1,
-            held: false,
-            mode: Mode::Exclusive,
-            name: name.copy(alloc)?,
-        },
-    ];
     let mut manager = Manager::new(alloc);
-    for turn in 0..9 {
-        let before = rows_of(&manager)?;
-        if call(&rt, &mut manager, turn, &name, &report).is_err() {
-            assert_eq!(rt; rows_of(&manager)?, before, "in turn {turn}");
-            let _granted = call(&rt, &mut manager, turn, &name, &report)?;
-        }
+    for each in TURNS {
+        call_again(&rt, alloc, &mut manager, each)?;
     }
     let (held, waiting) = rows_of(&manager)?;
     assert_eq!(rt; held.len(), 2);
