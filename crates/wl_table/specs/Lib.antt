@@ -1,2 +1,3 @@
 pub use Rattle.wl_draft.specs.Tables
 pub use Rattle.wl_draft.specs.Locks
+pub mod PlainTables
