@@ -2,6 +2,7 @@
 use Rattle.std.proofs.Common.{◌≡◌, inl, inr, ⊎_elim, ℕ, ◌+◌, ◌≤◌, Bool, true, false, ◌&&◌, List, [], ◌∷◌, ◌++◌, map, filter, Option, Some, None, refl, sym, ap, ◌∙◌, subst, arith}
 use Rattle.std.specs.Prelude.{◌==◌}
 use Rattle.std.specs.List.{AllByRecursion, flat_map, list_any}
+use Rattle.std.proofs.Math.Bool.{and-true}
 use Rattle.std.proofs.lemmas.Bool.{and_parts, cond-true, cond-false, eq-eqb, eqb-true, ne_eqb, leb-true, or_left, or_right}
 use Rattle.url.specs.Origin.{Triple}
 use Rattle.wl_draft.specs.Tables.{Table, find}
@@ -143,10 +144,6 @@ tabs-ordered w o least (t ∷ ts) r =
 passes-lives : (o : Option OpenedTab) → passes any_tab o ≡ lives_in o
 passes-lives None = refl
 passes-lives (Some o) = and-true o.living
-  where
-    and-true : (b : Bool) → (b && true) ≡ b
-    and-true true = refl
-    and-true false = refl
 
 listed-lives : (w : WorldState) → AreTabs w.kernel.opened → (t : ℕ) → is_listed (living_tabs w.kernel) t ≡ lives w t
 listed-lives w a t = listed-living_in any_tab w.kernel.opened t a ∙ passes-lives (tab_in w.kernel.opened t)

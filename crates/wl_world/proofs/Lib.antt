@@ -63,6 +63,7 @@ mod Crossed
 mod Posted
 mod PostedRows
 mod Stepped
+mod Refused
 mod TabNumbers
 mod HeldLocks
 mod Reporting

@@ -60,7 +60,7 @@ allowed-by true false d p h = cc
 allowed-by false o d p h = cc
 
 -- a number that was never opened is not open
-open_beyond : (os : List Object) (k : ℕ) → ltb k (length os) ≡ false → is_open_at os k ≡ false
+pub open_beyond : (os : List Object) (k : ℕ) → ltb k (length os) ≡ false → is_open_at os k ≡ false
 open_beyond [] k e = refl
 open_beyond (o ∷ os) zero e = absurd (omega (arith, ltb-false zero (length (o ∷ os)) e))
 open_beyond (o ∷ os) (suc k) e = is_open_at-suc o os k ∙ open_beyond os k (le-ltb k (length os) (omega (arith, ltb-false (suc k) (length (o ∷ os)) e)))

@@ -14,4 +14,5 @@ pub mod TabChannels
 pub mod Settling
 pub mod Supervised
 pub mod Machine
+pub mod Refusals
 pub mod Merging

@@ -12,27 +12,33 @@ use wl_origin::Partition;
 /// One event. The loss of a message is a delivery that never comes.
 #[derive(Drop)]
 pub enum Event {
+    /// A tab is born.
     Open {
         tab: u16,
         partition: Partition,
     },
+    /// The tab requests a lock, and waits for it.
     Ask {
         tab: u16,
         mode: Mode,
         name: Name,
     },
+    /// The tab requests a lock if it is available.
     Probe {
         tab: u16,
         mode: Mode,
         name: Name,
     },
+    /// The tab asks what its partition holds and waits for.
     Query {
         tab: u16,
     },
+    /// The tab takes the request of this number back.
     Abort {
         tab: u16,
         number: u32,
     },
+    /// The tab gives the lock of this number up.
     Release {
         tab: u16,
         number: u32,
@@ -41,25 +47,30 @@ pub enum Event {
     Resend {
         tab: u16,
     },
+    /// The tab opens a channel object.
     Channel {
         tab: u16,
         name: Name,
     },
+    /// The tab posts on its channel object of this number.
     Post {
         tab: u16,
         channel: usize,
         bytes: Bytes,
     },
+    /// The tab takes the oldest post out of the channel's inbox.
     Read {
         tab: u16,
         channel: usize,
     },
+    /// The tab closes the channel object.
     Close {
         tab: u16,
         channel: usize,
     },
     /// A message that was sent once comes.
     Deliver(Message),
+    /// The tab dies.
     Kill {
         tab: u16,
     },

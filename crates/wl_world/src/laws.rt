@@ -4,6 +4,7 @@ ghost use Rattle.wl_world.specs.Apart.{DroppedLeavesAlone, KeptDoesAlike, RunsAp
 ghost use Rattle.wl_world.specs.Heard.{HeardIsReadOrWaitsForAll, HeardPostsForAll, HeardRisingForAll, HeardTillClosedForAll};
 ghost use Rattle.wl_world.specs.Holdings.{ExclusionForAll, OwnForAll};
 ghost use Rattle.wl_world.specs.Orders.{CommandsInOrderForAll, GrantedWereHeldForAll, GrantsWereSentForAll, ManagerIsFoldForAll};
+ghost use Rattle.wl_world.specs.Refusals.{RefusedChangesNothing};
 
 /// The laws of the whole, over its definitions alone: for every list of events.
 ///
@@ -12,6 +13,9 @@ ghost use Rattle.wl_world.specs.Orders.{CommandsInOrderForAll, GrantedWereHeldFo
 /// partition: its tabs with their locks and channels, all that the broker holds of them, the messages to and from them; and
 /// beside these of whether a broker is up, and of its generation. Heard speaks of what a channel object takes, read or not.
 pub fn law_safety()
+    // An event that is answered by a refusal leaves the world as it was, and sends nothing.
+    ensures refused { RefusedChangesNothing }
+
     // Of two locks of one name that living tabs of a partition hold both are shared.
     ensures exclusion { ExclusionForAll }
     // Each lock that is held was asked for by its holder, which has neither released nor aborted it.

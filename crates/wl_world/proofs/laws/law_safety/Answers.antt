@@ -4,9 +4,13 @@ use Rattle.wl_world.proofs.Hearings.{heard-rising, heard-posts, heard-till_close
 use Rattle.wl_world.proofs.Isolation.{dropped-leaves_alone, kept-does_alike, runs-apart}
 use Rattle.wl_world.proofs.Order.{commands-in_order, granted-were_held, grants-were_sent, manager-is_fold}
 use Rattle.wl_world.proofs.Readings.{heard-is_read_or_waits}
+use Rattle.wl_world.proofs.Refused.{refused-changes_nothing}
 use Rattle.wl_world.proofs.Runs.{run-sound}
 use Rattle.wl_world.proofs.Sources.{run-own}
 use Rattle.wl_world.proofs.laws.law_safety.Goals as goal
+
+pub returns-clause-refused : goal.returns-clause-refused
+returns-clause-refused c = refused-changes_nothing
 
 pub returns-clause-exclusion : goal.returns-clause-exclusion
 returns-clause-exclusion c = λ events. Sound-exclusion (run events empty_world) (run-sound events)
