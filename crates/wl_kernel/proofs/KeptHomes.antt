@@ -1,5 +1,7 @@
 -- What is kept of partitions: in the map, after an opening and after a death.
 use Rattle.std.proofs.Common.{◌≡◌, ℕ, Bool, true, false, ◌&&◌, ◌||◌, cond, List, [], ◌∷◌, ◌++◌, map, Option, Some, None, option_map, refl, sym, ap, ◌∙◌, rules, arith}
+use Rattle.std.proofs.Math.Bool.{and-false}
+use Rattle.std.proofs.lemmas.Bool.{or_right}
 use Rattle.std.proofs.lemmas.Bool.Decides.{nat_tests}
 use Rattle.std.specs.Cmp.Derive.{Tied}
 use Rattle.std.specs.Cmp.Rules.{comparing}
@@ -30,14 +32,6 @@ one_partition p q e = (triple_eq-decides p q).0 e
 
 pub same_partition : (p : Triple) → triple_eq p p ≡ true
 same_partition p = (triple_eq-decides p p).1 refl
-
-or_true : (a b : Bool) → b ≡ true → (a || b) ≡ true
-or_true true b e = refl
-or_true false b e = e
-
-and_false : (a : Bool) → (a && false) ≡ false
-and_false true = refl
-and_false false = refl
 
 -- ---- the map
 
@@ -152,7 +146,7 @@ number_after os o =
     ∙ sym (number-push 0 o.partition os o)
 
 pub opened_after : (os : List OpenedTab) (o : OpenedTab) → list_any (is_of o.partition) (os ++ o ∷ []) ≡ true
-opened_after os o = any-push o.partition os o ∙ or_true (list_any (is_of o.partition) os) (is_of o.partition o) (same_partition o.partition)
+opened_after os o = any-push o.partition os o ∙ or_right (list_any (is_of o.partition) os) (is_of o.partition o) (same_partition o.partition)
 
 members_by : (p : Triple) (os : List OpenedTab) (b : Bool) → list_any (is_of p) os ≡ b → members (cond b (Some (number_or 0 os p, living_in (is_of p) os)) None) ≡ living_in (is_of p) os
 members_by p os true any = refl
@@ -178,7 +172,7 @@ home_ended_by t p q os x tabs there own true e = home_left t (number_or 0 os q) 
 home_ended_by t p q os x tabs there own false e =
     let apart : is_of q x ≡ false = ap (λ r. triple_eq r q) own ∙ e in
     let absent : is_listed (living_in (is_of q) os) t ≡ false =
-    listed-living_in (is_of q) os t tabs ∙ ap (passes (is_of q)) there ∙ ap (λ b. x.living && b) apart ∙ and_false x.living in
+    listed-living_in (is_of q) os t tabs ∙ ap (passes (is_of q)) there ∙ ap (λ b. x.living && b) apart ∙ and-false x.living in
     ap (λ l. cond (list_any (is_of q) os) (Some (number_or 0 os q, l)) None) (sym (without_none t (living_in (is_of q) os) absent))
 
 pub homes-ended : (t : ℕ) (os : List OpenedTab) (x : OpenedTab) (p : Triple) (homes less : List (Triple × Home)) → AreTabs os → tab_in os t ≡ Some x → x.partition ≡ p

@@ -1,5 +1,6 @@
 -- What is covered is claimed, and so a sound world excludes.
 use Rattle.std.proofs.Common.{◌≡◌, ◌⊎◌, inl, inr, ⊎_elim, ℕ, List, Bool, true, false, ◌||◌, Option, Some, None, is_some, refl, sym, ap, subst}
+use Rattle.std.proofs.Math.Bool.{or-true}
 use Rattle.std.proofs.lemmas.Bool.{cases_eq, cases_Bool, or_cases, or_left}
 use Rattle.url.specs.Origin.{Triple}
 use Rattle.wl_agent.specs.Tab.{status_of, is_held, is_asked}
@@ -21,11 +22,7 @@ pub came-entered : (w : WorldState) → Sound w → (t : ℕ) → came (broker_o
 came-entered w s t c = ⊎_elim (λ j. inl (s.joined t j)) (λ d. inr (s.named t d).0) (or_cases _ _ c)
 
 pub held_alive : (s : Option Status) → is_held s ≡ true → Alive s
-held_alive s e = subst (λ b. (is_asked s || b) ≡ true) (sym e) (or_true (is_asked s))
-  where
-    or_true : (b : Bool) → (b || true) ≡ true
-    or_true true = refl
-    or_true false = refl
+held_alive s e = subst (λ b. (is_asked s || b) ≡ true) (sym e) (or-true (is_asked s))
 
 pub asked_alive : (s : Option Status) → is_asked s ≡ true → Alive s
 asked_alive s e = or_left (is_asked s) (is_held s) e

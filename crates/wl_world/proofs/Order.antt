@@ -1,6 +1,7 @@
 -- Each event keeps broker and bag at what the list picked so far says.
 use Rattle.std.proofs.Common.{◌≡◌, ◌≢◌, ⊎_elim, ℕ, ◌<◌, ◌≤◌, Bool, true, false, cond, not, ◌&&◌, Option, Some, None, is_some, List, [], ◌∷◌, ◌++◌, map, drop, length, refl, sym, ap, ◌∙◌, subst, arith}
 use Rattle.std.specs.Prelude.{◌==◌}
+use Rattle.std.proofs.Math.Bool.{and-true}
 use Rattle.std.proofs.lemmas.Bool.{cases_eq, cases_Bool, and_parts, and_right, eq-eqb, ne_eqb, not-true, not-false}
 use Rattle.wl_frames.specs.declared.frame.Operation.{Operation}
 use Rattle.wl_frames.specs.declared.frame.Stamped.{Stamped}
@@ -267,11 +268,7 @@ starts-ordering g w k ts y None v s =
     go : (c : Bool) → (c ≡ true → stranger w.kernel ts ≡ None) → Sound (after w (where_allowed c w (begins w ts)))
         → Ordering g (after w (where_allowed c w (begins w ts))) (cond ((w.kernel.generation == g) && c) (record { listed = placed ts w.kernel; items = [] }) k)
     go false o s = subst (λ c. Ordering g w (cond c (record { listed = placed ts w.kernel; items = [] }) k)) (sym (and_right (w.kernel.generation == g) false refl)) y
-    go true o s = subst (λ c. Ordering g (after w (begins w ts)) (cond c (record { listed = placed ts w.kernel; items = [] }) k)) (sym (and_one (w.kernel.generation == g))) (begins-ordering g w k ts y v (o refl) s)
-      where
-        and_one : (c : Bool) → (c && true) ≡ c
-        and_one true = refl
-        and_one false = refl
+    go true o s = subst (λ c. Ordering g (after w (begins w ts)) (cond c (record { listed = placed ts w.kernel; items = [] }) k)) (sym (and-true (w.kernel.generation == g))) (begins-ordering g w k ts y v (o refl) s)
 
 -- ---- a step, and a run
 
