@@ -6,14 +6,14 @@ ghost use Rattle.wl_world.specs.Holdings.{ExclusionForAll, OwnForAll};
 ghost use Rattle.wl_world.specs.Orders.{CommandsInOrderForAll, GrantedWereHeldForAll, GrantsWereSentForAll, ManagerIsFoldForAll};
 ghost use Rattle.wl_world.specs.Refusals.{RefusedChangesNothing};
 
-/// The laws of the whole, over its definitions alone: for every list of events.
+/// The laws of the whole, over its definitions alone: the first of any world, all others for every list of events.
 ///
 /// Exclusion and Own speak of what living tabs hold. Order within a generation speaks, for every generation and partition, of
 /// the list of what the generation took of the partition, which is picked from the events. Apart speaks of what belongs to a
 /// partition: its tabs with their locks and channels, all that the broker holds of them, the messages to and from them; and
 /// beside these of whether a broker is up, and of its generation. Heard speaks of what a channel object takes, read or not.
 pub fn law_safety()
-    // An event that is answered by a refusal leaves the world as it was, and sends nothing.
+    // An event that is answered by a refusal leaves any world as it was, and sends nothing.
     ensures refused { RefusedChangesNothing }
 
     // Of two locks of one name that living tabs of a partition hold both are shared.

@@ -192,11 +192,11 @@ pub enum Refusal {
     PostsUsedUp,
 }
 
-/// Why a message that was delivered was dropped. What comes to a tab is of the tab's entered generation, what comes to the
-/// broker of the broker's.
+/// Why a message that was delivered was dropped. Its generation is compared with the one that the tab has entered, or with
+/// the broker's.
 #[derive(Clone, Copy, Debug, PartialEq, Eq)]
 pub enum Reason {
-    /// It is of an earlier generation.
+    /// It is of an earlier generation, or a hello of none that is later.
     OldGeneration,
     /// It is of a later generation.
     LaterGeneration,
