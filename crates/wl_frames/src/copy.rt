@@ -118,7 +118,7 @@ impl Report {
 }
 
 impl Post {
-    pub(crate) fn copy(&self, alloc: Global) -> Result<Post, AllocError>
+    pub fn copy(&self, alloc: Global) -> Result<Post, AllocError>
         ensures { IfOk result (λ copy. copy ≡ self.now) }
     {
         Ok(Post {
@@ -193,7 +193,7 @@ impl Welcome {
 }
 
 impl Upward {
-    pub(crate) fn copy(&self, alloc: Global) -> Result<Upward, AllocError>
+    pub fn copy(&self, alloc: Global) -> Result<Upward, AllocError>
         ensures { IfOk result (λ copy. copy ≡ self.now) }
     {
         Ok(match self {

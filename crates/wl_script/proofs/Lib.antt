@@ -1,3 +1,4 @@
+pub mod BodyLemmas
 pub mod Json
 pub mod Numbers
 pub mod PlayLemmas

@@ -9,7 +9,9 @@ use Rattle.wl_script.specs.declared.line.Line.{Line}
 use Rattle.wl_script.specs.declared.line.Line.TheVariants as line
 use Rattle.wl_script.specs.declared.verb.Verb.{Verb}
 use Rattle.wl_script.specs.declared.verb.Verb.TheVariants as verb
+use Rattle.wl_world.specs.declared.event.Forged.{Forged}
 use Rattle.wl_script.specs.Words.{unescaped}
+use Rattle.wl_script.specs.Forgeries.{forged_at}
 
 infixl 10 ◌>>=◌
 abbrev pub ◌>>=◌ : {A B : Type 0} → Option A → (A → Option B) → Option B
@@ -78,7 +80,7 @@ verbs =
     (codes "kill", verb.Kill) ∷ (codes "tell", verb.Tell) ∷ (codes "ask", verb.Ask) ∷ (codes "probe", verb.Probe) ∷
     (codes "query", verb.Query) ∷ (codes "abort", verb.Abort) ∷ (codes "release", verb.Release) ∷ (codes "resend", verb.Resend) ∷
     (codes "deliver", verb.Deliver) ∷ (codes "channel", verb.Channel) ∷ (codes "post", verb.Post) ∷ (codes "read", verb.Read) ∷
-    (codes "close", verb.Close) ∷ (codes "show", verb.Show) ∷ []
+    (codes "close", verb.Close) ∷ (codes "corrupt", verb.Corrupt) ∷ (codes "forge", verb.Forge) ∷ (codes "show", verb.Show) ∷ []
 
 -- the value of a word, in a table
 abbrev pub value_of : List (List ℕ × Verb) → List ℕ → Option Verb
@@ -157,6 +159,14 @@ tab_channel_data words = do
   bytes ← unescaped w.2
   Some (t, c, bytes)
 
+-- T HEX
+unfoldable pub tab_and_forged : List (List ℕ) → Option (ℕ × Forged)
+tab_and_forged words = do
+  w ← two words
+  t ← tab_at w.0
+  forged ← forged_at w.1
+  Some (t, forged)
+
 -- T ..
 unfoldable pub tabs_at : List (List ℕ) → Option (List ℕ)
 tabs_at [] = Some []
@@ -192,6 +202,8 @@ said_by verb.Channel words = tab_and_name words >>= λ x. Some (line.Channel x.0
 said_by verb.Post words = tab_channel_data words >>= λ x. Some (line.Post x.0 x.1 x.2)
 said_by verb.Read words = tab_and_number most_name words >>= λ x. Some (line.Read x.0 x.1)
 said_by verb.Close words = tab_and_number most_name words >>= λ x. Some (line.Close x.0 x.1)
+said_by verb.Corrupt words = tab_alone words >>= λ t. Some (line.Corrupt t)
+said_by verb.Forge words = tab_and_forged words >>= λ x. Some (line.Forge x.0 x.1)
 said_by verb.Show words = none words >>= λ x. Some line.Show
 
 -- the first word is the verb

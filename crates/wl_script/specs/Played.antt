@@ -95,4 +95,6 @@ played w (line.Channel t name) = plays w (event.Channel t name)
 played w (line.Post t c bytes) = plays w (event.Post t c bytes)
 played w (line.Read t c) = plays w (event.Read t c)
 played w (line.Close t c) = plays w (event.Close t c)
+played w (line.Corrupt t) = plays w (event.Corrupt t)
+played w (line.Forge t forged) = plays w (event.Forge t forged)
 played w line.Show = record { world = w; written = holdings_text (held_by_living w) }

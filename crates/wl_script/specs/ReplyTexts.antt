@@ -80,6 +80,7 @@ refusal_text refusal.NoChannel = codes "no channel"
 refusal_text refusal.InvalidState = codes "InvalidStateError"
 refusal_text refusal.DataTooLong = codes "DataTooLong"
 refusal_text refusal.PostsUsedUp = codes "PostsUsedUp"
+refusal_text refusal.Honest = codes "honest"
 
 unfoldable pub reason_text : Reason → List ℕ
 reason_text reason.OldGeneration = codes "old generation"
@@ -172,6 +173,8 @@ said_text (said.Posted tab number bytes objects) =
     numbered (codes "post") number ++ flat_map (reached_text tab (letter_text tab number bytes)) objects
 said_text (said.Read letter) = line (codes "read " ++ told_letter letter)
 said_text (said.Closed channel) = numbered (codes "closed") channel
+said_text (said.Corrupted tab) = numbered (codes "corrupted") tab
+said_text said.Forged = []
 
 -- ---- replies
 

@@ -3,6 +3,8 @@ use Rattle.std.specs.Prelude.{◌≡◌, ℕ, ◌<◌, ◌/◌, ◌%◌, nat_le,
 use Rattle.std.specs.List.{flat_map}
 use Rattle.std.specs.Fmt.{digit_glyph}
 use Rattle.percent_encoding.specs.Percent.{percent_decode}
+use Rattle.wl_frames.specs.declared.fault.FrameFault.{FrameFault}
+use Rattle.wl_frames.specs.declared.fault.FrameFault.TheVariants as fault
 use Rattle.wl_script.specs.declared.unread.Unread.{Unread}
 use Rattle.wl_script.specs.declared.unread.Unread.TheVariants as unread
 
@@ -38,6 +40,11 @@ abbrev pub HasOneSpelling : Type 0
 HasOneSpelling = (word bytes : List ℕ) → unescaped word ≡ Some bytes → word ≡ word_of bytes
 
 -- ---- what reading answers
+
+-- why a word is unread where the frame in it has a fault
+abbrev pub unread_of : FrameFault → Unread
+unread_of fault.Memory = unread.Memory
+unread_of _ = unread.Form
 
 -- What a function answered, seen by view, is what reading gives, unless memory was refused.
 abbrev pub Fails : {Y : Type 0} → Unread → Option Y → Type 0

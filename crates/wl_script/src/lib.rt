@@ -1,6 +1,7 @@
 //! The script of the sim: its words and lines, and the text of messages and replies.
 #![tactic(auto)]
 
+mod forgery;
 pub mod laws;
 pub mod line;
 pub mod messages;

@@ -2,6 +2,7 @@
 
 use bytes::Bytes;
 use wl_frames::{Mode, Name, Sequence};
+use wl_world::event::Forged;
 
 /// A line, one variant for each form.
 #[derive(Drop)]
@@ -71,6 +72,13 @@ pub enum Line {
     Close {
         tab: u16,
         channel: usize,
+    },
+    Corrupt {
+        tab: u16,
+    },
+    Forge {
+        tab: u16,
+        forged: Forged,
     },
     /// What is held.
     Show,

@@ -69,6 +69,8 @@ pub(crate) fn play(
         ),
         Line::Read { tab, channel } => happen(alloc, world, Event::Read { tab, channel }, out),
         Line::Close { tab, channel } => happen(alloc, world, Event::Close { tab, channel }, out),
+        Line::Corrupt { tab } => happen(alloc, world, Event::Corrupt { tab }, out),
+        Line::Forge { tab, forged } => happen(alloc, world, Event::Forge { tab, forged }, out),
         Line::Show => show(world, out),
     }
 }

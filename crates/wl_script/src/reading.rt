@@ -1,9 +1,10 @@
 //! Reading a line of a script.
 
 ghost use Rattle.std.specs.Prelude.{◌≡◌, ℕ, ◌+◌, ◌^◌, ◌<◌, length, IfOk};
-ghost use Rattle.wl_script.specs.Lines.{has_leading_zero as leading_zero, number_at, tab_at, message_name_at, mode_at, name_at, text_of, url_at, none, one, two, three, tab_alone, tab_and_url, tab_mode_name, tab_and_name, tab_and_number, tab_channel_data, tabs_at, start_at, said_by, said_in, line_at, words_of, texts, most_command, most_name};
+ghost use Rattle.wl_script.specs.Lines.{has_leading_zero as leading_zero, number_at, tab_at, message_name_at, mode_at, name_at, text_of, url_at, none, one, two, three, tab_alone, tab_and_url, tab_mode_name, tab_and_name, tab_and_number, tab_channel_data, tab_and_forged, tabs_at, start_at, said_by, said_in, line_at, words_of, texts, most_command, most_name};
 ghost use Rattle.wl_script.specs.Words.{Gives, unescaped};
 
+use crate::forgery::forged_of;
 use crate::line::Line;
 use crate::unread::Unread;
 use crate::verb::{Verb, verb_of};
@@ -12,6 +13,7 @@ use bytes::Bytes;
 use std::alloc::{AllocError, Global};
 use std::str;
 use wl_frames::{Mode, Name, Sequence};
+use wl_world::event::Forged;
 
 /// How many bytes a line may have.
 pub const LINE_LIMIT: usize = 65_536;
@@ -118,6 +120,13 @@ fn said(alloc: Global, verb: Verb, words: &[&[u8]]) -> Result<Line, Unread>
             let (tab, channel) = tab_and_channel(words)?;
             Ok(Line::Close { tab, channel })
         }
+        Verb::Corrupt => Ok(Line::Corrupt {
+            tab: tab_alone(words)?,
+        }),
+        Verb::Forge => {
+            let (tab, forged) = tab_and_forged(alloc, words)?;
+            Ok(Line::Forge { tab, forged })
+        }
         Verb::Show => {
             nothing(words)?;
             Ok(Line::Show)
@@ -220,6 +229,14 @@ fn tab_channel_data(alloc: Global, words: &[&[u8]]) -> Result<(u16, usize, Bytes
         number_of(channel)? as usize,
         data_of(alloc, word)?,
     ))
+}
+
+#[tactic(auto, unfolding(crate::specs::Lines::tab_and_forged))]
+fn tab_and_forged(alloc: Global, words: &[&[u8]]) -> Result<(u16, Forged), Unread>
+    ensures { Gives (λ x. x) result (tab_and_forged (texts words.now)) }
+{
+    let (tab, word) = two(words)?;
+    Ok((tab_of(tab)?, forged_of(alloc, word)?))
 }
 
 /// All living tabs, none, or those given.

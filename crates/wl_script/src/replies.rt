@@ -129,6 +129,7 @@ fn put_refusal(out: &mut Vec<u8>, refusal: Refusal) -> Result<(), AllocError>
         Refusal::InvalidState => put(out, "InvalidStateError"),
         Refusal::DataTooLong => put(out, "DataTooLong"),
         Refusal::PostsUsedUp => put(out, "PostsUsedUp"),
+        Refusal::Honest => put(out, "honest"),
     }
 }
 
@@ -385,7 +386,7 @@ fn put_said(alloc: Global, out: &mut Vec<u8>, said: &Said) -> Result<(), AllocEr
         Said::Opened { tab, partition } => put_opened(out, *tab, partition),
         Said::Started { generation } => put_numbered(out, "up", u64::from(*generation)),
         Said::Stopped { generation } => put_numbered(out, "stopped", u64::from(*generation)),
-        Said::Greeted | Said::Resent | Said::Answered => Ok(()),
+        Said::Greeted | Said::Resent | Said::Answered | Said::Forged => Ok(()),
         Said::Killed { tab } => put_numbered(out, "killed", u64::from(*tab)),
         Said::Told { tab } => put_numbered(out, "told", u64::from(*tab)),
         Said::Issued { tab, number } => put_issued(out, *tab, *number),
@@ -412,6 +413,7 @@ fn put_said(alloc: Global, out: &mut Vec<u8>, said: &Said) -> Result<(), AllocEr
         } => put_posted(alloc, out, *tab, *number, bytes, objects.as_slice()),
         Said::Read(letter) => put_read(out, letter),
         Said::Closed { channel } => put_numbered(out, "closed", *channel as u64),
+        Said::Corrupted { tab } => put_numbered(out, "corrupted", u64::from(*tab)),
     }
 }
 

@@ -1,10 +1,12 @@
 //! Why a line, or a word of it, was not read.
 
 ghost use Rattle.std.specs.Prelude.{◌≡◌};
+ghost use Rattle.wl_script.specs.Words.{unread_of};
 ghost use Rattle.wl_script.specs.declared.unread.Unread.TheVariants as unread;
 
 use std::alloc::{AllocError, AllocFailed};
 use std::str::Utf8Error;
+use wl_frames::FrameFault;
 
 #[derive(Clone, Copy, Debug, PartialEq, Eq)]
 pub enum Unread {
@@ -35,5 +37,16 @@ impl From<Utf8Error> for Unread {
 
     fn from(_fault: Utf8Error) -> Unread {
         Unread::Form
+    }
+}
+
+impl From<FrameFault> for Unread {
+    ghost from_gives = { λ fault e. e ≡ unread_of fault };
+
+    fn from(fault: FrameFault) -> Unread {
+        match fault {
+            FrameFault::Memory => Unread::Memory,
+            _ => Unread::Form,
+        }
     }
 }

@@ -25,11 +25,13 @@ pub enum Verb {
     Post,
     Read,
     Close,
+    Corrupt,
+    Forge,
     Show,
 }
 
 /// Each verb and its word.
-const VERBS: [(&'static str, Verb); 18] = [
+const VERBS: [(&'static str, Verb); 20] = [
     ("open", Verb::Open),
     ("start", Verb::Start),
     ("stop", Verb::Stop),
@@ -47,6 +49,8 @@ const VERBS: [(&'static str, Verb); 18] = [
     ("post", Verb::Post),
     ("read", Verb::Read),
     ("close", Verb::Close),
+    ("corrupt", Verb::Corrupt),
+    ("forge", Verb::Forge),
     ("show", Verb::Show),
 ];
 

@@ -10,6 +10,7 @@ pub mod Reports
 pub mod Enter
 pub mod Opened
 pub mod Kernels
+pub mod Corrupting
 pub mod Starting
 pub mod Managing
 pub mod Saying
@@ -27,6 +28,7 @@ pub mod Tied
 pub mod Standing
 pub mod Takes
 pub mod Picking
+pub mod Moving
 pub mod Quiet
 pub mod Speaking
 pub mod Order
@@ -40,6 +42,7 @@ pub mod TabActs
 pub mod CutEvents
 pub mod CutOpening
 pub mod Isolation
+pub mod Honesty
 pub mod ChannelSteps
 pub mod Hearings
 pub mod Readings

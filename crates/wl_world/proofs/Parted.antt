@@ -21,9 +21,9 @@ always (Err e) p = tt
 
 -- ---- opening and killing
 
-pub opens-ok : (ts : Table TabState) (cs : Table ChannelState) (s : Supervisor) (bag : List Message) (t : ℕ) (p : Triple) → open_refusal t p (kernel_of s) ≡ None → world_of ts cs (with_kernel (opened t p (kernel_of s)) s) bag ≡ (opens (world_of ts cs s bag) t p).world
-opens-ok ts cs (Down k) bag t p e = rw e refl
-opens-ok ts cs (Up k b) bag t p e = rw e refl
+pub opens-ok : (ts : Table TabState) (cs : Table ChannelState) (s : Supervisor) (bag : List Message) (corrupt : List ℕ) (t : ℕ) (p : Triple) → open_refusal t p (kernel_of s) ≡ None → world_of ts cs (with_kernel (opened t p (kernel_of s)) s) bag corrupt ≡ (opens (world_of ts cs s bag corrupt) t p).world
+opens-ok ts cs (Down k) bag corrupt t p e = rw e refl
+opens-ok ts cs (Up k b) bag corrupt t p e = rw e refl
 
 pub opens-silent : (w : WorldState) (t : ℕ) (p : Triple) → (opens w t p).sends ≡ []
 opens-silent w t p = elim (open_refusal t p w.kernel) as (λ o. (where_allowed (not (is_some o)) w (kernel_deed (opened t p w.kernel) w)).sends ≡ []) [ None ↦ refl | Some f ↦ refl ]
@@ -31,60 +31,60 @@ opens-silent w t p = elim (open_refusal t p w.kernel) as (λ o. (where_allowed (
 pub opens-refused : (w : WorldState) (t : ℕ) (p : Triple) (f : OpenFault) → open_refusal t p w.kernel ≡ Some f → (opens w t p).world ≡ w
 opens-refused w t p f e = rw e refl
 
-pub kills-after : (ts : Table TabState) (cs : Table ChannelState) (s : Supervisor) (bag : List Message) (t : ℕ) → world_of ts cs (with_kernel (cond (is_living (kernel_of s) t) (killed t (kernel_of s)) (kernel_of s)) s) bag ≡ (kills (world_of ts cs s bag) t).world
-kills-after ts cs (Down k) bag t =
-    elim (is_living k t) as (λ b. world_of ts cs (Down (cond b (killed t k) k)) bag ≡ (where_allowed b (world_of ts cs (Down k) bag) (kernel_deed (killed t k) (world_of ts cs (Down k) bag))).world) [ true ↦ refl | false ↦ refl ]
-kills-after ts cs (Up k c) bag t =
-    elim (is_living k t) as (λ b. world_of ts cs (Up (cond b (killed t k) k) c) bag ≡ (where_allowed b (world_of ts cs (Up k c) bag) (kernel_deed (killed t k) (world_of ts cs (Up k c) bag))).world) [ true ↦ refl | false ↦ refl ]
+pub kills-after : (ts : Table TabState) (cs : Table ChannelState) (s : Supervisor) (bag : List Message) (corrupt : List ℕ) (t : ℕ) → world_of ts cs (with_kernel (cond (is_living (kernel_of s) t) (killed t (kernel_of s)) (kernel_of s)) s) bag corrupt ≡ (kills (world_of ts cs s bag corrupt) t).world
+kills-after ts cs (Down k) bag corrupt t =
+    elim (is_living k t) as (λ b. world_of ts cs (Down (cond b (killed t k) k)) bag corrupt ≡ (where_allowed b (world_of ts cs (Down k) bag corrupt) (kernel_deed (killed t k) (world_of ts cs (Down k) bag corrupt))).world) [ true ↦ refl | false ↦ refl ]
+kills-after ts cs (Up k c) bag corrupt t =
+    elim (is_living k t) as (λ b. world_of ts cs (Up (cond b (killed t k) k) c) bag corrupt ≡ (where_allowed b (world_of ts cs (Up k c) bag corrupt) (kernel_deed (killed t k) (world_of ts cs (Up k c) bag corrupt))).world) [ true ↦ refl | false ↦ refl ]
 
 pub kills-silent : (w : WorldState) (t : ℕ) → (kills w t).sends ≡ []
 kills-silent w t = elim (is_living w.kernel t) as (λ b. (where_allowed b w (kernel_deed (killed t w.kernel) w)).sends ≡ []) [ true ↦ refl | false ↦ refl ]
 
 -- ---- starting and stopping
 
-pub stops-after : (ts : Table TabState) (cs : Table ChannelState) (s : Supervisor) (bag : List Message) → world_of ts cs (halted s) bag ≡ (stops (world_of ts cs s bag) (broker_of s)).world
-stops-after ts cs (Down k) bag = refl
-stops-after ts cs (Up k b) bag =
-    elim (may_stop k) as (λ m. world_of ts cs (cond m (Down (stopped k)) (Up k b)) bag ≡ (where_allowed m (world_of ts cs (Up k b) bag) (nothing (record (world_of ts cs (Up k b) bag) { kernel = stopped k; broker = None }))).world) [ true ↦ refl | false ↦ refl ]
+pub stops-after : (ts : Table TabState) (cs : Table ChannelState) (s : Supervisor) (bag : List Message) (corrupt : List ℕ) → world_of ts cs (halted s) bag corrupt ≡ (stops (world_of ts cs s bag corrupt) (broker_of s)).world
+stops-after ts cs (Down k) bag corrupt = refl
+stops-after ts cs (Up k b) bag corrupt =
+    elim (may_stop k) as (λ m. world_of ts cs (cond m (Down (stopped k)) (Up k b)) bag corrupt ≡ (where_allowed m (world_of ts cs (Up k b) bag corrupt) (nothing (record (world_of ts cs (Up k b) bag corrupt) { kernel = stopped k; broker = None }))).world) [ true ↦ refl | false ↦ refl ]
 
 pub stops-silent : (w : WorldState) (o : Option BrokerState) → (stops w o).sends ≡ []
 stops-silent w None = refl
 stops-silent w (Some b) = elim (may_stop w.kernel) as (λ m. (where_allowed m w (nothing (record w { kernel = stopped w.kernel; broker = None }))).sends ≡ []) [ true ↦ refl | false ↦ refl ]
 
-pub starts-after : (ts : Table TabState) (cs : Table ChannelState) (s : Supervisor) (bag : List Message) (listed : List ℕ) → world_of ts cs (begun listed s) bag ≡ (starts (world_of ts cs s bag) listed (broker_of s)).world
-starts-after ts cs (Up k b) bag listed = refl
-starts-after ts cs (Down k) bag listed =
-    let w = world_of ts cs (Down k) bag in
-    elim (may_begin listed k) as (λ m. world_of ts cs (cond m (Up k (started k.generation (placed listed k))) (Down k)) bag ≡ (where_allowed m w (begins w listed)).world) [ true ↦ refl | false ↦ refl ]
+pub starts-after : (ts : Table TabState) (cs : Table ChannelState) (s : Supervisor) (bag : List Message) (corrupt : List ℕ) (listed : List ℕ) → world_of ts cs (begun listed s) bag corrupt ≡ (starts (world_of ts cs s bag corrupt) listed (broker_of s)).world
+starts-after ts cs (Up k b) bag corrupt listed = refl
+starts-after ts cs (Down k) bag corrupt listed =
+    let w = world_of ts cs (Down k) bag corrupt in
+    elim (may_begin listed k) as (λ m. world_of ts cs (cond m (Up k (started k.generation (placed listed k))) (Down k)) bag corrupt ≡ (where_allowed m w (begins w listed)).world) [ true ↦ refl | false ↦ refl ]
 
-pub starts-sends : (ts : Table TabState) (cs : Table ChannelState) (s : Supervisor) (bag : List Message) (listed : List ℕ) → map from_broker (greeted listed s) ≡ (starts (world_of ts cs s bag) listed (broker_of s)).sends
-starts-sends ts cs (Up k b) bag listed = refl
-starts-sends ts cs (Down k) bag listed =
-    let w = world_of ts cs (Down k) bag in
+pub starts-sends : (ts : Table TabState) (cs : Table ChannelState) (s : Supervisor) (bag : List Message) (corrupt : List ℕ) (listed : List ℕ) → map from_broker (greeted listed s) ≡ (starts (world_of ts cs s bag corrupt) listed (broker_of s)).sends
+starts-sends ts cs (Up k b) bag corrupt listed = refl
+starts-sends ts cs (Down k) bag corrupt listed =
+    let w = world_of ts cs (Down k) bag corrupt in
     elim (may_begin listed k) as (λ m. map from_broker (cond m (hellos k.generation (placed listed k)) []) ≡ (where_allowed m w (begins w listed)).sends) [ true ↦ refl | false ↦ refl ]
 
 -- ---- what comes to the broker
 
-pub comes-after : (ts : Table TabState) (cs : Table ChannelState) (s : Supervisor) (bag : List Message) (x : Stamped) → world_of ts cs (after_taking x s) bag ≡ (comes_up (world_of ts cs s bag) x (broker_of s)).world
-comes-after ts cs (Down k) bag x = refl
-comes-after ts cs (Up k b) bag x =
-    let w = world_of ts cs (Up k b) bag in
-    elim (taking b x) as (λ t. world_of ts cs (Up k (broker_after b t)) bag ≡ (follows w t).world) [ Drops r ↦ refl | Does c outs ↦ refl ]
+pub comes-after : (ts : Table TabState) (cs : Table ChannelState) (s : Supervisor) (bag : List Message) (corrupt : List ℕ) (x : Stamped) → world_of ts cs (after_taking x s) bag corrupt ≡ (comes_up (world_of ts cs s bag corrupt) x (broker_of s)).world
+comes-after ts cs (Down k) bag corrupt x = refl
+comes-after ts cs (Up k b) bag corrupt x =
+    let w = world_of ts cs (Up k b) bag corrupt in
+    elim (taking b x) as (λ t. world_of ts cs (Up k (broker_after b t)) bag corrupt ≡ (follows w t).world) [ Drops r ↦ refl | Does c outs ↦ refl ]
 
-pub comes-sends : (ts : Table TabState) (cs : Table ChannelState) (s : Supervisor) (bag : List Message) (x : Stamped) → map from_broker (outs_by_taking x s) ≡ (comes_up (world_of ts cs s bag) x (broker_of s)).sends
-comes-sends ts cs (Down k) bag x = refl
-comes-sends ts cs (Up k b) bag x =
-    let w = world_of ts cs (Up k b) bag in
+pub comes-sends : (ts : Table TabState) (cs : Table ChannelState) (s : Supervisor) (bag : List Message) (corrupt : List ℕ) (x : Stamped) → map from_broker (outs_by_taking x s) ≡ (comes_up (world_of ts cs s bag corrupt) x (broker_of s)).sends
+comes-sends ts cs (Down k) bag corrupt x = refl
+comes-sends ts cs (Up k b) bag corrupt x =
+    let w = world_of ts cs (Up k b) bag corrupt in
     elim (taking b x) as (λ t. map from_broker (outs_of t) ≡ (follows w t).sends) [ Drops r ↦ refl | Does c outs ↦ refl ]
 
-pub tells-after : (ts : Table TabState) (cs : Table ChannelState) (s : Supervisor) (bag : List Message) (t : ℕ) → world_of ts cs (after_burial t s) bag ≡ (tells (world_of ts cs s bag) t (broker_of s)).world
-tells-after ts cs (Down k) bag t = refl
-tells-after ts cs (Up k b) bag t =
-    let w = world_of ts cs (Up k b) bag in
-    elim (is_dead k t) as (λ d. world_of ts cs (cond d (Up k (burial b t).0) (Up k b)) bag ≡ (where_allowed d w (buries w t b)).world) [ true ↦ refl | false ↦ refl ]
+pub tells-after : (ts : Table TabState) (cs : Table ChannelState) (s : Supervisor) (bag : List Message) (corrupt : List ℕ) (t : ℕ) → world_of ts cs (after_burial t s) bag corrupt ≡ (tells (world_of ts cs s bag corrupt) t (broker_of s)).world
+tells-after ts cs (Down k) bag corrupt t = refl
+tells-after ts cs (Up k b) bag corrupt t =
+    let w = world_of ts cs (Up k b) bag corrupt in
+    elim (is_dead k t) as (λ d. world_of ts cs (cond d (Up k (burial b t).0) (Up k b)) bag corrupt ≡ (where_allowed d w (buries w t b)).world) [ true ↦ refl | false ↦ refl ]
 
-pub tells-sends : (ts : Table TabState) (cs : Table ChannelState) (s : Supervisor) (bag : List Message) (t : ℕ) → map from_broker (outs_by_burial t s) ≡ (tells (world_of ts cs s bag) t (broker_of s)).sends
-tells-sends ts cs (Down k) bag t = refl
-tells-sends ts cs (Up k b) bag t =
-    let w = world_of ts cs (Up k b) bag in
+pub tells-sends : (ts : Table TabState) (cs : Table ChannelState) (s : Supervisor) (bag : List Message) (corrupt : List ℕ) (t : ℕ) → map from_broker (outs_by_burial t s) ≡ (tells (world_of ts cs s bag corrupt) t (broker_of s)).sends
+tells-sends ts cs (Down k) bag corrupt t = refl
+tells-sends ts cs (Up k b) bag corrupt t =
+    let w = world_of ts cs (Up k b) bag corrupt in
     elim (is_dead k t) as (λ d. map from_broker (cond d (burial b t).1 []) ≡ (where_allowed d w (buries w t b)).sends) [ true ↦ refl | false ↦ refl ]

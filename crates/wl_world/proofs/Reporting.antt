@@ -30,16 +30,16 @@ said-reported f a b (d.Part k) w t = refl
 said-reported f a b (d.Whole k) w t = refl
 said-reported f a b (d.Dropped u) w t = refl
 
-pub hears-sends : (ts : Table TabState) (cs : Table ChannelState) (s : Supervisor) (bag : List Message) (w : WorldState) → world_of ts cs s bag ≡ w → (t : ℕ) (f g : Frame) (us : Table TabState) (x : Said) → lives w t ≡ true → g ≡ f → us ≡ put t (told (delivery g (tab_in t (find ts t))).0) ts → x ≡ arrival g (tab_in t (find ts t)) → reported_in (kernel_of s) t (tab_in t (find us t)) x ≡ (where_allowed (lives w t) w (hears w t f)).sends
+pub hears-sends : (ts : Table TabState) (cs : Table ChannelState) (s : Supervisor) (bag : List Message) (corrupt : List ℕ) (w : WorldState) → world_of ts cs s bag corrupt ≡ w → (t : ℕ) (f g : Frame) (us : Table TabState) (x : Said) → lives w t ≡ true → g ≡ f → us ≡ put t (told (delivery g (tab_in t (find ts t))).0) ts → x ≡ arrival g (tab_in t (find ts t)) → reported_in (kernel_of s) t (tab_in t (find us t)) x ≡ (where_allowed (lives w t) w (hears w t f)).sends
 unfolding acts arrival
-hears-sends ts cs s bag w v t f g us x live same e said =
+hears-sends ts cs s bag corrupt w v t f g us x live same e said =
     let a = tab_in t (find ts t) in
     let b = delivery g a in
     ap (λ (z : Table TabState). reported_in (kernel_of s) t (tab_in t (find z t)) x) e
     ∙ ap (λ (o : Option TabState). reported_in (kernel_of s) t (tab_in t o) x) (find-put_same t (told b.0) ts)
     ∙ ap (λ (y : Said). reported_in (kernel_of s) t (told b.0) y) said
-    ∙ said-reported g a b.0 b.1 (world_of ts cs s bag) t
-    ∙ ap (λ (h : Frame). (hears (world_of ts cs s bag) t h).sends) same
+    ∙ said-reported g a b.0 b.1 (world_of ts cs s bag corrupt) t
+    ∙ ap (λ (h : Frame). (hears (world_of ts cs s bag corrupt) t h).sends) same
     ∙ ap (λ (z : WorldState). (hears z t f).sends) v
     ∙ ap (λ (l : Bool). (where_allowed l w (hears w t f)).sends) (sym live)
 

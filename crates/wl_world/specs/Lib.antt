@@ -16,3 +16,5 @@ pub mod Supervised
 pub mod Machine
 pub mod Refusals
 pub mod Merging
+pub mod Hostile
+pub mod HostileRows

@@ -25,6 +25,8 @@ use Rattle.wl_world.specs.declared.message.Message.TheVariants as message
 use Rattle.wl_world.specs.World.{WorldState, channels_in}
 use Rattle.wl_world.specs.declared.event.Event.{Event}
 use Rattle.wl_world.specs.declared.event.Event.TheVariants as event
+use Rattle.wl_world.specs.declared.event.Forged.{Forged}
+use Rattle.wl_world.specs.declared.event.Forged.TheVariants as forged
 use Rattle.wl_world.specs.declared.supervisor.Supervisor.{Supervisor}
 use Rattle.wl_world.specs.declared.supervisor.Supervisor.TheVariants.{Down, Up}
 
@@ -89,8 +91,9 @@ outs_by_burial t (Up k b) = if is_dead k t then (burial b t).1 else []
 
 -- ---- the world, by its parts
 
-abbrev pub world_of : Table TabState → Table ChannelState → Supervisor → List Message → WorldState
-world_of tabs channels s bag = record { tabs = tabs; channels = channels; kernel = kernel_of s; broker = broker_of s; bag = bag }
+abbrev pub world_of : Table TabState → Table ChannelState → Supervisor → List Message → List ℕ → WorldState
+world_of tabs channels s bag corrupt =
+    record { tabs = tabs; channels = channels; kernel = kernel_of s; broker = broker_of s; bag = bag; corrupt = corrupt }
 
 -- what a tab sends, as the kernel passes it on to the broker
 abbrev pub passed_on : KernelState → ℕ → Upward → Message
@@ -148,6 +151,16 @@ abbrev pub crossed : KernelState → ℕ → Frame → List Message
 crossed k t (frame.Post p) =
     map (λ u. message.Across u (record { source = t; number = p.number; channel = p.channel; bytes = p.bytes })) (hearers t k)
 crossed k t f = []
+
+-- a command or a report, as a tab sends it
+abbrev pub up_frame : Upward → Frame
+up_frame (up.Command c) = frame.Command c
+up_frame (up.Report r) = frame.Report r
+
+-- what is forged, as the kernel passes it on
+abbrev pub forged_in : KernelState → ℕ → Forged → List Message
+forged_in k t (forged.Upward x) = passed_on k t x ∷ []
+forged_in k t (forged.Post p) = crossed k t (frame.Post p)
 
 -- each row is its own tab's
 abbrev pub OwnRows : Table ChannelState → Type 0

@@ -6,7 +6,7 @@ use crate::message::Message;
 use bytes::Bytes;
 use std::alloc::{AllocError, Global};
 use wl_draft::{Mode, Name};
-use wl_frames::Sequence;
+use wl_frames::{Post, Sequence, Upward};
 use wl_origin::Partition;
 
 /// One event. The loss of a message is a delivery that never comes.
@@ -86,6 +86,23 @@ pub enum Event {
     Hello {
         tab: u16,
     },
+    /// The tab is taken over.
+    Corrupt {
+        tab: u16,
+    },
+    /// A tab that was taken over sends this.
+    Forge {
+        tab: u16,
+        forged: Forged,
+    },
+}
+
+/// What a tab that was taken over may send: any body of a tab's kind.
+#[derive(Drop)]
+pub enum Forged {
+    /// A command or a report.
+    Upward(Upward),
+    Post(Post),
 }
 
 impl Event {
@@ -145,6 +162,23 @@ impl Event {
             Event::Stop => Event::Stop,
             Event::Start(tabs) => Event::Start(Sequence::new(tabs.as_slice().to_vec(alloc)?)),
             Event::Hello { tab } => Event::Hello { tab: *tab },
+            Event::Corrupt { tab } => Event::Corrupt { tab: *tab },
+            Event::Forge { tab, forged } => Event::Forge {
+                tab: *tab,
+                forged: forged.copy(alloc)?,
+            },
+        })
+    }
+}
+
+impl Forged {
+    /// An equal body. The bytes of a post are shared with this one, and all else is in memory of its own.
+    pub fn copy(&self, alloc: Global) -> Result<Forged, AllocError>
+        ensures equals { IfOk result (λ copy. copy ≡ self.now) }
+    {
+        Ok(match self {
+            Forged::Upward(upward) => Forged::Upward(upward.copy(alloc)?),
+            Forged::Post(post) => Forged::Post(post.copy(alloc)?),
         })
     }
 }

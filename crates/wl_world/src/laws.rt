@@ -3,25 +3,27 @@
 ghost use Rattle.wl_world.specs.Apart.{DroppedLeavesAlone, KeptDoesAlike, RunsApartForAll};
 ghost use Rattle.wl_world.specs.Heard.{HeardIsReadOrWaitsForAll, HeardPostsForAll, HeardRisingForAll, HeardTillClosedForAll};
 ghost use Rattle.wl_world.specs.Holdings.{ExclusionForAll, OwnForAll};
+ghost use Rattle.wl_world.specs.Hostile.{HonestBefore, HonestUnlessNamed, TakesOwnAlone};
 ghost use Rattle.wl_world.specs.Orders.{CommandsInOrderForAll, GrantedWereHeldForAll, GrantsWereSentForAll, ManagerIsFoldForAll};
 ghost use Rattle.wl_world.specs.Refusals.{RefusedChangesNothing};
 
-/// The laws of the whole, over its definitions alone: the first of any world, all others for every list of events.
+/// The laws of the whole, over its definitions alone: `refused` and `moves` of any world, all others for every list of events.
 ///
-/// Exclusion and Own speak of what living tabs hold. Order within a generation speaks, for every generation and partition, of
-/// the list of what the generation took of the partition, which is picked from the events. Apart speaks of what belongs to a
-/// partition: its tabs with their locks and channels, all that the broker holds of them, the messages to and from them; and
-/// beside these of whether a broker is up, and of its generation. Heard speaks of what a channel object takes, read or not.
+/// A tab is honest where it was never taken over. Exclusion speaks of what living honest tabs hold, Own of what living tabs
+/// hold. Order within a generation speaks, for every generation and partition, of the list of what the generation took of the
+/// partition, which is picked from the events. Apart speaks of what belongs to a partition: its tabs with their locks and
+/// channels, all that the broker holds of them, the messages to and from them; and beside these of whether a broker is up, and
+/// of its generation. Heard speaks of what a channel object takes, read or not.
 pub fn law_safety()
     // An event that is answered by a refusal leaves any world as it was, and sends nothing.
     ensures refused { RefusedChangesNothing }
 
-    // Of two locks of one name that living tabs of a partition hold both are shared.
+    // Of two locks of one name that living honest tabs of a partition hold both are shared.
     ensures exclusion { ExclusionForAll }
     // Each lock that is held was asked for by its holder, which has neither released nor aborted it.
     ensures own { OwnForAll }
 
-    // Of each tab the taken commands are a prefix of its issued list from its report's base on, each once, in order.
+    // Of each honest tab the taken commands are a prefix of its issued list from its report's base on, each once, in order.
     ensures commands { CommandsInOrderForAll }
     // A granted answer is sent only for a pair that is held after some prefix of the list.
     ensures held { GrantedWereHeldForAll }
@@ -39,10 +41,17 @@ pub fn law_safety()
 
     // Of one source a channel object takes posts with strictly rising numbers.
     ensures rising { HeardRisingForAll }
-    // It takes nothing but posts of its partition's tabs to its name, none of them made on the object itself.
+    // Of honest sources it takes nothing but posts of its partition's tabs to its name, none of them made on the object itself.
     ensures posts { HeardPostsForAll }
     // It takes nothing after its close.
     ensures closed { HeardTillClosedForAll }
     // While it is open, all that it took was read or waits in its inbox.
     ensures told { HeardIsReadOrWaitsForAll }
+
+    // A message that comes to the broker, forged or not, moves locks of its own tab alone; others move only by settling.
+    ensures moves { TakesOwnAlone }
+    // A tab that no event names as taken over is honest,
+    ensures unnamed { HonestUnlessNamed }
+    // and who is honest was so before.
+    ensures before { HonestBefore }
 {}

@@ -11,6 +11,7 @@ ghost use Rattle.wl_world.specs.declared.reply.Said.TheVariants as said;
 mod acting;
 mod commanding;
 mod delivering;
+mod forging;
 mod posting;
 mod supervising;
 
@@ -34,6 +35,8 @@ pub struct Parts {
     channels: BTreeMap<u16, TabChannels>,
     supervisor: Supervisor,
     bag: Bag,
+    /// The tabs that were taken over.
+    corrupt: Vec<u16>,
 }
 
 impl Model for Parts {
@@ -42,7 +45,7 @@ impl Model for Parts {
 
     ghost Value = { WorldState };
 
-    ghost view = { λ p. world_of p.tabs.entries p.channels.entries p.supervisor p.bag };
+    ghost view = { λ p. world_of p.tabs.entries p.channels.entries p.supervisor p.bag p.corrupt.items };
 
     ghost invariant = { λ p. OwnRows p.channels.entries };
 }
@@ -64,6 +67,7 @@ impl Parts {
             channels: BTreeMap::new(alloc),
             supervisor: Supervisor::new(alloc),
             bag: Bag::new(alloc),
+            corrupt: Vec::new(alloc),
         }
     }
 

@@ -117,6 +117,12 @@ pub enum Said {
     Closed {
         channel: usize,
     },
+    /// The tab is taken over, now or before.
+    Corrupted {
+        tab: u16,
+    },
+    /// What was forged was sent.
+    Forged,
 }
 
 /// A number that ended when its tab entered a generation.
@@ -190,6 +196,8 @@ pub enum Refusal {
     DataTooLong,
     /// The tab has posted 1,000,000 times.
     PostsUsedUp,
+    /// The tab was never taken over, and forges nothing.
+    Honest,
 }
 
 /// Why a message that was delivered was dropped. Its generation is compared with the one that the tab has entered, or with

@@ -2,6 +2,7 @@
 
 ghost use Rattle.std.specs.Prelude.{◌≡◌, [], ◌∷◌, ◌++◌, IfOk, is_some, slice_get};
 ghost use Rattle.std.specs.Option.{option_copied};
+ghost use Rattle.wl_world.specs.Hostile.{MovesOwnAloneBetween};
 ghost use Rattle.wl_world.specs.Machine.{AreHoldings, held_by_living};
 ghost use Rattle.wl_kernel.specs.Kernel.{living_tabs};
 ghost use Rattle.wl_world.specs.World.{empty_world, happens, run};
@@ -52,6 +53,8 @@ impl World {
         ensures events { IfOk result (λ r. r.0.events ≡ self.events ++ event ∷ []) }
         ensures world { IfOk result (λ r. r.0.world ≡ happens self.world event) }
         ensures reply { IfOk result (λ r. r.1 ≡ reply_of self.world event) }
+        // A message that comes to the broker, forged or not, moves locks of its own tab alone; others move only by settling.
+        ensures moves { IfOk result (λ r. MovesOwnAloneBetween self.world event r.0.world) }
     {
         let World { mut events, parts } = self;
         let (mut parts, done) = parts.act(&event)?;

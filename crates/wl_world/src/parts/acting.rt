@@ -60,6 +60,8 @@ impl Parts {
             Event::Kill { tab } => Ok(self.kill(*tab)),
             Event::Tell { tab } => self.tell(*tab),
             Event::Hello { tab } => self.greet(*tab),
+            Event::Corrupt { tab } => self.corrupt(*tab),
+            Event::Forge { tab, forged } => self.forge(*tab, forged),
             Event::Stop | Event::Start(_) => unreachable!(),
         }
     }

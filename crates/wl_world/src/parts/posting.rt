@@ -221,7 +221,7 @@ fn add_taking(took: &[usize], objects: &mut Vec<Reached>) -> Result<(), AllocErr
 }
 
 /// The post of a tab, for each other living tab of its partition.
-fn to_others(
+pub(super) fn to_others(
     alloc: Global,
     kernel: &Tabs,
     tab: u16,

@@ -57,6 +57,7 @@ impl Parts {
             channels,
             supervisor,
             bag,
+            corrupt,
         } = self;
         let (supervisor, said) = supervisor.stop();
         let parts = Parts {
@@ -65,6 +66,7 @@ impl Parts {
             channels,
             supervisor,
             bag,
+            corrupt,
         };
         (parts, silent(alloc, said))
     }
@@ -80,6 +82,7 @@ impl Parts {
             channels,
             supervisor,
             bag,
+            corrupt,
         } = self;
         let (supervisor, outcome) = supervisor.start(alloc, listed)?;
         let parts = Parts {
@@ -88,6 +91,7 @@ impl Parts {
             channels,
             supervisor,
             bag,
+            corrupt,
         };
         Ok((parts, of_broker(alloc, outcome)?))
     }

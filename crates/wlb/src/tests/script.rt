@@ -1,4 +1,5 @@
 // Scripts through the sim.
+mod hostile;
 mod rows;
 mod texts;
 
@@ -179,6 +180,21 @@ fn each_refusal(rt: HostRuntime) -> Result<(), Fail> {
     expect_row(&rt, rt.alloc(), &rows::EACH_REFUSAL)
 }
 
+#[test]
+fn honest_holder_stays(rt: HostRuntime) -> Result<(), Fail> {
+    expect_row(&rt, rt.alloc(), &hostile::HONEST_HOLDER_STAYS)
+}
+
+#[test]
+fn hostile_tab(rt: HostRuntime) -> Result<(), Fail> {
+    expect_row(&rt, rt.alloc(), &hostile::HOSTILE_TAB)
+}
+
+#[test]
+fn unheard_forgery(rt: HostRuntime) -> Result<(), Fail> {
+    expect_row(&rt, rt.alloc(), &hostile::UNHEARD_FORGERY)
+}
+
 fn letters(alloc: Global, count: usize) -> Result<String, AllocError> {
     let mut text = String::new(alloc);
     for _ in 0..count {
@@ -260,6 +276,31 @@ fn lines_of_other_forms(rt: HostRuntime) {
     for (script, number, output) in cases {
         let end = Err(SimFault::Line(number));
         expect(&rt, rt.alloc(), script, end, output, "another form");
+    }
+}
+
+#[test]
+fn what_is_no_body_of_a_tab(rt: HostRuntime) {
+    let cases: [&[u8]; 10] = [
+        b"forge 1\n",
+        b"forge 1 \n",
+        b"forge 1 %\n",
+        b"forge 1 01\n",
+        // A digit is missing, a digit is in lower case, a byte is left over, a byte is missing.
+        b"forge 1 01030000000001610000\nforge 1 0103000000000161000\n",
+        b"forge 1 0103000000000161000a\n",
+        b"forge 1 0103000000000161000000\n",
+        b"forge 1 010300000000016100\n",
+        // A hello; a post of another version.
+        b"forge 1 011000000001\n",
+        b"forge 1 0203000000000161000000\n",
+    ];
+    for script in cases {
+        let lines = script.iter().filter(|byte| **byte == b'\n').count();
+        let number = u32::try_from(lines).unwrap_or(0);
+        let output = if lines == 1 { "" } else { "no tab\n" };
+        let end = Err(SimFault::Line(number));
+        expect(&rt, rt.alloc(), script, end, output.as_bytes(), "no body");
     }
 }
 

@@ -2,10 +2,10 @@
 // row that meets a want of memory is played anew: so these tests pass whichever allocation is refused.
 use std::alloc::{AllocError, Global};
 use std::process::Abort;
-use wl_draft::{Mode, Name};
-use wl_frames::Sequence;
+use wl_draft::{Entry, Mode, Name};
+use wl_frames::{Command, Operation, Report, Sequence, Upward};
 use wl_origin::{Partition, partition};
-use wl_world::event::Event;
+use wl_world::event::{Event, Forged};
 use wl_world::holding::Holding;
 use wl_world::message::Message;
 use wl_world::run::run;
@@ -28,6 +28,11 @@ enum Line {
     Resend(u16),
     /// The message that was sent at this place comes. Places are counted from 1.
     Deliver(usize),
+    Corrupt(u16),
+    /// A command of generation 1 by which the tab releases a number: its own number, and the one that it names.
+    ForgeRelease(u16, u32, u32),
+    /// A report of generation 2, of base 1, which says that the tab holds exclusive a.
+    ForgeReport(u16),
 }
 
 const URL: &str = "https://a.test/";
@@ -109,6 +114,17 @@ fn message(
     message.expect(rt, "the message was sent").copy(alloc)
 }
 
+fn held_entry(alloc: Global) -> Result<Sequence<Entry>, AllocError> {
+    let mut entries = Vec::new(alloc);
+    entries.push(Entry {
+        number: 0,
+        held: true,
+        mode: Mode::Exclusive,
+        name: name(alloc, "a")?,
+    })?;
+    Ok(Sequence::new(entries))
+}
+
 fn event(rt: &impl Abort, alloc: Global, world: &World, line: Line) -> Result<Event, AllocError> {
     Ok(match line {
         Line::Open(tab, url) => Event::Open {
@@ -135,6 +151,23 @@ fn event(rt: &impl Abort, alloc: Global, world: &World, line: Line) -> Result<Ev
         Line::Release(tab, number) => Event::Release { tab, number },
         Line::Resend(tab) => Event::Resend { tab },
         Line::Deliver(place) => Event::Deliver(message(rt, alloc, world, place)?),
+        Line::Corrupt(tab) => Event::Corrupt { tab },
+        Line::ForgeRelease(tab, number, released) => Event::Forge {
+            tab,
+            forged: Forged::Upward(Upward::Command(Command {
+                generation: 1,
+                number,
+                operation: Operation::Release { number: released },
+            })),
+        },
+        Line::ForgeReport(tab) => Event::Forge {
+            tab,
+            forged: Forged::Upward(Upward::Report(Report {
+                generation: 2,
+                base: 1,
+                entries: held_entry(alloc)?,
+            })),
+        },
     })
 }
 
@@ -671,4 +704,28 @@ fn a_partition_recovers_when_its_missing_tab_is_dead(rt: HostRuntime) {
         ]],
         &[(1, 0, Mode::Shared, "a")],
     );
+}
+
+/// Tab 2 is taken over: it forges the release of the number that tab 1's lock has, and after a stop a report of that lock.
+const BESIEGED: [Line; 14] = [
+    Line::Ask(1, Mode::Exclusive, "a"),
+    Line::Deliver(5),
+    Line::Deliver(6),
+    Line::ForgeRelease(2, 0, 0),
+    Line::Corrupt(2),
+    Line::ForgeRelease(2, 0, 0),
+    Line::Deliver(7),
+    Line::Stop,
+    Line::Start(&[1, 2]),
+    Line::ForgeReport(2),
+    Line::Deliver(11),
+    Line::Deliver(9),
+    Line::Deliver(12),
+    Line::Corrupt(2),
+];
+
+#[test]
+fn an_honest_holder_stays(rt: HostRuntime) {
+    let row: [&[Line]; 3] = [&FIRST, &SECOND, &BESIEGED];
+    check(&rt, rt.alloc(), &row, &[(1, 0, Mode::Exclusive, "a")]);
 }

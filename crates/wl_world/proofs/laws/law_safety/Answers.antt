@@ -1,7 +1,9 @@
 use Rattle.wl_world.specs.World.{empty_world, run}
 use Rattle.wl_world.proofs.Cover.{Sound-exclusion}
 use Rattle.wl_world.proofs.Hearings.{heard-rising, heard-posts, heard-till_closed}
+use Rattle.wl_world.proofs.Honesty.{honest-unless_named, honest-sooner}
 use Rattle.wl_world.proofs.Isolation.{dropped-leaves_alone, kept-does_alike, runs-apart}
+use Rattle.wl_world.proofs.Moving.{takes-own_alone}
 use Rattle.wl_world.proofs.Order.{commands-in_order, granted-were_held, grants-were_sent, manager-is_fold}
 use Rattle.wl_world.proofs.Readings.{heard-is_read_or_waits}
 use Rattle.wl_world.proofs.Refused.{refused-changes_nothing}
@@ -50,3 +52,12 @@ returns-clause-closed c = heard-till_closed
 
 pub returns-clause-told : goal.returns-clause-told
 returns-clause-told c = heard-is_read_or_waits
+
+pub returns-clause-moves : goal.returns-clause-moves
+returns-clause-moves c = takes-own_alone
+
+pub returns-clause-unnamed : goal.returns-clause-unnamed
+returns-clause-unnamed c = honest-unless_named
+
+pub returns-clause-before : goal.returns-clause-before
+returns-clause-before c = honest-sooner

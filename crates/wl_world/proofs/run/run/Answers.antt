@@ -3,10 +3,12 @@ use Rattle.std.proofs.lemmas.List.{take_all}
 use Rattle.wl_world.specs.declared.event.Event.{Event}
 use Rattle.wl_world.specs.World.{empty_world, run}
 use Rattle.wl_world.specs.Holdings.{Exclusion, Own}
+use Rattle.wl_world.specs.Hostile.{HonestIfUnnamed}
 use Rattle.wl_world.specs.Orders.{CommandsInOrder, GrantedWereHeld, GrantsWereSent, ManagerIsFold}
 use Rattle.wl_world.specs.Heard.{HeardIsReadOrWaits}
 use Rattle.wl_world.specs.Apart.{RunsApart}
 use Rattle.wl_world.proofs.Cover.{Sound-exclusion}
+use Rattle.wl_world.proofs.Honesty.{honest-unless_named}
 use Rattle.wl_world.proofs.Runs.{run-sound}
 use Rattle.wl_world.proofs.Sources.{run-own}
 use Rattle.wl_world.proofs.Order.{commands-in_order, granted-were_held, grants-were_sent, manager-is_fold}
@@ -19,6 +21,9 @@ use Rattle.wl_world.proofs.run.run.Goals as goal
 made : (c : goal.After-loop-event) → run c.args.events.now empty_world ≡ c.loop-event.world.world
 made c =
     sym (c.loop-event.invariant.world ∙ ap (λ (es : List Event). run es empty_world) (take_all c.loop-event.event-index c.args.events.now c.loop-event-test.false))
+
+pub returns-clause-honest : goal.returns-clause-honest
+returns-clause-honest c = subst (HonestIfUnnamed c.args.events.now) (made c) (honest-unless_named c.args.events.now)
 
 pub returns-clause-exclusion : goal.returns-clause-exclusion
 returns-clause-exclusion c = subst Exclusion (made c) (Sound-exclusion (run c.args.events.now empty_world) (run-sound c.args.events.now))

@@ -17,4 +17,4 @@ pub returns-clause-sends : goal.returns-clause-sends
 returns-clause-sends c =
     let live : lives c.args.self.now c.args.addressed.now.tab ≡ true = grind (arith, common_steps) in
     c.in_ok-sends.ensures
-    ∙ hears-sends c.self.inside.tabs.entries c.self.inside.channels.entries c.self.inside.supervisor c.self.inside.bag c.args.self.now c.self.view_is c.args.addressed.now.tab _ _ _ _ live c.in_ok-frame.ensures c.in_ok-said.ensures.tabs c.in_ok-said.ensures.said
+    ∙ hears-sends c.self.inside.tabs.entries c.self.inside.channels.entries c.self.inside.supervisor c.self.inside.bag c.self.inside.corrupt.items c.args.self.now c.self.view_is c.args.addressed.now.tab _ _ _ _ live c.in_ok-frame.ensures c.in_ok-said.ensures.tabs c.in_ok-said.ensures.said

@@ -21,4 +21,4 @@ returns-clause-said c =
     let live : lives c.args.self.now c.args.tab ≡ true = grind (arith, common_steps) in
     let p = c.self.inside in
     let hearing = c.in_ok-hearing.ensures.hearing ∙ ap (λ (x : Heard). hearing_of (frame.Heard x) (channels_in c.args.tab (find p.channels.entries c.args.tab))) c.in_ok-copy.ensures in
-    c.silent-2.ensures.said ∙ c.in_ok-said.ensures ∙ heard-said p.tabs.entries p.channels.entries p.supervisor p.bag c.args.self.now c.self.view_is c.args.tab c.args.heard.now live c.in_ok-hearing.hearing hearing
+    c.silent-2.ensures.said ∙ c.in_ok-said.ensures ∙ heard-said p.tabs.entries p.channels.entries p.supervisor p.bag p.corrupt.items c.args.self.now c.self.view_is c.args.tab c.args.heard.now live c.in_ok-hearing.hearing hearing

@@ -8,4 +8,4 @@ use Rattle.wl_world.proofs.parts.Parts.release.Goals as goal
 pub returns-in-Some-clause-sends : goal.returns-in-Some-clause-sends
 returns-in-Some-clause-sends c =
     let live : lives c.args.self.now c.args.tab ≡ true = grind (arith, common_steps) in
-    IfOk-weaker c.issued.result _ _ (λ d e. e ∙ released-sends c.self.inside.tabs.entries c.self.inside.channels.entries c.self.inside.supervisor c.self.inside.bag c.args.self.now c.self.view_is c.args.tab c.args.number _ _ live c.release_at.ensures.tabs (sym c.in-Some.is ∙ c.release_at.ensures.next)) c.issued.ensures.sends
+    IfOk-weaker c.issued.result _ _ (λ d e. e ∙ released-sends c.self.inside.tabs.entries c.self.inside.channels.entries c.self.inside.supervisor c.self.inside.bag c.self.inside.corrupt.items c.args.self.now c.self.view_is c.args.tab c.args.number _ _ live c.release_at.ensures.tabs (sym c.in-Some.is ∙ c.release_at.ensures.next)) c.issued.ensures.sends

@@ -14,4 +14,4 @@ returns-in-Some c =
 pub returns-in-None : goal.returns-in-None
 returns-in-None c =
     rw (← c.self.view_is, find_absent c.args.tab c.self.inside.tabs.entries c.in-None.ensures.value)
-    (c.new.ensures.items ∙ sym (newborn-resent (world_of c.self.inside.tabs.entries c.self.inside.channels.entries c.self.inside.supervisor c.self.inside.bag) c.args.tab))
+    (c.new.ensures.items ∙ sym (newborn-resent (world_of c.self.inside.tabs.entries c.self.inside.channels.entries c.self.inside.supervisor c.self.inside.bag c.self.inside.corrupt.items) c.args.tab))

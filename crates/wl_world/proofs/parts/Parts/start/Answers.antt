@@ -8,13 +8,13 @@ use Rattle.wl_world.proofs.parts.Parts.start.Goals as goal
 
 pub returns-clause-world : goal.returns-clause-world
 returns-clause-world c =
-    ap (λ (s : Supervisor). world_of c.self.inside.tabs.entries c.self.inside.channels.entries s c.self.inside.bag) c.in_ok-supervisor.ensures.supervisor
-    ∙ starts-after c.self.inside.tabs.entries c.self.inside.channels.entries c.self.inside.supervisor c.self.inside.bag c.args.listed.now
+    ap (λ (s : Supervisor). world_of c.self.inside.tabs.entries c.self.inside.channels.entries s c.self.inside.bag c.self.inside.corrupt.items) c.in_ok-supervisor.ensures.supervisor
+    ∙ starts-after c.self.inside.tabs.entries c.self.inside.channels.entries c.self.inside.supervisor c.self.inside.bag c.self.inside.corrupt.items c.args.listed.now
     ∙ ap (λ (w : WorldState). (starts w c.args.listed.now w.broker).world) c.self.view_is
 
 pub returns-clause-sends : goal.returns-clause-sends
 returns-clause-sends c =
     c.in_ok-of_broker.ensures.sends
     ∙ ap (λ (outs : List Addressed). map from_broker outs) c.in_ok-supervisor.ensures.outs
-    ∙ starts-sends c.self.inside.tabs.entries c.self.inside.channels.entries c.self.inside.supervisor c.self.inside.bag c.args.listed.now
+    ∙ starts-sends c.self.inside.tabs.entries c.self.inside.channels.entries c.self.inside.supervisor c.self.inside.bag c.self.inside.corrupt.items c.args.listed.now
     ∙ ap (λ (w : WorldState). (starts w c.args.listed.now w.broker).sends) c.self.view_is

@@ -7,8 +7,8 @@ use Rattle.wl_world.proofs.parts.Parts.stop.Goals as goal
 
 pub returns-clause-world : goal.returns-clause-world
 returns-clause-world c =
-    ap (λ (s : Supervisor). world_of c.self.inside.tabs.entries c.self.inside.channels.entries s c.self.inside.bag) c.stop-supervisor.ensures.supervisor
-    ∙ stops-after c.self.inside.tabs.entries c.self.inside.channels.entries c.self.inside.supervisor c.self.inside.bag
+    ap (λ (s : Supervisor). world_of c.self.inside.tabs.entries c.self.inside.channels.entries s c.self.inside.bag c.self.inside.corrupt.items) c.stop-supervisor.ensures.supervisor
+    ∙ stops-after c.self.inside.tabs.entries c.self.inside.channels.entries c.self.inside.supervisor c.self.inside.bag c.self.inside.corrupt.items
     ∙ ap (λ (w : WorldState). (stops w w.broker).world) c.self.view_is
 
 pub returns-clause-sends : goal.returns-clause-sends

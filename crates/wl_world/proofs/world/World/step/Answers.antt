@@ -1,9 +1,11 @@
-use Rattle.std.proofs.Common.{List, sym, ap, ◌∙◌}
+use Rattle.std.proofs.Common.{◌≡◌, List, sym, ap, subst, ◌∙◌}
 use Rattle.wl_world.specs.declared.event.Event.{Event}
 use Rattle.wl_world.specs.declared.reply.Sent.{Sent}
 use Rattle.wl_world.specs.Machine.{Machine}
 use Rattle.wl_world.specs.World.{WorldState, empty_world, happens, run}
 use Rattle.wl_world.specs.Replies.{reply_of}
+use Rattle.wl_world.specs.Hostile.{MovesOwnAloneBetween}
+use Rattle.wl_world.proofs.Moving.{event-moves_own_alone}
 use Rattle.wl_world.proofs.Stepped.{happened, replied, run-push}
 use Rattle.wl_world.proofs.world.World.step.Goals as goal
 
@@ -26,3 +28,8 @@ returns-clause-reply c =
     ap (λ (sent : List Sent). record { said = c.in_ok-parts.done.said; sent = sent }) (c.new.ensures ∙ c.in_ok-sent.ensures.sent)
     ∙ replied c.self.inside.parts c.in_ok-parts.parts c.args.event c.in_ok-parts.done.sends.items c.in_ok-parts.done.said c.in_ok-parts.ensures.world c.in_ok-parts.ensures.sends c.in_ok-parts.ensures.said
     ∙ ap (λ (m : Machine). reply_of m.world c.args.event) c.self.view_is
+
+pub returns-clause-moves : goal.returns-clause-moves
+returns-clause-moves c =
+    subst (MovesOwnAloneBetween c.args.self.world c.args.event) (sym (returns-clause-world c))
+    (event-moves_own_alone c.args.self.world c.args.event)

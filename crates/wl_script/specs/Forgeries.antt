@@ -1,0 +1,46 @@
+-- What a tab that is taken over forges, as it stands in a script: the body of a frame.
+use Rattle.std.specs.Prelude.{◌≡◌, ◌↔◌, ℕ, ◌<◌, List, All, Option, Some, None, Result, Ok, Err, if◌then◌else◌}
+use Rattle.std.specs.List.{list_any}
+use Rattle.std.specs.Char.{is_ascii_lowercase}
+use Rattle.hex.specs.Hex.{decode_of}
+use Rattle.hex.specs.declared.error.FromHexError.{FromHexError}
+use Rattle.wl_frames.specs.declared.frame.Frame.{Frame}
+use Rattle.wl_frames.specs.declared.frame.Frame.TheVariants as frame
+use Rattle.wl_frames.specs.declared.frame.Upward.TheVariants as up
+use Rattle.wl_frames.specs.Grammar.{IsBody}
+use Rattle.wl_frames.specs.Reading.{◌>>=◌}
+use Rattle.wl_frames.specs.Bodies.{inner_kind_at, frame_at, all_of}
+use Rattle.wl_world.specs.declared.event.Forged.{Forged}
+use Rattle.wl_world.specs.declared.event.Forged.TheVariants as forged
+
+abbrev pub decoded : Result (List ℕ) FromHexError → Option (List ℕ)
+decoded (Ok bytes) = Some bytes
+decoded (Err e) = None
+
+-- bytes in pairs of upper case hexadecimal digits
+unfoldable pub hex_at : List ℕ → Option (List ℕ)
+hex_at word = if list_any is_ascii_lowercase word then None else decoded (decode_of word)
+
+-- the frame whose body these bytes are
+unfoldable pub body_at : List ℕ → Option Frame
+body_at bytes = do
+  kind ← inner_kind_at bytes
+  fields ← frame_at kind.0 kind.1
+  whole ← all_of fields
+  Some whole.0
+
+-- a tab sends commands, reports and posts
+abbrev pub tab_says : Frame → Option Forged
+tab_says (frame.Command c) = Some (forged.Upward (up.Command c))
+tab_says (frame.Report r) = Some (forged.Upward (up.Report r))
+tab_says (frame.Post p) = Some (forged.Post p)
+tab_says f = None
+
+unfoldable pub forged_at : List ℕ → Option Forged
+forged_at word = hex_at word >>= body_at >>= tab_says
+
+-- ---- law
+
+-- what is read is the frame that the grammar gives to the bytes
+abbrev pub ReadsBodies : Type 0
+ReadsBodies = (bytes : List ℕ) (f : Frame) → All (λ b. b < 256) bytes → (body_at bytes ≡ Some f) ↔ IsBody bytes f

@@ -1,0 +1,70 @@
+//! What a tab that is taken over forges: the body of a frame, in hexadecimal digits.
+
+ghost use Rattle.std.specs.Prelude.{◌≡◌};
+ghost use Rattle.std.specs.Char.{is_ascii_lowercase};
+ghost use Rattle.std.specs.List.{list_any};
+ghost use Rattle.wl_script.specs.Forgeries.{hex_at, body_at, tab_says, forged_at};
+ghost use Rattle.wl_script.specs.Words.{Gives};
+
+use crate::unread::Unread;
+use hex::FromHexError;
+use std::alloc::Global;
+use wl_frames::reading::decode;
+use wl_frames::{Frame, Upward};
+use wl_world::event::Forged;
+
+/// The least length of a body: its version and its kind.
+const MIN_BODY_LEN: usize = 2;
+
+/// What is forged by a word.
+#[tactic(auto, unfolding(crate::specs::Forgeries::forged_at))]
+pub(crate) fn forged_of(alloc: Global, word: &[u8]) -> Result<Forged, Unread>
+    ensures { Gives (λ forged. forged) result (forged_at word.now) }
+{
+    let body = bytes_of(alloc, word)?;
+    let frame = frame_of(alloc, body.as_slice())?;
+    said_by_tab(frame)
+}
+
+/// Bytes in pairs of upper case digits.
+#[tactic(auto, unfolding(crate::specs::Forgeries::hex_at))]
+fn bytes_of(alloc: Global, word: &[u8]) -> Result<Vec<u8>, Unread>
+    ensures { Gives (λ bytes. bytes.items) result (hex_at word.now) }
+{
+    if has_lowercase(word) {
+        return Err(Unread::Form);
+    }
+    match hex::decode(alloc, word) {
+        Ok(bytes) => Ok(bytes),
+        Err(FromHexError::OutOfMemory) => Err(Unread::Memory),
+        Err(_) => Err(Unread::Form),
+    }
+}
+
+fn has_lowercase(word: &[u8]) -> bool
+    ensures { result ≡ list_any is_ascii_lowercase word.now }
+{
+    word.iter().any(|byte| byte.is_ascii_lowercase())
+}
+
+/// The frame of a body.
+fn frame_of(alloc: Global, body: &[u8]) -> Result<Frame, Unread>
+    ensures { Gives (λ frame. frame) result (body_at body.now) }
+{
+    if body.len() < MIN_BODY_LEN {
+        return Err(Unread::Form);
+    }
+    Ok(decode(alloc, body)?)
+}
+
+/// A tab sends commands, reports and posts.
+fn said_by_tab(frame: Frame) -> Result<Forged, Unread>
+    ensures { Gives (λ forged. forged) result (tab_says frame) }
+{
+    match frame {
+        Frame::Command(command) => Ok(Forged::Upward(Upward::Command(command))),
+        Frame::Report(report) => Ok(Forged::Upward(Upward::Report(report))),
+        Frame::Post(post) => Ok(Forged::Post(post)),
+        _ => Err(Unread::Form),
+    }
+}
