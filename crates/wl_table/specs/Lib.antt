@@ -1,3 +1,9 @@
 pub use Rattle.wl_draft.specs.Tables
 pub use Rattle.wl_draft.specs.Locks
 pub mod PlainTables
+pub mod Orders
+pub mod Lines
+pub mod Clients
+pub mod Index
+pub mod Nexts
+pub mod Kept

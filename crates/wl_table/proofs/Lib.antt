@@ -1,0 +1,12 @@
+mod Stuck
+mod OrderLemmas
+mod SettleLemmas
+mod WithoutLemmas
+mod IndexLemmas
+mod EntryLemmas
+mod NextLemmas
+mod RemovalLemmas
+mod CandidateLemmas
+mod RoomLemmas
+mod SortLemmas
+mod ReportLemmas

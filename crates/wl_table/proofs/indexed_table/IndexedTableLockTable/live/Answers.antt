@@ -1,0 +1,9 @@
+use Rattle.std.proofs.Common.{◌∙◌, sym}
+use Rattle.wl_table.specs.Clients.{places_at}
+use Rattle.wl_table.proofs.IndexLemmas.{live-places}
+use Rattle.wl_table.proofs.indexed_table.IndexedTableLockTable.live.Goals as goal
+
+pub returns : goal.returns
+returns c =
+    rw (← c.self.view_is)
+    (c.live.ensures ∙ sym (live-places c.self.inside.index.held.items c.self.inside.index.waiting.items (places_at c.self.inside.index.clients c.args.client) c.args.client (c.self.invariant.index.clients c.args.client)))

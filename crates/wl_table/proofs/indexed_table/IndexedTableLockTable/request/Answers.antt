@@ -1,0 +1,29 @@
+use Rattle.std.proofs.Common.{◌≡◌, ◌∙◌, ◌++◌, [], ◌∷◌, ap, refl}
+use Rattle.wl_draft.specs.Locks.{grants, newly, settle, queued, row_of}
+use Rattle.wl_table.specs.Index.{locks_in}
+use Rattle.wl_table.specs.Nexts.{is_among}
+use Rattle.wl_table.proofs.IndexLemmas.{queued-in}
+use Rattle.wl_table.proofs.CandidateLemmas.{candidates-queued, pushed-here, pushed-kept}
+use Rattle.wl_table.proofs.indexed_table.IndexedTableLockTable.request.Goals as goal
+
+pub settle-requires-clause-candidates : goal.settle-requires-clause-candidates
+settle-requires-clause-candidates c =
+    let t = c.self.inside.index in
+    let k = c.ready.new.self.next in
+    let items : c.queue.new.self.waiting.items ≡ t.waiting.items ++ (k, c.in_ok-row.row) ∷ [] = c.queue.ensures.waiting ∙ ap (λ w. w ++ (k, c.in_ok-row.row) ∷ []) c.in_ok-row.ensures.waiting in
+    let same : c.queue.new.self.held.items ≡ t.held.items = c.queue.ensures.held ∙ c.in_ok-row.ensures.held in
+    rw (same, items) (candidates-queued c.self.inside.candidates.items c.push.new.self.items t.held.items t.waiting.items k c.in_ok-row.row c.self.invariant.candidates (λ j m. c.push.ensures.items j ∙ pushed-kept k j _ (ap (λ ks. is_among j ks) c.in_ok-reserve.ensures.items ∙ m)) (c.push.ensures.items k ∙ pushed-here k k _ refl))
+
+pub returns-clause-grants : goal.returns-clause-grants
+returns-clause-grants c =
+    let t = c.self.inside.index in
+    let before : locks_in c.queue.new.self.held.items c.queue.new.self.waiting.items ≡ queued (row_of c.args.client c.args.number c.args.name.now c.args.mode) (locks_in t.held.items t.waiting.items) = ap (λ h. locks_in h c.queue.new.self.waiting.items) (c.queue.ensures.held ∙ c.in_ok-row.ensures.held) ∙ ap (λ w. locks_in t.held.items w) (c.queue.ensures.waiting ∙ ap (λ w. w ++ (c.ready.new.self.next, c.in_ok-row.row) ∷ []) c.in_ok-row.ensures.waiting ∙ ap (λ r. t.waiting.items ++ (c.ready.new.self.next, r) ∷ []) c.in_ok-row.ensures.row) ∙ queued-in t.held.items t.waiting.items c.ready.new.self.next (row_of c.args.client c.args.number c.args.name.now c.args.mode) in
+    let e : c.settle.new.granted.items ≡ grants (newly (queued (row_of c.args.client c.args.number c.args.name.now c.args.mode) (locks_in t.held.items t.waiting.items))) = c.settle.ensures.granted ∙ ap (λ g. g ++ grants (newly (locks_in c.queue.new.self.held.items c.queue.new.self.waiting.items))) c.in_ok-granted.ensures.items ∙ ap (λ m. grants (newly m)) before in
+    rw (← c.self.view_is) e
+
+pub returns-clause-ok : goal.returns-clause-ok
+returns-clause-ok c =
+    let t = c.self.inside.index in
+    let before : locks_in c.queue.new.self.held.items c.queue.new.self.waiting.items ≡ queued (row_of c.args.client c.args.number c.args.name.now c.args.mode) (locks_in t.held.items t.waiting.items) = ap (λ h. locks_in h c.queue.new.self.waiting.items) (c.queue.ensures.held ∙ c.in_ok-row.ensures.held) ∙ ap (λ w. locks_in t.held.items w) (c.queue.ensures.waiting ∙ ap (λ w. w ++ (c.ready.new.self.next, c.in_ok-row.row) ∷ []) c.in_ok-row.ensures.waiting ∙ ap (λ r. t.waiting.items ++ (c.ready.new.self.next, r) ∷ []) c.in_ok-row.ensures.row) ∙ queued-in t.held.items t.waiting.items c.ready.new.self.next (row_of c.args.client c.args.number c.args.name.now c.args.mode) in
+    let e : locks_in c.settle.new.self.held.items c.settle.new.self.waiting.items ≡ settle (queued (row_of c.args.client c.args.number c.args.name.now c.args.mode) (locks_in t.held.items t.waiting.items)) = c.settle.ensures.settled ∙ ap (λ m. settle m) before in
+    rw (← c.self.view_is) e

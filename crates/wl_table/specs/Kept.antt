@@ -1,0 +1,8 @@
+-- What an indexed table keeps true.
+use Rattle.wl_table.specs.Index.{IsIndexed}
+use Rattle.wl_table.specs.Nexts.{AreCandidates}
+use Rattle.wl_table.specs.declared.indexed_table.IndexedTable.TheInside.{Inside}
+
+pub record IsKept (t : Inside) : Type 0 where
+  pub index : IsIndexed t.index
+  pub candidates : AreCandidates t.candidates.items t.index.held.items t.index.waiting.items

@@ -1,0 +1,158 @@
+use crate::candidates::Candidates;
+use crate::index::Index;
+use crate::lock_table::LockTable;
+use crate::restoring::rows_of;
+use std::alloc::{AllocError, Global};
+use std::marker::Model;
+use wl_draft::{Entry, Grant, Mode, Name, Row, Standing};
+
+/// A lock table with an index of its names and one of its clients: what a command costs does not grow with what others
+/// hold or wait for.
+#[derive(Drop)]
+pub struct IndexedTable {
+    alloc: Global,
+    index: Index,
+    // Whatever can be granted now is among them. None is left once the table is settled.
+    candidates: Candidates,
+}
+
+impl Model for IndexedTable {
+    ghost use Rattle.wl_draft.specs.Locks.{Locks};
+
+    ghost Value = { Locks };
+
+    ghost use Rattle.wl_table.specs.Index.{locks_in};
+    ghost use Rattle.wl_table.specs.Kept.{IsKept};
+
+    ghost view = { λ t. locks_in t.index.held.items t.index.waiting.items };
+
+    ghost invariant = { IsKept };
+}
+
+impl LockTable for IndexedTable {
+    ghost content = { λ locks. locks };
+
+    fn new(alloc: Global) -> IndexedTable {
+        IndexedTable {
+            alloc,
+            index: Index::new(alloc),
+            candidates: Candidates::new(alloc),
+        }
+    }
+
+    fn request(
+        &mut self,
+        client: u16,
+        number: u32,
+        name: &Name,
+        mode: Mode,
+    ) -> Result<Vec<Grant>, AllocError> {
+        let mut granted = self.index.room_to_settle(self.alloc, 1)?;
+        let row = self.index.ready(self.alloc, client, number, name, mode)?;
+        self.candidates.reserve(1)?;
+        self.candidates.push(self.index.next);
+        self.index.queue(row);
+        self.index.settle(&mut self.candidates, &mut granted);
+        Ok(granted)
+    }
+
+    fn probe(
+        &mut self,
+        client: u16,
+        number: u32,
+        name: &Name,
+        mode: Mode,
+    ) -> Result<Vec<Grant>, AllocError> {
+        if !self.index.lines.is_next(name, mode) {
+            return Ok(Vec::new(self.alloc));
+        }
+        let row = self.index.ready(self.alloc, client, number, name, mode)?;
+        let mut granted = Vec::with_capacity(self.alloc, 1)?;
+        granted.push(Grant::from(&row)).unwrap();
+        self.index.hold(row);
+        Ok(granted)
+    }
+
+    fn release(&mut self, client: u16, number: u32) -> Result<Vec<Grant>, AllocError> {
+        let mut granted = self.index.room_to_settle(self.alloc, 0)?;
+        self.candidates.reserve(self.index.clients.live(client))?;
+        self.index
+            .take_all_held(client, Some(number), &mut self.candidates);
+        self.index.settle(&mut self.candidates, &mut granted);
+        Ok(granted)
+    }
+
+    fn abort(&mut self, client: u16, number: u32) -> Result<Vec<Grant>, AllocError> {
+        let mut granted = self.index.room_to_settle(self.alloc, 0)?;
+        self.candidates.reserve(self.index.clients.live(client))?;
+        let which = Some(number);
+        self.index
+            .take_all_held(client, which, &mut self.candidates);
+        self.index
+            .take_all_waiting(client, which, &mut self.candidates);
+        self.index.settle(&mut self.candidates, &mut granted);
+        Ok(granted)
+    }
+
+    fn end_client(&mut self, client: u16, settle: bool) -> Result<Vec<Grant>, AllocError> {
+        let mut granted = self.index.room_to_settle(self.alloc, 0)?;
+        self.candidates.reserve(self.index.clients.live(client))?;
+        self.index.take_all_held(client, None, &mut self.candidates);
+        self.index
+            .take_all_waiting(client, None, &mut self.candidates);
+        self.index.forget_client(client);
+        if settle {
+            self.index.settle(&mut self.candidates, &mut granted);
+        }
+        Ok(granted)
+    }
+
+    fn restore(
+        &mut self,
+        client: u16,
+        entries: &[Entry],
+        settle: bool,
+    ) -> Result<Vec<Grant>, AllocError> {
+        let (held, waiting) = rows_of(self.alloc, client, entries)?;
+        let mut granted = self.index.room_to_settle(self.alloc, entries.len())?;
+        self.candidates.reserve(waiting.len())?;
+        self.index.make_room(client, &held, &waiting)?;
+        self.index
+            .put_all(client, held, waiting, &mut self.candidates);
+        if settle {
+            self.index.settle(&mut self.candidates, &mut granted);
+        }
+        Ok(granted)
+    }
+
+    fn grantable(&self, client: u16, number: u32) -> bool {
+        match self.index.clients.first_waiting(client, Some(number)) {
+            Some(order) => self.index.is_next(order),
+            None => false,
+        }
+    }
+
+    fn state(&self, client: u16, number: u32) -> Standing {
+        if self.index.clients.holds(client, number) {
+            Standing::Held
+        } else if self.index.clients.waits(client, number) {
+            Standing::Waiting
+        } else {
+            Standing::Absent
+        }
+    }
+
+    fn live(&self, client: u16) -> usize {
+        self.index.clients.live(client)
+    }
+
+    fn waiting(&self) -> usize {
+        self.index.waiting.len()
+    }
+
+    fn snapshot(&self) -> Result<(Vec<Row>, Vec<Row>), AllocError> {
+        let held = self.index.held.copies(self.alloc)?;
+        let waiting = self.index.waiting.copies(self.alloc)?;
+        Ok((held, waiting))
+    }
+}
