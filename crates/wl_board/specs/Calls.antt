@@ -1,0 +1,45 @@
+-- Words for the contracts of a board's calls.
+use Rattle.std.specs.Prelude.{◌≡◌, ℕ, ◌+◌, ◌<◌, ◌≤◌, ◌⊎◌, slice_index}
+use Rattle.wl_board.specs.declared.rule.View.{View}
+use Rattle.wl_board.specs.declared.tab.Life.{Life}
+use Rattle.wl_board.specs.declared.tab.Life.TheVariants as life
+use Rattle.wl_board.specs.Rule.{newcomer}
+use Rattle.wl_board.specs.Steps.{draws_none}
+use Rattle.wl_board.specs.Seats.{SharedBoard, Sitting}
+
+-- it is a seat of this board
+abbrev pub IsOf : Sitting → SharedBoard → Type 0
+IsOf s b = s.table ≡ b.table
+
+abbrev pub IsSameSeat : Sitting → Sitting → Type 0
+IsSameSeat old new = (new.table ≡ old.table) × (new.place ≡ old.place)
+
+-- it has seen and done nothing
+abbrev pub IsNew : ℕ → Sitting → Type 0
+IsNew tabs s = s.view ≡ newcomer tabs s.view.to_give
+
+-- the greatest value seen of the counter, of the generation and of a tab's word
+abbrev pub counter_seen : View → ℕ
+counter_seen v = slice_index v.seen 1
+
+abbrev pub generation_seen : View → ℕ
+generation_seen v = slice_index v.seen 0
+
+abbrev pub tab_seen : ℕ → View → ℕ
+tab_seen tab v = slice_index v.seen (tab + 1)
+
+-- what stands in the word of a tab
+abbrev pub word_of : Life → ℕ
+word_of life.None = 0
+word_of life.Living = 1
+word_of life.Dead = 2
+
+-- the seat found the counter above all tabs
+abbrev pub HasMetEnd : ℕ → View → Type 0
+HasMetEnd tabs v = tabs + 2 ≤ counter_seen v
+
+-- it did so before, and takes no step; or it may draw, and finds it so by this step, which counts as a draw
+abbrev pub MeetsEnd : ℕ → View → View → Type 0
+MeetsEnd tabs v w =
+    (HasMetEnd tabs v × (w ≡ v))
+    ⊎ ((¬ HasMetEnd tabs v) × (v.draws < 65535) × ((found : ℕ) × (tabs < found) × (counter_seen v ≤ found) × (w ≡ draws_none v found)))

@@ -1,0 +1,214 @@
+//! The board that threads share.
+
+ghost use Rattle.std.specs.Prelude.{◌≡◌, ◌≢◌, ◌+◌, ◌<◌, ◌≤◌, Err, IfOk, OnOk, OnErr, All, vec_len};
+ghost use Rattle.wl_board.specs.Rule.{Has, newcomer};
+ghost use Rattle.wl_board.specs.Steps.{sees, marks, draws_number, bears, bumps_to};
+ghost use Rattle.wl_board.specs.Seats.{Sitting};
+ghost use Rattle.wl_board.specs.Calls.{IsOf, IsSameSeat, IsNew, HasMetEnd, MeetsEnd, counter_seen, generation_seen, tab_seen, word_of};
+
+use crate::fault::{DrawFault, Memory, SeatSpent};
+use crate::rule::{Bear, BoardRule, Bump, Deal, Draw, Look, MarkDead, ReadGeneration, View};
+use crate::seat::{Place, Seat};
+use crate::tab::{Birth, Life, Ticket};
+use atomic_table::Table;
+use std::alloc::Global;
+use std::marker::Model;
+
+/// The word of the generation.
+const GENERATION: usize = 0;
+
+/// The word of the next number to be drawn.
+const COUNTER: usize = 1;
+
+/// How many words stand before those of the tabs.
+const FIRST_WORDS: usize = 2;
+
+/// The word of a tab that never lived.
+const NONE: u64 = 0;
+
+/// The word of a living tab.
+const LIVING: u64 = 1;
+
+/// The word of a dead tab.
+const DEAD: u64 = 2;
+
+/// The most draws that a seat makes, and the most bumps.
+const STEP_LIMIT: u16 = 65_535;
+
+/// A counter of tab numbers, a word for each tab and a generation. The calls on a shared board take neither memory nor a
+/// lock: each is one atomic step.
+#[derive(Drop)]
+pub struct Board {
+    table: Table<(), View, u16, BoardRule, Global>,
+    tabs: u16,
+}
+
+impl Model for Board {
+    ghost use Rattle.std.specs.Prelude.{◌≡◌, ◌+◌};
+    ghost use Rattle.wl_board.specs.Seats.{SharedBoard};
+
+    ghost Value = { SharedBoard };
+
+    ghost view = { λ b. record { table = b.table.shared.table_id; tabs = b.tabs } };
+
+    ghost invariant = { λ b. (b.table.shared.table_id.words ≡ b.tabs + 2) × (b.table.shared.key ≡ b.tabs) };
+}
+
+impl Board {
+    /// A board for tabs of the numbers 1 to `tabs`, and all its seats. No number is drawn, and the generation is 1.
+    pub fn new(alloc: Global, tabs: u16, seats: u16) -> Result<(Board, Vec<Seat>), Memory>
+        requires { (1 ≤ seats) × (seats ≤ 16) }
+        ensures tabs { IfOk result (λ r. r.0.tabs ≡ tabs) }
+        ensures count { IfOk result (λ r. vec_len r.1 ≡ seats) }
+        ensures seats { IfOk result (λ r. All (λ s. IsOf s r.0 × IsNew tabs s) r.1.items) }
+    {
+        let mut words = Vec::from_elem(alloc, NONE, usize::from(tabs) + FIRST_WORDS)?;
+        words[GENERATION] = 1;
+        words[COUNTER] = 1;
+        let (table, first) = Table::of_words(alloc, words.as_slice(), &tabs)?;
+        let board = Board { table, tabs };
+        let list = board.deal(alloc, first, seats)?;
+        Ok((board, list))
+    }
+
+    /// Splits the first place into the seats asked for.
+    fn deal(&self, alloc: Global, mut first: Place, seats: u16) -> Result<Vec<Seat>, Memory>
+        requires count { (1 ≤ seats) × (seats ≤ 16) }
+        requires first { (first.table_id ≡ self.now.table) × (first.me.0 ≡ newcomer self.now.tabs 15) }
+        ensures count { IfOk result (λ v. vec_len v ≡ seats) }
+        ensures seats { IfOk result (λ v. All (λ s. IsOf s self.now × IsNew self.now.tabs s) v.items) }
+    {
+        let mut list = Vec::with_capacity(alloc, usize::from(seats))?;
+        for _made in 1..seats {
+            let place = self.table.shared.split_seat::<Deal>(&mut first);
+            list.push_reserved(Seat::new(place));
+        }
+        list.push_reserved(Seat::new(first));
+        Ok(list)
+    }
+
+    /// Draws the next number. A seat that found the numbers used up says so from then on, without a step.
+    pub fn draw(&self, seat: &mut Seat) -> Result<Ticket, DrawFault>
+        requires { IsOf seat.old self.now }
+        ensures seat { IsSameSeat seat.old seat.new }
+
+        // The number is one of the board's that the seat had not seen drawn, and the seat has drawn it by its own step.
+        ensures range { IfOk result (λ t. (1 ≤ t) × (t ≤ self.now.tabs)) }
+        ensures rising { IfOk result (λ t. counter_seen seat.old.view ≤ t) }
+        ensures unknown { IfOk result (λ t. ¬ Has t seat.old.view.drawn) }
+        ensures drawn { IfOk result (λ t. seat.new.view ≡ draws_number seat.old.view t) }
+        ensures ticket { IfOk result (λ t. Has t seat.new.view.drawn × (¬ Has t seat.new.view.born)) }
+        ensures allowed { OnOk result ((¬ HasMetEnd self.now.tabs seat.old.view) × (seat.old.view.draws < 65535)) }
+
+        // A refusal comes for its cause alone.
+        ensures used_up { result ≡ Err DrawFault.TabsUsedUp → MeetsEnd self.now.tabs seat.old.view seat.new.view }
+        ensures spent { result ≡ Err DrawFault.SeatSpent
+            → (¬ HasMetEnd self.now.tabs seat.old.view) × (seat.old.view.draws ≡ 65535) × (seat.new ≡ seat.old) }
+    {
+        let tabs = self.tabs;
+        if seat.met_end {
+            return Err(DrawFault::TabsUsedUp);
+        }
+        if seat.draws == STEP_LIMIT {
+            return Err(DrawFault::SeatSpent);
+        }
+        let found = self
+            .table
+            .shared
+            .fetch_add::<Draw>(&mut seat.place, COUNTER, 1);
+        seat.draws += 1;
+        if found > u64::from(tabs) {
+            seat.met_end = true;
+            return Err(DrawFault::TabsUsedUp);
+        }
+        Ok(Ticket::new(found as u16))
+    }
+
+    /// Brings the tab of a ticket to life, unless it was marked dead before.
+    pub fn birth(&self, seat: &mut Seat, ticket: Ticket) -> Birth
+        requires seat { IsOf seat.old self.now }
+        requires drawn { Has ticket seat.old.view.drawn }
+        requires unborn { ¬ Has ticket seat.old.view.born }
+        ensures seat { IsSameSeat seat.old seat.new }
+        ensures born { result ≡ Birth.Born
+            → (tab_seen ticket seat.old.view ≡ 0) × (seat.new.view ≡ bears seat.old.view ticket) }
+        ensures dead { result ≡ Birth.WasDead → seat.new.view ≡ sees seat.old.view (ticket + 1) 2 }
+    {
+        let word = word_index(ticket.tab());
+        let shared = &self.table.shared;
+        match shared.compare_exchange::<Bear>(&mut seat.place, word, NONE, LIVING) {
+            NONE => Birth::Born,
+            _ => Birth::WasDead,
+        }
+    }
+
+    /// Marks a tab dead, whether it ever lived or not. No step makes it living again.
+    pub fn mark_dead(&self, seat: &mut Seat, tab: u16)
+        requires seat { IsOf seat.old self.now }
+        requires tab { (1 ≤ tab) × (tab ≤ self.now.tabs) }
+        ensures seat { IsSameSeat seat.old seat.new }
+        ensures marked { seat.new.view ≡ marks seat.old.view tab }
+    {
+        let word = word_index(tab);
+        self.table
+            .shared
+            .fetch_max::<MarkDead>(&mut seat.place, word, DEAD);
+    }
+
+    /// Looks whether a tab lives.
+    pub fn look(&self, seat: &mut Seat, tab: u16) -> Life
+        requires seat { IsOf seat.old self.now }
+        requires tab { (1 ≤ tab) × (tab ≤ self.now.tabs) }
+        ensures seat { IsSameSeat seat.old seat.new }
+        ensures not_back { tab_seen tab seat.old.view ≤ word_of result }
+        ensures seen { seat.new.view ≡ sees seat.old.view (tab + 1) (word_of result) }
+    {
+        let word = word_index(tab);
+        match self.table.shared.load::<Look>(&mut seat.place, word) {
+            NONE => Life::None,
+            LIVING => Life::Living,
+            _ => Life::Dead,
+        }
+    }
+
+    /// Begins the next generation, and answers it.
+    pub fn bump(&self, seat: &mut Seat) -> Result<u64, SeatSpent>
+        requires { IsOf seat.old self.now }
+        ensures seat { IsSameSeat seat.old seat.new }
+        ensures later { IfOk result (λ g. generation_seen seat.old.view < g) }
+        ensures counted { IfOk result (λ g. seat.old.view.bumps + 1 < g) }
+        ensures bumped { IfOk result (λ g. seat.new.view ≡ bumps_to seat.old.view g) }
+        ensures allowed { OnOk result (seat.old.view.bumps < 65535) }
+        ensures spent { OnErr result ((seat.old.view.bumps ≡ 65535) × (seat.new ≡ seat.old)) }
+    {
+        if seat.bumps == STEP_LIMIT {
+            return Err(SeatSpent);
+        }
+        let found = self
+            .table
+            .shared
+            .fetch_add::<Bump>(&mut seat.place, GENERATION, 1);
+        seat.bumps += 1;
+        Ok(found + 1)
+    }
+
+    /// The current generation.
+    pub fn generation(&self, seat: &mut Seat) -> u64
+        requires { IsOf seat.old self.now }
+        ensures seat { IsSameSeat seat.old seat.new }
+        ensures not_back { generation_seen seat.old.view ≤ result }
+        ensures counted { seat.old.view.bumps < result }
+        ensures seen { seat.new.view ≡ sees seat.old.view 0 result }
+    {
+        self.table
+            .shared
+            .load::<ReadGeneration>(&mut seat.place, GENERATION)
+    }
+}
+
+/// Where the word of a tab stands.
+fn word_index(tab: u16) -> usize
+    ensures { result ≡ tab + 1 }
+{
+    usize::from(tab) + 1
+}

@@ -1,0 +1,15 @@
+//! What the rule of a board says of its seats and words. It holds between any two steps.
+
+ghost use Rattle.wl_board.specs.Laws.{DrawnOnce, DeadForAll, LivingIsDrawn, GenerationIsCount};
+
+/// The laws of the board, whatever its threads do and in whichever order.
+pub fn law_board()
+    // No number is drawn twice, by whichever seats.
+    ensures drawn_once { DrawnOnce }
+    // A tab that one seat has seen dead is dead, so no seat finds it otherwise.
+    ensures dead_for_all { DeadForAll }
+    // A living tab was brought to life by the seat that drew its number.
+    ensures living_is_drawn { LivingIsDrawn }
+    // The generation is one more than all bumps, and no seat has seen a later one.
+    ensures generation { GenerationIsCount }
+{}

@@ -1,0 +1,8 @@
+pub use Rattle.wl_frames.specs.Grammar
+pub mod Merge
+pub mod MergeLaws
+pub mod Parcels
+pub mod Rule
+pub mod Steps
+pub mod Passes
+pub mod Laws

@@ -1,0 +1,12 @@
+-- A parcel as contracts see it.
+use Rattle.std.specs.Prelude.{ℕ}
+use Rattle.wl_frames.specs.declared.frame.Frame.{Frame}
+
+-- a frame for a tab, which comes from the tab's partition
+pub record Packed : Type 0 where
+  pub partition : ℕ
+  pub tab : ℕ
+  pub frame : Frame
+
+abbrev pub packed : ℕ → ℕ → Frame → Packed
+packed partition tab frame = record { partition = partition; tab = tab; frame = frame }

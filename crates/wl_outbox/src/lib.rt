@@ -1,0 +1,17 @@
+//! The outbox of a tab: a queue of parcels on their way to the tab. Several threads put, each with a pass of its own, and
+//! one takes; they share it without a lock.
+#![tactic(auto)]
+
+pub mod fault;
+pub mod laws;
+pub mod outbox;
+pub mod parcel;
+pub mod pass;
+pub mod rule;
+
+pub use fault::{CrossPartition, Full};
+pub use outbox::Outbox;
+pub use parcel::Parcel;
+pub use pass::Pass;
+pub use rule::{Role, View};
+pub use wl_frames::Memory;

@@ -1,0 +1,142 @@
+//! The queue of parcels that threads share.
+
+ghost use Rattle.std.specs.Prelude.{◌≡◌, ◌+◌, ◌≤◌, [], true, false, IfOk, OnOk, IfErr, OnErr, IfSome, IfNone, All, vec_len};
+ghost use Rattle.crossbeam_queue.specs.Fifo.{Held};
+ghost use Rattle.crossbeam_queue.specs.Passes.{view, IsPassOf, ruled_capacity};
+ghost use Rattle.wl_outbox.specs.Rule.{opening};
+ghost use Rattle.wl_outbox.specs.Steps.{with_parcel, taker_of, putter_of, IsMoment};
+ghost use Rattle.wl_outbox.specs.Passes.{Shared, Handed, takes, IsOf, IsSamePass, IsFor};
+
+use crate::fault::Full;
+use crate::parcel::Parcel;
+use crate::pass::{Pass, Place};
+use crate::rule::{Address, Deal, Open, OutboxRule, Put, Role, Take, View};
+use crossbeam_queue::RuledArrayQueue;
+use std::alloc::Global;
+use std::marker::{Brand, Model};
+use std::sync::Wait;
+use wl_frames::Memory;
+
+/// How many parcels it has room for.
+const CAPACITY: usize = 256;
+
+type Queue = RuledArrayQueue<Parcel, View, OutboxRule>;
+
+/// A queue of parcels for one tab. The calls on a shared outbox take neither memory nor a lock.
+#[derive(Drop)]
+pub struct Outbox {
+    queue: Queue,
+    partition: u16,
+    tab: u16,
+}
+
+impl Model for Outbox {
+    ghost use Rattle.std.specs.Prelude.{◌≡◌};
+    ghost use Rattle.crossbeam_queue.specs.Passes.{ruled_capacity};
+    ghost use Rattle.wl_outbox.specs.Passes.{Shared};
+
+    ghost Value = { Shared };
+
+    ghost view = { λ o. record { queue = o.queue.table.shared.table_id; partition = o.partition; tab = o.tab } };
+
+    ghost invariant = { λ o. ruled_capacity o.queue ≡ 256 };
+}
+
+impl Outbox {
+    /// An empty outbox for a tab, the one pass that takes from it, and all passes that put into it.
+    pub fn new(
+        alloc: Global,
+        partition: u16,
+        tab: u16,
+        putters: u16,
+    ) -> Result<(Outbox, Pass, Vec<Pass>), Memory>
+        requires { (1 ≤ putters) × (putters ≤ 16) }
+        ensures tab { IfOk result (λ r. (r.0.partition ≡ partition) × (r.0.tab ≡ tab)) }
+        ensures taker { IfOk result (λ r. IsOf r.1 r.0 × (takes r.1 ≡ true) × (r.1.view.parcels ≡ [])) }
+        ensures count { IfOk result (λ r. vec_len r.2 ≡ putters) }
+        ensures putters { IfOk result (λ r. All (λ p. IsOf p r.0 × (takes p ≡ false) × (p.view.parcels ≡ [])) r.2.items) }
+    {
+        let mut list = Vec::with_capacity(alloc, usize::from(putters))?;
+        let (queue, mut taker) = Queue::ruled(alloc, CAPACITY)?;
+        let first = open::<Brand>(&queue, &mut taker, partition, tab);
+        list.push_reserved(putting(first));
+        for _more in 1..putters {
+            let place = queue.another::<Deal>(&mut taker);
+            list.push_reserved(putting(place));
+        }
+        let outbox = Outbox {
+            queue,
+            partition,
+            tab,
+        };
+        let taker = Pass {
+            place: taker,
+            takes: true,
+        };
+        Ok((outbox, taker, list))
+    }
+
+    /// The number of the tab's partition.
+    pub fn partition(&self) -> u16
+        ensures { result ≡ self.now.partition }
+    {
+        self.partition
+    }
+
+    /// The tab that it is for.
+    pub fn tab(&self) -> u16
+        ensures { result ≡ self.now.tab }
+    {
+        self.tab
+    }
+
+    /// Puts a parcel behind the others, or gives it back where the outbox was full.
+    pub fn put<R: Wait>(&self, rt: &R, pass: &mut Pass, parcel: Parcel) -> Result<(), Full>
+        requires pass { IsOf pass.old self.now }
+        requires puts { takes pass.old ≡ false }
+        requires tab { IsFor parcel self.now }
+        ensures pass { IsSamePass pass.old pass.new }
+        ensures put { OnOk result (pass.new.view ≡ with_parcel pass.old.view parcel) }
+        ensures back { IfErr result (λ full. full.0 ≡ parcel) }
+        // At some moment of the call the queue held as many parcels as it has room for, and nothing was put.
+        ensures full { OnErr result ((pass.new ≡ pass.old) × Held 256 (IsMoment pass.old.view)) }
+    {
+        self.queue
+            .push_as::<Put, R>(rt, &mut pass.place, parcel)
+            .map_err(Full)
+    }
+
+    /// Takes the oldest parcel, if there is one.
+    pub fn take<R: Wait>(&self, rt: &R, pass: &mut Pass) -> Option<Parcel>
+        requires pass { IsOf pass.old self.now }
+        requires takes { takes pass.old ≡ true }
+        ensures pass { IsSamePass pass.old pass.new }
+        ensures taken { IfSome result (λ p. pass.new.view ≡ with_parcel pass.old.view p) }
+        ensures tab { IfSome result (λ p. IsFor p self.now) }
+        // At some moment of the call the queue held nothing, and nothing was taken.
+        ensures empty { IfNone result ((pass.new ≡ pass.old) × Held 0 (IsMoment pass.old.view)) }
+    {
+        self.queue.pop_as::<Take, R>(rt, &mut pass.place)
+    }
+}
+
+/// Gives a new queue its tab: the pass becomes the one that takes, and the new one puts.
+fn open<A: Address>(queue: &Queue, taker: &mut Place, partition: u16, tab: u16) -> Place
+    requires taker { IsPassOf queue.now taker.old × (view taker.old ≡ opening) }
+    requires address { (partition ≡ A.partition) × (tab ≡ A.tab) }
+    ensures passes { IsPassOf queue.now taker.new × IsPassOf queue.now result }
+    ensures views { (view taker.new ≡ taker_of partition tab) × (view result ≡ putter_of partition tab) }
+{
+    queue.another::<Open<A>>(taker)
+}
+
+/// A pass that puts.
+fn putting(place: Place) -> Pass
+    requires { (place.me.1 ≡ []) × ((view place).role ≡ Role.Putting) }
+    ensures { result ≡ record { queue = place.table_id; pass = place.id; view = view place } }
+{
+    Pass {
+        place,
+        takes: false,
+    }
+}
