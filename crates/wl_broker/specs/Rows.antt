@@ -13,7 +13,7 @@ use Rattle.wl_frames.specs.declared.frame.Addressed.{Addressed}
 use Rattle.wl_frames.specs.declared.frame.Upward.TheVariants as up
 use Rattle.wl_frames.specs.declared.frame.Downward.TheVariants as down
 use Rattle.wl_broker.specs.declared.dropped.Dropped.{Dropped}
-use Rattle.wl_broker.specs.declared.dropped.Dropped.TheVariants.{Recovering, OutOfTurn, DeadTab, AlreadyJoined, HeldByNewcomer}
+use Rattle.wl_broker.specs.declared.dropped.Dropped.TheVariants.{Recovering, OutOfTurn, DeadTab, AlreadyJoined, HeldByNewcomer, BadReport, Misplaced, PartTwice}
 use Rattle.wl_broker.specs.Broker.{BrokerState, started, Taking, Drops, Does, taking, burial}
 
 -- ---- a conversation with a broker
@@ -48,6 +48,11 @@ a = 97 ∷ []
 abbrev pub report : ℕ → ℕ → ℕ → ℕ → List Entry → Item
 report g t p base entries =
     Says (record { tab = t; partition = p; inner = up.Report (record { generation = g; base = base; entries = entries }) })
+
+-- tab t of partition p reports a part of so many in generation 2, under base 2
+abbrev pub part : ℕ → ℕ → ℕ → ℕ → List Entry → Item
+part t p k parts entries =
+    Says (record { tab = t; partition = p; inner = up.ReportPart (record { generation = 2; base = 2; part = k; parts = parts; entries = entries }) })
 
 -- tab t of partition 1 sends command n of generation 1
 abbrev pub command : ℕ → ℕ → Operation → Item
@@ -167,3 +172,17 @@ abbrev pub DeadTabUnblocks : Type 0
 DeadTabUnblocks =
     told (started 1 ((1, 1) ∷ [])) (report 1 2 1 0 [] ∷ ask 2 0 Exclusive ∷ Dies 1 ∷ ask 2 0 Exclusive ∷ report 1 2 1 0 [] ∷ [])
     ≡ Sending [] ∷ Dropping Recovering ∷ Sending [] ∷ Sending (answer 1 2 0 1 Granted ∷ []) ∷ Dropping AlreadyJoined ∷ []
+
+-- the second part comes first and is kept, and the first one makes the tab join with the entries by part
+abbrev pub InTwoParts : Type 0
+InTwoParts =
+    told (started 2 ((1, 1) ∷ [])) (part 1 1 1 2 (waiting_entry 1 ∷ []) ∷ part 1 1 1 2 (waiting_entry 1 ∷ []) ∷ part 1 1 0 2 (waiting_entry 0 ∷ []) ∷ part 1 1 0 2 [] ∷ [])
+    ≡ Sending [] ∷ Dropping PartTwice ∷ Sending (answer 2 1 0 2 Granted ∷ []) ∷ Dropping AlreadyJoined ∷ []
+
+-- beside a part that is kept: a whole report, a part of more parts, a number that is not below it, and another partition;
+-- and what is kept of a tab goes with it
+abbrev pub PartsThatDoNotFit : Type 0
+PartsThatDoNotFit =
+    told (started 2 ((1, 1) ∷ [])) (part 1 1 1 2 (waiting_entry 0 ∷ []) ∷ report 2 1 1 2 [] ∷ part 1 1 0 3 [] ∷ part 1 1 0 2 (waiting_entry 1 ∷ [])
+    ∷ part 1 2 0 2 [] ∷ Dies 1 ∷ part 1 1 0 2 [] ∷ [])
+    ≡ Sending [] ∷ Dropping BadReport ∷ Dropping BadReport ∷ Dropping BadReport ∷ Dropping Misplaced ∷ Sending [] ∷ Dropping DeadTab ∷ []

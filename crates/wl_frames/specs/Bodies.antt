@@ -9,6 +9,7 @@ use Rattle.wl_frames.specs.declared.frame.Outcome.{Outcome}
 use Rattle.wl_frames.specs.declared.frame.Outcome.TheVariants as outcome
 use Rattle.wl_frames.specs.declared.frame.Command.{Command}
 use Rattle.wl_frames.specs.declared.frame.Report.{Report}
+use Rattle.wl_frames.specs.declared.frame.ReportPart.{ReportPart}
 use Rattle.wl_frames.specs.declared.frame.Post.{Post}
 use Rattle.wl_frames.specs.declared.frame.Hello.{Hello}
 use Rattle.wl_frames.specs.declared.frame.Answer.{Answer}
@@ -16,6 +17,7 @@ use Rattle.wl_frames.specs.declared.frame.SnapshotEntry.{SnapshotEntry}
 use Rattle.wl_frames.specs.declared.frame.Snapshot.{Snapshot}
 use Rattle.wl_frames.specs.declared.frame.Heard.{Heard}
 use Rattle.wl_frames.specs.declared.frame.Welcome.{Welcome}
+use Rattle.wl_frames.specs.declared.frame.PairWelcome.{PairWelcome}
 use Rattle.wl_frames.specs.declared.frame.Stamped.{Stamped}
 use Rattle.wl_frames.specs.declared.frame.Start.{Start}
 use Rattle.wl_frames.specs.declared.frame.Addressed.{Addressed}
@@ -85,6 +87,33 @@ report_at bytes = do
   entries ← rising_entries_at base.1
   Some (record { generation = generation.0; base = base.0; entries = entries.0 }, entries.1)
 
+-- ---- parts, and parts of reports
+
+abbrev pub pair_at : List ℕ → Option ((ℕ × ℕ) × List ℕ)
+pair_at bytes = do
+  part ← number_at w16 bytes
+  parts ← number_at w16 part.1
+  Some ((part.0, parts.0), parts.1)
+
+unfoldable pub part_at : List ℕ → Option ((ℕ × ℕ) × List ℕ)
+part_at bytes = do
+  pair ← pair_at bytes
+  if not (nat_lt pair.0.0 pair.0.1) then None else Some pair
+
+-- a part of a report, of which there are few
+unfoldable pub few_parts_at : List ℕ → Option ((ℕ × ℕ) × List ℕ)
+few_parts_at bytes = do
+  part ← part_at bytes
+  if nat_lt 16 part.0.1 then None else Some part
+
+unfoldable pub report_part_at : List ℕ → Option (ReportPart × List ℕ)
+report_part_at bytes = do
+  generation ← generation_at bytes
+  base ← number_at w32 generation.1
+  part ← few_parts_at base.1
+  entries ← rising_entries_at part.1
+  Some (record { generation = generation.0; base = base.0; part = part.0.0; parts = part.0.1; entries = entries.0 }, entries.1)
+
 -- ---- posts
 
 unfoldable pub post_at : List ℕ → Option (Post × List ℕ)
@@ -131,17 +160,6 @@ snapshot_entry_at bytes = do
   name ← lock_name_at mode.1
   Some (record { held = held.0; tab = tab.0; mode = mode.0; name = name.0 }, name.1)
 
-abbrev pub pair_at : List ℕ → Option ((ℕ × ℕ) × List ℕ)
-pair_at bytes = do
-  part ← number_at w16 bytes
-  parts ← number_at w16 part.1
-  Some ((part.0, parts.0), parts.1)
-
-unfoldable pub part_at : List ℕ → Option ((ℕ × ℕ) × List ℕ)
-part_at bytes = do
-  pair ← pair_at bytes
-  if not (nat_lt pair.0.0 pair.0.1) then None else Some pair
-
 unfoldable pub snapshot_at : List ℕ → Option (Snapshot × List ℕ)
 snapshot_at bytes = do
   generation ← generation_at bytes
@@ -157,6 +175,13 @@ welcome_at bytes = do
   tab ← tab_at bytes
   origin ← origin_at tab.1
   Some (record { tab = tab.0; origin = origin.0 }, origin.1)
+
+unfoldable pub pair_welcome_at : List ℕ → Option (PairWelcome × List ℕ)
+pair_welcome_at bytes = do
+  tab ← tab_at bytes
+  top ← origin_at tab.1
+  own ← origin_at top.1
+  Some (record { tab = tab.0; top = top.0; own = own.0 }, own.1)
 
 unfoldable pub place_at : List ℕ → Option ((ℕ × ℕ) × List ℕ)
 place_at bytes = do
@@ -190,7 +215,8 @@ unfoldable pub inner_kind_at : List ℕ → Option (Kind × List ℕ)
 inner_kind_at bytes = do
   version ← byte_at bytes
   code ← byte_at version.1
-  if not (version.0 == 1) then None else (kind_at code.0 >>= λ k. Some (k, code.1))
+  kind ← kind_at version.0 code.0
+  Some (kind, code.1)
 
 -- nothing is left
 abbrev pub all_of : {X : Type 0} → X × List ℕ → Option (X × List ℕ)
@@ -199,6 +225,7 @@ all_of read = if not (length read.1 == 0) then None else Some read
 abbrev pub upward_fields_at : Kind → List ℕ → Option (Upward × List ℕ)
 upward_fields_at kind.Command bytes = command_at bytes >>= λ c. Some (up.Command c.0, c.1)
 upward_fields_at kind.Report bytes = report_at bytes >>= λ r. Some (up.Report r.0, r.1)
+upward_fields_at kind.ReportPart bytes = report_part_at bytes >>= λ r. Some (up.ReportPart r.0, r.1)
 upward_fields_at _ bytes = None
 
 unfoldable pub upward_at : List ℕ → Option (Upward × List ℕ)
@@ -237,12 +264,14 @@ addressed_at bytes = do
 abbrev pub frame_at : Kind → List ℕ → Option (Frame × List ℕ)
 frame_at kind.Command bytes = command_at bytes >>= λ c. Some (frame.Command c.0, c.1)
 frame_at kind.Report bytes = report_at bytes >>= λ r. Some (frame.Report r.0, r.1)
+frame_at kind.ReportPart bytes = report_part_at bytes >>= λ r. Some (frame.ReportPart r.0, r.1)
 frame_at kind.Post bytes = post_at bytes >>= λ p. Some (frame.Post p.0, p.1)
 frame_at kind.Hello bytes = hello_at bytes >>= λ h. Some (frame.Hello h.0, h.1)
 frame_at kind.Answer bytes = answer_at bytes >>= λ a. Some (frame.Answer a.0, a.1)
 frame_at kind.Snapshot bytes = snapshot_at bytes >>= λ s. Some (frame.Snapshot s.0, s.1)
 frame_at kind.Heard bytes = heard_at bytes >>= λ h. Some (frame.Heard h.0, h.1)
 frame_at kind.Welcome bytes = welcome_at bytes >>= λ w. Some (frame.Welcome w.0, w.1)
+frame_at kind.PairWelcome bytes = pair_welcome_at bytes >>= λ w. Some (frame.PairWelcome w.0, w.1)
 frame_at kind.Stamped bytes = stamped_at bytes >>= λ s. Some (frame.Stamped s.0, s.1)
 frame_at kind.Start bytes = start_at bytes >>= λ s. Some (frame.Start s.0, s.1)
 frame_at kind.Addressed bytes = addressed_at bytes >>= λ a. Some (frame.Addressed a.0, a.1)

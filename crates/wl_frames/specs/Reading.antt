@@ -146,13 +146,19 @@ list_at read most bytes = do
   n ← number_at w16 bytes
   if nat_lt most n.0 then None else items_at read n.0 n.1
 
--- ---- kinds
+-- ---- kinds, by version
 
-abbrev pub kinds : List (ℕ × Kind)
-kinds =
+abbrev pub first_kinds : List (ℕ × Kind)
+first_kinds =
     (1, kind.Command) ∷ (2, kind.Report) ∷ (3, kind.Post) ∷ (16, kind.Hello) ∷ (17, kind.Answer) ∷ (18, kind.Snapshot)
     ∷ (19, kind.Heard) ∷ (20, kind.Welcome) ∷ (32, kind.Stamped) ∷ (33, kind.Start) ∷ (34, kind.Addressed)
     ∷ (35, kind.Dead) ∷ []
 
-unfoldable pub kind_at : ℕ → Option Kind
-kind_at code = value_of kinds code
+abbrev pub second_kinds : List (ℕ × Kind)
+second_kinds = (2, kind.ReportPart) ∷ (20, kind.PairWelcome) ∷ []
+
+abbrev pub kinds_of : ℕ → List (ℕ × Kind)
+kinds_of version = if version == 1 then first_kinds else (if version == 2 then second_kinds else [])
+
+unfoldable pub kind_at : ℕ → ℕ → Option Kind
+kind_at version code = value_of (kinds_of version) code

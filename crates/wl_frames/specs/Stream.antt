@@ -9,20 +9,26 @@ use Rattle.wl_frames.specs.Grammar.{u32, IsWellFormed, body, spelling}
 
 -- ---- what is wrong with a body
 
--- the kinds of frames
-pub data IsKind : ℕ → Type 0 where
-  command : IsKind 1
-  report : IsKind 2
-  post : IsKind 3
-  hello : IsKind 16
-  answer : IsKind 17
-  snapshot : IsKind 18
-  heard : IsKind 19
-  welcome : IsKind 20
-  stamped : IsKind 32
-  start : IsKind 33
-  addressed : IsKind 34
-  dead : IsKind 35
+-- the versions of bodies
+abbrev pub IsVersion : ℕ → Type 0
+IsVersion n = (n ≡ 1) ⊎ (n ≡ 2)
+
+-- the kinds of frames, each of one version
+pub data IsKind : ℕ → ℕ → Type 0 where
+  command : IsKind 1 1
+  report : IsKind 1 2
+  post : IsKind 1 3
+  hello : IsKind 1 16
+  answer : IsKind 1 17
+  snapshot : IsKind 1 18
+  heard : IsKind 1 19
+  welcome : IsKind 1 20
+  stamped : IsKind 1 32
+  start : IsKind 1 33
+  addressed : IsKind 1 34
+  dead : IsKind 1 35
+  report_part : IsKind 2 2
+  pair_welcome : IsKind 2 20
 
 -- the last field of these frames is a body of its own, which goes to the end
 abbrev pub is_envelope : Frame → Bool
@@ -38,10 +44,11 @@ pub record Begins (bytes : List ℕ) (f : Frame) (more : List ℕ) : Type 0 wher
 
 -- the first fault of a body that is whole: its version, its kind, its fields, what stands after them
 abbrev pub HasFault : List ℕ → FrameFault → Type 0
-HasFault bytes BadVersion = (version : ℕ) × (rest : List ℕ) × (bytes ≡ version ∷ rest) × (version ≢ 1)
-HasFault bytes BadKind = (kind : ℕ) × (rest : List ℕ) × (bytes ≡ 1 ∷ kind ∷ rest) × (IsKind kind → ⊥)
+HasFault bytes BadVersion = (version : ℕ) × (rest : List ℕ) × (bytes ≡ version ∷ rest) × (IsVersion version → ⊥)
+HasFault bytes BadKind =
+    (version kind : ℕ) × (rest : List ℕ) × (bytes ≡ version ∷ kind ∷ rest) × IsVersion version × (IsKind version kind → ⊥)
 HasFault bytes BadField =
-    (kind : ℕ) × (rest : List ℕ) × (bytes ≡ 1 ∷ kind ∷ rest) × IsKind kind × ((f : Frame) (more : List ℕ) → Begins bytes f more → ⊥)
+    (version kind : ℕ) × (rest : List ℕ) × (bytes ≡ version ∷ kind ∷ rest) × IsKind version kind × ((f : Frame) (more : List ℕ) → Begins bytes f more → ⊥)
 HasFault bytes LeftOver = (f : Frame) × (more : List ℕ) × Begins bytes f more × (more ≢ [])
 HasFault bytes BadLength = ⊥
 HasFault bytes Truncated = ⊥

@@ -1,9 +1,9 @@
--- What a partition keeps: its triple, and beside it the text.
+-- What an origin keeps: its triple, and beside it the text.
 use Rattle.std.specs.Prelude.{◌≡◌, ◌≤◌, length, string_bytes}
 use Rattle.url.specs.Host.{owned_host}
 use Rattle.url.specs.Origin.{Triple}
 use Rattle.wl_origin.specs.Partition.{origin_limit, origin_text}
-use Rattle.wl_origin.specs.declared.triple.Partition.TheInside.{Inside}
+use Rattle.wl_origin.specs.declared.triple.TupleOrigin.TheInside.{Inside}
 
 abbrev pub triple_of : Inside → Triple
 triple_of p = (string_bytes p.scheme, owned_host p.host, p.port)

@@ -29,10 +29,11 @@ body_at bytes = do
   whole ← all_of fields
   Some whole.0
 
--- a tab sends commands, reports and posts
+-- a tab sends commands, reports, parts of reports and posts
 abbrev pub tab_says : Frame → Option Forged
 tab_says (frame.Command c) = Some (forged.Upward (up.Command c))
 tab_says (frame.Report r) = Some (forged.Upward (up.Report r))
+tab_says (frame.ReportPart r) = Some (forged.Upward (up.ReportPart r))
 tab_says (frame.Post p) = Some (forged.Post p)
 tab_says f = None
 

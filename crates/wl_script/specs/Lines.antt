@@ -76,7 +76,7 @@ url_at word = if length word == 0 then None else text_of word
 -- each verb and its word
 abbrev pub verbs : List (List ℕ × Verb)
 verbs =
-    (codes "open", verb.Open) ∷ (codes "start", verb.Start) ∷ (codes "stop", verb.Stop) ∷ (codes "hello", verb.Hello) ∷
+    (codes "open", verb.Open) ∷ (codes "open2", verb.OpenTwo) ∷ (codes "start", verb.Start) ∷ (codes "stop", verb.Stop) ∷ (codes "hello", verb.Hello) ∷
     (codes "kill", verb.Kill) ∷ (codes "tell", verb.Tell) ∷ (codes "ask", verb.Ask) ∷ (codes "probe", verb.Probe) ∷
     (codes "query", verb.Query) ∷ (codes "abort", verb.Abort) ∷ (codes "release", verb.Release) ∷ (codes "resend", verb.Resend) ∷
     (codes "deliver", verb.Deliver) ∷ (codes "channel", verb.Channel) ∷ (codes "post", verb.Post) ∷ (codes "read", verb.Read) ∷
@@ -124,6 +124,15 @@ tab_and_url words = do
   t ← tab_at w.0
   url ← url_at w.1
   Some (t, url)
+
+-- T TOP URL
+unfoldable pub tab_and_urls : List (List ℕ) → Option (ℕ × List ℕ × List ℕ)
+tab_and_urls words = do
+  w ← three words
+  t ← tab_at w.0
+  top ← url_at w.1
+  url ← url_at w.2
+  Some (t, top, url)
 
 -- T MODE NAME
 unfoldable pub tab_mode_name : List (List ℕ) → Option (ℕ × Mode × List ℕ)
@@ -186,6 +195,7 @@ start_at (word ∷ words) =
 
 unfoldable pub said_by : Verb → List (List ℕ) → Option Line
 said_by verb.Open words = tab_and_url words >>= λ x. Some (line.Open x.0 x.1)
+said_by verb.OpenTwo words = tab_and_urls words >>= λ x. Some (line.OpenTwo x.0 x.1 x.2)
 said_by verb.Start words = start_at words
 said_by verb.Stop words = none words >>= λ x. Some line.Stop
 said_by verb.Hello words = tab_alone words >>= λ t. Some (line.Hello t)

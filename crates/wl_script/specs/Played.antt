@@ -1,8 +1,8 @@
 -- What a line makes of a world, and what is written for it.
-use Rattle.std.specs.Prelude.{ℕ, ◌-◌, ◌==◌, ◌&&◌, List, [], ◌∷◌, ◌++◌, slice_get, Option, Some, None, is_some, is_none, Result, Ok, Err, codes, decimal, if◌then◌else◌}
+use Rattle.std.specs.Prelude.{ℕ, Bool, true, false, ◌-◌, ◌==◌, ◌&&◌, List, [], ◌∷◌, ◌++◌, slice_get, Option, Some, None, is_some, is_none, Result, Ok, Err, codes, decimal, if◌then◌else◌}
 use Rattle.std.specs.List.{flat_map}
-use Rattle.url.specs.Origin.{Triple}
-use Rattle.wl_origin.specs.Partition.{partition_of}
+use Rattle.wl_origin.specs.Order.{Pair}
+use Rattle.wl_origin.specs.Partition.{partition_of, partition_of_pair}
 use Rattle.wl_origin.specs.declared.fault.OriginFault.{OriginFault}
 use Rattle.wl_origin.specs.declared.fault.OriginFault.TheVariants as origin
 use Rattle.wl_kernel.specs.Kernel.{open_refusal, living_tabs}
@@ -37,10 +37,15 @@ says w text = record { world = w; written = text_line text }
 abbrev pub and_plays : Played → Event → Played
 and_plays p e = let q = plays p.world e in record { world = q.world; written = p.written ++ q.written }
 
+-- the opening of a tab, of the one kind or of the other, which tells its reports in parts
+abbrev pub opening : Bool → ℕ → Pair → Event
+opening false t partition = event.Open t partition
+opening true t partition = event.OpenTwo t partition
+
 -- where the tab is opened and a broker is up, the kernel greets it
-abbrev pub opens : WorldState → ℕ → Triple → Played
-opens w t partition =
-    let p = plays w (event.Open t partition) in
+abbrev pub opens : Bool → WorldState → ℕ → Pair → Played
+opens in_parts w t partition =
+    let p = plays w (opening in_parts t partition) in
     if is_none (open_refusal t partition w.kernel) && is_some w.broker then and_plays p (event.Hello t) else p
 
 -- want of memory is no answer
@@ -49,9 +54,9 @@ fault_text origin.BadUrl = codes "BadUrl"
 fault_text origin.Security = codes "SecurityError"
 fault_text origin.Memory = []
 
-abbrev pub opens_url : WorldState → ℕ → Result Triple OriginFault → Played
-opens_url w t (Ok partition) = opens w t partition
-opens_url w t (Err fault) = says w (fault_text fault)
+abbrev pub opens_url : Bool → WorldState → ℕ → Result Pair OriginFault → Played
+opens_url in_parts w t (Ok partition) = opens in_parts w t partition
+opens_url in_parts w t (Err fault) = says w (fault_text fault)
 
 -- ---- deliveries
 
@@ -77,7 +82,8 @@ holdings_text (h ∷ hs) = flat_map holding_text (h ∷ hs)
 
 unfoldable pub played : WorldState → Line → Played
 played w line.Blank = record { world = w; written = [] }
-played w (line.Open t url) = opens_url w t (partition_of url)
+played w (line.Open t url) = opens_url false w t (partition_of url)
+played w (line.OpenTwo t top url) = opens_url true w t (partition_of_pair top url)
 played w line.StartAll = plays w (event.Start (living_tabs w.kernel))
 played w (line.Start ts) = plays w (event.Start ts)
 played w line.Stop = plays w event.Stop

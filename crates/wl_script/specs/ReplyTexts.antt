@@ -100,6 +100,7 @@ reason_text reason.HeldByNewcomer = codes "held by newcomer"
 reason_text reason.BadReport = codes "bad report"
 reason_text reason.Misplaced = codes "misplaced"
 reason_text reason.TooMany = codes "too many"
+reason_text reason.PartTwice = codes "part twice"
 
 -- ---- snapshots, in JSON
 
@@ -149,7 +150,9 @@ told_letter l = letter_text l.source l.number l.bytes
 unfoldable pub said_text : Said → List ℕ
 said_text (said.Refused r) = line (refusal_text r)
 said_text (said.Dropped r) = line (codes "dropped " ++ reason_text r)
-said_text (said.Opened tab partition) = line (codes "opened " ++ decimal tab ++ codes " " ++ origin_text partition)
+said_text (said.Opened tab partition) = line (codes "opened " ++ decimal tab ++ codes " " ++ origin_text partition.1)
+said_text (said.OpenedTwo tab partition) =
+    line (codes "opened " ++ decimal tab ++ codes " " ++ origin_text partition.0 ++ codes " " ++ origin_text partition.1)
 said_text (said.Started generation) = numbered (codes "up") generation
 said_text (said.Stopped generation) = numbered (codes "stopped") generation
 said_text said.Greeted = []

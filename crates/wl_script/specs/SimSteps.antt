@@ -19,6 +19,7 @@ of_read read.TooManyReads = sim.TooManyReads
 -- the kernel has opened the tab
 abbrev pub is_opened : Said → Bool
 is_opened (said.Opened tab partition) = true
+is_opened (said.OpenedTwo tab partition) = true
 is_opened s = false
 
 -- a world is what a line made of it, and what is due was appended

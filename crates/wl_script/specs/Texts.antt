@@ -10,6 +10,7 @@ use Rattle.wl_frames.specs.declared.frame.Outcome.{Outcome}
 use Rattle.wl_frames.specs.declared.frame.Outcome.TheVariants.{Waiting, Granted, Gone, Taken}
 use Rattle.wl_frames.specs.declared.frame.Command.{Command}
 use Rattle.wl_frames.specs.declared.frame.Report.{Report}
+use Rattle.wl_frames.specs.declared.frame.ReportPart.{ReportPart}
 use Rattle.wl_frames.specs.declared.frame.Hello.{Hello}
 use Rattle.wl_frames.specs.declared.frame.Answer.{Answer}
 use Rattle.wl_frames.specs.declared.frame.SnapshotEntry.{SnapshotEntry}
@@ -45,6 +46,9 @@ lock_text mode name = mode_text mode ++ codes " " ++ word_of name
 unfoldable pub command_number : ℕ → ℕ → List ℕ
 command_number generation number = codes "gen " ++ decimal generation ++ codes " #" ++ decimal number
 
+unfoldable pub part_text : ℕ → ℕ → List ℕ
+part_text part parts = codes "part " ++ decimal part ++ codes " of " ++ decimal parts
+
 -- ---- from tabs to the broker
 
 unfoldable pub operation_text : Operation → List ℕ
@@ -63,9 +67,15 @@ entry_text e = codes " #" ++ decimal e.number ++ codes " " ++ held_text e.held +
 unfoldable pub report_text : Report → List ℕ
 report_text r = codes "report " ++ decimal r.generation ++ codes " base " ++ decimal r.base ++ flat_map entry_text r.entries
 
+-- `report2 G base B part P of Q`, and the part's entries
+unfoldable pub report_part_text : ReportPart → List ℕ
+report_part_text r =
+    codes "report2 " ++ decimal r.generation ++ codes " base " ++ decimal r.base ++ codes " " ++ part_text r.part r.parts ++ flat_map entry_text r.entries
+
 unfoldable pub upward_text : Upward → List ℕ
 upward_text (up.Command c) = command_text c
 upward_text (up.Report r) = report_text r
+upward_text (up.ReportPart r) = report_part_text r
 
 -- ---- to tabs
 
@@ -77,9 +87,6 @@ answer_text a = command_number a.generation a.number ++ codes " " ++ outcome_tex
 
 unfoldable pub row_text : SnapshotEntry → List ℕ
 row_text e = codes " " ++ held_text e.held ++ codes " " ++ decimal e.tab ++ codes " " ++ lock_text e.mode e.name
-
-unfoldable pub part_text : ℕ → ℕ → List ℕ
-part_text part parts = codes "part " ++ decimal part ++ codes " of " ++ decimal parts
 
 unfoldable pub snapshot_text : Snapshot → List ℕ
 snapshot_text s = command_number s.generation s.number ++ codes " " ++ part_text s.part s.parts ++ flat_map row_text s.entries

@@ -12,6 +12,7 @@ use Rattle.wl_world.specs.declared.key.Key.TheVariants as key
 abbrev pub key_of_upward : ℕ → ℕ → Upward → Key
 key_of_upward tab partition (up.Command c) = key.Command tab partition c.generation c.number
 key_of_upward tab partition (up.Report r) = key.Report tab partition r.generation r.base
+key_of_upward tab partition (up.ReportPart r) = key.ReportPart tab partition r.generation r.base r.part
 
 abbrev pub key_of_downward : ℕ → Downward → Key
 key_of_downward tab (down.Hello h) = key.Hello tab h.generation

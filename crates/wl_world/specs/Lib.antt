@@ -18,3 +18,4 @@ pub mod Refusals
 pub mod Merging
 pub mod Hostile
 pub mod HostileRows
+pub mod PartRows

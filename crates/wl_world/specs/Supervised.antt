@@ -19,7 +19,7 @@ use Rattle.wl_world.specs.declared.reply.Said.{Said}
 use Rattle.wl_world.specs.declared.reply.Said.TheVariants as said
 use Rattle.wl_world.specs.declared.channels.ChannelRefusal.{ChannelRefusal}
 use Rattle.wl_world.specs.declared.channels.ChannelRefusal.TheVariants as channel_refusal
-use Rattle.wl_agent.specs.Tab.{TabState, operation_of, due, is_report_due}
+use Rattle.wl_agent.specs.Tab.{TabState, operation_of, report_bodies, due, is_report_due}
 use Rattle.wl_world.specs.declared.message.Message.{Message}
 use Rattle.wl_world.specs.declared.message.Message.TheVariants as message
 use Rattle.wl_world.specs.World.{WorldState, channels_in}
@@ -106,8 +106,12 @@ command_in k t a n = passed_on k t (up.Command (record { generation = a.entered;
 abbrev pub issued_in : KernelState → ℕ → TabState → ℕ → List Message
 issued_in k t a n = if a.entered == 0 then [] else command_in k t a n ∷ []
 
+-- the report, in its parts
+abbrev pub report_in : KernelState → ℕ → TabState → List Message
+report_in k t a = map (passed_on k t) (report_bodies a.in_parts a.report)
+
 abbrev pub reports_in : KernelState → ℕ → TabState → List Message
-reports_in k t a = if is_report_due a then passed_on k t (up.Report a.report) ∷ [] else []
+reports_in k t a = if is_report_due a then report_in k t a else []
 
 -- what the tab sends again
 abbrev pub resent_in : KernelState → ℕ → TabState → List Message
@@ -115,18 +119,14 @@ resent_in k t a = reports_in k t a ++ map (command_in k t a) (due a)
 
 -- what a tab sends, by what is said of a frame that it heard: its report, where it has entered a generation
 abbrev pub reported_in : KernelState → ℕ → TabState → Said → List Message
-reported_in k t a (said.Entered g es) = passed_on k t (up.Report a.report) ∷ []
+reported_in k t a (said.Entered g es) = report_in k t a
 reported_in k t a s = []
 
-abbrev pub is_upward : Frame → Bool
-is_upward (frame.Command c) = true
-is_upward (frame.Report r) = true
-is_upward f = false
-
--- such a frame, as the kernel passes it on
+-- a command, a report or a part of one, as the kernel passes it on; other frames do not go to the broker
 abbrev pub stamped_in : KernelState → ℕ → Frame → List Message
 stamped_in k t (frame.Command c) = passed_on k t (up.Command c) ∷ []
 stamped_in k t (frame.Report r) = passed_on k t (up.Report r) ∷ []
+stamped_in k t (frame.ReportPart r) = passed_on k t (up.ReportPart r) ∷ []
 stamped_in k t f = []
 
 -- all events but a start and a stop
@@ -151,11 +151,6 @@ abbrev pub crossed : KernelState → ℕ → Frame → List Message
 crossed k t (frame.Post p) =
     map (λ u. message.Across u (record { source = t; number = p.number; channel = p.channel; bytes = p.bytes })) (hearers t k)
 crossed k t f = []
-
--- a command or a report, as a tab sends it
-abbrev pub up_frame : Upward → Frame
-up_frame (up.Command c) = frame.Command c
-up_frame (up.Report r) = frame.Report r
 
 -- what is forged, as the kernel passes it on
 abbrev pub forged_in : KernelState → ℕ → Forged → List Message
