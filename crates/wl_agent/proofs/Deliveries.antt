@@ -1,11 +1,11 @@
 -- What a delivery is, by its cases.
-use Rattle.std.proofs.Common.{◌≡◌, ◌≢◌, ℕ, ◌+◌, Bool, true, false, ◌&&◌, cond, eqb, ltb, length, Option, Some, None, is_some, refl, sym, ap, ◌∙◌}
+use Rattle.std.proofs.Common.{List, ◌≡◌, ◌≢◌, ℕ, ◌+◌, Bool, true, false, ◌&&◌, cond, eqb, ltb, length, Option, Some, None, is_some, refl, sym, ap, ◌∙◌}
 use Rattle.std.proofs.lemmas.Bool.{eq-eqb, ne_eqb}
 use Rattle.wl_frames.specs.declared.frame.Operation.{Operation}
 use Rattle.wl_frames.specs.declared.frame.Operation.TheVariants.{Request, Release, Abort, Query}
 use Rattle.wl_frames.specs.declared.frame.Outcome.{Outcome}
 use Rattle.wl_frames.specs.declared.frame.Outcome.TheVariants as outcome
-use Rattle.wl_frames.specs.declared.frame.Report.{Report}
+use Rattle.wl_frames.specs.declared.frame.Frame.{Frame}
 use Rattle.wl_frames.specs.declared.frame.Hello.{Hello}
 use Rattle.wl_frames.specs.declared.frame.Answer.{Answer}
 use Rattle.wl_frames.specs.declared.frame.Snapshot.{Snapshot as Part}
@@ -19,21 +19,21 @@ use Rattle.wl_agent.specs.declared.status.Status.TheVariants.{Asked, Held, Query
 use Rattle.wl_draft.specs.Tables.{Table, find, put, has_row}
 use Rattle.wl_agent.proofs.TabSteps.{step-becomes}
 use Rattle.wl_agent.specs.Parts.{PartsState, fits, with_part, is_whole}
-use Rattle.wl_agent.specs.Tab.{TabState, enter, status_of, operation_of, is_issued, is_query, is_querying}
-use Rattle.wl_agent.specs.Delivery.{delivery, noted, becomes, of_other, told_by_answer, told_by_part, told_command, told_lock, told_asked, told_end, told_query, told_asked_query, told_unless, told_by_come, parts_refusal, asking_refusal, part_refusal, parts_of, with_part_come, after_answer, after_part, takes_memory}
+use Rattle.wl_agent.specs.Tab.{TabState, report_frames, enter, status_of, operation_of, is_issued, is_query, is_querying}
+use Rattle.wl_agent.specs.Delivery.{delivery, noted, becomes, of_other, told_by_answer, told_by_part, told_command, told_lock, told_asked, told_end, told_query, told_asked_query, told_unless, told_by_come, parts_refusal, asking_refusal, part_refusal, parts_of, with_part_come, after_answer, after_part, takes_memory, IsSendable}
 
 -- ---- hellos
 
-greeting : (x : Hello) (a : TabState) (b : Bool) → ltb a.entered x.generation ≡ b → cond b (enter x.generation a, told.Entered (frame.Report (enter x.generation a).report)) (a, told.Dropped unheard.OldGeneration) ≡ delivery (frame.Hello x) a
+greeting : (x : Hello) (a : TabState) (b : Bool) → ltb a.entered x.generation ≡ b → cond b (enter x.generation a, told.Entered (report_frames (enter x.generation a))) (a, told.Dropped unheard.OldGeneration) ≡ delivery (frame.Hello x) a
 unfolding delivery
 greeting x a b e = rw (← e) refl
 
 pub greets-old : (x : Hello) (a : TabState) → ltb a.entered x.generation ≡ false → (a, told.Dropped unheard.OldGeneration) ≡ delivery (frame.Hello x) a
 greets-old x a e = greeting x a false e
 
-pub greets-new : (x : Hello) (a new : TabState) (report : Report) → ltb a.entered x.generation ≡ true → new ≡ enter x.generation a → report ≡ (enter x.generation a).report → (new, told.Entered (frame.Report report)) ≡ delivery (frame.Hello x) a
-greets-new x a new report e new_is report_is =
-    ap (λ (n : TabState). (n, told.Entered (frame.Report report))) new_is ∙ ap (λ (r : Report). (enter x.generation a, told.Entered (frame.Report r))) report_is ∙ greeting x a true e
+pub greets-new : (x : Hello) (a new : TabState) (frames : List Frame) → ltb a.entered x.generation ≡ true → new ≡ enter x.generation a → frames ≡ report_frames (enter x.generation a) → (new, told.Entered frames) ≡ delivery (frame.Hello x) a
+greets-new x a new frames e new_is frames_are =
+    ap (λ (n : TabState). (n, told.Entered frames)) new_is ∙ ap (λ (fs : List Frame). (enter x.generation a, told.Entered fs)) frames_are ∙ greeting x a true e
 
 -- ---- answers
 
@@ -75,7 +75,21 @@ abbrev pub is_memory : Delivered → Bool
 is_memory (told.Dropped unheard.Memory) = true
 is_memory d = false
 
-asked_told : (k : ℕ) (b : Bool) (o : Outcome) → is_memory (told_asked k b o) ≡ false
+-- what neither an answer nor a part does
+abbrev pub is_rare : Delivered → Bool
+is_rare (told.Entered frames) = true
+is_rare (told.Dropped unheard.Memory) = true
+is_rare d = false
+
+not_memory : (d : Delivered) → is_rare d ≡ false → is_memory d ≡ false
+not_memory (told.Dropped unheard.Memory) e = cc
+not_memory d e = refl
+
+pub sendable : (d : Delivered) → is_rare d ≡ false → IsSendable d
+sendable (told.Entered frames) e = cc
+sendable d e = tt
+
+asked_told : (k : ℕ) (b : Bool) (o : Outcome) → is_rare (told_asked k b o) ≡ false
 asked_told k b outcome.Granted = refl
 asked_told k true outcome.Waiting = refl
 asked_told k false outcome.Waiting = refl
@@ -83,7 +97,7 @@ asked_told k true outcome.Gone = refl
 asked_told k false outcome.Gone = refl
 asked_told k b outcome.Taken = refl
 
-lock_told : (k : ℕ) (b : Bool) (s : Option Status) (o : Outcome) → is_memory (told_lock k b s o) ≡ false
+lock_told : (k : ℕ) (b : Bool) (s : Option Status) (o : Outcome) → is_rare (told_lock k b s o) ≡ false
 lock_told k b None o = refl
 lock_told k b (Some Asked) o = asked_told k b o
 lock_told k b (Some Held) o = refl
@@ -91,19 +105,19 @@ lock_told k b (Some (Querying p)) o = refl
 lock_told k b (Some (Whole p)) o = refl
 lock_told k b (Some Lost) o = refl
 
-end_told : (k : ℕ) (o : Outcome) → is_memory (told_end k o) ≡ false
+end_told : (k : ℕ) (o : Outcome) → is_rare (told_end k o) ≡ false
 end_told k outcome.Granted = refl
 end_told k outcome.Waiting = refl
 end_told k outcome.Gone = refl
 end_told k outcome.Taken = refl
 
-asking_told : (k : ℕ) (o : Outcome) → is_memory (told_asked_query k o) ≡ false
+asking_told : (k : ℕ) (o : Outcome) → is_rare (told_asked_query k o) ≡ false
 asking_told k outcome.Granted = refl
 asking_told k outcome.Waiting = refl
 asking_told k outcome.Gone = refl
 asking_told k outcome.Taken = refl
 
-query_told : (k : ℕ) (s : Option Status) (o : Outcome) → is_memory (told_query k s o) ≡ false
+query_told : (k : ℕ) (s : Option Status) (o : Outcome) → is_rare (told_query k s o) ≡ false
 query_told k None o = refl
 query_told k (Some Asked) o = refl
 query_told k (Some Held) o = refl
@@ -111,33 +125,33 @@ query_told k (Some (Querying p)) o = asking_told k o
 query_told k (Some (Whole p)) o = refl
 query_told k (Some Lost) o = refl
 
-command_told : (k : ℕ) (op : Operation) (s : Option Status) (o : Outcome) → is_memory (told_command k op s o) ≡ false
+command_told : (k : ℕ) (op : Operation) (s : Option Status) (o : Outcome) → is_rare (told_command k op s o) ≡ false
 command_told k (Request mode b name) s o = lock_told k b s o
 command_told k (Release n) s o = end_told k o
 command_told k (Abort n) s o = end_told k o
 command_told k Query s o = query_told k s o
 
-told_if : (x : Answer) (a : TabState) (b : Bool) → ltb x.number (length a.issued) ≡ b → is_memory (cond b (told_command x.number (operation_of a x.number) (status_of a x.number) x.outcome) (told.Dropped unheard.Odd)) ≡ false
+told_if : (x : Answer) (a : TabState) (b : Bool) → ltb x.number (length a.issued) ≡ b → is_rare (cond b (told_command x.number (operation_of a x.number) (status_of a x.number) x.outcome) (told.Dropped unheard.Odd)) ≡ false
 told_if x a true e = command_told x.number (operation_of a x.number) (status_of a x.number) x.outcome
 told_if x a false e = refl
 
-told_never : (x : Answer) (a : TabState) → is_memory (told_by_answer x a) ≡ false
+pub told_never : (x : Answer) (a : TabState) → is_rare (told_by_answer x a) ≡ false
 told_never x a = told_if x a (ltb x.number (length a.issued)) refl
 
-other_never : (g : ℕ) (a : TabState) (b : Bool) → ltb g a.entered ≡ b → is_memory (of_other g a) ≡ false
+pub other_never : (g : ℕ) (a : TabState) (b : Bool) → ltb g a.entered ≡ b → is_rare (of_other g a) ≡ false
 other_never g a true e = rw e refl
 other_never g a false e = rw e refl
 
-come_never : (x : Part) (parts : PartsState) (b : Bool) → is_whole (with_part x parts) ≡ b → is_memory (told_by_come x parts) ≡ false
+come_never : (x : Part) (parts : PartsState) (b : Bool) → is_whole (with_part x parts) ≡ b → is_rare (told_by_come x parts) ≡ false
 come_never x parts true e = rw e refl
 come_never x parts false e = rw e refl
 
-parts_never : (x : Part) (parts : PartsState) (b c : Bool) → fits x parts ≡ b → has_row parts.came x.part ≡ c → is_memory (told_unless (parts_refusal x parts) (told_by_come x parts)) ≡ false
+parts_never : (x : Part) (parts : PartsState) (b c : Bool) → fits x parts ≡ b → has_row parts.came x.part ≡ c → is_rare (told_unless (parts_refusal x parts) (told_by_come x parts)) ≡ false
 parts_never x parts true c e f = rw e (come_never x parts (is_whole (with_part x parts)) refl)
 parts_never x parts false true e f = rw (e, f) refl
 parts_never x parts false false e f = rw (e, f) refl
 
-asking_never : (x : Part) (o : Option Status) → is_memory (told_unless (asking_refusal x o) (told_by_come x (parts_of o))) ≡ false
+asking_never : (x : Part) (o : Option Status) → is_rare (told_unless (asking_refusal x o) (told_by_come x (parts_of o))) ≡ false
 asking_never x None = refl
 asking_never x (Some Asked) = refl
 asking_never x (Some Held) = refl
@@ -145,7 +159,7 @@ asking_never x (Some (Querying p)) = parts_never x p _ _ refl refl
 asking_never x (Some (Whole p)) = refl
 asking_never x (Some Lost) = refl
 
-part_never : (x : Part) (a : TabState) (b : Bool) → (is_issued a x.number && is_query (operation_of a x.number)) ≡ b → is_memory (told_by_part x a) ≡ false
+pub part_never : (x : Part) (a : TabState) (b : Bool) → (is_issued a x.number && is_query (operation_of a x.number)) ≡ b → is_rare (told_by_part x a) ≡ false
 part_never x a true e = rw e (asking_never x (status_of a x.number))
 part_never x a false e = rw e refl
 
@@ -154,12 +168,12 @@ hello_never x a true e = ap (λ (p : TabState × Delivered). is_memory p.1) (sym
 hello_never x a false e = ap (λ (p : TabState × Delivered). is_memory p.1) (sym (greeting x a false e))
 
 answer_never : (x : Answer) (a : TabState) (b : Bool) → eqb x.generation a.entered ≡ b → is_memory (delivery (frame.Answer x) a).1 ≡ false
-answer_never x a true e = ap (λ (p : TabState × Delivered). is_memory p.1) (sym (hearing x a true e)) ∙ told_never x a
-answer_never x a false e = ap (λ (p : TabState × Delivered). is_memory p.1) (sym (hearing x a false e)) ∙ other_never x.generation a _ refl
+answer_never x a true e = ap (λ (p : TabState × Delivered). is_memory p.1) (sym (hearing x a true e)) ∙ not_memory _ (told_never x a)
+answer_never x a false e = ap (λ (p : TabState × Delivered). is_memory p.1) (sym (hearing x a false e)) ∙ not_memory _ (other_never x.generation a _ refl)
 
 snapshot_never : (x : Part) (a : TabState) (b : Bool) → eqb x.generation a.entered ≡ b → is_memory (delivery (frame.Snapshot x) a).1 ≡ false
-snapshot_never x a true e = ap (λ (p : TabState × Delivered). is_memory p.1) (sym (collecting x a true e)) ∙ part_never x a _ refl
-snapshot_never x a false e = ap (λ (p : TabState × Delivered). is_memory p.1) (sym (collecting x a false e)) ∙ other_never x.generation a _ refl
+snapshot_never x a true e = ap (λ (p : TabState × Delivered). is_memory p.1) (sym (collecting x a true e)) ∙ not_memory _ (part_never x a _ refl)
+snapshot_never x a false e = ap (λ (p : TabState × Delivered). is_memory p.1) (sym (collecting x a false e)) ∙ not_memory _ (other_never x.generation a _ refl)
 
 pub never-by_memory : (f : Frame) (a : TabState) → is_memory (delivery f a).1 ≡ false
 unfolding delivery

@@ -8,6 +8,8 @@ pub mod Tidiness
 pub mod TabSteps
 pub mod Deliveries
 pub mod Walks
+pub mod ToldReports
+pub mod Spellings
 pub mod EnterSteps
 pub mod Cases
 pub mod OverForGood

@@ -14,7 +14,7 @@ use Rattle.wl_broker.specs.Kept.{all_come}
 
 -- the seat has come
 pub has_come_some : (s : Seat) → has_come (Some s) ≡ true
-has_come_some (Joined p n) = refl
+has_come_some (Joined p n l) = refl
 has_come_some Dead = refl
 
 -- no listed place of the tab is in the partition

@@ -1,12 +1,11 @@
 -- Which messages are dropped, case by case in the definition's order.
-use Rattle.std.proofs.Common.{◌≡◌, ◌≢◌, ℕ, ◌<◌, ◌≤◌, true, false, not, ◌&&◌, ◌||◌, eqb, nat_lt, nat_le, refl, ◌∷◌, [], arith}
+use Rattle.std.proofs.Common.{◌≡◌, ◌≢◌, ℕ, ◌<◌, ◌≤◌, Bool, true, false, not, cond, ◌&&◌, ◌||◌, eqb, nat_lt, nat_le, refl, ◌∷◌, [], arith}
 use Rattle.std.proofs.lemmas.Bool.{lt-ltb, le-ltb, ne_eqb}
 use Rattle.wl_draft.specs.Locks.{live}
 use Rattle.wl_frames.specs.declared.frame.Operation.{Operation}
-use Rattle.wl_frames.specs.declared.frame.Report.{Report}
 use Rattle.wl_frames.specs.declared.frame.Stamped.{Stamped}
-use Rattle.wl_broker.specs.declared.dropped.Dropped.TheVariants.{OldGeneration, LaterGeneration, NotJoined, Recovering, OutOfTurn, DeadTab, AlreadyJoined, HeldByNewcomer, BadReport, Misplaced, TooMany}
-use Rattle.wl_broker.specs.Broker.{BrokerState, Does, Drops, IsTaken, seat_of, manager_of, next_of, is_joined, is_dead, is_active, is_listed, listed_at, is_misplaced, has_held, all_below, is_lock, generation_of, taking, take_inner, take_report, take_command, join, perform, later_answer}
+use Rattle.wl_broker.specs.declared.dropped.Dropped.TheVariants.{OldGeneration, LaterGeneration, NotJoined, Recovering, OutOfTurn, DeadTab, AlreadyJoined, HeldByNewcomer, BadReport, Misplaced, TooMany, PartTwice}
+use Rattle.wl_broker.specs.Broker.{BrokerState, Partial, Told, Does, Drops, IsTaken, seat_of, partial_of, manager_of, next_of, limit_of, is_joined, is_dead, is_active, is_listed, listed_at, is_misplaced, has_held, all_below, is_lock, generation_of, taking, take_inner, fits, is_there, with_told, is_whole, whole_of, keeping, join_if, take_told, take_command, join, perform, later_answer}
 
 -- ---- any message
 
@@ -33,22 +32,27 @@ module _ (b : BrokerState) (s : Stamped) (old : b.generation ≤ generation_of s
 
 -- ---- reports
 
-module _ (b : BrokerState) (t p : ℕ) (r : Report) where
-  pub already_joined : is_joined (seat_of b t) ≡ true → take_report b t p r ≡ Drops AlreadyJoined
-  unfolding take_report
+module _ (b : BrokerState) (t p : ℕ) (x : Told) where
+  pub already_joined : is_joined (seat_of b t) ≡ true → take_told b t p x ≡ Drops AlreadyJoined
+  unfolding take_told
   already_joined h = rw h refl
 
-  pub held_by_newcomer : is_joined (seat_of b t) ≡ false → (not (is_listed (listed_at t b.listed)) && has_held r.entries) ≡ true → take_report b t p r ≡ Drops HeldByNewcomer
-  unfolding take_report
+  pub held_by_newcomer : is_joined (seat_of b t) ≡ false → (not (is_listed (listed_at t b.listed)) && has_held x.entries) ≡ true → take_told b t p x ≡ Drops HeldByNewcomer
+  unfolding take_told
   held_by_newcomer h k = rw (h, k) refl
 
-  pub bad_report : is_joined (seat_of b t) ≡ false → (not (is_listed (listed_at t b.listed)) && has_held r.entries) ≡ false → all_below r.base r.entries ≡ false → take_report b t p r ≡ Drops BadReport
-  unfolding take_report
-  bad_report h k l = rw (h, k, l) refl
+module _ (b : BrokerState) (t p : ℕ) (x : Told) (new : is_joined (seat_of b t) ≡ false) (newcomer : (not (is_listed (listed_at t b.listed)) && has_held x.entries) ≡ false) where
+  pub bad_report : not (all_below x.base x.entries && fits x (partial_of b t)) ≡ true → take_told b t p x ≡ Drops BadReport
+  unfolding take_told
+  bad_report h = rw (new, newcomer, h) refl
 
-  pub report_taken : is_joined (seat_of b t) ≡ false → (not (is_listed (listed_at t b.listed)) && has_held r.entries) ≡ false → all_below r.base r.entries ≡ true → take_report b t p r ≡ join b t p r
-  unfolding take_report
-  report_taken h k l = rw (h, k, l) refl
+  pub part_twice : not (all_below x.base x.entries && fits x (partial_of b t)) ≡ false → is_there x (partial_of b t) ≡ true → take_told b t p x ≡ Drops PartTwice
+  unfolding take_told
+  part_twice h k = rw (new, newcomer, h, k) refl
+
+  pub told_taken : not (all_below x.base x.entries && fits x (partial_of b t)) ≡ false → is_there x (partial_of b t) ≡ false → take_told b t p x ≡ join_if b t p (with_told p x (partial_of b t))
+  unfolding take_told
+  told_taken h k = rw (new, newcomer, h, k) refl
 
 -- ---- commands
 
@@ -71,19 +75,24 @@ module _ (b : BrokerState) (t p n : ℕ) (o : Operation) (joined : is_joined (se
   taken_before h last =
       rw (joined, active, le-ltb (next_of b t) n (omega arith), ne_eqb n 4294967295 last, lt-ltb n (next_of b t) h) refl
 
-  pub too_many : n ≡ next_of b t → n ≢ 4294967295 → (is_lock o && nat_le 64 (live (manager_of b p) t)) ≡ true → take_command b t p n o ≡ Drops TooMany
+  pub too_many : n ≡ next_of b t → n ≢ 4294967295 → (is_lock o && nat_le (limit_of b t) (live (manager_of b p) t)) ≡ true → take_command b t p n o ≡ Drops TooMany
   unfolding take_command
   too_many h last many =
       rw (joined, active, le-ltb (next_of b t) n (omega arith), ne_eqb n 4294967295 last, le-ltb n (next_of b t) (omega arith), many) refl
 
-  pub command_taken : n ≡ next_of b t → n ≢ 4294967295 → (is_lock o && nat_le 64 (live (manager_of b p) t)) ≡ false → take_command b t p n o ≡ perform b t p n o
+  pub command_taken : n ≡ next_of b t → n ≢ 4294967295 → (is_lock o && nat_le (limit_of b t) (live (manager_of b p) t)) ≡ false → take_command b t p n o ≡ perform b t p n o
   unfolding take_command
   command_taken h last few =
       rw (joined, active, le-ltb (next_of b t) n (omega arith), ne_eqb n 4294967295 last, le-ltb n (next_of b t) (omega arith), few) refl
 
-pub join_taken : (b : BrokerState) (t p : ℕ) (r : Report) → IsTaken (join b t p r)
+join_taken_as : (b : BrokerState) (t p : ℕ) (k : Partial) (c : Bool) → IsTaken (cond c (join b t p (whole_of k)) (Does (keeping t k b) []))
 unfolding join
-join_taken b t p r = tt
+join_taken_as b t p k true = tt
+join_taken_as b t p k false = tt
+
+pub join_if_taken : (b : BrokerState) (t p : ℕ) (k : Partial) → IsTaken (join_if b t p k)
+unfolding join_if
+join_if_taken b t p k = join_taken_as b t p k (is_whole k)
 
 pub perform_taken : (b : BrokerState) (t p n : ℕ) (o : Operation) → IsTaken (perform b t p n o)
 unfolding perform

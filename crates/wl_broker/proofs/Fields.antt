@@ -16,7 +16,7 @@ use Rattle.wl_frames.specs.declared.frame.Outcome.{Outcome}
 use Rattle.wl_frames.specs.declared.frame.Addressed.{Addressed}
 use Rattle.wl_broker.specs.declared.seat.Seat.{Seat}
 use Rattle.wl_broker.specs.declared.seat.Seat.TheVariants.{Joined, Dead}
-use Rattle.wl_broker.specs.Broker.{BrokerState, seat_of, is_joined, is_dead, is_active, is_misplaced, listed_at, elsewhere, seated_at, next_of, is_lock, is_listed, has_held, manager_of, later_answer, next_in}
+use Rattle.wl_broker.specs.Broker.{BrokerState, Partial, seat_of, limit_in, limit_of, kept_at, is_joined, is_dead, is_active, is_misplaced, listed_at, elsewhere, seated_at, next_of, is_lock, is_listed, has_held, manager_of, later_answer, next_in}
 use Rattle.wl_broker.specs.Kept.{PartitionState, no_partition, all_come, answer_of, outcome_at, broker_of, IsConsistent}
 use Rattle.wl_broker.proofs.Consistency.{IsConsistent-active}
 use Rattle.wl_broker.proofs.PartitionRows.{put_itself, put_put}
@@ -26,9 +26,9 @@ pub consistent_as : {listed : List (ℕ × ℕ)} {seats seats' : Table Seat} {pa
 consistent_as {listed} {seats} {seats'} {partitions} {partitions'} s p k =
     subst (λ ss. IsConsistent listed ss partitions') (sym s) (subst (λ ps. IsConsistent listed seats ps) (sym p) k)
 
-pub same_fields : (g : ℕ) (listed : List (ℕ × ℕ)) {seats seats' : Table Seat} {partitions partitions' : Table PartitionState} → seats' ≡ seats → partitions' ≡ partitions → broker_of g listed seats' partitions' ≡ broker_of g listed seats partitions
-same_fields g listed {seats} {seats'} {partitions} {partitions'} s p =
-    ap (λ ss. broker_of g listed ss partitions') s ∙ ap (λ ps. broker_of g listed seats ps) p
+pub same_fields : (g : ℕ) (listed : List (ℕ × ℕ)) (partial : Table Partial) {seats seats' : Table Seat} {partitions partitions' : Table PartitionState} → seats' ≡ seats → partitions' ≡ partitions → broker_of g listed seats' partitions' partial ≡ broker_of g listed seats partitions partial
+same_fields g listed partial {seats} {seats'} {partitions} {partitions'} s p =
+    ap (λ ss. broker_of g listed ss partitions' partial) s ∙ ap (λ ps. broker_of g listed seats ps partial) p
 
 -- what an `insert` of a seat leaves
 pub seat_put : (t : ℕ) (s : Seat) (seats seats' : Table Seat) → seats' ≡ insert_entry nat_cmp seats t s → seats' ≡ put t s seats
@@ -48,42 +48,42 @@ given_back t s (Some x) seats seats' seats'' was o e back =
     back ∙ ap (put t x) (seat_put t s seats seats' e) ∙ put_put t s x seats ∙ put_itself t x seats o (sym was)
 
 -- the answer to a command that was taken before
-pub again_is : (g : ℕ) (listed : List (ℕ × ℕ)) (seats : Table Seat) (partitions : Table PartitionState) (t p n : ℕ) (o : Operation) (upto : ℕ) (outcome : Outcome) (outs : List Addressed) → upto ≡ next_in (find seats t) → outcome ≡ outcome_at (at no_partition partitions p).locks t n o → outs ≡ answer_of g upto t n outcome ∷ [] → outs ≡ later_answer (broker_of g listed seats partitions) t p n o ∷ []
-again_is g listed seats partitions t p n o upto outcome outs u a e =
-    rw (e, u, a, later_is (broker_of g listed seats partitions) t p n o, manager_of-fields g listed seats partitions p) refl
+pub again_is : (g : ℕ) (listed : List (ℕ × ℕ)) (seats : Table Seat) (partitions : Table PartitionState) (partial : Table Partial) (t p n : ℕ) (o : Operation) (upto : ℕ) (outcome : Outcome) (outs : List Addressed) → upto ≡ next_in (find seats t) → outcome ≡ outcome_at (at no_partition partitions p).locks t n o → outs ≡ answer_of g upto t n outcome ∷ [] → outs ≡ later_answer (broker_of g listed seats partitions partial) t p n o ∷ []
+again_is g listed seats partitions partial t p n o upto outcome outs u a e =
+    rw (e, u, a, later_is (broker_of g listed seats partitions partial) t p n o, manager_of-fields g listed seats partitions partial p) refl
 
 -- what a broker shows of a tab and of a partition
-pub seat_seen : (g : ℕ) (listed : List (ℕ × ℕ)) (seats : Table Seat) (partitions : Table PartitionState) (b : BrokerState) (t : ℕ) (o : Option Seat) → broker_of g listed seats partitions ≡ b → o ≡ find seats t → seat_of b t ≡ o
-seat_seen g listed seats partitions b t o v e = ap (λ x. seat_of x t) (sym v) ∙ sym e
+pub seat_seen : (g : ℕ) (listed : List (ℕ × ℕ)) (seats : Table Seat) (partitions : Table PartitionState) (partial : Table Partial) (b : BrokerState) (t : ℕ) (o : Option Seat) → broker_of g listed seats partitions partial ≡ b → o ≡ find seats t → seat_of b t ≡ o
+seat_seen g listed seats partitions partial b t o v e = ap (λ x. seat_of x t) (sym v) ∙ sym e
 
-pub active_seen : (g : ℕ) (listed : List (ℕ × ℕ)) (seats : Table Seat) (partitions : Table PartitionState) (b : BrokerState) (p : ℕ) → broker_of g listed seats partitions ≡ b → is_active b p ≡ true → all_come listed seats p ≡ true
-active_seen g listed seats partitions b p v e =
-    sym (is_active-fields g listed seats partitions p) ∙ ap (λ x. is_active x p) v ∙ e
+pub active_seen : (g : ℕ) (listed : List (ℕ × ℕ)) (seats : Table Seat) (partitions : Table PartitionState) (partial : Table Partial) (b : BrokerState) (p : ℕ) → broker_of g listed seats partitions partial ≡ b → is_active b p ≡ true → all_come listed seats p ≡ true
+active_seen g listed seats partitions partial b p v e =
+    sym (is_active-fields g listed seats partitions partial p) ∙ ap (λ x. is_active x p) v ∙ e
 
 -- a tab that is not misplaced
-pub placed_seen : (g : ℕ) (listed : List (ℕ × ℕ)) (seats : Table Seat) (partitions : Table PartitionState) (b : BrokerState) (t p : ℕ) → broker_of g listed seats partitions ≡ b → is_misplaced b t p ≡ false → elsewhere (seated_at (find seats t)) p ≡ false
+pub placed_seen : (g : ℕ) (listed : List (ℕ × ℕ)) (seats : Table Seat) (partitions : Table PartitionState) (partial : Table Partial) (b : BrokerState) (t p : ℕ) → broker_of g listed seats partitions partial ≡ b → is_misplaced b t p ≡ false → elsewhere (seated_at (find seats t)) p ≡ false
 unfolding is_misplaced
-placed_seen g listed seats partitions b t p v e =
-    ap (λ x. elsewhere (seated_at (seat_of x t)) p) v ∙ (or_parts _ _ e).1
+placed_seen g listed seats partitions partial b t p v e =
+    ap (λ x. elsewhere (seated_at (seat_of x t)) p) v ∙ (or_parts _ _ (or_parts _ _ e).1).0
 
 pub listed_seen : (b : BrokerState) (t p : ℕ) → is_misplaced b t p ≡ false → elsewhere (listed_at t b.listed) p ≡ false
 unfolding is_misplaced
 listed_seen b t p e = (or_parts _ _ e).0
 
-seated_as : (o : Option Seat) (p : ℕ) → is_joined o ≡ true → elsewhere (seated_at o) p ≡ false → o ≡ Some (Joined p (next_in o))
+seated_as : (o : Option Seat) (p : ℕ) → is_joined o ≡ true → elsewhere (seated_at o) p ≡ false → o ≡ Some (Joined p (next_in o) (limit_in o))
 seated_as None p j e = absurd (false≢true j)
-seated_as (Some (Joined q n)) p j e = ap (λ r. Some (Joined r n)) (eqb-true q p (not-false _ e))
+seated_as (Some (Joined q n l)) p j e = ap (λ r. Some (Joined r n l)) (eqb-true q p (not-false _ e))
 seated_as (Some Dead) p j e = absurd (false≢true j)
 
 pub unseated : (o : Option Seat) → is_joined o ≡ false → is_dead o ≡ false → o ≡ None
 unseated None j d = refl
-unseated (Some (Joined q n)) j d = absurd (false≢true (sym j))
+unseated (Some (Joined q n l)) j d = absurd (false≢true (sym j))
 unseated (Some Dead) j d = absurd (false≢true (sym d))
 
 -- a tab that has joined and is not misplaced has joined here, and the partition's row says whether it is active
-module _ (g : ℕ) (listed : List (ℕ × ℕ)) (seats : Table Seat) (partitions : Table PartitionState) (b : BrokerState) (t p : ℕ) (v : broker_of g listed seats partitions ≡ b) (placed : is_misplaced b t p ≡ false) (joined : is_joined (find seats t) ≡ true) where
-  pub seated_here : find seats t ≡ Some (Joined p (next_in (find seats t)))
-  seated_here = seated_as (find seats t) p joined (placed_seen g listed seats partitions b t p v placed)
+module _ (g : ℕ) (listed : List (ℕ × ℕ)) (seats : Table Seat) (partitions : Table PartitionState) (partial : Table Partial) (b : BrokerState) (t p : ℕ) (v : broker_of g listed seats partitions partial ≡ b) (placed : is_misplaced b t p ≡ false) (joined : is_joined (find seats t) ≡ true) where
+  pub seated_here : find seats t ≡ Some (Joined p (next_in (find seats t)) (limit_in (find seats t)))
+  seated_here = seated_as (find seats t) p joined (placed_seen g listed seats partitions partial b t p v placed)
 
   pub joined_here : is_joined (seat_of b t) ≡ true
   joined_here = ap (λ x. is_joined (seat_of x t)) (sym v) ∙ joined
@@ -93,8 +93,8 @@ module _ (g : ℕ) (listed : List (ℕ × ℕ)) (seats : Table Seat) (partitions
 
   pub active_here : IsConsistent listed seats partitions → is_active b p ≡ (at no_partition partitions p).is_active
   active_here k =
-      ap (λ x. is_active x p) (sym v) ∙ is_active-fields g listed seats partitions p
-      ∙ sym (IsConsistent-active t p (next_in (find seats t)) k seated_here)
+      ap (λ x. is_active x p) (sym v) ∙ is_active-fields g listed seats partitions partial p
+      ∙ sym (IsConsistent-active t p (next_in (find seats t)) (limit_in (find seats t)) k seated_here)
 
   -- the number of its command is no later than the next one
   pub turn_here : (next n : ℕ) (out : Bool) → next ≡ next_in (find seats t) → out ≡ (nat_lt next n || eqb n 4294967295) → out ≡ false → (n ≤ next_of b t) × (n ≢ 4294967295)
@@ -103,22 +103,22 @@ module _ (g : ℕ) (listed : List (ℕ × ℕ)) (seats : Table Seat) (partitions
       (omega (arith, ltb-false next n parts.0, e, next_here), eqb-false n 4294967295 parts.1)
 
   -- a tab may have one more lock, or may not
-  pub live_here : (o : Operation) (many : Bool) → many ≡ (is_lock o && nat_le 64 (live (at no_partition partitions p).locks t)) → (is_lock o && nat_le 64 (live (manager_of b p) t)) ≡ many
-  live_here o many e = rw (← v, manager_of-fields g listed seats partitions p) (sym e)
+  pub live_here : (limit : ℕ) (o : Operation) (many : Bool) → limit ≡ limit_in (find seats t) → many ≡ (is_lock o && nat_le limit (live (at no_partition partitions p).locks t)) → (is_lock o && nat_le (limit_of b t) (live (manager_of b p) t)) ≡ many
+  live_here limit o many same e = rw (← v, manager_of-fields g listed seats partitions partial p, ← same) (sym e)
 
 -- what a report is judged by
-pub joined_seen : (g : ℕ) (listed : List (ℕ × ℕ)) (seats : Table Seat) (partitions : Table PartitionState) (b : BrokerState) (t : ℕ) (r : Bool) → broker_of g listed seats partitions ≡ b → r ≡ is_joined (find seats t) → is_joined (seat_of b t) ≡ r
-joined_seen g listed seats partitions b t r v e = ap (λ x. is_joined (seat_of x t)) (sym v) ∙ sym e
+pub joined_seen : (g : ℕ) (listed : List (ℕ × ℕ)) (seats : Table Seat) (partitions : Table PartitionState) (partial : Table Partial) (b : BrokerState) (t : ℕ) (r : Bool) → broker_of g listed seats partitions partial ≡ b → r ≡ is_joined (find seats t) → is_joined (seat_of b t) ≡ r
+joined_seen g listed seats partitions partial b t r v e = ap (λ x. is_joined (seat_of x t)) (sym v) ∙ sym e
 
-pub dead_seen : (g : ℕ) (listed : List (ℕ × ℕ)) (seats : Table Seat) (partitions : Table PartitionState) (b : BrokerState) (t : ℕ) (r : Bool) → broker_of g listed seats partitions ≡ b → r ≡ is_dead (find seats t) → is_dead (seat_of b t) ≡ r
-dead_seen g listed seats partitions b t r v e = ap (λ x. is_dead (seat_of x t)) (sym v) ∙ sym e
+pub dead_seen : (g : ℕ) (listed : List (ℕ × ℕ)) (seats : Table Seat) (partitions : Table PartitionState) (partial : Table Partial) (b : BrokerState) (t : ℕ) (r : Bool) → broker_of g listed seats partitions partial ≡ b → r ≡ is_dead (find seats t) → is_dead (seat_of b t) ≡ r
+dead_seen g listed seats partitions partial b t r v e = ap (λ x. is_dead (seat_of x t)) (sym v) ∙ sym e
 
-pub newcomer_seen : (g : ℕ) (listed : List (ℕ × ℕ)) (seats : Table Seat) (partitions : Table PartitionState) (b : BrokerState) (t : ℕ) (xs : List (ℕ × ℕ)) (es entries : List Entry) (r : Bool) → broker_of g listed seats partitions ≡ b → xs ≡ listed → es ≡ entries → r ≡ (not (is_listed (listed_at t xs)) && has_held es) → (not (is_listed (listed_at t b.listed)) && has_held entries) ≡ r
-newcomer_seen g listed seats partitions b t xs es entries r v x e q = rw (← v, ← x, ← e) (sym q)
+pub newcomer_seen : (g : ℕ) (listed : List (ℕ × ℕ)) (seats : Table Seat) (partitions : Table PartitionState) (partial : Table Partial) (b : BrokerState) (t : ℕ) (xs : List (ℕ × ℕ)) (es entries : List Entry) (r : Bool) → broker_of g listed seats partitions partial ≡ b → xs ≡ listed → es ≡ entries → r ≡ (not (is_listed (listed_at t xs)) && has_held es) → (not (is_listed (listed_at t b.listed)) && has_held entries) ≡ r
+newcomer_seen g listed seats partitions partial b t xs es entries r v x e q = rw (← v, ← x, ← e) (sym q)
 
-pub misplaced_seen : (g : ℕ) (listed : List (ℕ × ℕ)) (seats : Table Seat) (partitions : Table PartitionState) (b : BrokerState) (t p : ℕ) (xs : List (ℕ × ℕ)) (r : Bool) → broker_of g listed seats partitions ≡ b → xs ≡ listed → r ≡ (elsewhere (listed_at t xs) p || elsewhere (seated_at (find seats t)) p) → is_misplaced b t p ≡ r
+pub misplaced_seen : (g : ℕ) (listed : List (ℕ × ℕ)) (seats : Table Seat) (partitions : Table PartitionState) (partial : Table Partial) (b : BrokerState) (t p : ℕ) (xs : List (ℕ × ℕ)) (r : Bool) → broker_of g listed seats partitions partial ≡ b → xs ≡ listed → r ≡ (elsewhere (listed_at t xs) p || (elsewhere (seated_at (find seats t)) p || elsewhere (kept_at (find partial t)) p)) → is_misplaced b t p ≡ r
 unfolding is_misplaced
-misplaced_seen g listed seats partitions b t p xs r v x q = rw (← v, ← x) (sym q)
+misplaced_seen g listed seats partitions partial b t p xs r v x q = rw (← v, ← x) (sym q)
 
 -- ---- a result whose error is mapped
 

@@ -7,6 +7,7 @@ pub mod Counting
 pub mod Drops
 pub mod Fields
 pub mod GrantRoom
+pub mod KeptParts
 pub mod Others
 pub mod PartitionRows
 pub mod SettledLocks

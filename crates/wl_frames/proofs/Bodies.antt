@@ -10,6 +10,7 @@ use Rattle.wl_frames.specs.declared.frame.Operation.TheVariants as op
 use Rattle.wl_frames.specs.declared.frame.Outcome.TheVariants as outcome
 use Rattle.wl_frames.specs.declared.frame.Command.{Command}
 use Rattle.wl_frames.specs.declared.frame.Report.{Report}
+use Rattle.wl_frames.specs.declared.frame.ReportPart.{ReportPart}
 use Rattle.wl_frames.specs.declared.frame.Post.{Post}
 use Rattle.wl_frames.specs.declared.frame.Hello.{Hello}
 use Rattle.wl_frames.specs.declared.frame.Answer.{Answer}
@@ -17,11 +18,12 @@ use Rattle.wl_frames.specs.declared.frame.SnapshotEntry.{SnapshotEntry}
 use Rattle.wl_frames.specs.declared.frame.Snapshot.{Snapshot}
 use Rattle.wl_frames.specs.declared.frame.Heard.{Heard}
 use Rattle.wl_frames.specs.declared.frame.Welcome.{Welcome}
+use Rattle.wl_frames.specs.declared.frame.PairWelcome.{PairWelcome}
 use Rattle.wl_frames.specs.declared.frame.Start.{Start}
 use Rattle.wl_frames.specs.declared.frame.Dead.{Dead}
-use Rattle.wl_frames.specs.Grammar.{u16, u32, IsU16, IsU32, IsGeneration, IsTab, spelled_mode, spelled_flag, spelled_held, short_text, long_text, IsChannel, IsLockName, IsData, IsOrigin, operation, IsOperation, entry, IsEntry, RiseFrom, snapshot_entry, IsSnapshotEntry, place, IsPlace, TabsRiseFrom, spelled_outcome, IsCommand, IsReport, IsPost, IsHello, IsAnswer, IsSnapshot, IsHeard, IsWelcome, IsStart, IsDead}
+use Rattle.wl_frames.specs.Grammar.{u16, u32, IsU16, IsU32, IsGeneration, IsTab, spelled_mode, spelled_flag, spelled_held, short_text, long_text, IsChannel, IsLockName, IsData, IsOrigin, operation, IsOperation, entry, IsEntry, RiseFrom, snapshot_entry, IsSnapshotEntry, place, IsPlace, TabsRiseFrom, spelled_outcome, IsCommand, IsReport, IsReportPart, IsPost, IsHello, IsAnswer, IsSnapshot, IsHeard, IsWelcome, IsPairWelcome, IsStart, IsDead}
 use Rattle.wl_frames.specs.Reading.{byte_at}
-use Rattle.wl_frames.specs.Bodies.{request_at, operation_fields_at, operation_at, command_at, entry_at, numbers_rise, rising_entries_at, report_at, post_at, heard_at, hello_at, outcomes, outcome_at, answer_at, snapshot_entry_at, pair_at, part_at, snapshot_at, welcome_at, place_at, tabs_rise, rising_places_at, start_at, dead_at}
+use Rattle.wl_frames.specs.Bodies.{request_at, operation_fields_at, operation_at, command_at, entry_at, numbers_rise, rising_entries_at, report_at, pair_at, part_at, few_parts_at, report_part_at, post_at, heard_at, hello_at, outcomes, outcome_at, answer_at, snapshot_entry_at, snapshot_at, welcome_at, pair_welcome_at, place_at, tabs_rise, rising_places_at, start_at, dead_at}
 use Rattle.wl_frames.proofs.Forms.{IsBytes, Any, Takes, IsForm, bind_some, some_is, then_form, last_form, same_form, tested_form, within, wrapped_again}
 use Rattle.wl_frames.proofs.Fields.{byte_form, u16_form, u32_form, generation_form, tab_form, coded_form, mode_form, flag_form, held_form, channel_form, lock_name_form, data_form, origin_form, list_form}
 
@@ -153,6 +155,30 @@ report_form =
     (λ r h. record { generation = h.1.0; base = h.1.1.0; count = h.1.1.1.1.0; entries = h.1.1.1.1.1; rise = h.1.1.1.0 })
     (λ r h. (tt, (h.generation, (h.base, (h.rise, (h.count, h.entries))))))
 
+-- ---- parts, and parts of reports
+
+pair_form : IsForm (λ (p : ℕ × ℕ). u16 p.0 ++ u16 p.1) (λ p. ⊤ × (IsU16 p.0 × IsU16 p.1)) Any pair_at
+pair_form = then_form _ (λ p. p.0) u16_form (λ a. last_form (λ p. p.1) (λ b. (a, b)) u16_form (λ p k. rw (← k.0) refl) (λ b. ((refl, tt), refl)))
+
+part_form : IsForm (λ (p : ℕ × ℕ). u16 p.0 ++ u16 p.1) (λ p. (p.0 < p.1) × (⊤ × (IsU16 p.0 × IsU16 p.1))) Any part_at
+unfolding part_at
+part_form =
+    tested_form (λ p. p.0 < p.1) (λ p. not (ltb p.0 p.1)) (λ p e. ltb-true p.0 p.1 (not-false (ltb p.0 p.1) e)) (λ p h. not_from_true (ltb p.0 p.1) (lt-ltb p.0 p.1 h)) pair_form
+
+few_parts_form : IsForm (λ (p : ℕ × ℕ). u16 p.0 ++ u16 p.1) (λ p. (p.1 ≤ 16) × ((p.0 < p.1) × (⊤ × (IsU16 p.0 × IsU16 p.1)))) Any few_parts_at
+unfolding few_parts_at
+few_parts_form = tested_form (λ p. p.1 ≤ 16) (λ p. ltb 16 p.1) (λ p e. ltb-false _ _ e) (λ p h. le-ltb _ _ h) part_form
+
+pub report_part_form : IsForm (λ r. u32 r.generation ++ u32 r.base ++ u16 r.part ++ u16 r.parts ++ u16 (length r.entries) ++ flat_map entry r.entries) IsReportPart Any report_part_at
+unfolding report_part_at
+report_part_form =
+    let parts : IsForm (λ (r : ReportPart). u32 r.generation ++ (u32 r.base ++ ((u16 r.part ++ u16 r.parts) ++ (u16 (length r.entries) ++ flat_map entry r.entries)))) (λ r. ⊤ × (IsGeneration r.generation × (IsU32 r.base × (((r.parts ≤ 16) × ((r.part < r.parts) × (⊤ × (IsU16 r.part × IsU16 r.parts)))) × (RiseFrom 0 r.entries × ((length r.entries ≤ 64) × AllByRecursion IsEntry r.entries)))))) Any report_part_at =
+    then_form _ (λ r. r.generation) generation_form (λ g. then_form _ (λ r. r.base) u32_form (λ b. then_form _ (λ r. (r.part, r.parts)) few_parts_form (λ p. last_form (λ r. r.entries) (λ es. record { generation = g; base = b; part = p.0; parts = p.1; entries = es }) rising_entries_form (λ r k. rw (← k.0, ← k.1.0, ← k.1.1.0) refl) (λ es. ((refl, (refl, (refl, tt))), refl))))) in
+    same_form parts
+    (λ r. refl)
+    (λ r h. record { generation = h.1.0; base = h.1.1.0; part = h.1.1.1.0.1.0; parts = h.1.1.1.0.0; count = h.1.1.1.1.1.0; entries = h.1.1.1.1.1.1; rise = h.1.1.1.1.0 })
+    (λ r h. (tt, (h.generation, (h.base, ((h.parts, (h.part, (tt, (omega (arith, h.part, h.parts), omega (arith, h.parts))))), (h.rise, (h.count, h.entries)))))))
+
 -- ---- posts
 
 pub post_form : IsForm (λ p. u32 p.number ++ short_text p.channel ++ long_text p.bytes) IsPost Any post_at
@@ -210,14 +236,6 @@ snapshot_entry_form =
     (λ e h. (h.1.1.0, h.1.1.1.1))
     (λ e h. (tt, (tt, (h.0, (tt, h.1)))))
 
-pair_form : IsForm (λ (p : ℕ × ℕ). u16 p.0 ++ u16 p.1) (λ p. ⊤ × (IsU16 p.0 × IsU16 p.1)) Any pair_at
-pair_form = then_form _ (λ p. p.0) u16_form (λ a. last_form (λ p. p.1) (λ b. (a, b)) u16_form (λ p k. rw (← k.0) refl) (λ b. ((refl, tt), refl)))
-
-part_form : IsForm (λ (p : ℕ × ℕ). u16 p.0 ++ u16 p.1) (λ p. (p.0 < p.1) × (⊤ × (IsU16 p.0 × IsU16 p.1))) Any part_at
-unfolding part_at
-part_form =
-    tested_form (λ p. p.0 < p.1) (λ p. not (ltb p.0 p.1)) (λ p e. ltb-true p.0 p.1 (not-false (ltb p.0 p.1) e)) (λ p h. not_from_true (ltb p.0 p.1) (lt-ltb p.0 p.1 h)) pair_form
-
 pub snapshot_form : IsForm (λ s. u32 s.generation ++ u32 s.number ++ u16 s.part ++ u16 s.parts ++ u16 (length s.entries) ++ flat_map snapshot_entry s.entries) IsSnapshot Any snapshot_at
 unfolding snapshot_at
 snapshot_form =
@@ -236,6 +254,16 @@ welcome_form =
     let parts : IsForm (λ (w : Welcome). u16 w.tab ++ long_text w.origin) (λ w. ⊤ × (IsTab w.tab × IsOrigin w.origin)) Any welcome_at =
     then_form _ (λ w. w.tab) tab_form (λ t. last_form (λ w. w.origin) (λ o. record { tab = t; origin = o }) origin_form (λ w k. rw (← k.0) refl) (λ o. ((refl, tt), refl))) in
     same_form parts (λ w. refl) (λ w h. record { tab = h.1.0; origin = h.1.1 }) (λ w h. (tt, (h.tab, h.origin)))
+
+pub pair_welcome_form : IsForm (λ w. u16 w.tab ++ long_text w.top ++ long_text w.own) IsPairWelcome Any pair_welcome_at
+unfolding pair_welcome_at
+pair_welcome_form =
+    let parts : IsForm (λ (w : PairWelcome). u16 w.tab ++ (long_text w.top ++ long_text w.own)) (λ w. ⊤ × (IsTab w.tab × (IsOrigin w.top × IsOrigin w.own))) Any pair_welcome_at =
+    then_form _ (λ w. w.tab) tab_form (λ t. then_form _ (λ w. w.top) origin_form (λ a. last_form (λ w. w.own) (λ b. record { tab = t; top = a; own = b }) origin_form (λ w k. rw (← k.0, ← k.1.0) refl) (λ b. ((refl, (refl, tt)), refl)))) in
+    same_form parts
+    (λ w. refl)
+    (λ w h. record { tab = h.1.0; top = h.1.1.0; own = h.1.1.1 })
+    (λ w h. (tt, (h.tab, (h.top, h.own))))
 
 place_form : IsForm place IsPlace Any place_at
 unfolding place_at

@@ -10,6 +10,7 @@ use Rattle.wl_frames.specs.declared.frame.Outcome.{Outcome}
 use Rattle.wl_frames.specs.declared.frame.Outcome.TheVariants as outcome
 use Rattle.wl_frames.specs.declared.frame.Command.{Command}
 use Rattle.wl_frames.specs.declared.frame.Report.{Report}
+use Rattle.wl_frames.specs.declared.frame.ReportPart.{ReportPart}
 use Rattle.wl_frames.specs.declared.frame.Post.{Post}
 use Rattle.wl_frames.specs.declared.frame.Answer.{Answer}
 use Rattle.wl_frames.specs.declared.frame.SnapshotEntry.{SnapshotEntry}
@@ -21,7 +22,7 @@ use Rattle.wl_frames.specs.declared.frame.Downward.{Downward}
 use Rattle.wl_frames.specs.declared.frame.Downward.TheVariants as down
 use Rattle.wl_frames.specs.declared.frame.Frame.{Frame}
 use Rattle.wl_frames.specs.declared.frame.Frame.TheVariants as frame
-use Rattle.wl_frames.specs.Grammar.{spelled_mode, spelled_flag, spelled_held, spelled_outcome, operation, IsOperation, entry, IsEntry, snapshot_entry, IsSnapshotEntry, place, command, IsCommand, report, IsReport, post, IsPost, hello, answer, snapshot, IsSnapshot, heard, IsHeard, welcome, upward, IsUpward, downward, IsDownward, stamped, start, addressed, dead, body, IsWellFormed}
+use Rattle.wl_frames.specs.Grammar.{spelled_mode, spelled_flag, spelled_held, spelled_outcome, operation, IsOperation, entry, IsEntry, snapshot_entry, IsSnapshotEntry, place, command, IsCommand, report, IsReport, report_part, IsReportPart, post, IsPost, hello, answer, snapshot, IsSnapshot, heard, IsHeard, welcome, pair_welcome, upward, IsUpward, downward, IsDownward, stamped, start, addressed, dead, body, IsWellFormed}
 use Rattle.wl_frames.specs.Stream.{IsLength}
 
 -- ---- fields
@@ -84,6 +85,11 @@ unfolding report
 report_length r h =
     let es = entries_within entry IsEntry entry_within r.entries h.entries in (omega arith, omega (arith, h.count))
 
+report_part_length : (r : ReportPart) → IsReportPart r → IsShort (length (report_part r))
+unfolding report_part
+report_part_length r h =
+    let es = entries_within entry IsEntry entry_within r.entries h.entries in (omega arith, omega (arith, h.count))
+
 post_length : (p : Post) → IsPost p → IsShort (length (post p))
 unfolding post
 post_length p h =
@@ -108,6 +114,7 @@ upward_length : (u : Upward) → IsUpward u → IsShort (length (upward u))
 unfolding upward
 upward_length (up.Command c) h = command_length c h
 upward_length (up.Report r) h = report_length r h
+upward_length (up.ReportPart r) h = report_part_length r h
 
 downward_length : (d : Downward) → IsDownward d → IsShort (length (downward d))
 unfolding downward hello
@@ -116,15 +123,17 @@ downward_length (down.Answer a) h = answer_length a
 downward_length (down.Snapshot s) h = snapshot_length s h
 
 pub body_length : (f : Frame) → IsWellFormed f → IsLength (length (body f))
-unfolding body hello welcome stamped start addressed dead
+unfolding body hello welcome pair_welcome stamped start addressed dead
 body_length (frame.Command c) h = let n = command_length c h in (n.0, omega arith)
 body_length (frame.Report r) h = let n = report_length r h in (n.0, omega arith)
+body_length (frame.ReportPart r) h = let n = report_part_length r h in (n.0, omega arith)
 body_length (frame.Post p) h = let n = post_length p h in (n.0, omega arith)
 body_length (frame.Hello x) h = (omega arith, omega arith)
 body_length (frame.Answer a) h = let n = answer_length a in (n.0, omega arith)
 body_length (frame.Snapshot s) h = let n = snapshot_length s h in (n.0, omega arith)
 body_length (frame.Heard x) h = let n = heard_length x h in (n.0, omega arith)
 body_length (frame.Welcome w) h = (omega arith, omega (arith, h.origin.0))
+body_length (frame.PairWelcome w) h = (omega arith, simp length-append (omega (arith, h.top.0, h.own.0)))
 body_length (frame.Stamped s) h = let n = upward_length s.inner h.inner in (omega arith, omega arith)
 body_length (frame.Start s) h = (omega arith, omega (arith, length-places s.list, h.count))
 body_length (frame.Addressed a) h = let n = downward_length a.inner h.inner in (omega arith, omega arith)

@@ -101,7 +101,7 @@ tab_form = tested_form (λ n. 1 ≤ n) (λ n. eqb n 0) (λ n e. omega (arith, eq
 
 -- ---- values by code
 
-abbrev pub AreCodes : {X : Type 0} → (X → List ℕ) → List (ℕ × X) → Type 0
+abbrev AreCodes : {X : Type 0} → (X → List ℕ) → List (ℕ × X) → Type 0
 AreCodes spell table = AllByRecursion (λ e. spell e.1 ≡ e.0 ∷ []) table
 
 abbrev some_of : {A : Type 0} → A → Option A
@@ -110,17 +110,21 @@ some_of x = Some x
 abbrev none_of : {A : Type 0} → Option A
 none_of = None
 
-pub code_is : {X : Type 0} (spell : X → List ℕ) (table : List (ℕ × X)) (code : ℕ) (x : X) → AreCodes spell table → value_of table code ≡ Some x → spell x ≡ code ∷ []
-code_is spell [] code x all e = absurd cc
-code_is {X} spell (p ∷ ps) code x all e =
+-- what is true of each code and its value is true of a code and the value found by it
+pub value_is : {X : Type 0} (P : ℕ → X → Type 0) (table : List (ℕ × X)) (code : ℕ) (x : X) → AllByRecursion (λ e. P e.0 e.1) table → value_of table code ≡ Some x → P code x
+value_is P [] code x all e = absurd cc
+value_is {X} P (p ∷ ps) code x all e =
     elim (cases_Bool (eqb code p.0)) [
       | inl is ↦
           let here : some_of p.1 ≡ Some x = ap (λ b. cond b (some_of p.1) (value_of ps code)) (sym is) ∙ e in
-          ap spell (sym (some_is p.1 x here)) ∙ all.0 ∙ ap (λ (n : ℕ). n ∷ []) (sym (eqb-true code p.0 is))
+          subst (λ (n : ℕ). P n x) (sym (eqb-true code p.0 is)) (subst (P p.0) (some_is p.1 x here) all.0)
       | inr other ↦
           let there : value_of ps code ≡ Some x = ap (λ b. cond b (some_of p.1) (value_of ps code)) (sym other) ∙ e in
-          code_is spell ps code x all.1 there
+          value_is P ps code x all.1 there
     ]
+
+code_is : {X : Type 0} (spell : X → List ℕ) (table : List (ℕ × X)) (code : ℕ) (x : X) → AreCodes spell table → value_of table code ≡ Some x → spell x ≡ code ∷ []
+code_is spell table code x all e = value_is (λ n y. spell y ≡ n ∷ []) table code x all e
 
 -- each value has one code of the table
 pub coded_form : {X : Type 0} (spell : X → List ℕ) (table : List (ℕ × X)) → AreCodes spell table

@@ -1,48 +1,59 @@
 -- A body has one fault, or it is the body of a frame.
-use Rattle.std.proofs.Common.{◌≡◌, ℕ, List, [], ◌∷◌, ◌++◌, Bool, true, false, refl, sym, ap, ◌∙◌, subst}
+use Rattle.std.proofs.Common.{◌≡◌, ℕ, List, [], ◌∷◌, ◌++◌, Bool, true, false, refl, sym, ap, ◌∙◌, subst, inl, inr}
 use Rattle.std.proofs.lemmas.List.{append-nil}
 use Rattle.wl_frames.specs.declared.frame.Frame.{Frame}
 use Rattle.wl_frames.specs.declared.frame.Frame.TheVariants as frame
 use Rattle.wl_frames.specs.declared.fault.FrameFault.{FrameFault}
 use Rattle.wl_frames.specs.declared.fault.FrameFault.TheVariants.{BadLength, BadVersion, BadKind, BadField, LeftOver, Truncated, Memory, Failed}
-use Rattle.wl_frames.specs.Grammar.{IsBody, body, command, report, post, hello, answer, snapshot, heard, welcome, stamped, start, addressed, dead}
-use Rattle.wl_frames.specs.Stream.{IsKind, is_envelope, Begins, HasFault}
+use Rattle.wl_frames.specs.Grammar.{IsBody, body, command, report, report_part, post, hello, answer, snapshot, heard, welcome, pair_welcome, stamped, start, addressed, dead}
+use Rattle.wl_frames.specs.Stream.{IsVersion, IsKind, is_envelope, Begins, HasFault}
 use Rattle.wl_frames.proofs.OneFrame.{no_body_begins_another}
 
 -- a body begins with its version and its kind
 record HasKind (bytes : List ℕ) : Type 0 where
+  version : ℕ
   kind : ℕ
   fields : List ℕ
-  spelled : bytes ≡ 1 ∷ kind ∷ fields
-  is_kind : IsKind kind
+  spelled : bytes ≡ version ∷ kind ∷ fields
+  is_kind : IsKind version kind
 
 has_kind : (f : Frame) → HasKind (body f)
-unfolding body command report post hello answer snapshot heard welcome stamped start addressed dead
-has_kind (frame.Command c) = record { kind = 1; fields = _; spelled = refl; is_kind = IsKind.command }
-has_kind (frame.Report r) = record { kind = 2; fields = _; spelled = refl; is_kind = IsKind.report }
-has_kind (frame.Post p) = record { kind = 3; fields = _; spelled = refl; is_kind = IsKind.post }
-has_kind (frame.Hello h) = record { kind = 16; fields = _; spelled = refl; is_kind = IsKind.hello }
-has_kind (frame.Answer a) = record { kind = 17; fields = _; spelled = refl; is_kind = IsKind.answer }
-has_kind (frame.Snapshot s) = record { kind = 18; fields = _; spelled = refl; is_kind = IsKind.snapshot }
-has_kind (frame.Heard h) = record { kind = 19; fields = _; spelled = refl; is_kind = IsKind.heard }
-has_kind (frame.Welcome w) = record { kind = 20; fields = _; spelled = refl; is_kind = IsKind.welcome }
-has_kind (frame.Stamped s) = record { kind = 32; fields = _; spelled = refl; is_kind = IsKind.stamped }
-has_kind (frame.Start s) = record { kind = 33; fields = _; spelled = refl; is_kind = IsKind.start }
-has_kind (frame.Addressed a) = record { kind = 34; fields = _; spelled = refl; is_kind = IsKind.addressed }
-has_kind (frame.Dead d) = record { kind = 35; fields = _; spelled = refl; is_kind = IsKind.dead }
+unfolding body command report report_part post hello answer snapshot heard welcome pair_welcome stamped start addressed dead
+has_kind (frame.Command c) = record { version = 1; kind = 1; fields = _; spelled = refl; is_kind = IsKind.command }
+has_kind (frame.Report r) = record { version = 1; kind = 2; fields = _; spelled = refl; is_kind = IsKind.report }
+has_kind (frame.ReportPart r) = record { version = 2; kind = 2; fields = _; spelled = refl; is_kind = IsKind.report_part }
+has_kind (frame.Post p) = record { version = 1; kind = 3; fields = _; spelled = refl; is_kind = IsKind.post }
+has_kind (frame.Hello h) = record { version = 1; kind = 16; fields = _; spelled = refl; is_kind = IsKind.hello }
+has_kind (frame.Answer a) = record { version = 1; kind = 17; fields = _; spelled = refl; is_kind = IsKind.answer }
+has_kind (frame.Snapshot s) = record { version = 1; kind = 18; fields = _; spelled = refl; is_kind = IsKind.snapshot }
+has_kind (frame.Heard h) = record { version = 1; kind = 19; fields = _; spelled = refl; is_kind = IsKind.heard }
+has_kind (frame.Welcome w) = record { version = 1; kind = 20; fields = _; spelled = refl; is_kind = IsKind.welcome }
+has_kind (frame.PairWelcome w) = record { version = 2; kind = 20; fields = _; spelled = refl; is_kind = IsKind.pair_welcome }
+has_kind (frame.Stamped s) = record { version = 1; kind = 32; fields = _; spelled = refl; is_kind = IsKind.stamped }
+has_kind (frame.Start s) = record { version = 1; kind = 33; fields = _; spelled = refl; is_kind = IsKind.start }
+has_kind (frame.Addressed a) = record { version = 1; kind = 34; fields = _; spelled = refl; is_kind = IsKind.addressed }
+has_kind (frame.Dead d) = record { version = 1; kind = 35; fields = _; spelled = refl; is_kind = IsKind.dead }
 
 has_kind_ahead : (bytes : List ℕ) (f : Frame) (more : List ℕ) → bytes ≡ body f ++ more → HasKind bytes
 has_kind_ahead bytes f more e =
     let k = has_kind f in
-    record { kind = k.kind; fields = k.fields ++ more; spelled = e ∙ ap (λ (b : List ℕ). b ++ more) k.spelled; is_kind = k.is_kind }
+    record { version = k.version; kind = k.kind; fields = k.fields ++ more; spelled = e ∙ ap (λ (b : List ℕ). b ++ more) k.spelled; is_kind = k.is_kind }
+
+version_is : (version kind : ℕ) → IsKind version kind → IsVersion version
+version_is version kind IsKind.report_part = inr refl
+version_is version kind IsKind.pair_welcome = inr refl
+version_is version kind _ = inl refl
 
 no_version : (bytes : List ℕ) → HasKind bytes → HasFault bytes BadVersion → ⊥
-no_version bytes k (version, rest, e, other) = other cc
+no_version bytes k (version, rest, e, other) =
+    let same : k.version ≡ version = cc in
+    other (subst IsVersion same (version_is k.version k.kind k.is_kind))
 
 no_kind : (bytes : List ℕ) → HasKind bytes → HasFault bytes BadKind → ⊥
-no_kind bytes k (kind, rest, e, unknown) =
-    let same : k.kind ≡ kind = cc in
-    unknown (subst IsKind same k.is_kind)
+no_kind bytes k (version, kind, rest, e, known, unknown) =
+    let same_version : k.version ≡ version = cc in
+    let same_kind : k.kind ≡ kind = cc in
+    unknown (subst (IsKind version) same_kind (subst (λ (n : ℕ). IsKind n k.kind) same_version k.is_kind))
 
 -- whole and begun
 begins_whole : (bytes : List ℕ) (f : Frame) → IsBody bytes f → Begins bytes f []
@@ -59,7 +70,7 @@ none_left bytes f g more p q =
 pub no_fault : (bytes : List ℕ) (f : Frame) (d : FrameFault) → IsBody bytes f → HasFault bytes d → ⊥
 no_fault bytes f BadVersion p h = no_version bytes (has_kind_ahead bytes f [] (begins_whole bytes f p).spelled) h
 no_fault bytes f BadKind p h = no_kind bytes (has_kind_ahead bytes f [] (begins_whole bytes f p).spelled) h
-no_fault bytes f BadField p (kind, rest, e, known, none) = none f [] (begins_whole bytes f p)
+no_fault bytes f BadField p (version, kind, rest, e, known, none) = none f [] (begins_whole bytes f p)
 no_fault bytes f LeftOver p (g, more, begins, some) = some (none_left bytes g f more p begins)
 no_fault bytes f BadLength p h = h
 no_fault bytes f Truncated p h = h
@@ -68,16 +79,18 @@ no_fault bytes f Failed p h = h
 
 -- the kind of a body whose fields are at fault, or that goes on behind them
 kind_of_field : (bytes : List ℕ) → HasFault bytes BadField → HasKind bytes
-kind_of_field bytes (kind, rest, e, known, none) = record { kind = kind; fields = rest; spelled = e; is_kind = known }
+kind_of_field bytes (version, kind, rest, e, known, none) = record { version = version; kind = kind; fields = rest; spelled = e; is_kind = known }
 
 kind_of_left_over : (bytes : List ℕ) → HasFault bytes LeftOver → HasKind bytes
 kind_of_left_over bytes (f, more, begins, some) = has_kind_ahead bytes f more begins.spelled
 
 version_or_kind : (bytes : List ℕ) → HasFault bytes BadVersion → HasFault bytes BadKind → ⊥
-version_or_kind bytes (version, rest, e, other) (kind, fields, f, unknown) = other cc
+version_or_kind bytes (version, rest, e, other) (same, kind, fields, f, known, unknown) =
+    let is : same ≡ version = cc in
+    other (subst IsVersion is known)
 
 field_or_left_over : (bytes : List ℕ) → HasFault bytes BadField → HasFault bytes LeftOver → ⊥
-field_or_left_over bytes (kind, rest, e, known, none) (f, more, begins, some) = none f more begins
+field_or_left_over bytes (version, kind, rest, e, known, none) (f, more, begins, some) = none f more begins
 
 pub one_fault : (bytes : List ℕ) (d e : FrameFault) → HasFault bytes d → HasFault bytes e → d ≡ e
 one_fault bytes BadVersion BadVersion h i = refl

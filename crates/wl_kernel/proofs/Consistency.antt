@@ -1,8 +1,7 @@
 -- The whole of what is kept, after an opening, after a death and after a stop.
 use Rattle.std.proofs.Common.{◌≡◌, ℕ, ◌≤◌, true, ◌&&◌, cond, List, [], ◌∷◌, ◌++◌, length, map, Some, None, option_map, refl, sym, ap, ◌∙◌, subst}
 use Rattle.std.proofs.lemmas.List.{length-map, map_push}
-use Rattle.url.specs.Origin.{Triple}
-use Rattle.wl_origin.specs.Order.{triple_eq}
+use Rattle.wl_origin.specs.Order.{Pair, pair_eq}
 use Rattle.wl_draft.specs.Tables.{Table, put}
 use Rattle.wl_kernel.specs.declared.rows.TabRow.{TabRow}
 use Rattle.wl_kernel.specs.declared.homes.Home.{Home}
@@ -14,14 +13,14 @@ use Rattle.wl_kernel.proofs.OpenedTabs.{tabs-push, tabs-ended, placed-push, plac
 use Rattle.wl_kernel.proofs.KeptHomes.{homes-push, homes-ended, joined_number, number_after, opened_after}
 
 -- what is kept, by what the rows are seen as
-record IsKept (os : List OpenedTab) (rows : List TabRow) (places : Table ℕ) (homes : List (Triple × Home)) (living : List ℕ) : Type 0 where
+record IsKept (os : List OpenedTab) (rows : List TabRow) (places : Table ℕ) (homes : List (Pair × Home)) (living : List ℕ) : Type 0 where
   tabs : AreTabs os
   numbered : AreNumbered os rows
   placed : IsPlaced os places
   housed : AreHomes os homes
   alive : living ≡ living_in any_tab os
 
-consistent : (os : List OpenedTab) (rows : List TabRow) (places : Table ℕ) (homes : List (Triple × Home)) (living : List ℕ) (g l : ℕ)
+consistent : (os : List OpenedTab) (rows : List TabRow) (places : Table ℕ) (homes : List (Pair × Home)) (living : List ℕ) (g l : ℕ)
     → all_seen rows ≡ os → 1 ≤ g → g ≤ l → IsKept os rows places homes living → IsConsistent rows places homes living g l
 consistent os rows places homes living g l is one last k = record {
   tabs = subst AreTabs (sym is) k.tabs;
@@ -34,14 +33,14 @@ consistent os rows places homes living g l is one last k = record {
 }
 
 -- a new tab that is put behind all rows, into its partition and among the living
-pub record IsEntered (rows : List TabRow) (homes : List (Triple × Home)) (living : List ℕ) (r : TabRow) (more : List (Triple × Home)) : Type 0 where
+pub record IsEntered (rows : List TabRow) (homes : List (Pair × Home)) (living : List ℕ) (r : TabRow) (more : List (Pair × Home)) : Type 0 where
   pub from_one : 1 ≤ r.tab
   pub new : tab_in (all_seen rows) r.tab ≡ None
   pub alive : r.is_living ≡ true
   pub number : r.number ≡ (joined r.tab (home_of homes r.partition)).0
-  pub joins : (q : Triple) → home_of more q ≡ cond (triple_eq r.partition q) (Some (joined r.tab (home_of homes r.partition))) (home_of homes q)
+  pub joins : (q : Pair) → home_of more q ≡ cond (pair_eq r.partition q) (Some (joined r.tab (home_of homes r.partition))) (home_of homes q)
 
-one_more : (rows : List TabRow) (places : Table ℕ) (homes : List (Triple × Home)) (living : List ℕ) (g l : ℕ) (r : TabRow) (more : List (Triple × Home))
+one_more : (rows : List TabRow) (places : Table ℕ) (homes : List (Pair × Home)) (living : List ℕ) (g l : ℕ) (r : TabRow) (more : List (Pair × Home))
     → IsConsistent rows places homes living g l → IsEntered rows homes living r more
     → IsKept (all_seen rows ++ seen r ∷ []) (rows ++ r ∷ []) (put r.tab (length rows) places) more (put_in r.tab living)
 one_more rows places homes living g l r more c e =
@@ -59,8 +58,8 @@ one_more rows places homes living g l r more c e =
       alive = ap (put_in r.tab) c.alive ∙ sym (living_in-push any_tab os o ∙ ap (λ b. cond (b && true) (put_in r.tab (living_in any_tab os)) (living_in any_tab os)) e.alive);
     }
 
-pub consistent-push : (rows : List TabRow) (places : Table ℕ) (homes : List (Triple × Home)) (living : List ℕ) (g l : ℕ) (r : TabRow)
-    (after : List TabRow) (at : Table ℕ) (more : List (Triple × Home)) (all : List ℕ)
+pub consistent-push : (rows : List TabRow) (places : Table ℕ) (homes : List (Pair × Home)) (living : List ℕ) (g l : ℕ) (r : TabRow)
+    (after : List TabRow) (at : Table ℕ) (more : List (Pair × Home)) (all : List ℕ)
     → IsConsistent rows places homes living g l → IsEntered rows homes living r more
     → after ≡ rows ++ r ∷ [] → at ≡ put r.tab (length rows) places → all ≡ put_in r.tab living
     → IsConsistent after at more all g l
@@ -70,11 +69,11 @@ consistent-push rows places homes living g l r after at more all c e behind ther
     (map_push seen rows r) c.from_one c.up_to_last (one_more rows places homes living g l r more c e))
 
 -- a tab's death, in its row, in its partition and among the living
-pub consistent-ended : (rows : List TabRow) (places : Table ℕ) (homes : List (Triple × Home)) (living : List ℕ) (g l : ℕ) (t : ℕ) (x : OpenedTab) (p : Triple)
-    (after : List TabRow) (less : List (Triple × Home)) (all : List ℕ)
+pub consistent-ended : (rows : List TabRow) (places : Table ℕ) (homes : List (Pair × Home)) (living : List ℕ) (g l : ℕ) (t : ℕ) (x : OpenedTab) (p : Pair)
+    (after : List TabRow) (less : List (Pair × Home)) (all : List ℕ)
     → IsConsistent rows places homes living g l → tab_in (all_seen rows) t ≡ Some x → x.partition ≡ p
     → all_seen after ≡ map (ended t) (all_seen rows) → AreNumbered (all_seen rows) after
-    → ((q : Triple) → home_of less q ≡ cond (triple_eq p q) (option_map (left t) (home_of homes q)) (home_of homes q))
+    → ((q : Pair) → home_of less q ≡ cond (pair_eq p q) (option_map (left t) (home_of homes q)) (home_of homes q))
     → all ≡ without t living
     → IsConsistent after places less all g l
 consistent-ended rows places homes living g l t x p after less all c there own dead numbered leaves gone =
@@ -89,9 +88,9 @@ consistent-ended rows places homes living g l t x p after less all c there own d
     })
 
 -- all as before
-pub consistent-same : (rows : List TabRow) (places : Table ℕ) (homes : List (Triple × Home)) (living : List ℕ) (g l : ℕ)
-    (after : List TabRow) (at : Table ℕ) (same : List (Triple × Home)) (all : List ℕ)
-    → IsConsistent rows places homes living g l → after ≡ rows → at ≡ places → ((q : Triple) → home_of same q ≡ home_of homes q) → all ≡ living
+pub consistent-same : (rows : List TabRow) (places : Table ℕ) (homes : List (Pair × Home)) (living : List ℕ) (g l : ℕ)
+    (after : List TabRow) (at : Table ℕ) (same : List (Pair × Home)) (all : List ℕ)
+    → IsConsistent rows places homes living g l → after ≡ rows → at ≡ places → ((q : Pair) → home_of same q ≡ home_of homes q) → all ≡ living
     → IsConsistent after at same all g l
 consistent-same rows places homes living g l after at same all c behind there kept among =
     rw (behind, there, among) (record {

@@ -1,32 +1,45 @@
--- From what `url` answers to the partition of a text.
-use Rattle.std.proofs.Common.{◌≡◌, ◌⊎◌, ◌<◌, ◌≤◌, ℕ, List, length, None, Ok, Err, inl, inr, ap, sym, ◌∙◌, refl}
-use Rattle.std.proofs.lemmas.Bool.{le-ltb}
-use borrow.Author.Tests.{lt-ltb}
+-- From what `url` answers to the origin of a text, and from origins to partitions.
+use Rattle.std.proofs.Common.{◌≡◌, ◌⊎◌, ◌<◌, ◌≤◌, ℕ, List, length, None, Result, Ok, Err, inl, inr, ap, ap₂, sym, ◌∙◌, refl}
+use Rattle.std.proofs.lemmas.Bool.{cases_lt, le-ltb, lt-ltb}
 use Rattle.url.specs.declared.error.ParseError.{ParseError}
 use Rattle.url.specs.declared.error.ParseError.TheVariants.{Overflow, OutOfMemory}
 use Rattle.url.specs.Parts.{Parts}
 use Rattle.url.specs.Parser.{IsOutOfRoom, parse_url}
-use Rattle.url.specs.Origin.{origin_of}
+use Rattle.url.specs.Origin.{Triple, origin_of}
+use Rattle.wl_origin.specs.declared.fault.OriginFault.{OriginFault}
 use Rattle.wl_origin.specs.declared.fault.OriginFault.TheVariants.{BadUrl, Memory}
 use Rattle.wl_origin.specs.Fault.{fault_of}
-use Rattle.wl_origin.specs.Partition.{url_limit, partition_of, partition_of_origin, partition_of_parsed}
+use Rattle.wl_origin.specs.Order.{paired}
+use Rattle.wl_origin.specs.Partition.{url_limit, origin_of_text, triple_of_origin, triple_of_parsed, paired_origins, partition_of, partition_of_pair}
+
+abbrev bad_url : Result Triple OriginFault
+bad_url = Err BadUrl
 
 -- a text that is too long has none
-pub partition_of-long : (text : List ℕ) → url_limit < length text → partition_of text ≡ Err BadUrl
-unfolding partition_of
-partition_of-long text long = rw (lt-ltb url_limit (length text) long)
+pub origin_of_text-long : (text : List ℕ) → url_limit < length text → origin_of_text text ≡ Err BadUrl
+unfolding origin_of_text
+origin_of_text-long text long = rw (lt-ltb url_limit (length text) long)
 
 -- any other text is parsed
-pub partition_of-short : (text : List ℕ) → length text ≤ url_limit
-    → partition_of text ≡ partition_of_parsed (parse_url None text)
-unfolding partition_of
-partition_of-short text short = rw (le-ltb url_limit (length text) short)
+pub origin_of_text-short : (text : List ℕ) → length text ≤ url_limit
+    → origin_of_text text ≡ triple_of_parsed (parse_url None text)
+unfolding origin_of_text
+origin_of_text-short text short = rw (le-ltb url_limit (length text) short)
+
+-- a text that has one is not too long
+pub origin_of_text-fits : (text : List ℕ) (own : Triple) → origin_of_text text ≡ Ok own → length text ≤ url_limit
+origin_of_text-fits text own is = elim (cases_lt url_limit (length text)) [
+  | inl long ↦
+      let both : bad_url ≡ Ok own = sym (origin_of_text-long text long) ∙ is in
+      absurd cc
+  | inr short ↦ short
+]
 
 -- what it is parsed to decides
-pub partition_of-parsed : (text : List ℕ) (url : Parts) → length text ≤ url_limit → parse_url None text ≡ Ok url
-    → partition_of text ≡ partition_of_origin (origin_of url)
-partition_of-parsed text url short parsed =
-    partition_of-short text short ∙ ap partition_of_parsed parsed
+pub origin_of_text-parsed : (text : List ℕ) (url : Parts) → length text ≤ url_limit → parse_url None text ≡ Ok url
+    → origin_of_text text ≡ triple_of_origin (origin_of url)
+origin_of_text-parsed text url short parsed =
+    origin_of_text-short text short ∙ ap triple_of_parsed parsed
 
 bad_or_memory : (cause : ParseError) → (fault_of cause ≡ Memory) ⊎ (fault_of cause ≡ BadUrl)
 bad_or_memory OutOfMemory = inl refl
@@ -38,12 +51,43 @@ pub fault_of-out_of_room : (cause : ParseError) → IsOutOfRoom cause → fault_
 fault_of-out_of_room cause (inl e) = ap fault_of e
 fault_of-out_of_room cause (inr e) = ap fault_of e
 
--- where the parser refuses, the text has no partition for that cause, or there was no room
+-- where the parser refuses, the text has no origin for that cause, or there was no room
 pub refused_parse : (text : List ℕ) (cause : ParseError) → length text ≤ url_limit
     → (parse_url None text ≡ Err cause) ⊎ IsOutOfRoom cause
-    → (fault_of cause ≡ Memory) ⊎ (partition_of text ≡ Err (fault_of cause))
+    → (fault_of cause ≡ Memory) ⊎ (origin_of_text text ≡ Err (fault_of cause))
 refused_parse text cause short (inl refused) = elim (bad_or_memory cause) [
   | inl memory ↦ inl memory
-  | inr bad ↦ inr (partition_of-short text short ∙ ap partition_of_parsed refused ∙ ap Err (sym bad))
+  | inr bad ↦ inr (origin_of_text-short text short ∙ ap triple_of_parsed refused ∙ ap Err (sym bad))
 ]
 refused_parse text cause short (inr room) = inl (fault_of-out_of_room cause room)
+
+-- ---- partitions
+
+-- a page at the top has the pair of its origin with itself
+pub partition_of-origin : (text : List ℕ) (own : Triple) → origin_of_text text ≡ Ok own → partition_of text ≡ Ok (paired own)
+unfolding partition_of partition_of_pair
+partition_of-origin text own is = ap (λ o. paired_origins o o) is
+
+pub partition_of_pair-origins : (top own : List ℕ) (t o : Triple) → origin_of_text top ≡ Ok t → origin_of_text own ≡ Ok o → partition_of_pair top own ≡ Ok (t, o)
+unfolding partition_of_pair
+partition_of_pair-origins top own t o is also = ap₂ paired_origins is also
+
+-- why a text was refused, or want of memory
+abbrev pub Refused : {X : Type 0} → Result X OriginFault → OriginFault → Type 0
+Refused answer fault = (fault ≡ Memory) ⊎ (answer ≡ Err fault)
+
+-- what is told of an origin is told of the partition
+pub refused_partition : (text : List ℕ) (fault : OriginFault) → Refused (origin_of_text text) fault → Refused (partition_of text) fault
+unfolding partition_of partition_of_pair
+refused_partition text fault (inl memory) = inl memory
+refused_partition text fault (inr is) = inr (ap (λ o. paired_origins o o) is)
+
+pub refused_top : (top own : List ℕ) (fault : OriginFault) → Refused (origin_of_text top) fault → Refused (partition_of_pair top own) fault
+unfolding partition_of_pair
+refused_top top own fault (inl memory) = inl memory
+refused_top top own fault (inr is) = inr (ap (λ t. paired_origins t (origin_of_text own)) is)
+
+pub refused_own : (top own : List ℕ) (t : Triple) (fault : OriginFault) → origin_of_text top ≡ Ok t → Refused (origin_of_text own) fault → Refused (partition_of_pair top own) fault
+unfolding partition_of_pair
+refused_own top own t fault is (inl memory) = inl memory
+refused_own top own t fault is (inr also) = inr (ap₂ paired_origins is also)

@@ -13,7 +13,7 @@ use Rattle.wl_frames.specs.Stream.{HasFault, IsFaultOf}
 use Rattle.wl_frames.specs.Reading.{◌>>=◌, kind_at}
 use Rattle.wl_frames.specs.Bodies.{inner_kind_at, frame_at, all_of}
 use Rattle.wl_frames.proofs.Forms.{IsBytes, bind_some, guard_some, some_is}
-use Rattle.wl_frames.proofs.Frames.{code_of, kind_of, fields, body_is, kind_at-code, begins, begun}
+use Rattle.wl_frames.proofs.Frames.{code_of, version_of, kind_of, fields, body_is, kind_at-code, begins, begun}
 use Rattle.wl_frames.proofs.OneFault.{no_fault}
 use Rattle.wl_script.specs.Words.{Fails, unread_of}
 use Rattle.wl_script.specs.Forgeries.{body_at, ReadsBodies}
@@ -30,16 +30,12 @@ some x = Some x
 
 -- ---- what is read is a body
 
-kind_read : (v code : ℕ) (rest : List ℕ) (k : Kind) (more : List ℕ) → inner_kind_at (v ∷ code ∷ rest) ≡ Some (k, more) → (v ≡ 1) × (kind_at code ≡ Some k) × (more ≡ rest)
+kind_read : (v code : ℕ) (rest : List ℕ) (k : Kind) (more : List ℕ) → inner_kind_at (v ∷ code ∷ rest) ≡ Some (k, more) → (kind_at v code ≡ Some k) × (more ≡ rest)
 unfolding inner_kind_at
 kind_read v code rest k more e =
-    let g = guard_some (not (eqb v 1)) (kind_at code >>= λ k. Some (k, rest)) (k, more) e in
-    let b = bind_some (kind_at code) (λ k. Some (k, rest)) (k, more) g.1 in
-    let same = some_is (b.0, rest) (k, more) b.2 in (
-      eqb-true v 1 (not-false (eqb v 1) g.0),
-      b.1 ∙ ap (λ (p : Kind × List ℕ). some p.0) same,
-      ap (λ (p : Kind × List ℕ). p.1) (sym same),
-    )
+    let b = bind_some (kind_at v code) (λ k. Some (k, rest)) (k, more) e in
+    let same = some_is (b.0, rest) (k, more) b.2 in
+    (b.1 ∙ ap (λ (p : Kind × List ℕ). some p.0) same, ap (λ (p : Kind × List ℕ). p.1) (sym same))
 
 all_read : (p q : Frame × List ℕ) → all_of p ≡ Some q → (p.1 ≡ []) × (p ≡ q)
 all_read p q e =
@@ -66,24 +62,24 @@ body_at-body (v ∷ code ∷ rest) f fits e =
     let whole = all_read b.0 c.0 c.1 in
     let is_f : b.0.0 ≡ f = ap (λ (p : Frame × List ℕ). p.0) whole.1 ∙ some_is c.0.0 f c.2 in
     let read : frame_at a.0.0 rest ≡ some (f, []) =
-    ap (frame_at a.0.0) (sym kind.2) ∙ b.1 ∙ ap (λ x. some (x, b.0.1)) is_f ∙ ap (λ xs. some (f, xs)) whole.0 in
-    let begun = begins code a.0.0 rest f [] (IsBytes-behind v code rest fits) kind.1 read in
+    ap (frame_at a.0.0) (sym kind.1) ∙ b.1 ∙ ap (λ x. some (x, b.0.1)) is_f ∙ ap (λ xs. some (f, xs)) whole.0 in
+    let begun = begins v code a.0.0 rest f [] (IsBytes-behind v code rest fits) kind.0 read in
     record {
       well_formed = begun.well_formed;
-      spelled = ap (λ n. n ∷ code ∷ rest) kind.0 ∙ begun.spelled ∙ append-nil (body f);
+      spelled = begun.spelled ∙ append-nil (body f);
     }
 
 -- ---- a body is read
 
-read_parts : (k : Kind) (rest : List ℕ) (f : Frame) → kind_at (code_of k) ≡ Some k → frame_at k rest ≡ Some (f, []) → body_at (1 ∷ code_of k ∷ rest) ≡ Some f
+read_parts : (k : Kind) (rest : List ℕ) (f : Frame) → kind_at (version_of k) (code_of k) ≡ Some k → frame_at k rest ≡ Some (f, []) → body_at (version_of k ∷ code_of k ∷ rest) ≡ Some f
 unfolding body_at inner_kind_at
 read_parts k rest f is read = rw (is, read) refl
 
 pub body-body_at : (bytes : List ℕ) (f : Frame) → IsBody bytes f → body_at bytes ≡ Some f
 body-body_at bytes f is =
     let k = kind_of f in
-    let bytes_are : bytes ≡ 1 ∷ code_of k ∷ fields f = is.spelled ∙ body_is f in
-    let read = begun (code_of k) k (fields f) f [] (kind_at-code k) (record { well_formed = is.well_formed; spelled = sym bytes_are ∙ is.spelled ∙ sym (append-nil (body f)); inner_to_the_end = λ _. refl }) in
+    let bytes_are : bytes ≡ version_of k ∷ code_of k ∷ fields f = is.spelled ∙ body_is f in
+    let read = begun (version_of k) (code_of k) k (fields f) f [] (kind_at-code k) (record { well_formed = is.well_formed; spelled = sym bytes_are ∙ is.spelled ∙ sym (append-nil (body f)); inner_to_the_end = λ _. refl }) in
     ap body_at bytes_are ∙ read_parts k (fields f) f (kind_at-code k) read
 
 -- ---- a body with a fault is not

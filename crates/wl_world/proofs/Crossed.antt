@@ -25,6 +25,7 @@ none_across posts e = let none : posts ≡ [] = cc in ap all_across none
 pub crossed-across : (k : KernelState) (t : ℕ) (f : Frame) (posts : List (ℕ × Frame)) → Tabs posts ≡ routed_up t f k → all_across posts ≡ crossed k t f
 crossed-across k t (frame.Command c) posts e = cc
 crossed-across k t (frame.Report r) posts e = cc
+crossed-across k t (frame.ReportPart r) posts e = cc
 crossed-across k t (frame.Post p) posts e =
     let there : List (ℕ × Frame) = map (λ n. (n, heard_of t p)) (hearers t k) in
     let routed : Tabs posts ≡ Tabs there = e in
@@ -35,6 +36,7 @@ crossed-across k t (frame.Answer x) posts e = none_across posts e
 crossed-across k t (frame.Snapshot x) posts e = none_across posts e
 crossed-across k t (frame.Heard x) posts e = none_across posts e
 crossed-across k t (frame.Welcome x) posts e = none_across posts e
+crossed-across k t (frame.PairWelcome x) posts e = none_across posts e
 crossed-across k t (frame.Stamped x) posts e = none_across posts e
 crossed-across k t (frame.Start x) posts e = none_across posts e
 crossed-across k t (frame.Addressed x) posts e = none_across posts e

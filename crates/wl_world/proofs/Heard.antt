@@ -17,7 +17,7 @@ use Rattle.wl_agent.specs.declared.snapshot.Snapshot.{Snapshot}
 use Rattle.wl_agent.specs.declared.status.Status.{Status}
 use Rattle.wl_agent.specs.declared.status.Status.TheVariants.{Asked, Held, Querying, Whole, Lost}
 use Rattle.wl_agent.specs.Parts.{with_part, is_whole, snapshot_of}
-use Rattle.wl_agent.specs.Tab.{TabState, status_of, is_probe, is_asked_probe, is_querying, enter, enter_first, enter_later, ended}
+use Rattle.wl_agent.specs.Tab.{report_frames, TabState, status_of, is_probe, is_asked_probe, is_querying, enter, enter_first, enter_later, ended}
 use Rattle.wl_agent.specs.Delivery.{delivery, noted, becomes, of_other, told_by_answer, told_by_part, told_unless, after_answer, after_part, part_refusal, parts_of, with_part_come}
 use Rattle.wl_agent.specs.Kept.{Rises, RowsFit, Stands}
 use Rattle.wl_agent.proofs.Rows.{Rises-filter, AllRows-filter}
@@ -102,7 +102,7 @@ enter_generation g a = either (λ (b : TabState). b.entered ≡ g) (eqb a.entere
 pub entered-after : (f : Frame) (a : TabState) → (delivery f a).0.entered ≡ entered_by f (delivery f a).1 a.entered
 unfolding delivery noted
 entered-after (frame.Hello x) a =
-    either (λ (p : TabState × Delivered). p.0.entered ≡ entered_by (frame.Hello x) p.1 a.entered) (ltb a.entered x.generation) (enter x.generation a, told_as.Entered (frame.Report (enter x.generation a).report)) (a, told_as.Dropped unheard.OldGeneration) (λ e. enter_generation x.generation a) (λ e. refl)
+    either (λ (p : TabState × Delivered). p.0.entered ≡ entered_by (frame.Hello x) p.1 a.entered) (ltb a.entered x.generation) (enter x.generation a, told_as.Entered (report_frames (enter x.generation a))) (a, told_as.Dropped unheard.OldGeneration) (λ e. enter_generation x.generation a) (λ e. refl)
 entered-after (frame.Answer x) a =
     either (λ (p : TabState × Delivered). p.0.entered ≡ entered_by (frame.Answer x) p.1 a.entered) (eqb x.generation a.entered) (noted x.upto (after_answer (told_by_answer x a) a), told_by_answer x a) (a, of_other x.generation a) (λ e. kept_entered x a (told_by_answer x a) ∙ sym (no_entering x a (frame.Answer x) (told_by_answer x a) (null_fits x a))) (λ e. sym (other_tells a x.generation (frame.Answer x)))
 entered-after (frame.Snapshot x) a =
@@ -161,7 +161,7 @@ part_whole x a n None true none refused whole k is =
 pub whole-comes : (f : Frame) (a : TabState) → NoneTold a.statuses → WholeIf (delivery f a)
 unfolding delivery
 whole-comes (frame.Hello x) a none =
-    either WholeIf (ltb a.entered x.generation) (enter x.generation a, told_as.Entered (frame.Report (enter x.generation a).report)) (a, told_as.Dropped unheard.OldGeneration) (λ e k is. let bad : ⊥ = cc in absurd bad) (λ e k is. let bad : ⊥ = cc in absurd bad)
+    either WholeIf (ltb a.entered x.generation) (enter x.generation a, told_as.Entered (report_frames (enter x.generation a))) (a, told_as.Dropped unheard.OldGeneration) (λ e k is. let bad : ⊥ = cc in absurd bad) (λ e k is. let bad : ⊥ = cc in absurd bad)
 whole-comes (frame.Answer x) a none =
     either WholeIf (eqb x.generation a.entered) (noted x.upto (after_answer (told_by_answer x a) a), told_by_answer x a) (a, of_other x.generation a) (λ e k is. absurd (subst (AnswerFits x a) is (null_fits x a))) (λ e. other_whole a x.generation)
 whole-comes (frame.Snapshot x) a none =

@@ -4,7 +4,7 @@ use Rattle.std.specs.Prelude.{◌==◌}
 use Rattle.std.specs.List.{AllByRecursion, flat_map, list_any}
 use Rattle.std.proofs.Math.Bool.{and-true}
 use Rattle.std.proofs.lemmas.Bool.{and_parts, cond-true, cond-false, eq-eqb, eqb-true, ne_eqb, leb-true, or_left, or_right}
-use Rattle.url.specs.Origin.{Triple}
+use Rattle.wl_origin.specs.Order.{Pair}
 use Rattle.wl_draft.specs.Tables.{Table, find}
 use Rattle.wl_agent.specs.declared.status.Status.{Status}
 use Rattle.wl_agent.specs.declared.status.Status.TheVariants.{Held}
@@ -175,7 +175,7 @@ all-held w a o = record {
 run-tabs : (events : List Event) → AreTabs (run events empty_world).kernel.opened
 run-tabs events = go (run events empty_world).kernel.opened (λ p. (reached p events).kernel)
   where
-    go : (os : List OpenedTab) → (Triple → AreTabs os) → AreTabs os
+    go : (os : List OpenedTab) → (Pair → AreTabs os) → AreTabs os
     go [] f = tt
     go (o ∷ os) f = f o.partition
 

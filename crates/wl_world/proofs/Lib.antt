@@ -1,6 +1,7 @@
 pub mod Basics
 pub mod Settling
 pub mod Same
+pub mod ToldParts
 pub mod Invariant
 pub mod Cover
 pub mod Grown
@@ -59,6 +60,7 @@ mod Heard
 mod Spending
 mod TabTables
 mod Parted
+mod Stamping
 mod Sends
 mod Commanded
 mod Merged

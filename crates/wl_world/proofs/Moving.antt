@@ -4,7 +4,7 @@ use Rattle.wl_frames.specs.declared.frame.Stamped.{Stamped}
 use Rattle.wl_frames.specs.declared.frame.Upward.{Upward}
 use Rattle.wl_frames.specs.declared.frame.Addressed.{Addressed}
 use Rattle.wl_broker.specs.Broker.{BrokerState, manager_of, Taking, Drops, Does, taking}
-use Rattle.wl_broker.proofs.Takings.{Takes, joins, repeats, performs, taking-Takes}
+use Rattle.wl_broker.proofs.Takings.{Takes, joins, keeps, repeats, performs, taking-Takes}
 use Rattle.wl_broker.proofs.Others.{Takes-moves}
 use Rattle.wl_world.specs.declared.message.Message.TheVariants.{Up}
 use Rattle.wl_world.specs.declared.event.Event.{Event}
@@ -16,7 +16,8 @@ use Rattle.wl_world.proofs.Basics.{either}
 use Rattle.wl_world.proofs.Takes.{set-else}
 
 taken-elsewhere : (b : BrokerState) (t p : ℕ) {u : Upward} {after : BrokerState} {outs : List Addressed} → Takes b t p u after outs → (q : ℕ) → q ≢ p → manager_of after q ≡ manager_of b q
-taken-elsewhere b t p (joins passes may) q n = set-else _ p _ q (λ e. n (sym e))
+taken-elsewhere b t p (keeps told passes may part) q n = refl
+taken-elsewhere b t p (joins told passes may whole) q n = set-else _ p _ q (λ e. n (sym e))
 taken-elsewhere b t p (repeats passes served old) q n = refl
 taken-elsewhere b t p (performs passes served next) q n = set-else _ p _ q (λ e. n (sym e))
 

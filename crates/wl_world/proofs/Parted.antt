@@ -1,17 +1,17 @@
 -- What the supervisor becomes is what the world's kernel and broker become.
 use Rattle.std.proofs.Common.{◌≡◌, ℕ, List, [], not, is_some, true, false, cond, map, Option, Some, None, Result, Ok, Err, OnOk, refl}
-use Rattle.url.specs.Origin.{Triple}
-use Rattle.wl_draft.specs.Tables.{Table}
+use Rattle.wl_origin.specs.Order.{Pair}
+use Rattle.wl_draft.specs.Tables.{Table, put}
 use Rattle.wl_frames.specs.declared.frame.Stamped.{Stamped}
 use Rattle.wl_broadcast.specs.Channels.{ChannelState}
-use Rattle.wl_agent.specs.Tab.{TabState}
+use Rattle.wl_agent.specs.Tab.{TabState, newborn_two}
 use Rattle.wl_broker.specs.Broker.{BrokerState, started, hellos, Drops, Does, taking, burial}
 use Rattle.wl_kernel.specs.declared.fault.OpenFault.{OpenFault}
 use Rattle.wl_kernel.specs.Kernel.{open_refusal, opened, is_living, killed, may_stop, stopped, placed}
 use Rattle.wl_world.specs.declared.message.Message.{Message}
 use Rattle.wl_world.specs.declared.supervisor.Supervisor.{Supervisor}
 use Rattle.wl_world.specs.declared.supervisor.Supervisor.TheVariants.{Down, Up}
-use Rattle.wl_world.specs.World.{with_kernel as kernel_deed, WorldState, from_broker, nothing, where_allowed, opens, kills, tells, buries, stops, starts, begins, follows, comes_up}
+use Rattle.wl_world.specs.World.{with_kernel as kernel_deed, WorldState, from_broker, nothing, where_allowed, command_limit, opens, with_two, opens_two, kills, tells, buries, stops, starts, begins, follows, comes_up}
 use Rattle.wl_world.specs.Supervised.{kernel_of, broker_of, with_kernel, world_of, begins as may_begin, begun, greeted, halted, after_taking, outs_by_taking, broker_after, outs_of, is_dead, after_burial, outs_by_burial}
 
 -- what holds anyway holds after a success
@@ -21,15 +21,26 @@ always (Err e) p = tt
 
 -- ---- opening and killing
 
-pub opens-ok : (ts : Table TabState) (cs : Table ChannelState) (s : Supervisor) (bag : List Message) (corrupt : List ℕ) (t : ℕ) (p : Triple) → open_refusal t p (kernel_of s) ≡ None → world_of ts cs (with_kernel (opened t p (kernel_of s)) s) bag corrupt ≡ (opens (world_of ts cs s bag corrupt) t p).world
+pub opens-ok : (ts : Table TabState) (cs : Table ChannelState) (s : Supervisor) (bag : List Message) (corrupt : List ℕ) (t : ℕ) (p : Pair) → open_refusal t p (kernel_of s) ≡ None → world_of ts cs (with_kernel (opened t p (kernel_of s)) s) bag corrupt ≡ (opens (world_of ts cs s bag corrupt) t p).world
 opens-ok ts cs (Down k) bag corrupt t p e = rw e refl
 opens-ok ts cs (Up k b) bag corrupt t p e = rw e refl
 
-pub opens-silent : (w : WorldState) (t : ℕ) (p : Triple) → (opens w t p).sends ≡ []
+pub opens-silent : (w : WorldState) (t : ℕ) (p : Pair) → (opens w t p).sends ≡ []
 opens-silent w t p = elim (open_refusal t p w.kernel) as (λ o. (where_allowed (not (is_some o)) w (kernel_deed (opened t p w.kernel) w)).sends ≡ []) [ None ↦ refl | Some f ↦ refl ]
 
-pub opens-refused : (w : WorldState) (t : ℕ) (p : Triple) (f : OpenFault) → open_refusal t p w.kernel ≡ Some f → (opens w t p).world ≡ w
+pub opens-refused : (w : WorldState) (t : ℕ) (p : Pair) (f : OpenFault) → open_refusal t p w.kernel ≡ Some f → (opens w t p).world ≡ w
 opens-refused w t p f e = rw e refl
+
+-- a tab of the second kind has its row from its opening on
+pub opens_two-ok : (ts us : Table TabState) (cs : Table ChannelState) (s : Supervisor) (bag : List Message) (corrupt : List ℕ) (t : ℕ) (p : Pair) → open_refusal t p (kernel_of s) ≡ None → us ≡ put t (newborn_two t command_limit) ts → world_of us cs (with_kernel (opened t p (kernel_of s)) s) bag corrupt ≡ (opens_two (world_of ts cs s bag corrupt) t p).world
+opens_two-ok ts us cs (Down k) bag corrupt t p e row = rw (e, row) refl
+opens_two-ok ts us cs (Up k b) bag corrupt t p e row = rw (e, row) refl
+
+pub opens_two-silent : (w : WorldState) (t : ℕ) (p : Pair) → (opens_two w t p).sends ≡ []
+opens_two-silent w t p = elim (open_refusal t p w.kernel) as (λ o. (where_allowed (not (is_some o)) w (kernel_deed (opened t p w.kernel) (with_two t w))).sends ≡ []) [ None ↦ refl | Some f ↦ refl ]
+
+pub opens_two-refused : (w : WorldState) (t : ℕ) (p : Pair) (f : OpenFault) → open_refusal t p w.kernel ≡ Some f → (opens_two w t p).world ≡ w
+opens_two-refused w t p f e = rw e refl
 
 pub kills-after : (ts : Table TabState) (cs : Table ChannelState) (s : Supervisor) (bag : List Message) (corrupt : List ℕ) (t : ℕ) → world_of ts cs (with_kernel (cond (is_living (kernel_of s) t) (killed t (kernel_of s)) (kernel_of s)) s) bag corrupt ≡ (kills (world_of ts cs s bag corrupt) t).world
 kills-after ts cs (Down k) bag corrupt t =
