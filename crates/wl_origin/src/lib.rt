@@ -1,10 +1,11 @@
-//! Partitions: which URLs belong together, by RFC 6454.
+//! Partitions: which URLs belong together, by RFC 6454, under which top-level origin.
 #![tactic(auto)]
 
 pub mod fault;
+pub mod pair;
 pub mod parse;
-pub mod triple;
+mod triple;
 
 pub use fault::OriginFault;
-pub use parse::partition;
-pub use triple::Partition;
+pub use pair::Partition;
+pub use parse::{partition, partition_pair};

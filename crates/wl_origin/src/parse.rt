@@ -1,23 +1,50 @@
-ghost use Rattle.std.specs.Prelude.{◌≡◌, ◌⊎◌, IfOk, IfErr, Ok, Err};
-ghost use Rattle.wl_origin.specs.Partition.{partition_of};
+ghost use Rattle.std.specs.Prelude.{◌≡◌, ◌⊎◌, ◌≤◌, length, IfOk, IfErr, Ok, Err};
+ghost use Rattle.wl_origin.specs.Partition.{url_limit, origin_of_text, partition_of, partition_of_pair};
 
 use crate::fault::OriginFault;
-use crate::triple::Partition;
+use crate::pair::Partition;
+use crate::triple::TupleOrigin;
 use std::alloc::Global;
 use url::Url;
 
 /// How many bytes the text of a URL may have.
 const URL_LIMIT: usize = 2048;
 
-/// The partition of an absolute URL. A refusal of memory is answered at once, also where a later step would refuse the URL.
+/// The partition of a page at the top: its URL's origin is the top-level one too. A refusal of memory is answered at once,
+/// also where a later step would refuse the URL.
 pub fn partition(alloc: Global, url: &str) -> Result<Partition, OriginFault>
     ensures ok { IfOk result (λ p. partition_of url.now ≡ Ok p) }
     ensures refused { IfErr result
         (λ e. (e ≡ OriginFault.Memory) ⊎ (partition_of url.now ≡ Err e)) }
+    ensures memory { IfErr result (λ e. e ≡ OriginFault.Memory → length url.now ≤ url_limit) }
+{
+    let own = origin_of(alloc, url)?;
+    let top = own.copy(alloc)?;
+    Ok(Partition::new(top, own))
+}
+
+/// The partition of a page under another at the top. The top-level URL is read first. A refusal of memory is answered at
+/// once, also where a later step would refuse a URL.
+pub fn partition_pair(alloc: Global, top: &str, own: &str) -> Result<Partition, OriginFault>
+    ensures ok { IfOk result (λ p. partition_of_pair top.now own.now ≡ Ok p) }
+    ensures refused { IfErr result
+        (λ e. (e ≡ OriginFault.Memory) ⊎ (partition_of_pair top.now own.now ≡ Err e)) }
+    ensures memory { IfErr result (λ e. e ≡ OriginFault.Memory → length top.now ≤ url_limit) }
+{
+    let top = origin_of(alloc, top)?;
+    Ok(Partition::new(top, origin_of(alloc, own)?))
+}
+
+/// The origin of an absolute URL.
+fn origin_of(alloc: Global, url: &str) -> Result<TupleOrigin, OriginFault>
+    ensures ok { IfOk result (λ o. origin_of_text url.now ≡ Ok o) }
+    ensures refused { IfErr result
+        (λ e. (e ≡ OriginFault.Memory) ⊎ (origin_of_text url.now ≡ Err e)) }
+    ensures memory { IfErr result (λ e. e ≡ OriginFault.Memory → length url.now ≤ url_limit) }
 {
     if url.len() > URL_LIMIT {
         return Err(OriginFault::BadUrl);
     }
     let origin = Url::parse(alloc, url)?.origin()?;
-    Partition::of_origin(alloc, origin)
+    TupleOrigin::of_origin(alloc, origin)
 }

@@ -5,7 +5,7 @@ ghost use Rattle.std.specs.Cmp.Rules.{comparing};
 ghost use Rattle.std.proofs.Common.{rules};
 ghost use Rattle.url.specs.Host.{owned_host};
 ghost use Rattle.url.specs.Origin.{origin_tuple};
-ghost use Rattle.wl_origin.specs.Partition.{origin_limit, origin_text, partition_of_origin};
+ghost use Rattle.wl_origin.specs.Partition.{origin_limit, origin_text, triple_of_origin};
 ghost use Rattle.wl_origin.specs.Order.{triple_eq, triple_cmp};
 
 use crate::fault::OriginFault;
@@ -17,16 +17,16 @@ use url::{Host, Origin};
 /// How many bytes the text of an origin may have.
 const ORIGIN_LIMIT: usize = 4096;
 
-/// Scheme, host and port: what URLs of one partition have in common. Its ASCII text is kept beside them.
+/// Scheme, host and port: what URLs of one origin have in common. Its ASCII text is kept beside them.
 #[derive(Debug, Drop)]
-pub struct Partition {
+pub struct TupleOrigin {
     scheme: String,
     host: Host<String>,
     port: u16,
     text: String,
 }
 
-impl Model for Partition {
+impl Model for TupleOrigin {
     ghost use Rattle.url.specs.Origin.{Triple};
 
     ghost Value = { Triple };
@@ -38,17 +38,17 @@ impl Model for Partition {
     ghost invariant = { KeepsText };
 }
 
-impl Partition {
-    pub(crate) fn of_origin(alloc: Global, origin: Origin) -> Result<Partition, OriginFault>
-        ensures ok { IfOk result (λ p. partition_of_origin (origin_tuple origin) ≡ Ok p) }
+impl TupleOrigin {
+    pub(crate) fn of_origin(alloc: Global, origin: Origin) -> Result<TupleOrigin, OriginFault>
+        ensures ok { IfOk result (λ p. triple_of_origin (origin_tuple origin) ≡ Ok p) }
         ensures refused { IfErr result
-            (λ e. (e ≡ OriginFault.Memory) ⊎ (partition_of_origin (origin_tuple origin) ≡ Err e)) }
+            (λ e. (e ≡ OriginFault.Memory) ⊎ (triple_of_origin (origin_tuple origin) ≡ Err e)) }
     {
         let text = origin.ascii_serialization(alloc)?;
         match origin {
             Origin::Opaque => Err(OriginFault::Security),
             Origin::Tuple(..) if text.as_str().len() > ORIGIN_LIMIT => Err(OriginFault::BadUrl),
-            Origin::Tuple(scheme, host, port) => Ok(Partition {
+            Origin::Tuple(scheme, host, port) => Ok(TupleOrigin {
                 scheme,
                 host,
                 port,
@@ -65,11 +65,11 @@ impl Partition {
         self.text.as_str()
     }
 
-    /// An equal partition, in memory of its own.
-    pub fn copy(&self, alloc: Global) -> Result<Partition, AllocError>
+    /// An equal origin, in memory of its own.
+    pub fn copy(&self, alloc: Global) -> Result<TupleOrigin, AllocError>
         ensures { IfOk result (λ copy. copy ≡ self.now) }
     {
-        Ok(Partition {
+        Ok(TupleOrigin {
             scheme: String::from_str(alloc, self.scheme.as_str())?,
             host: copy_host(alloc, &self.host)?,
             port: self.port,
@@ -88,12 +88,12 @@ fn copy_host(alloc: Global, host: &Host<String>) -> Result<Host<String>, AllocEr
     }
 }
 
-impl PartialEq for Partition {
+impl PartialEq for TupleOrigin {
     ghost eq = { triple_eq };
 
     ghost laws = { Prim.search (comparing, rules) };
 
-    fn eq(&self, other: &Partition) -> bool
+    fn eq(&self, other: &TupleOrigin) -> bool
         ensures value { result ≡ triple_eq self.now other.now }
         ensures same { IsTrue result ↔ (self.now ≡ other.now) }
     {
@@ -101,22 +101,22 @@ impl PartialEq for Partition {
     }
 }
 
-impl Eq for Partition {
+impl Eq for TupleOrigin {
     ghost laws = { Prim.search (comparing, rules) };
 }
 
-impl PartialOrd for Partition {
+impl PartialOrd for TupleOrigin {
     ghost partial_cmp = { as_partial_cmp triple_cmp };
 
     ghost laws = { partial_order_from_own_ties
         (Prim.search (comparing, rules) depth 9) (Prim.search (comparing, rules)) };
 
-    fn partial_cmp(&self, other: &Partition) -> Option<Ordering> {
+    fn partial_cmp(&self, other: &TupleOrigin) -> Option<Ordering> {
         Some(self.cmp(other))
     }
 }
 
-impl Ord for Partition {
+impl Ord for TupleOrigin {
     ghost cmp = { triple_cmp };
 
     ghost total = { Prim.search (comparing, rules) depth 9 };
@@ -125,7 +125,7 @@ impl Ord for Partition {
 
     ghost matches_eq = { Prim.search (comparing, rules) };
 
-    fn cmp(&self, other: &Partition) -> Ordering {
+    fn cmp(&self, other: &TupleOrigin) -> Ordering {
         self.scheme
             .cmp(&other.scheme)
             .then(self.host.cmp(&other.host))

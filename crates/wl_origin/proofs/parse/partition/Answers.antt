@@ -1,27 +1,17 @@
-use Rattle.std.proofs.Common.{◌≤◌, length, inr, arith}
 use Rattle.std.proofs.lemmas.Result.{err_from_is_err_and}
-use Rattle.wl_origin.specs.Partition.{url_limit}
-use Rattle.wl_origin.proofs.PartitionLemmas.{partition_of-long, partition_of-parsed, refused_parse}
+use Rattle.wl_origin.proofs.PartitionLemmas.{origin_of_text-fits, partition_of-origin, refused_partition}
 use Rattle.wl_origin.proofs.parse.partition.Goals as goal
 
-pub returns-then-url-gt-URL_LIMIT-clause-refused :
-    goal.returns-then-url-gt-URL_LIMIT-clause-refused
-returns-then-url-gt-URL_LIMIT-clause-refused c =
-    inr (partition_of-long _ (omega arith))
-
-pub returns-in_err-parse-clause-refused : goal.returns-in_err-parse-clause-refused
-returns-in_err-parse-clause-refused c =
+pub returns-in_err-own-clause-refused : goal.returns-in_err-own-clause-refused
+returns-in_err-own-clause-refused c =
     let answered = err_from_is_err_and c.from_residual.result c.from_residual.ensures.1 in
-    rw (answered.1, answered.2) (refused_parse _ _ (omega arith) c.in_err-parse.ensures)
+    rw (answered.1, answered.2) (refused_partition c.args.url.now c.in_err-own.field-0.0 c.in_err-own.ensures.refused)
+
+pub returns-in_err-top-clause-memory : goal.returns-in_err-top-clause-memory
+returns-in_err-top-clause-memory c =
+    let answered = err_from_is_err_and c.from_residual-in_err-top.result c.from_residual-in_err-top.ensures.1 in
+    rw answered.1 (λ _. origin_of_text-fits c.args.url.now c.in_ok-own.own c.in_ok-own.ensures.ok)
 
 pub returns-clause-ok : goal.returns-clause-ok
 returns-clause-ok c =
-    let short : length c.args.url.now ≤ url_limit = omega arith in
-    let parsed = partition_of-parsed c.args.url.now c.in_ok-parse.field-0 short c.in_ok-parse.ensures in
-    rw (parsed, ← c.in_ok-origin.ensures) c.of_origin.ensures.ok
-
-pub returns-clause-refused : goal.returns-clause-refused
-returns-clause-refused c =
-    let short : length c.args.url.now ≤ url_limit = omega arith in
-    let parsed = partition_of-parsed c.args.url.now c.in_ok-parse.field-0 short c.in_ok-parse.ensures in
-    rw (parsed, ← c.in_ok-origin.ensures) c.of_origin.ensures.refused
+    rw (c.new.ensures, c.in_ok-top.ensures) (partition_of-origin c.args.url.now c.in_ok-own.own c.in_ok-own.ensures.ok)
