@@ -3,8 +3,8 @@
 ghost use Rattle.std.specs.Prelude.{◌≡◌, IfOk};
 
 use crate::frame::{
-    Addressed, Answer, Command, Dead, Downward, Frame, Heard, Hello, Operation, Post, Report,
-    Snapshot, SnapshotEntry, Stamped, Start, Upward, Welcome,
+    Addressed, Answer, Command, Dead, Downward, Frame, Heard, Hello, Operation, PairWelcome, Post,
+    Report, ReportPart, Snapshot, SnapshotEntry, Stamped, Start, Upward, Welcome,
 };
 use crate::sequence::Sequence;
 use std::alloc::{AllocError, Global};
@@ -18,12 +18,14 @@ impl Frame {
         Ok(match self {
             Frame::Command(c) => Frame::Command(c.copy(alloc)?),
             Frame::Report(r) => Frame::Report(r.copy(alloc)?),
+            Frame::ReportPart(r) => Frame::ReportPart(r.copy(alloc)?),
             Frame::Post(p) => Frame::Post(p.copy(alloc)?),
             Frame::Hello(h) => Frame::Hello(h.copy()),
             Frame::Answer(a) => Frame::Answer(a.copy()),
             Frame::Snapshot(s) => Frame::Snapshot(s.copy(alloc)?),
             Frame::Heard(h) => Frame::Heard(h.copy(alloc)?),
             Frame::Welcome(w) => Frame::Welcome(w.copy(alloc)?),
+            Frame::PairWelcome(w) => Frame::PairWelcome(w.copy(alloc)?),
             Frame::Stamped(s) => Frame::Stamped(s.copy(alloc)?),
             Frame::Start(s) => Frame::Start(s.copy(alloc)?),
             Frame::Addressed(a) => Frame::Addressed(a.copy(alloc)?),
@@ -117,6 +119,20 @@ impl Report {
     }
 }
 
+impl ReportPart {
+    pub fn copy(&self, alloc: Global) -> Result<ReportPart, AllocError>
+        ensures { IfOk result (λ copy. copy ≡ self.now) }
+    {
+        Ok(ReportPart {
+            generation: self.generation,
+            base: self.base,
+            part: self.part,
+            parts: self.parts,
+            entries: copy_entries(alloc, self.entries.as_slice())?,
+        })
+    }
+}
+
 impl Post {
     pub fn copy(&self, alloc: Global) -> Result<Post, AllocError>
         ensures { IfOk result (λ copy. copy ≡ self.now) }
@@ -192,6 +208,18 @@ impl Welcome {
     }
 }
 
+impl PairWelcome {
+    pub(crate) fn copy(&self, alloc: Global) -> Result<PairWelcome, AllocError>
+        ensures { IfOk result (λ copy. copy ≡ self.now) }
+    {
+        Ok(PairWelcome {
+            tab: self.tab,
+            top: self.top.copy(alloc)?,
+            own: self.own.copy(alloc)?,
+        })
+    }
+}
+
 impl Upward {
     pub fn copy(&self, alloc: Global) -> Result<Upward, AllocError>
         ensures { IfOk result (λ copy. copy ≡ self.now) }
@@ -199,6 +227,7 @@ impl Upward {
         Ok(match self {
             Upward::Command(c) => Upward::Command(c.copy(alloc)?),
             Upward::Report(r) => Upward::Report(r.copy(alloc)?),
+            Upward::ReportPart(r) => Upward::ReportPart(r.copy(alloc)?),
         })
     }
 }

@@ -9,10 +9,10 @@ pub enum FrameFault {
     /// The length of a body is below 2 or above 65,536.
     #[error("BadLength")]
     BadLength,
-    /// The version is not 1.
+    /// There is no such version.
     #[error("BadVersion")]
     BadVersion,
-    /// There is no such kind of frame.
+    /// There is no such kind of frame in its version.
     #[error("BadKind")]
     BadKind,
     /// A field is outside its form, or cut off by the end of the body.

@@ -1,4 +1,4 @@
-//! The frames of the protocol's first version, one struct for each kind.
+//! The frames of the protocol, one struct for each kind.
 
 use crate::origin::Origin;
 use crate::sequence::Sequence;
@@ -39,6 +39,21 @@ pub struct Command {
 pub struct Report {
     pub generation: u32,
     pub base: u32,
+    /// By strictly rising number.
+    pub entries: Sequence<Entry>,
+}
+
+/// The most parts of a report.
+pub(crate) const MOST_REPORT_PARTS: u16 = 16;
+
+/// A part of what a tab says on entering a generation: how many commands it has issued, and some of its live locks.
+#[derive(Drop)]
+pub struct ReportPart {
+    pub generation: u32,
+    pub base: u32,
+    /// Counted from 0.
+    pub part: u16,
+    pub parts: u16,
     /// By strictly rising number.
     pub entries: Sequence<Entry>,
 }
@@ -119,11 +134,20 @@ pub struct Welcome {
     pub origin: Origin,
 }
 
+/// Tells a tab process who it is, and what stands at the top of its page.
+#[derive(Drop)]
+pub struct PairWelcome {
+    pub tab: u16,
+    pub top: Origin,
+    pub own: Origin,
+}
+
 /// What a tab sends to the broker.
 #[derive(Drop)]
 pub enum Upward {
     Command(Command),
     Report(Report),
+    ReportPart(ReportPart),
 }
 
 /// What the broker sends to a tab.
@@ -168,12 +192,14 @@ pub struct Dead {
 pub enum Frame {
     Command(Command),
     Report(Report),
+    ReportPart(ReportPart),
     Post(Post),
     Hello(Hello),
     Answer(Answer),
     Snapshot(Snapshot),
     Heard(Heard),
     Welcome(Welcome),
+    PairWelcome(PairWelcome),
     Stamped(Stamped),
     Start(Start),
     Addressed(Addressed),

@@ -17,8 +17,9 @@ pub mod writing;
 pub use fault::{FrameFault, PushFault};
 pub use feed::Feed;
 pub use frame::{
-    Addressed, Answer, Command, Dead, Downward, Frame, Heard, Hello, Operation, Outcome, Post,
-    Report, Snapshot, SnapshotEntry, Stamped, Start, Upward, Welcome,
+    Addressed, Answer, Command, Dead, Downward, Frame, Heard, Hello, Operation, Outcome,
+    PairWelcome, Post, Report, ReportPart, Snapshot, SnapshotEntry, Stamped, Start, Upward,
+    Welcome,
 };
 pub use origin::Origin;
 pub use sequence::Sequence;

@@ -19,10 +19,10 @@ pub fn decode(alloc: Global, body: &[u8]) -> Result<Frame, FrameFault>
     ensures frame { IfOk result (λ f. IsBody body.now f) }
     ensures fault { IfErr result (IsFaultOf body.now) }
 {
-    if body[0] != bodies::VERSION {
+    if !kind::is_version(body[0]) {
         return Err(FrameFault::BadVersion);
     }
-    let Some(kind) = kind::kind_of(body[1]) else {
+    let Some(kind) = kind::kind_of(body[0], body[1]) else {
         return Err(FrameFault::BadKind);
     };
     let (frame, rest) = bodies::frame_of(alloc, kind, &body[2..])?;

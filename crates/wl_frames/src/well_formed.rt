@@ -2,11 +2,12 @@
 
 ghost use Rattle.std.specs.Prelude.{◌↔◌, IsTrue};
 ghost use Rattle.std.specs.List.{AllByRecursion};
-ghost use Rattle.wl_frames.specs.Grammar.{IsWellFormed, IsCommand, IsReport, IsPost, IsHello, IsAnswer, IsSnapshot, IsHeard, IsWelcome, IsStamped, IsStart, IsAddressed, IsDead, IsUpward, IsDownward, IsOperation, IsGeneration, IsTab, IsChannel, IsLockName, IsData, IsOrigin, IsEntry, IsSnapshotEntry, IsPlace, RiseFrom, TabsRiseFrom};
+ghost use Rattle.wl_frames.specs.Grammar.{IsWellFormed, IsCommand, IsReport, IsReportPart, IsPost, IsHello, IsAnswer, IsSnapshot, IsHeard, IsWelcome, IsPairWelcome, IsStamped, IsStart, IsAddressed, IsDead, IsUpward, IsDownward, IsOperation, IsGeneration, IsTab, IsChannel, IsLockName, IsData, IsOrigin, IsEntry, IsSnapshotEntry, IsPlace, RiseFrom, TabsRiseFrom};
 
 use crate::frame::{
-    Addressed, Answer, Command, Dead, Downward, Frame, Heard, Hello, Operation, Post, Report,
-    Snapshot, SnapshotEntry, Stamped, Start, Upward, Welcome,
+    Addressed, Answer, Command, Dead, Downward, Frame, Heard, Hello, MOST_REPORT_PARTS, Operation,
+    PairWelcome, Post, Report, ReportPart, Snapshot, SnapshotEntry, Stamped, Start, Upward,
+    Welcome,
 };
 use crate::origin::Origin;
 use wl_draft::{Entry, Name};
@@ -19,12 +20,14 @@ impl Frame {
         match self {
             Frame::Command(c) => c.is_well_formed(),
             Frame::Report(r) => r.is_well_formed(),
+            Frame::ReportPart(r) => r.is_well_formed(),
             Frame::Post(p) => p.is_well_formed(),
             Frame::Hello(h) => h.is_well_formed(),
             Frame::Answer(a) => a.is_well_formed(),
             Frame::Snapshot(s) => s.is_well_formed(),
             Frame::Heard(h) => h.is_well_formed(),
             Frame::Welcome(w) => w.is_well_formed(),
+            Frame::PairWelcome(w) => w.is_well_formed(),
             Frame::Stamped(s) => s.is_well_formed(),
             Frame::Start(s) => s.is_well_formed(),
             Frame::Addressed(a) => a.is_well_formed(),
@@ -156,6 +159,20 @@ impl Report {
     }
 }
 
+impl ReportPart {
+    fn is_well_formed(&self) -> bool
+        ensures { IsTrue result ↔ IsReportPart self.now }
+    {
+        let _base = self.base;
+        let entries = self.entries.as_slice();
+        is_generation(self.generation)
+            && self.part < self.parts
+            && self.parts <= MOST_REPORT_PARTS
+            && entries.len() <= 64
+            && are_entries(entries)
+    }
+}
+
 impl Post {
     fn is_well_formed(&self) -> bool
         ensures { IsTrue result ↔ IsPost self.now }
@@ -213,6 +230,14 @@ impl Welcome {
     }
 }
 
+impl PairWelcome {
+    fn is_well_formed(&self) -> bool
+        ensures { IsTrue result ↔ IsPairWelcome self.now }
+    {
+        is_tab(self.tab) && is_origin(&self.top) && is_origin(&self.own)
+    }
+}
+
 impl Upward {
     fn is_well_formed(&self) -> bool
         ensures { IsTrue result ↔ IsUpward self.now }
@@ -220,6 +245,7 @@ impl Upward {
         match self {
             Upward::Command(c) => c.is_well_formed(),
             Upward::Report(r) => r.is_well_formed(),
+            Upward::ReportPart(r) => r.is_well_formed(),
         }
     }
 }

@@ -2,11 +2,12 @@
 
 ghost use Rattle.std.specs.Prelude.{◌≡◌, ◌≤◌, ◌<◌, ◌^◌, ◌++◌, ◌∷◌, [], length, drop, IfOk, OnOk};
 ghost use Rattle.std.specs.List.{flat_map, AllByRecursion};
-ghost use Rattle.wl_frames.specs.Grammar.{u16, u32, IsWellFormed, IsCommand, IsReport, IsPost, IsSnapshot, IsHeard, IsWelcome, IsStamped, IsStart, IsAddressed, IsUpward, IsDownward, IsOperation, IsLockName, IsEntry, IsSnapshotEntry, spelled_mode, spelled_flag, spelled_held, spelled_outcome, short_text, long_text, operation, entry, snapshot_entry, place, command, report, post, hello, answer, snapshot, heard, welcome, upward, downward, stamped, start, addressed, dead, body, spelling};
+ghost use Rattle.wl_frames.specs.Grammar.{u16, u32, IsWellFormed, IsCommand, IsReport, IsReportPart, IsPost, IsSnapshot, IsHeard, IsWelcome, IsPairWelcome, IsStamped, IsStart, IsAddressed, IsUpward, IsDownward, IsOperation, IsLockName, IsEntry, IsSnapshotEntry, spelled_mode, spelled_flag, spelled_held, spelled_outcome, short_text, long_text, operation, entry, snapshot_entry, place, command, report, report_part, post, hello, answer, snapshot, heard, welcome, pair_welcome, upward, downward, stamped, start, addressed, dead, body, spelling};
 
 use crate::frame::{
-    Addressed, Answer, Command, Dead, Downward, Frame, Heard, Hello, Operation, Outcome, Post,
-    Report, Snapshot, SnapshotEntry, Stamped, Start, Upward, Welcome,
+    Addressed, Answer, Command, Dead, Downward, Frame, Heard, Hello, Operation, Outcome,
+    PairWelcome, Post, Report, ReportPart, Snapshot, SnapshotEntry, Stamped, Start, Upward,
+    Welcome,
 };
 use std::alloc::{AllocError, Global};
 use wl_draft::{Entry, Mode};
@@ -42,12 +43,14 @@ fn put_body(out: &mut Vec<u8>, frame: &Frame) -> Result<(), AllocError>
     match frame {
         Frame::Command(c) => put_command(out, c),
         Frame::Report(r) => put_report(out, r),
+        Frame::ReportPart(r) => put_report_part(out, r),
         Frame::Post(p) => put_post(out, p),
         Frame::Hello(h) => put_hello(out, h),
         Frame::Answer(a) => put_answer(out, a),
         Frame::Snapshot(s) => put_snapshot(out, s),
         Frame::Heard(h) => put_heard(out, h),
         Frame::Welcome(w) => put_welcome(out, w),
+        Frame::PairWelcome(w) => put_pair_welcome(out, w),
         Frame::Stamped(s) => put_stamped(out, s),
         Frame::Start(s) => put_start(out, s),
         Frame::Addressed(a) => put_addressed(out, a),
@@ -69,11 +72,11 @@ fn put_u32(out: &mut Vec<u8>, number: u32) -> Result<(), AllocError>
     out.extend_from_slice(&number.to_be_bytes())
 }
 
-/// The version, and the kind of the body.
-fn put_kind(out: &mut Vec<u8>, kind: u8) -> Result<(), AllocError>
-    ensures { OnOk result (out.new.items ≡ out.old.items ++ (1 ∷ kind ∷ [])) }
+/// The version and the kind of a body.
+fn put_kind(out: &mut Vec<u8>, version: u8, kind: u8) -> Result<(), AllocError>
+    ensures { OnOk result (out.new.items ≡ out.old.items ++ (version ∷ kind ∷ [])) }
 {
-    out.extend_from_slice(&[1, kind])
+    out.extend_from_slice(&[version, kind])
 }
 
 fn put_mode(out: &mut Vec<u8>, mode: Mode) -> Result<(), AllocError>
@@ -232,7 +235,7 @@ fn put_command(out: &mut Vec<u8>, c: &Command) -> Result<(), AllocError>
     requires { IsCommand c.now }
     ensures { OnOk result (out.new.items ≡ out.old.items ++ command c.now) }
 {
-    put_kind(out, 1)?;
+    put_kind(out, 1, 1)?;
     put_u32(out, c.generation)?;
     put_u32(out, c.number)?;
     put_operation(out, &c.operation)
@@ -243,9 +246,22 @@ fn put_report(out: &mut Vec<u8>, r: &Report) -> Result<(), AllocError>
     requires { IsReport r.now }
     ensures { OnOk result (out.new.items ≡ out.old.items ++ report r.now) }
 {
-    put_kind(out, 2)?;
+    put_kind(out, 1, 2)?;
     put_u32(out, r.generation)?;
     put_u32(out, r.base)?;
+    put_entries(out, r.entries.as_slice())
+}
+
+#[tactic(auto, unfolding(crate::specs::Grammar::report_part))]
+fn put_report_part(out: &mut Vec<u8>, r: &ReportPart) -> Result<(), AllocError>
+    requires { IsReportPart r.now }
+    ensures { OnOk result (out.new.items ≡ out.old.items ++ report_part r.now) }
+{
+    put_kind(out, 2, 2)?;
+    put_u32(out, r.generation)?;
+    put_u32(out, r.base)?;
+    put_u16(out, r.part)?;
+    put_u16(out, r.parts)?;
     put_entries(out, r.entries.as_slice())
 }
 
@@ -254,7 +270,7 @@ fn put_post(out: &mut Vec<u8>, p: &Post) -> Result<(), AllocError>
     requires { IsPost p.now }
     ensures { OnOk result (out.new.items ≡ out.old.items ++ post p.now) }
 {
-    put_kind(out, 3)?;
+    put_kind(out, 1, 3)?;
     put_u32(out, p.number)?;
     put_short_text(out, p.channel.as_str())?;
     put_long_text(out, p.bytes.as_slice())
@@ -264,7 +280,7 @@ fn put_post(out: &mut Vec<u8>, p: &Post) -> Result<(), AllocError>
 fn put_hello(out: &mut Vec<u8>, h: &Hello) -> Result<(), AllocError>
     ensures { OnOk result (out.new.items ≡ out.old.items ++ hello h.now) }
 {
-    put_kind(out, 16)?;
+    put_kind(out, 1, 16)?;
     put_u32(out, h.generation)
 }
 
@@ -272,7 +288,7 @@ fn put_hello(out: &mut Vec<u8>, h: &Hello) -> Result<(), AllocError>
 fn put_answer(out: &mut Vec<u8>, a: &Answer) -> Result<(), AllocError>
     ensures { OnOk result (out.new.items ≡ out.old.items ++ answer a.now) }
 {
-    put_kind(out, 17)?;
+    put_kind(out, 1, 17)?;
     put_u32(out, a.generation)?;
     put_u32(out, a.upto)?;
     put_u32(out, a.number)?;
@@ -284,7 +300,7 @@ fn put_snapshot(out: &mut Vec<u8>, s: &Snapshot) -> Result<(), AllocError>
     requires { IsSnapshot s.now }
     ensures { OnOk result (out.new.items ≡ out.old.items ++ snapshot s.now) }
 {
-    put_kind(out, 18)?;
+    put_kind(out, 1, 18)?;
     put_u32(out, s.generation)?;
     put_u32(out, s.number)?;
     put_u16(out, s.part)?;
@@ -297,7 +313,7 @@ fn put_heard(out: &mut Vec<u8>, h: &Heard) -> Result<(), AllocError>
     requires { IsHeard h.now }
     ensures { OnOk result (out.new.items ≡ out.old.items ++ heard h.now) }
 {
-    put_kind(out, 19)?;
+    put_kind(out, 1, 19)?;
     put_u16(out, h.source)?;
     put_u32(out, h.number)?;
     put_short_text(out, h.channel.as_str())?;
@@ -309,9 +325,20 @@ fn put_welcome(out: &mut Vec<u8>, w: &Welcome) -> Result<(), AllocError>
     requires { IsWelcome w.now }
     ensures { OnOk result (out.new.items ≡ out.old.items ++ welcome w.now) }
 {
-    put_kind(out, 20)?;
+    put_kind(out, 1, 20)?;
     put_u16(out, w.tab)?;
     put_long_text(out, w.origin.as_str().as_bytes())
+}
+
+#[tactic(auto, unfolding(crate::specs::Grammar::pair_welcome))]
+fn put_pair_welcome(out: &mut Vec<u8>, w: &PairWelcome) -> Result<(), AllocError>
+    requires { IsPairWelcome w.now }
+    ensures { OnOk result (out.new.items ≡ out.old.items ++ pair_welcome w.now) }
+{
+    put_kind(out, 2, 20)?;
+    put_u16(out, w.tab)?;
+    put_long_text(out, w.top.as_str().as_bytes())?;
+    put_long_text(out, w.own.as_str().as_bytes())
 }
 
 #[tactic(auto, unfolding(crate::specs::Grammar::upward))]
@@ -322,6 +349,7 @@ fn put_upward(out: &mut Vec<u8>, inner: &Upward) -> Result<(), AllocError>
     match inner {
         Upward::Command(c) => put_command(out, c),
         Upward::Report(r) => put_report(out, r),
+        Upward::ReportPart(r) => put_report_part(out, r),
     }
 }
 
@@ -342,7 +370,7 @@ fn put_stamped(out: &mut Vec<u8>, s: &Stamped) -> Result<(), AllocError>
     requires { IsStamped s.now }
     ensures { OnOk result (out.new.items ≡ out.old.items ++ stamped s.now) }
 {
-    put_kind(out, 32)?;
+    put_kind(out, 1, 32)?;
     put_u16(out, s.tab)?;
     put_u16(out, s.partition)?;
     put_upward(out, &s.inner)
@@ -353,7 +381,7 @@ fn put_start(out: &mut Vec<u8>, s: &Start) -> Result<(), AllocError>
     requires { IsStart s.now }
     ensures { OnOk result (out.new.items ≡ out.old.items ++ start s.now) }
 {
-    put_kind(out, 33)?;
+    put_kind(out, 1, 33)?;
     put_u32(out, s.generation)?;
     put_places(out, s.list.as_slice())
 }
@@ -363,7 +391,7 @@ fn put_addressed(out: &mut Vec<u8>, a: &Addressed) -> Result<(), AllocError>
     requires { IsAddressed a.now }
     ensures { OnOk result (out.new.items ≡ out.old.items ++ addressed a.now) }
 {
-    put_kind(out, 34)?;
+    put_kind(out, 1, 34)?;
     put_u16(out, a.tab)?;
     put_downward(out, &a.inner)
 }
@@ -372,6 +400,6 @@ fn put_addressed(out: &mut Vec<u8>, a: &Addressed) -> Result<(), AllocError>
 fn put_dead(out: &mut Vec<u8>, d: &Dead) -> Result<(), AllocError>
     ensures { OnOk result (out.new.items ≡ out.old.items ++ dead d.now) }
 {
-    put_kind(out, 35)?;
+    put_kind(out, 1, 35)?;
     put_u16(out, d.tab)
 }

@@ -1,7 +1,7 @@
 //! Reading the fields of each kind of frame: each answers what was read and the bytes after it.
 
 ghost use Rattle.std.specs.Prelude.{◌≡◌};
-ghost use Rattle.wl_frames.specs.Bodies.{request_at, operation_at, command_at, entry_at, numbers_rise, rising_entries_at, report_at, post_at, hello_at, outcome_at, answer_at, snapshot_entry_at, part_at, snapshot_at, heard_at, welcome_at, inner_kind_at, upward_fields_at, upward_at, downward_fields_at, downward_at, stamped_at, place_at, tabs_rise, rising_places_at, start_at, addressed_at, dead_at, frame_at};
+ghost use Rattle.wl_frames.specs.Bodies.{request_at, operation_at, command_at, entry_at, numbers_rise, rising_entries_at, report_at, part_at, few_parts_at, report_part_at, post_at, hello_at, outcome_at, answer_at, snapshot_entry_at, snapshot_at, heard_at, welcome_at, pair_welcome_at, inner_kind_at, upward_fields_at, upward_at, downward_fields_at, downward_at, stamped_at, place_at, tabs_rise, rising_places_at, start_at, addressed_at, dead_at, frame_at};
 ghost use Rattle.wl_frames.specs.Reading.{Gives};
 
 use super::fault::ReadFault;
@@ -11,15 +11,13 @@ use super::fields::{
 };
 use super::kind::{Kind, kind_of};
 use crate::frame::{
-    Addressed, Answer, Command, Dead, Downward, Frame, Heard, Hello, Operation, Outcome, Post,
-    Report, Snapshot, SnapshotEntry, Stamped, Start, Upward, Welcome,
+    Addressed, Answer, Command, Dead, Downward, Frame, Heard, Hello, MOST_REPORT_PARTS, Operation,
+    Outcome, PairWelcome, Post, Report, ReportPart, Snapshot, SnapshotEntry, Stamped, Start,
+    Upward, Welcome,
 };
 use crate::sequence::Sequence;
 use std::alloc::Global;
 use wl_draft::{Entry, Mode, Name};
-
-/// The version of the protocol.
-pub const VERSION: u8 = 1;
 
 const MOST_ENTRIES: u16 = 64;
 
@@ -146,6 +144,51 @@ fn report_of(alloc: Global, bytes: &[u8]) -> Result<(Report, &[u8]), ReadFault>
     ))
 }
 
+/// A part, and how many there are.
+#[tactic(auto, unfolding(crate::specs::Bodies::part_at))]
+fn part_of(bytes: &[u8]) -> Result<((u16, u16), &[u8]), ReadFault>
+    ensures { Gives (λ x. (x.0, x.1.now)) result (part_at bytes.now) }
+{
+    let (part, rest) = u16_of(bytes)?;
+    let (parts, rest) = u16_of(rest)?;
+    if part >= parts {
+        return Err(ReadFault::Field);
+    }
+    Ok(((part, parts), rest))
+}
+
+/// A part of a report, and how many there are.
+#[tactic(auto, unfolding(crate::specs::Bodies::few_parts_at))]
+fn few_parts_of(bytes: &[u8]) -> Result<((u16, u16), &[u8]), ReadFault>
+    ensures { Gives (λ x. (x.0, x.1.now)) result (few_parts_at bytes.now) }
+{
+    let ((part, parts), rest) = part_of(bytes)?;
+    if MOST_REPORT_PARTS < parts {
+        return Err(ReadFault::Field);
+    }
+    Ok(((part, parts), rest))
+}
+
+#[tactic(auto, unfolding(crate::specs::Bodies::report_part_at))]
+fn report_part_of(alloc: Global, bytes: &[u8]) -> Result<(ReportPart, &[u8]), ReadFault>
+    ensures { Gives (λ x. (x.0, x.1.now)) result (report_part_at bytes.now) }
+{
+    let (generation, rest) = generation_of(bytes)?;
+    let (base, rest) = u32_of(rest)?;
+    let ((part, parts), rest) = few_parts_of(rest)?;
+    let (entries, rest) = entries_of(alloc, rest)?;
+    Ok((
+        ReportPart {
+            generation,
+            base,
+            part,
+            parts,
+            entries,
+        },
+        rest,
+    ))
+}
+
 #[tactic(auto, unfolding(crate::specs::Bodies::post_at))]
 fn post_of(alloc: Global, bytes: &[u8]) -> Result<(Post, &[u8]), ReadFault>
     ensures { Gives (λ x. (x.0, x.1.now)) result (post_at bytes.now) }
@@ -225,19 +268,6 @@ impl Item for SnapshotEntry {
     }
 }
 
-/// A part, and how many there are.
-#[tactic(auto, unfolding(crate::specs::Bodies::part_at))]
-fn part_of(bytes: &[u8]) -> Result<((u16, u16), &[u8]), ReadFault>
-    ensures { Gives (λ x. (x.0, x.1.now)) result (part_at bytes.now) }
-{
-    let (part, rest) = u16_of(bytes)?;
-    let (parts, rest) = u16_of(rest)?;
-    if part >= parts {
-        return Err(ReadFault::Field);
-    }
-    Ok(((part, parts), rest))
-}
-
 #[tactic(auto, unfolding(crate::specs::Bodies::snapshot_at))]
 fn snapshot_of(alloc: Global, bytes: &[u8]) -> Result<(Snapshot, &[u8]), ReadFault>
     ensures { Gives (λ x. (x.0, x.1.now)) result (snapshot_at bytes.now) }
@@ -286,6 +316,16 @@ fn welcome_of(alloc: Global, bytes: &[u8]) -> Result<(Welcome, &[u8]), ReadFault
     Ok((Welcome { tab, origin }, rest))
 }
 
+#[tactic(auto, unfolding(crate::specs::Bodies::pair_welcome_at))]
+fn pair_welcome_of(alloc: Global, bytes: &[u8]) -> Result<(PairWelcome, &[u8]), ReadFault>
+    ensures { Gives (λ x. (x.0, x.1.now)) result (pair_welcome_at bytes.now) }
+{
+    let (tab, rest) = tab_of(bytes)?;
+    let (top, rest) = origin_of(alloc, rest)?;
+    let (own, rest) = origin_of(alloc, rest)?;
+    Ok((PairWelcome { tab, top, own }, rest))
+}
+
 /// The version and the kind of an inner body.
 #[tactic(auto, unfolding(crate::specs::Bodies::inner_kind_at))]
 fn inner_kind_of(bytes: &[u8]) -> Result<(Kind, &[u8]), ReadFault>
@@ -293,10 +333,7 @@ fn inner_kind_of(bytes: &[u8]) -> Result<(Kind, &[u8]), ReadFault>
 {
     let (version, rest) = byte_of(bytes)?;
     let (code, rest) = byte_of(rest)?;
-    if version != VERSION {
-        return Err(ReadFault::Field);
-    }
-    let Some(kind) = kind_of(code) else {
+    let Some(kind) = kind_of(version, code) else {
         return Err(ReadFault::Field);
     };
     Ok((kind, rest))
@@ -313,6 +350,10 @@ fn upward_fields_of(alloc: Global, kind: Kind, bytes: &[u8]) -> Result<(Upward, 
         Kind::Report => {
             let (report, rest) = report_of(alloc, bytes)?;
             Ok((Upward::Report(report), rest))
+        }
+        Kind::ReportPart => {
+            let (part, rest) = report_part_of(alloc, bytes)?;
+            Ok((Upward::ReportPart(part), rest))
         }
         _ => Err(ReadFault::Field),
     }
@@ -461,6 +502,10 @@ pub fn frame_of(alloc: Global, kind: Kind, bytes: &[u8]) -> Result<(Frame, &[u8]
             let (report, rest) = report_of(alloc, bytes)?;
             Ok((Frame::Report(report), rest))
         }
+        Kind::ReportPart => {
+            let (part, rest) = report_part_of(alloc, bytes)?;
+            Ok((Frame::ReportPart(part), rest))
+        }
         Kind::Post => {
             let (post, rest) = post_of(alloc, bytes)?;
             Ok((Frame::Post(post), rest))
@@ -484,6 +529,10 @@ pub fn frame_of(alloc: Global, kind: Kind, bytes: &[u8]) -> Result<(Frame, &[u8]
         Kind::Welcome => {
             let (welcome, rest) = welcome_of(alloc, bytes)?;
             Ok((Frame::Welcome(welcome), rest))
+        }
+        Kind::PairWelcome => {
+            let (welcome, rest) = pair_welcome_of(alloc, bytes)?;
+            Ok((Frame::PairWelcome(welcome), rest))
         }
         Kind::Stamped => {
             let (stamped, rest) = stamped_of(alloc, bytes)?;
