@@ -1,8 +1,7 @@
 //! What is kept of each partition in which a tab was opened.
 
 ghost use Rattle.std.specs.Prelude.{◌≡◌, IfOk, OnOk, OnErr, Some, [], ◌∷◌, option_map, true, if◌then◌else◌};
-ghost use Rattle.url.specs.Origin.{Triple};
-ghost use Rattle.wl_origin.specs.Order.{triple_eq};
+ghost use Rattle.wl_origin.specs.Order.{Pair, pair_eq};
 ghost use Rattle.wl_kernel.specs.Kernel.{rises};
 ghost use Rattle.wl_kernel.specs.Kept.{home_seen, home_of, members, joined, left};
 
@@ -52,9 +51,9 @@ pub(crate) fn join(
 ) -> Result<u16, AllocError>
     requires { rises (members (home_of homes.old.entries partition.now)) ≡ true }
     ensures number { IfOk result (λ n. n ≡ (joined tab (home_of homes.old.entries partition.now)).0) }
-    ensures joined { OnOk result ((q : Triple) → home_of homes.new.entries q
-        ≡ (if triple_eq partition.now q then Some (joined tab (home_of homes.old.entries partition.now)) else home_of homes.old.entries q)) }
-    ensures err { OnErr result ((q : Triple) → home_of homes.new.entries q ≡ home_of homes.old.entries q) }
+    ensures joined { OnOk result ((q : Pair) → home_of homes.new.entries q
+        ≡ (if pair_eq partition.now q then Some (joined tab (home_of homes.old.entries partition.now)) else home_of homes.old.entries q)) }
+    ensures err { OnErr result ((q : Pair) → home_of homes.new.entries q ≡ home_of homes.old.entries q) }
 {
     match homes.get_mut(partition) {
         Some(home) => {
@@ -73,8 +72,8 @@ pub(crate) fn join(
 
 /// A tab leaves its partition, which keeps its number. It takes no memory.
 pub(crate) fn leave(homes: &mut BTreeMap<Partition, Home>, partition: &Partition, tab: u16)
-    ensures { (q : Triple) → home_of homes.new.entries q
-        ≡ (if triple_eq partition.now q then option_map (left tab) (home_of homes.old.entries q) else home_of homes.old.entries q) }
+    ensures { (q : Pair) → home_of homes.new.entries q
+        ≡ (if pair_eq partition.now q then option_map (left tab) (home_of homes.old.entries q) else home_of homes.old.entries q) }
 {
     match homes.get_mut(partition) {
         Some(home) => rising::take_out(&mut home.living, tab),

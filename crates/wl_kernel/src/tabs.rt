@@ -152,7 +152,8 @@ impl Tabs {
         Ok(())
     }
 
-    /// Passes on what a tab sends: a command or a report to the broker, a post to each other living tab of the partition.
+    /// Passes on what a tab sends: a command, a report or a part of one to the broker, a post to each other living tab of the
+    /// partition.
     pub fn route_up(&self, tab: u16, frame: Frame) -> Result<Routed, RouteFault>
         ensures routed { IfOk result (λ routed. routed ≡ routed_up tab frame self.now) }
         ensures allowed { OnOk result (route_up_refusal tab frame self.now ≡ None) }
@@ -162,6 +163,7 @@ impl Tabs {
         match frame {
             Frame::Command(command) => self.to_broker(tab, Upward::Command(command)),
             Frame::Report(report) => self.to_broker(tab, Upward::Report(report)),
+            Frame::ReportPart(part) => self.to_broker(tab, Upward::ReportPart(part)),
             Frame::Post(post) => self.to_others(tab, post),
             _ => Err(RouteFault::WrongKind),
         }
