@@ -4,25 +4,27 @@ ghost use Rattle.std.specs.Prelude.{◌≡◌, ◌≢◌, ◌<◌, IfOk, IfErr, 
 ghost use Rattle.wl_frames.specs.declared.frame.Operation.TheVariants.{Query};
 ghost use Rattle.wl_frames.specs.Grammar.{TabsRiseFrom};
 ghost use Rattle.wl_broker.specs.declared.seat.Seat.TheVariants.{Joined, Dead};
-ghost use Rattle.wl_broker.specs.Broker.{started, hellos, taking, burial, Does, Drops, IsTaken, is_active, is_dead, seat_of, listed_at, elsewhere, is_misplaced, take_report, take_command, join, perform, later_answer, buried_at, with_seat, all_below};
-ghost use Rattle.wl_broker.specs.Kept.{Had};
+ghost use Rattle.wl_broker.specs.Broker.{started, hellos, taking, burial, Does, Drops, IsTaken, is_active, is_dead, is_joined, seat_of, listed_at, elsewhere, is_misplaced, take_told, take_command, partial_of, fits, is_there, with_told, is_whole, join_if, keeping, join, perform, later_answer, buried_at, with_seat, all_below};
+ghost use Rattle.wl_broker.specs.Kept.{Had, told, joining};
 
 use crate::answers::{answer, hellos, push_grants, room_for, snapshot};
 use crate::changes::{
     command_at, end_at, is_active_at, is_too_many, outcome_at, restore_at, snapshot_at, waiting_at,
 };
 use crate::dropped::Dropped;
+use crate::heading::Heading;
 use crate::judging::{
-    all_below, all_come, generation_of, is_held_by_newcomer, is_misplaced, is_out_of_turn,
+    all_come, generation_of, is_bad_report, is_held_by_newcomer, is_misplaced, is_out_of_turn,
     listed_at,
 };
+use crate::kept::{Kept, give_up, is_last, is_there, keep, kept_of};
 use crate::partition::Partition;
 use crate::seat::Seat;
-use crate::seats::{is_dead, is_joined, next_of, put_back, seat_of, set_seat};
+use crate::seats::{is_dead, is_joined, limit_of, next_of, put_back, seat_of, set_seat};
 use std::alloc::{AllocError, Global};
 use std::collections::BTreeMap;
 use std::marker::Model;
-use wl_frames::{Addressed, Operation, Report, Sequence, Stamped, Upward};
+use wl_frames::{Addressed, Entry, Operation, Sequence, Stamped, Upward};
 use wl_table::LockTable;
 
 /// What the broker sends, each frame with the tab that it is for.
@@ -36,17 +38,19 @@ pub struct Broker<T: LockTable> {
     listed: Vec<(u16, u16)>,
     seats: BTreeMap<u16, Seat>,
     partitions: BTreeMap<u16, Partition<T>>,
+    /// The reports of which a part is missing, by tab.
+    kept: BTreeMap<u16, Kept>,
 }
 
 impl<T: LockTable> Model for Broker<T> {
     ghost use Rattle.wl_broker.specs.Broker.{BrokerState};
-    ghost use Rattle.wl_broker.specs.Kept.{broker_of, IsConsistent};
+    ghost use Rattle.wl_broker.specs.Kept.{broker_of, IsConsistent, AwaitsParts};
 
     ghost Value = { BrokerState };
 
-    ghost view = { λ b. broker_of b.generation b.listed.items b.seats.entries b.partitions.entries };
+    ghost view = { λ b. broker_of b.generation b.listed.items b.seats.entries b.partitions.entries b.kept.entries };
 
-    ghost invariant = { λ b. IsConsistent b.listed.items b.seats.entries b.partitions.entries };
+    ghost invariant = { λ b. IsConsistent b.listed.items b.seats.entries b.partitions.entries × AwaitsParts b.seats.entries b.kept.entries };
 }
 
 impl<T: LockTable> Broker<T> {
@@ -69,11 +73,13 @@ impl<T: LockTable> Broker<T> {
             listed,
             seats: BTreeMap::new(alloc),
             partitions: BTreeMap::new(alloc),
+            kept: BTreeMap::new(alloc),
         };
         Ok((broker, Sequence::new(hellos)))
     }
 
-    /// Takes a stamped command or report. A command that was taken before is answered again, and changes nothing.
+    /// Takes a stamped command, report or part of a report. A command that was taken before is answered again, and changes
+    /// nothing. A part is kept until those that are missing have come.
     pub fn take(&mut self, stamped: &Stamped) -> Result<Outs, Dropped>
         ensures taken { IfOk result (λ outs. taking self.old stamped.now ≡ Does self.new outs) }
         // It is dropped for the first cause that applies,
@@ -92,7 +98,13 @@ impl<T: LockTable> Broker<T> {
         if is_dead(&self.seats, stamped.tab) {
             return Err(Dropped::DeadTab);
         }
-        if is_misplaced(&self.listed, &self.seats, stamped.tab, stamped.partition) {
+        if is_misplaced(
+            &self.listed,
+            &self.seats,
+            &self.kept,
+            stamped.tab,
+            stamped.partition,
+        ) {
             return Err(Dropped::Misplaced);
         }
         match &stamped.inner {
@@ -102,7 +114,18 @@ impl<T: LockTable> Broker<T> {
                 command.number,
                 &command.operation,
             ),
-            Upward::Report(report) => self.take_report(stamped.tab, stamped.partition, report),
+            Upward::Report(report) => self.take_told(
+                stamped.tab,
+                stamped.partition,
+                Heading::at_once(report),
+                report.entries.as_slice(),
+            ),
+            Upward::ReportPart(part) => self.take_told(
+                stamped.tab,
+                stamped.partition,
+                Heading::in_part(part),
+                part.entries.as_slice(),
+            ),
         }
     }
 
@@ -118,6 +141,7 @@ impl<T: LockTable> Broker<T> {
                 Some(partition) => self.bury(tab, partition),
                 None => {
                     self.seats.insert(tab, Seat::Dead)?;
+                    give_up(&mut self.kept, tab);
                     Ok(Sequence::new(Vec::new(self.alloc)))
                 }
             },
@@ -131,26 +155,41 @@ impl<T: LockTable> Broker<T> {
         all_come(&self.listed, &self.seats, partition)
     }
 
-    /// Takes the report of a tab that is not dead and not misplaced.
-    fn take_report(&mut self, tab: u16, partition: u16, report: &Report) -> Result<Outs, Dropped>
+    /// Whether the tab has joined: its whole report was taken, and its death was not told since.
+    pub fn is_joined(&self, tab: u16) -> bool
+        ensures { result ≡ is_joined (seat_of self.now tab) }
+    {
+        is_joined(&self.seats, tab)
+    }
+
+    /// Takes what a tab that is not dead and not misplaced reports, at once or in part.
+    fn take_told(
+        &mut self,
+        tab: u16,
+        partition: u16,
+        heading: Heading,
+        entries: &[Entry],
+    ) -> Result<Outs, Dropped>
         requires alive { is_dead (seat_of self.old tab) ≡ false }
         requires placed { is_misplaced self.old tab partition ≡ false }
-        ensures taken { IfOk result (λ outs. take_report self.old tab partition report.now ≡ Does self.new outs) }
-        ensures dropped { IfErr result (λ d. d ≢ Dropped.Memory → take_report self.old tab partition report.now ≡ Drops d) }
-        ensures memory { IfErr result (λ d. d ≡ Dropped.Memory → IsTaken (take_report self.old tab partition report.now)) }
+        ensures taken { IfOk result (λ outs. take_told self.old tab partition (told heading entries.now) ≡ Does self.new outs) }
+        ensures dropped { IfErr result (λ d. d ≢ Dropped.Memory → take_told self.old tab partition (told heading entries.now) ≡ Drops d) }
+        ensures memory { IfErr result (λ d. d ≡ Dropped.Memory → IsTaken (take_told self.old tab partition (told heading entries.now))) }
         ensures err { OnErr result (self.new ≡ self.old) }
     {
-        let entries = report.entries.as_slice();
         if is_joined(&self.seats, tab) {
             return Err(Dropped::AlreadyJoined);
         }
         if is_held_by_newcomer(&self.listed, tab, entries) {
             return Err(Dropped::HeldByNewcomer);
         }
-        if !all_below(report.base, entries) {
+        if is_bad_report(&self.kept, tab, heading, entries) {
             return Err(Dropped::BadReport);
         }
-        self.join(tab, partition, report)
+        if is_there(&self.kept, tab, heading.part) {
+            return Err(Dropped::PartTwice);
+        }
+        self.join_if(tab, partition, heading, entries)
             .map_err(|_| Dropped::Memory)
     }
 
@@ -183,27 +222,82 @@ impl<T: LockTable> Broker<T> {
                 .answer_again(tab, partition, number, operation)
                 .map_err(|_| Dropped::Memory);
         }
-        if is_too_many(&self.partitions, partition, tab, operation) {
+        let limit = limit_of(&self.seats, tab);
+        if is_too_many(&self.partitions, partition, tab, limit, operation) {
             return Err(Dropped::TooMany);
         }
-        self.perform(tab, partition, number, operation)
+        self.perform(tab, partition, number, limit, operation)
             .map_err(|_| Dropped::Memory)
     }
 
-    /// A tab joins with what its report says.
-    fn join(&mut self, tab: u16, partition: u16, report: &Report) -> Result<Outs, AllocError>
+    /// The part that was missing last makes the tab join, and any other is kept.
+    fn join_if(
+        &mut self,
+        tab: u16,
+        partition: u16,
+        heading: Heading,
+        entries: &[Entry],
+    ) -> Result<Outs, AllocError>
         requires new { seat_of self.old tab ≡ None }
         requires placed { elsewhere (listed_at tab self.old.listed) partition ≡ false }
-        requires below { all_below report.now.base report.now.entries ≡ true }
-        ensures joined { IfOk result (λ outs. join self.old tab partition report.now ≡ Does self.new outs) }
+        requires below { all_below heading.base entries.now ≡ true }
+        requires fits { fits (told heading entries.now) (partial_of self.old tab) ≡ true }
+        requires missing { is_there (told heading entries.now) (partial_of self.old tab) ≡ false }
+        ensures joined { let k = with_told partition (told heading entries.now) (partial_of self.old tab) in
+            IfOk result (λ outs. join_if self.old tab partition k ≡ Does self.new outs) }
         ensures err { OnErr result (self.new ≡ self.old) }
     {
-        let entries = report.entries.as_slice();
+        if !is_last(&self.kept, tab, heading) {
+            return self.keep(tab, partition, heading, entries);
+        }
+        match kept_of(&self.kept, tab) {
+            Some(kept) => {
+                let gathered = kept.gathered(self.alloc, heading.part, entries)?;
+                self.join(tab, partition, heading, &gathered)
+            }
+            None => self.join(tab, partition, heading, entries),
+        }
+    }
+
+    /// A part is kept until those that are missing have come.
+    fn keep(
+        &mut self,
+        tab: u16,
+        partition: u16,
+        heading: Heading,
+        entries: &[Entry],
+    ) -> Result<Outs, AllocError>
+        requires new { seat_of self.old tab ≡ None }
+        requires below { all_below heading.base entries.now ≡ true }
+        requires fits { fits (told heading entries.now) (partial_of self.old tab) ≡ true }
+        ensures kept { let k = with_told partition (told heading entries.now) (partial_of self.old tab) in
+            IfOk result (λ outs. Does (keeping tab k self.old) [] ≡ Does self.new outs) }
+        ensures err { OnErr result (self.new ≡ self.old) }
+    {
+        keep(self.alloc, &mut self.kept, tab, partition, heading, entries)?;
+        Ok(Sequence::new(Vec::new(self.alloc)))
+    }
+
+    /// A tab joins with what all parts of its report say.
+    fn join(
+        &mut self,
+        tab: u16,
+        partition: u16,
+        heading: Heading,
+        entries: &[Entry],
+    ) -> Result<Outs, AllocError>
+        requires new { seat_of self.old tab ≡ None }
+        requires placed { elsewhere (listed_at tab self.old.listed) partition ≡ false }
+        requires below { all_below heading.base entries.now ≡ true }
+        ensures joined { IfOk result (λ outs. join self.old tab partition (joining heading entries.now) ≡ Does self.new outs) }
+        ensures err { OnErr result (self.new ≡ self.old) }
+    {
         let waiting = waiting_at(&self.partitions, partition);
         let mut outs = room_for(self.alloc, entries.len(), waiting)?;
         let seat = Seat::Joined {
             partition,
-            next: report.base,
+            next: heading.base,
+            limit: heading.limit,
         };
         self.seats.insert(tab, seat)?;
         let is_active = all_come(&self.listed, &self.seats, partition);
@@ -216,6 +310,7 @@ impl<T: LockTable> Broker<T> {
             is_active,
         ) {
             Ok(granted) => {
+                give_up(&mut self.kept, tab);
                 push_grants(&mut outs, self.generation, &self.seats, &granted);
                 Ok(Sequence::new(outs))
             }
@@ -239,6 +334,7 @@ impl<T: LockTable> Broker<T> {
         let is_active = all_come(&self.listed, &self.seats, partition);
         match end_at(self.alloc, &mut self.partitions, partition, tab, is_active) {
             Ok(granted) => {
+                give_up(&mut self.kept, tab);
                 push_grants(&mut outs, self.generation, &self.seats, &granted);
                 Ok(Sequence::new(outs))
             }
@@ -272,16 +368,17 @@ impl<T: LockTable> Broker<T> {
         tab: u16,
         partition: u16,
         number: u32,
+        limit: u16,
         operation: &Operation,
     ) -> Result<Outs, AllocError>
-        requires joined { seat_of self.old tab ≡ Some (Joined partition number) }
+        requires joined { seat_of self.old tab ≡ Some (Joined partition number limit) }
         requires active { is_active self.old partition ≡ true }
         requires more { number < 4294967295 }
         ensures performed { IfOk result (λ outs. perform self.old tab partition number operation.now ≡ Does self.new outs) }
         ensures err { OnErr result (self.new ≡ self.old) }
     {
         if let Operation::Query = operation {
-            return self.query(tab, partition, number);
+            return self.query(tab, partition, number, limit);
         }
         let waiting = waiting_at(&self.partitions, partition);
         // Its answer, and a grant for each request that then waits, its own among them.
@@ -295,7 +392,12 @@ impl<T: LockTable> Broker<T> {
             operation,
         )?;
         let next = number + 1;
-        set_seat(&mut self.seats, tab, Seat::Joined { partition, next });
+        let seat = Seat::Joined {
+            partition,
+            next,
+            limit,
+        };
+        set_seat(&mut self.seats, tab, seat);
         let outcome = outcome_at(&self.partitions, partition, tab, number, operation);
         outs.push_reserved(answer(self.generation, next, tab, number, outcome));
         push_grants(&mut outs, self.generation, &self.seats, &granted);
@@ -303,8 +405,14 @@ impl<T: LockTable> Broker<T> {
     }
 
     /// The next command of a tab is a query, which changes nothing but the tab's next number.
-    fn query(&mut self, tab: u16, partition: u16, number: u32) -> Result<Outs, AllocError>
-        requires joined { seat_of self.old tab ≡ Some (Joined partition number) }
+    fn query(
+        &mut self,
+        tab: u16,
+        partition: u16,
+        number: u32,
+        limit: u16,
+    ) -> Result<Outs, AllocError>
+        requires joined { seat_of self.old tab ≡ Some (Joined partition number limit) }
         requires active { is_active self.old partition ≡ true }
         requires more { number < 4294967295 }
         ensures performed { IfOk result (λ outs. perform self.old tab partition number Query ≡ Does self.new outs) }
@@ -321,7 +429,12 @@ impl<T: LockTable> Broker<T> {
             held,
             waiting,
         )?;
-        set_seat(&mut self.seats, tab, Seat::Joined { partition, next });
+        let seat = Seat::Joined {
+            partition,
+            next,
+            limit,
+        };
+        set_seat(&mut self.seats, tab, seat);
         Ok(Sequence::new(outs))
     }
 }

@@ -4,7 +4,7 @@ ghost use Rattle.std.specs.Prelude.{◌≡◌, IfOk, OnOk, OnErr, IsTrue, true, 
 ghost use Rattle.wl_draft.specs.declared.row.Standing.TheVariants.{Absent};
 ghost use Rattle.wl_draft.specs.Tables.{at, put};
 ghost use Rattle.wl_draft.specs.Locks.{settle, newly, settle_if, newly_if, standing, live, grants, without, ended, restored};
-ghost use Rattle.wl_broker.specs.Broker.{drafted, is_lock, lock_limit};
+ghost use Rattle.wl_broker.specs.Broker.{drafted, is_lock};
 ghost use Rattle.wl_broker.specs.Kept.{no_partition, state_of, outcome_at};
 
 use crate::answers::outcome;
@@ -15,9 +15,6 @@ use std::collections::BTreeMap;
 use wl_draft::{Entry, Grant, Row};
 use wl_frames::{Operation, Outcome};
 use wl_table::LockTable;
-
-/// How many locks a tab may have.
-const LOCK_LIMIT: usize = 64;
 
 /// The partition, if one has come to it.
 fn row_at<T: LockTable>(
@@ -68,11 +65,12 @@ pub fn is_too_many<T: LockTable>(
     partitions: &BTreeMap<u16, Partition<T>>,
     partition: u16,
     tab: u16,
+    limit: u16,
     operation: &Operation,
 ) -> bool
-    ensures { result ≡ (is_lock operation.now && nat_le lock_limit (live (at no_partition partitions.now.entries partition).locks tab)) }
+    ensures { result ≡ (is_lock operation.now && nat_le limit (live (at no_partition partitions.now.entries partition).locks tab)) }
 {
-    is_lock(operation) && live_at(partitions, partition, tab) >= LOCK_LIMIT
+    is_lock(operation) && live_at(partitions, partition, tab) >= usize::from(limit)
 }
 
 /// What is answered to a command that was taken, but to the first of a query.

@@ -27,7 +27,7 @@ pub enum Dropped {
     /// A report of a tab that is not listed, with a held lock.
     #[error("HeldByNewcomer")]
     HeldByNewcomer,
-    /// A report with an entry that is not below its base.
+    /// A report with an entry that is not below its base, or that does not fit the parts that are kept.
     #[error("BadReport")]
     BadReport,
     /// The tab is listed or has joined under another partition.
@@ -39,4 +39,7 @@ pub enum Dropped {
     /// The tab has as many locks as it may.
     #[error("TooMany")]
     TooMany,
+    /// A part of a report that is kept already.
+    #[error("PartTwice")]
+    PartTwice,
 }

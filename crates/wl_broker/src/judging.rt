@@ -2,9 +2,11 @@
 
 ghost use Rattle.std.specs.Prelude.{◌≡◌, ◌&&◌, ◌||◌, ◌==◌, not, nat_lt};
 ghost use Rattle.wl_draft.specs.Tables.{find};
-ghost use Rattle.wl_broker.specs.Broker.{generation_of, listed_at, elsewhere, seated_at, is_listed, has_held, all_below, is_lock, last_number};
-ghost use Rattle.wl_broker.specs.Kept.{all_come};
+ghost use Rattle.wl_broker.specs.Broker.{generation_of, listed_at, elsewhere, seated_at, kept_at, is_listed, has_held, all_below, fits, is_lock, last_number};
+ghost use Rattle.wl_broker.specs.Kept.{all_come, told};
 
+use crate::heading::Heading;
+use crate::kept::{Kept, fits, kept_at};
 use crate::seat::Seat;
 use crate::seats::{has_come, seated_at};
 use std::collections::BTreeMap;
@@ -17,6 +19,7 @@ pub fn generation_of(inner: &Upward) -> u32
     match inner {
         Upward::Command(command) => command.generation,
         Upward::Report(report) => report.generation,
+        Upward::ReportPart(part) => part.generation,
     }
 }
 
@@ -41,16 +44,20 @@ fn elsewhere(place: Option<u16>, partition: u16) -> bool
     }
 }
 
-/// Whether a tab is listed or has joined under another partition.
+/// Whether a tab is listed or has joined under another partition, or a part of its report is kept there.
 pub fn is_misplaced(
     listed: &[(u16, u16)],
     seats: &BTreeMap<u16, Seat>,
+    kept: &BTreeMap<u16, Kept>,
     tab: u16,
     partition: u16,
 ) -> bool
-    ensures { result ≡ (elsewhere (listed_at tab listed.now) partition || elsewhere (seated_at (find seats.now.entries tab)) partition) }
+    ensures { result ≡ (elsewhere (listed_at tab listed.now) partition
+        || (elsewhere (seated_at (find seats.now.entries tab)) partition || elsewhere (kept_at (find kept.now.entries tab)) partition)) }
 {
-    elsewhere(listed_at(listed, tab), partition) || elsewhere(seated_at(seats, tab), partition)
+    elsewhere(listed_at(listed, tab), partition)
+        || elsewhere(seated_at(seats, tab), partition)
+        || elsewhere(kept_at(kept, tab), partition)
 }
 
 /// Whether each listed tab of the partition has come.
@@ -79,6 +86,18 @@ pub fn all_below(base: u32, entries: &[Entry]) -> bool
     ensures { result ≡ all_below base entries.now }
 {
     entries.iter().all(|entry| entry.number < base)
+}
+
+/// Whether a number is not below the base, or the part is of no report whose parts are kept.
+pub fn is_bad_report(
+    kept: &BTreeMap<u16, Kept>,
+    tab: u16,
+    heading: Heading,
+    entries: &[Entry],
+) -> bool
+    ensures { result ≡ not (all_below heading.base entries.now && fits (told heading entries.now) (find kept.now.entries tab)) }
+{
+    !(all_below(heading.base, entries) && fits(kept, tab, heading, entries))
 }
 
 /// Whether the operation asks for a lock.

@@ -1,6 +1,6 @@
 //! Worked rows, computed on the broker's definition.
 
-ghost use Rattle.wl_broker.specs.Rows.{SharedThenExclusive, ReleaseHandsOver, LateGrantAfterAbort, RepeatedRequest, RestartWhileAsked, RestartWhileHeld, DeathHandsOver, OtherOriginUnblocked, SnapshotRow, OutOfTurnRow, HeldNewcomer, DeadTabUnblocks};
+ghost use Rattle.wl_broker.specs.Rows.{SharedThenExclusive, ReleaseHandsOver, LateGrantAfterAbort, RepeatedRequest, RestartWhileAsked, RestartWhileHeld, DeathHandsOver, OtherOriginUnblocked, SnapshotRow, OutOfTurnRow, HeldNewcomer, DeadTabUnblocks, InTwoParts, PartsThatDoNotFit};
 
 /// What the definition answers to short conversations.
 pub fn law_rows()
@@ -16,4 +16,6 @@ pub fn law_rows()
     ensures out_of_turn { OutOfTurnRow }
     ensures held_newcomer { HeldNewcomer }
     ensures dead_tab_unblocks { DeadTabUnblocks }
+    ensures in_two_parts { InTwoParts }
+    ensures parts_that_do_not_fit { PartsThatDoNotFit }
 {}

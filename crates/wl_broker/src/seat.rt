@@ -6,6 +6,8 @@ pub enum Seat {
         partition: u16,
         /// The number of its next command.
         next: u32,
+        /// How many locks it may have.
+        limit: u16,
     },
     /// It was named dead.
     Dead,

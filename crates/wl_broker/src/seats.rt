@@ -5,7 +5,7 @@ ghost use Rattle.std.specs.Map.{remove_entry};
 ghost use Rattle.std.specs.BTreeMap.{is_at};
 ghost use Rattle.std.specs.Ordering.{nat_cmp};
 ghost use Rattle.wl_draft.specs.Tables.{find, put};
-ghost use Rattle.wl_broker.specs.Broker.{is_joined, is_dead, has_come, next_in, seated_at};
+ghost use Rattle.wl_broker.specs.Broker.{is_joined, is_dead, has_come, next_in, limit_in, seated_at};
 
 use crate::seat::Seat;
 use std::collections::BTreeMap;
@@ -23,6 +23,16 @@ pub fn next_of(seats: &BTreeMap<u16, Seat>, tab: u16) -> u32
 {
     match seat_of(seats, tab) {
         Some(Seat::Joined { next, .. }) => next,
+        Some(Seat::Dead) | None => 0,
+    }
+}
+
+/// How many locks a tab may have.
+pub fn limit_of(seats: &BTreeMap<u16, Seat>, tab: u16) -> u16
+    ensures { result ≡ limit_in (find seats.now.entries tab) }
+{
+    match seat_of(seats, tab) {
+        Some(Seat::Joined { limit, .. }) => limit,
         Some(Seat::Dead) | None => 0,
     }
 }

@@ -9,4 +9,4 @@ returns g c =
     let b = c.self.inside in
     let made = c.new.ensures ∙ c.in_ok-push.ensures.items ∙ ap (λ (xs : List Addressed). xs ++ c.answer.result ∷ []) c.new-outs.ensures.items ∙ ap (λ (x : Addressed). x ∷ []) c.answer.ensures in
     subst (λ (x : BrokerState). c.new.result ≡ later_answer x c.args.tab c.args.partition c.args.number c.args.operation.now ∷ []) c.self.view_is
-    (again_is b.generation b.listed.items b.seats.entries b.partitions.entries c.args.tab c.args.partition c.args.number c.args.operation.now _ _ _ c.next_of-upto.ensures c.outcome_at-outcome.ensures made)
+    (again_is b.generation b.listed.items b.seats.entries b.partitions.entries b.kept.entries c.args.tab c.args.partition c.args.number c.args.operation.now _ _ _ c.next_of-upto.ensures c.outcome_at-outcome.ensures made)

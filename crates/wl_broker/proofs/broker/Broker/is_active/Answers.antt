@@ -8,4 +8,4 @@ pub returns : goal.returns
 returns g c =
     let b = c.self.inside in let p = c.args.partition in
     c.all_come.ensures ∙ ap (λ (xs : List (ℕ × ℕ)). all_come xs b.seats.entries p) c.deref.ensures.value
-    ∙ sym (is_active-fields b.generation b.listed.items b.seats.entries b.partitions.entries p) ∙ ap (λ (x : BrokerState). is_active x p) c.self.view_is
+    ∙ sym (is_active-fields b.generation b.listed.items b.seats.entries b.partitions.entries b.kept.entries p) ∙ ap (λ (x : BrokerState). is_active x p) c.self.view_is

@@ -1,22 +1,21 @@
-use Rattle.std.proofs.Common.{◌≡◌, ◌+◌, ◌≤◌, ℕ, List, None, ◌++◌, map, length, sym, ap, ◌∙◌, arith}
-use Rattle.wl_draft.specs.Tables.{Table, at, put}
-use Rattle.wl_draft.specs.Locks.{grants, newly_if, settle_if, restored}
-use Rattle.wl_draft.specs.declared.row.Entry.{Entry}
+use Rattle.std.proofs.Common.{◌≡◌, ◌+◌, ◌≤◌, ℕ, List, None, ◌++◌, map, length, refl, sym, ap, ◌∙◌, arith}
+use Rattle.wl_draft.specs.Tables.{Table, at}
 use Rattle.wl_draft.specs.declared.row.Grant.{Grant}
 use Rattle.wl_frames.specs.declared.frame.Addressed.{Addressed}
 use Rattle.wl_broker.specs.declared.seat.Seat.{Seat}
 use Rattle.wl_broker.specs.declared.seat.Seat.TheVariants.{Joined}
-use Rattle.wl_broker.specs.Broker.{BrokerState, seat_of, listed_at, elsewhere, all_below}
-use Rattle.wl_broker.specs.Kept.{no_partition, state_of, all_come, grant_of}
+use Rattle.wl_broker.specs.Broker.{BrokerState, seat_of, listed_at, elsewhere}
+use Rattle.wl_broker.specs.Kept.{no_partition, all_come, grant_of, joining}
 use Rattle.wl_broker.proofs.Consistency.{IsConsistent-join}
 use Rattle.wl_broker.proofs.BrokerSteps.{join_does}
 use Rattle.wl_broker.proofs.Fields.{consistent_as, same_fields, seat_put, seat_there, given_back}
+use Rattle.wl_broker.proofs.KeptParts.{AwaitsParts-seat, awaits_as}
 use Rattle.wl_broker.proofs.GrantRoom.{room_to_join}
 use Rattle.wl_broker.proofs.broker.Broker.join.Goals as goal
 
 pub push_grants-requires : goal.push_grants-requires
 push_grants-requires g c =
-    let es = c.as_slice-entries.result.now in
+    let es = c.args.entries.now in
     let m = (at no_partition c.self.inside.partitions.entries c.args.partition).locks in
     let few : length c.in-Ok.granted.items ≤ length es + length m.waiting = room_to_join c.args.tab es m c.all_come-is_active.result c.in-Ok.granted.items c.in-Ok.ensures.grants in
     let same : length c.deref-in-Ok.result.now ≡ length c.in-Ok.granted.items = ap (λ (xs : List Grant). length xs) c.deref-in-Ok.ensures.value in
@@ -25,38 +24,37 @@ push_grants-requires g c =
 pub invariant_of-self-in-Ok : goal.invariant_of-self-in-Ok
 invariant_of-self-in-Ok g c =
     let b = c.self.inside in
-    let r = c.args.report.now in
-    let seats = seat_put c.args.tab (Joined c.args.partition r.base) b.seats.entries _ c.in_ok-insert.ensures.entries in
+    let h = c.args.heading in
+    let seats = seat_put c.args.tab (Joined c.args.partition h.base h.limit) b.seats.entries _ c.in_ok-insert.ensures.entries in
     let new = ap (λ (x : BrokerState). seat_of x c.args.tab) c.self.view_is ∙ c.requires.new in
     let placed = ap (λ (x : BrokerState). elsewhere (listed_at c.args.tab x.listed) c.args.partition) c.self.view_is ∙ c.requires.placed in
-    let below = ap (λ (es : List Entry). all_below r.base es) c.as_slice-entries.ensures ∙ c.requires.below in
-    let active = c.all_come-is_active.ensures ∙ ap (λ (xs : List (ℕ × ℕ)). all_come xs c.insert.new.self.entries c.args.partition) c.deref.ensures.value ∙ ap (λ (ss : Table Seat). all_come b.listed.items ss c.args.partition) seats in
-    consistent_as seats c.in-Ok.ensures.ok (IsConsistent-join c.args.tab c.args.partition r.base c.as_slice-entries.result.now c.all_come-is_active.result c.self.invariant new placed below active)
+    let active = c.all_come-is_active.ensures ∙ ap (λ (xs : List (ℕ × ℕ)). all_come xs c.insert.new.self.entries c.args.partition) c.deref.ensures.value ∙ ap (λ (ss : Table Seat). all_come b.listed.items ss c.args.partition) seats in (
+      consistent_as seats c.in-Ok.ensures.ok (IsConsistent-join c.args.tab c.args.partition h.base h.limit c.args.entries.now c.all_come-is_active.result c.self.invariant.0 new placed c.requires.below active),
+      awaits_as seats c.give_up.ensures (AwaitsParts-seat c.args.tab (Joined c.args.partition h.base h.limit) c.self.invariant.1),
+    )
 
 pub put_back-requires : goal.put_back-requires
-put_back-requires g c = seat_there c.args.tab (Joined c.args.partition c.args.report.now.base) c.self.inside.seats.entries _ c.in_ok-insert.ensures.entries
+put_back-requires g c = seat_there c.args.tab (Joined c.args.partition c.args.heading.base c.args.heading.limit) c.self.inside.seats.entries _ c.in_ok-insert.ensures.entries
 
 pub invariant_of-self-in-Err-1 : goal.invariant_of-self-in-Err-1
 invariant_of-self-in-Err-1 g c =
     let new = ap (λ (x : BrokerState). seat_of x c.args.tab) c.self.view_is ∙ c.requires.new in
-    let back = given_back c.args.tab (Joined c.args.partition c.args.report.now.base) None c.self.inside.seats.entries _ _ (sym new) c.in_ok-insert.ensures.was_ordered c.in_ok-insert.ensures.entries c.put_back.ensures in
-    consistent_as back c.in-Err.ensures.err c.self.invariant
+    let back = given_back c.args.tab (Joined c.args.partition c.args.heading.base c.args.heading.limit) None c.self.inside.seats.entries _ _ (sym new) c.in_ok-insert.ensures.was_ordered c.in_ok-insert.ensures.entries c.put_back.ensures in
+    (consistent_as back c.in-Err.ensures.err c.self.invariant.0, awaits_as back refl c.self.invariant.1)
 
 pub returns-in-Ok-clause-joined : goal.returns-in-Ok-clause-joined
 returns-in-Ok-clause-joined g c =
     let b = c.self.inside in
-    let r = c.args.report.now in
-    let m = (at no_partition b.partitions.entries c.args.partition).locks in
+    let h = c.args.heading in
     let active = c.all_come-is_active.ensures ∙ ap (λ (xs : List (ℕ × ℕ)). all_come xs c.insert.new.self.entries c.args.partition) c.deref.ensures.value in
-    let granted = c.deref-in-Ok.ensures.value ∙ c.in-Ok.ensures.grants ∙ ap (λ (es : List Entry). grants (newly_if c.all_come-is_active.result (restored c.args.tab es m))) c.as_slice-entries.ensures in
-    let rows = c.in-Ok.ensures.ok ∙ ap (λ (es : List Entry). put c.args.partition (state_of (settle_if c.all_come-is_active.result (restored c.args.tab es m)) c.all_come-is_active.result) b.partitions.entries) c.as_slice-entries.ensures in
+    let granted = c.deref-in-Ok.ensures.value ∙ c.in-Ok.ensures.grants in
     let outs = c.new.ensures ∙ c.push_grants.ensures ∙ ap (λ (xs : List Addressed). xs ++ map (grant_of b.generation c.insert.new.self.entries) c.deref-in-Ok.result.now) c.in_ok-outs.ensures.items in
     rw (← c.self.view_is)
-    (join_does b.generation b.listed.items b.seats.entries b.partitions.entries c.args.tab c.args.partition r c.all_come-is_active.result c.deref-in-Ok.result.now _ _ _ (seat_put c.args.tab (Joined c.args.partition r.base) b.seats.entries _ c.in_ok-insert.ensures.entries) active granted rows outs)
+    (join_does b.generation b.listed.items b.seats.entries b.partitions.entries b.kept.entries c.args.tab c.args.partition (joining h c.args.entries.now) c.all_come-is_active.result c.deref-in-Ok.result.now _ _ _ _ (seat_put c.args.tab (Joined c.args.partition h.base h.limit) b.seats.entries _ c.in_ok-insert.ensures.entries) active granted c.in-Ok.ensures.ok c.give_up.ensures outs)
 
 pub returns-in-Err-clause-err : goal.returns-in-Err-clause-err
 returns-in-Err-clause-err g c =
     let b = c.self.inside in
     let new = ap (λ (x : BrokerState). seat_of x c.args.tab) c.self.view_is ∙ c.requires.new in
-    let back = given_back c.args.tab (Joined c.args.partition c.args.report.now.base) None b.seats.entries _ _ (sym new) c.in_ok-insert.ensures.was_ordered c.in_ok-insert.ensures.entries c.put_back.ensures in
-    same_fields b.generation b.listed.items back c.in-Err.ensures.err ∙ c.self.view_is
+    let back = given_back c.args.tab (Joined c.args.partition c.args.heading.base c.args.heading.limit) None b.seats.entries _ _ (sym new) c.in_ok-insert.ensures.was_ordered c.in_ok-insert.ensures.entries c.put_back.ensures in
+    same_fields b.generation b.listed.items b.kept.entries back c.in-Err.ensures.err ∙ c.self.view_is

@@ -1,4 +1,4 @@
-use Rattle.std.proofs.Common.{◌≡◌, ◌+◌, ◌≤◌, [], ◌∷◌, ◌++◌, map, length, List, ap, ◌∙◌, arith}
+use Rattle.std.proofs.Common.{◌≡◌, ◌+◌, ◌≤◌, [], ◌∷◌, ◌++◌, map, length, List, refl, ap, ◌∙◌, arith}
 use Rattle.wl_draft.specs.Tables.{at}
 use Rattle.wl_draft.specs.declared.row.Grant.{Grant}
 use Rattle.wl_frames.specs.declared.frame.Addressed.{Addressed}
@@ -7,6 +7,8 @@ use Rattle.wl_broker.specs.Broker.{BrokerState, seat_of}
 use Rattle.wl_broker.specs.Kept.{no_partition, answer_of, grant_of}
 use Rattle.wl_broker.proofs.BrokerSteps.{change_does}
 use Rattle.wl_broker.proofs.Consistency.{IsConsistent-active, IsConsistent-new, IsConsistent-command}
+use Rattle.wl_broker.specs.declared.seat.Seat.TheVariants.{Joined}
+use Rattle.wl_broker.proofs.KeptParts.{AwaitsParts-again, awaits_as}
 use Rattle.wl_broker.proofs.Fields.{consistent_as, active_seen}
 use Rattle.wl_broker.proofs.GrantRoom.{room_to_change}
 use Rattle.wl_broker.proofs.broker.Broker.perform.Goals as goal
@@ -14,10 +16,10 @@ use Rattle.wl_broker.proofs.broker.Broker.perform.Goals as goal
 pub command_at-requires : goal.command_at-requires
 command_at-requires g c =
     let joined = ap (λ (x : BrokerState). seat_of x c.args.tab) c.self.view_is ∙ c.requires.joined in
-    let active = active_seen c.self.inside.generation c.self.inside.listed.items c.self.inside.seats.entries c.self.inside.partitions.entries _ c.args.partition c.self.view_is c.requires.active in
+    let active = active_seen c.self.inside.generation c.self.inside.listed.items c.self.inside.seats.entries c.self.inside.partitions.entries c.self.inside.kept.entries _ c.args.partition c.self.view_is c.requires.active in
     record {
-      active = IsConsistent-active c.args.tab c.args.partition c.args.number c.self.invariant joined ∙ active;
-      new = IsConsistent-new c.args.tab c.args.partition c.args.number c.self.invariant joined;
+      active = IsConsistent-active c.args.tab c.args.partition c.args.number c.args.limit c.self.invariant.0 joined ∙ active;
+      new = IsConsistent-new c.args.tab c.args.partition c.args.number c.args.limit c.self.invariant.0 joined;
     }
 
 pub push_grants-requires : goal.push_grants-requires
@@ -30,20 +32,22 @@ push_grants-requires g c =
 pub invariant_of-self-2 : goal.invariant_of-self-2
 invariant_of-self-2 g c =
     let joined = ap (λ (x : BrokerState). seat_of x c.args.tab) c.self.view_is ∙ c.requires.joined in
-    let active = active_seen c.self.inside.generation c.self.inside.listed.items c.self.inside.seats.entries c.self.inside.partitions.entries _ c.args.partition c.self.view_is c.requires.active in
-    consistent_as c.set_seat.ensures c.in_ok-granted.ensures.ok (IsConsistent-command c.args.tab c.args.partition c.args.number c.args.operation.now c.self.invariant joined active)
+    let active = active_seen c.self.inside.generation c.self.inside.listed.items c.self.inside.seats.entries c.self.inside.partitions.entries c.self.inside.kept.entries _ c.args.partition c.self.view_is c.requires.active in (
+      consistent_as c.set_seat.ensures c.in_ok-granted.ensures.ok (IsConsistent-command c.args.tab c.args.partition c.args.number c.args.limit c.args.operation.now c.self.invariant.0 joined active),
+      awaits_as c.set_seat.ensures refl (AwaitsParts-again c.args.tab (Joined c.args.partition (c.args.number + 1) c.args.limit) _ c.self.invariant.1 joined),
+    )
 
 pub returns : goal.returns
 returns g c =
     let b = c.self.inside in
     let joined = ap (λ (x : BrokerState). seat_of x c.args.tab) c.self.view_is ∙ c.requires.joined in
-    let active = active_seen c.self.inside.generation c.self.inside.listed.items c.self.inside.seats.entries c.self.inside.partitions.entries _ c.args.partition c.self.view_is c.requires.active in
+    let active = active_seen c.self.inside.generation c.self.inside.listed.items c.self.inside.seats.entries c.self.inside.partitions.entries c.self.inside.kept.entries _ c.args.partition c.self.view_is c.requires.active in
     let answered = c.answer.ensures ∙ ap (λ (x : Outcome). answer_of b.generation (c.args.number + 1) c.args.tab c.args.number x) c.outcome_at-outcome.ensures in
     let first = c.push_reserved.ensures.items ∙ ap (λ (xs : List Addressed). xs ++ c.answer.result ∷ []) c.in_ok-outs.ensures.items ∙ ap (λ (x : Addressed). [] ++ x ∷ []) answered in
     let outs = c.new.ensures ∙ c.push_grants.ensures ∙ ap (λ (xs : List Addressed). xs ++ map (grant_of b.generation c.set_seat.new.seats.entries) c.deref.result.now) first in
     record {
       performed =
           rw (← c.self.view_is)
-          (change_does b.generation b.listed.items b.seats.entries b.partitions.entries c.args.tab c.args.partition c.args.number c.args.operation.now c.deref.result.now _ _ _ c.in_default.not-Query joined active c.set_seat.ensures (c.deref.ensures.value ∙ c.in_ok-granted.ensures.grants) c.in_ok-granted.ensures.ok outs);
+          (change_does b.generation b.listed.items b.seats.entries b.partitions.entries b.kept.entries c.args.tab c.args.partition c.args.number c.args.limit c.args.operation.now c.deref.result.now _ _ _ c.in_default.not-Query joined (c.self.invariant.1.not_come c.args.tab _ joined) active c.set_seat.ensures (c.deref.ensures.value ∙ c.in_ok-granted.ensures.grants) c.in_ok-granted.ensures.ok outs);
       err = tt;
     }

@@ -1,0 +1,10 @@
+use Rattle.std.proofs.Common.{◌≡◌}
+use Rattle.std.specs.List.{list_all}
+use Rattle.wl_broker.specs.Broker.{is_in_order}
+use Rattle.wl_broker.specs.Kept.{told}
+use Rattle.wl_broker.proofs.kept.Kept.is_in_order.Given as goal
+
+-- what is left to try decides
+abbrev pub invariant-loop-part : goal.invariant-loop-part
+invariant-loop-part l =
+    list_all (is_in_order (told l.heading l.entries)) l.part-iterator ≡ list_all (is_in_order (told l.heading l.entries)) l.self.came

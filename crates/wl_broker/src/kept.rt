@@ -1,0 +1,245 @@
+//! Reports of which a part is missing.
+
+ghost use Rattle.std.specs.Prelude.{◌≡◌, ◌<◌, ◌++◌, ◌==◌, ◌+◌, ◌^◌, [], true, false, Some, IfOk, OnOk, OnErr, length};
+ghost use Rattle.std.specs.List.{list_all, flat_map};
+ghost use Rattle.std.specs.Option.{option_copied};
+ghost use Rattle.wl_draft.specs.Tables.{find, put, has_row};
+ghost use Rattle.wl_broker.specs.Broker.{all_above, all_below, is_in_order, fits, kept_at, came_in, with_told, without_partial};
+ghost use Rattle.wl_broker.specs.Kept.{Rises, told, is_kept, all_in_below};
+
+use crate::heading::Heading;
+use crate::judging::all_below;
+use std::alloc::{AllocError, Global};
+use std::collections::BTreeMap;
+use std::marker::Model;
+use wl_frames::{Entry, Sequence};
+
+/// The parts of a tab's report that have come. Each number is below the base.
+#[derive(Drop)]
+pub struct Kept {
+    /// The partition under which the first of them came.
+    partition: u16,
+    base: u32,
+    /// Of how many parts they are.
+    parts: u16,
+    /// How many locks the tab may have.
+    limit: u16,
+    came: BTreeMap<u16, Sequence<Entry>>,
+}
+
+impl Model for Kept {
+    ghost use Rattle.std.specs.Prelude.{◌≡◌, true};
+    ghost use Rattle.wl_broker.specs.Broker.{Partial};
+    ghost use Rattle.wl_broker.specs.Kept.{all_in_below};
+
+    ghost Value = { Partial };
+
+    ghost view = { λ k. record { partition = k.partition; base = k.base; parts = k.parts; limit = k.limit; came = k.came.entries } };
+
+    ghost invariant = { λ k. all_in_below k.base k.came.entries ≡ true };
+}
+
+impl Kept {
+    /// The report of this heading, of which no part has come.
+    fn new(alloc: Global, partition: u16, heading: Heading) -> Kept
+        ensures { result ≡ record { partition = partition; base = heading.base; parts = heading.parts; limit = heading.limit; came = [] } }
+    {
+        Kept {
+            partition,
+            base: heading.base,
+            parts: heading.parts,
+            limit: heading.limit,
+            came: BTreeMap::new(alloc),
+        }
+    }
+
+    /// Whether this is a part of the report whose parts are kept.
+    fn fits(&self, heading: Heading, entries: &[Entry]) -> bool
+        ensures { result ≡ fits (told heading entries.now) (Some self.now) }
+    {
+        heading.base == self.base
+            && heading.parts == self.parts
+            && heading.limit == self.limit
+            && self.is_in_order(heading, entries)
+    }
+
+    /// Whether the numbers are above those of each lower part, and below those of each higher one.
+    fn is_in_order(&self, heading: Heading, entries: &[Entry]) -> bool
+        ensures { result ≡ list_all (is_in_order (told heading entries.now)) self.now.came }
+    {
+        for (part, row) in &self.came {
+            if !is_in_order(heading, entries, *part, row.as_slice()) {
+                return false;
+            }
+        }
+        true
+    }
+
+    fn has(&self, part: u16) -> bool
+        ensures { result ≡ has_row self.now.came part }
+    {
+        self.came.contains_key(&part)
+    }
+
+    /// How many parts have come.
+    fn count(&self) -> usize
+        ensures count { result ≡ length self.now.came }
+        ensures small { result < 2 ^ 63 }
+    {
+        self.came.len()
+    }
+
+    /// One part more.
+    fn insert(&mut self, alloc: Global, part: u16, entries: &[Entry]) -> Result<(), AllocError>
+        requires { all_below self.old.base entries.now ≡ true }
+        ensures ok { OnOk result (self.new ≡ record self.old { came = put part entries.now self.old.came }) }
+        ensures err { OnErr result (self.new ≡ self.old) }
+    {
+        let mut copies = Vec::new(alloc);
+        push_copies(alloc, entries, &mut copies)?;
+        self.came.insert(part, Sequence::new(copies))?;
+        Ok(())
+    }
+
+    /// The entries of all parts by rising part, where this one is the last that was missing.
+    pub fn gathered(
+        &self,
+        alloc: Global,
+        part: u16,
+        entries: &[Entry],
+    ) -> Result<Vec<Entry>, AllocError>
+        requires { has_row self.now.came part ≡ false }
+        ensures gathered { IfOk result (λ v. v.items ≡ flat_map (λ row. row.1) (put part entries.now self.now.came)) }
+        ensures below { all_in_below self.now.base self.now.came ≡ true }
+    {
+        let mut gathered = Vec::new(alloc);
+        let mut is_placed = false;
+        for (number, row) in &self.came {
+            if !is_placed && part < *number {
+                push_copies(alloc, entries, &mut gathered)?;
+                is_placed = true;
+            }
+            push_copies(alloc, row.as_slice(), &mut gathered)?;
+        }
+        if !is_placed {
+            push_copies(alloc, entries, &mut gathered)?;
+        }
+        Ok(gathered)
+    }
+}
+
+fn push_copies(alloc: Global, entries: &[Entry], copies: &mut Vec<Entry>) -> Result<(), AllocError>
+    ensures { OnOk result (copies.new.items ≡ copies.old.items ++ entries.now) }
+{
+    for entry in entries {
+        copies.push(entry.copy(alloc)?)?;
+    }
+    Ok(())
+}
+
+/// Whether each number of the second list is above all of the first.
+fn all_above(below: &[Entry], above: &[Entry]) -> bool
+    ensures { result ≡ all_above below.now above.now }
+{
+    above.iter().all(|entry| all_below(entry.number, below))
+}
+
+/// Whether the entries are in order beside those of another part.
+fn is_in_order(heading: Heading, entries: &[Entry], part: u16, row: &[Entry]) -> bool
+    ensures { result ≡ is_in_order (told heading entries.now) (part, row.now) }
+{
+    if part < heading.part {
+        all_above(row, entries)
+    } else if heading.part < part {
+        all_above(entries, row)
+    } else {
+        true
+    }
+}
+
+// ---- the reports of all tabs
+
+/// The parts that are kept of a tab.
+pub fn kept_of(kept: &BTreeMap<u16, Kept>, tab: u16) -> Option<&Kept>
+    ensures { option_copied result ≡ find kept.now.entries tab }
+{
+    kept.get(&tab)
+}
+
+/// The partition under which a tab's first part came.
+pub fn kept_at(kept: &BTreeMap<u16, Kept>, tab: u16) -> Option<u16>
+    ensures { result ≡ kept_at (find kept.now.entries tab) }
+{
+    let kept = kept_of(kept, tab)?;
+    Some(kept.partition)
+}
+
+/// Whether this is a part of the report whose parts are kept, if there are any.
+pub fn fits(kept: &BTreeMap<u16, Kept>, tab: u16, heading: Heading, entries: &[Entry]) -> bool
+    ensures { result ≡ fits (told heading entries.now) (find kept.now.entries tab) }
+{
+    match kept_of(kept, tab) {
+        Some(kept) => kept.fits(heading, entries),
+        None => true,
+    }
+}
+
+pub fn is_there(kept: &BTreeMap<u16, Kept>, tab: u16, part: u16) -> bool
+    ensures { result ≡ is_kept part (find kept.now.entries tab) }
+{
+    match kept_of(kept, tab) {
+        Some(kept) => kept.has(part),
+        None => false,
+    }
+}
+
+/// How many parts have come.
+fn count_of(kept: &BTreeMap<u16, Kept>, tab: u16) -> usize
+    ensures count { result ≡ length (came_in (find kept.now.entries tab)) }
+    ensures small { result < 2 ^ 63 }
+{
+    match kept_of(kept, tab) {
+        Some(kept) => kept.count(),
+        None => 0,
+    }
+}
+
+/// Whether all other parts have come.
+pub fn is_last(kept: &BTreeMap<u16, Kept>, tab: u16, heading: Heading) -> bool
+    ensures { result ≡ (length (came_in (find kept.now.entries tab)) + 1 == heading.parts) }
+{
+    count_of(kept, tab) + 1 == usize::from(heading.parts)
+}
+
+/// Keeps a part of a tab's report.
+pub fn keep(
+    alloc: Global,
+    kept: &mut BTreeMap<u16, Kept>,
+    tab: u16,
+    partition: u16,
+    heading: Heading,
+    entries: &[Entry],
+) -> Result<(), AllocError>
+    requires below { all_below heading.base entries.now ≡ true }
+    requires fits { fits (told heading entries.now) (find kept.old.entries tab) ≡ true }
+    ensures ok { OnOk result (kept.new.entries ≡ put tab (with_told partition (told heading entries.now) (find kept.old.entries tab)) kept.old.entries) }
+    ensures err { OnErr result (kept.new.entries ≡ kept.old.entries) }
+{
+    match kept.get_mut(&tab) {
+        Some(row) => row.insert(alloc, heading.part, entries),
+        None => {
+            let mut row = Kept::new(alloc, partition, heading);
+            row.insert(alloc, heading.part, entries)?;
+            kept.insert(tab, row)?;
+            Ok(())
+        }
+    }
+}
+
+/// Gives up the parts that are kept of a tab, which takes no memory.
+pub fn give_up(kept: &mut BTreeMap<u16, Kept>, tab: u16)
+    requires { Rises 0 kept.old.entries }
+    ensures { kept.new.entries ≡ without_partial tab kept.old.entries }
+{
+    kept.remove(&tab);
+}
