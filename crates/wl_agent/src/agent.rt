@@ -1,7 +1,7 @@
 //! A tab's agent.
 
 ghost use Rattle.std.specs.Prelude.{◌≡◌, ◌≤◌, length};
-ghost use Rattle.wl_agent.specs.Tab.{newborn};
+ghost use Rattle.wl_agent.specs.Tab.{born, newborn, newborn_two, live_limit};
 
 pub mod delivering;
 pub mod ending;
@@ -29,25 +29,47 @@ pub struct Agent {
     acknowledged: u32,
     answered: bool,
     report: Report,
+    /// Whether it tells its reports in parts, and so may have more numbers live at once.
+    in_parts: bool,
 }
+
+/// The most numbers of a tab that are live at once, and of a tab that tells its reports in parts.
+const LIVE_LIMIT: usize = 64;
+
+const LIVE_LIMIT_IN_PARTS: usize = 1024;
 
 impl Model for Agent {
     ghost use Rattle.std.specs.Prelude.{vec_capacity};
     ghost use Rattle.wl_agent.specs.Tab.{TabState};
-    ghost use Rattle.wl_agent.specs.Kept.{IsTidy};
+    ghost use Rattle.wl_agent.specs.Kept.{IsTidy, IsSpoken};
 
     ghost Value = { TabState };
 
-    ghost view = { λ a. record { tab = a.tab; numbers = a.numbers; issued = a.issued.items; statuses = a.statuses; entered = a.entered; acknowledged = a.acknowledged; answered = a.answered; report = a.report } };
+    ghost view = { λ a. record { tab = a.tab; numbers = a.numbers; issued = a.issued.items; statuses = a.statuses; entered = a.entered; acknowledged = a.acknowledged; answered = a.answered; report = a.report; in_parts = a.in_parts } };
 
-    ghost invariant = { λ a. IsTidy (record { tab = a.tab; numbers = a.numbers; issued = a.issued.items; statuses = a.statuses; entered = a.entered; acknowledged = a.acknowledged; answered = a.answered; report = a.report }) (vec_capacity a.issued) };
+    ghost invariant = { λ a. IsTidy (record { tab = a.tab; numbers = a.numbers; issued = a.issued.items; statuses = a.statuses; entered = a.entered; acknowledged = a.acknowledged; answered = a.answered; report = a.report; in_parts = a.in_parts }) (vec_capacity a.issued) × IsSpoken a.in_parts a.entered a.report a.issued.items };
 }
 
 impl Agent {
-    /// The agent of a tab that has issued nothing, and may issue so many commands in its life.
+    /// The agent of a tab that has issued nothing, and may issue so many commands in its life. It tells each report at once.
     pub fn new(alloc: Global, tab: u16, numbers: u32) -> Agent
         requires { numbers ≤ 1000000 }
         ensures { result ≡ newborn tab numbers }
+    {
+        Agent::born(alloc, tab, numbers, false)
+    }
+
+    /// The agent of such a tab that tells its reports in parts, and so may have more numbers live at once.
+    pub fn new_two(alloc: Global, tab: u16, numbers: u32) -> Agent
+        requires { numbers ≤ 1000000 }
+        ensures { result ≡ newborn_two tab numbers }
+    {
+        Agent::born(alloc, tab, numbers, true)
+    }
+
+    fn born(alloc: Global, tab: u16, numbers: u32, in_parts: bool) -> Agent
+        requires { numbers ≤ 1000000 }
+        ensures { result ≡ born in_parts tab numbers }
     {
         Agent {
             alloc,
@@ -63,6 +85,18 @@ impl Agent {
                 base: 0,
                 entries: Sequence::new(Vec::new(alloc)),
             },
+            in_parts,
+        }
+    }
+
+    /// The most of its numbers that are live at once.
+    fn live_limit(&self) -> usize
+        ensures { result ≡ live_limit self.now.in_parts }
+    {
+        if self.in_parts {
+            LIVE_LIMIT_IN_PARTS
+        } else {
+            LIVE_LIMIT
         }
     }
 

@@ -1,12 +1,12 @@
 //! What comes of a frame.
 
-use wl_frames::Frame;
+use wl_frames::{Frame, Sequence};
 
 /// What a frame was to the tab.
 #[derive(Drop)]
 pub enum Delivered {
-    /// The tab has entered a generation, and this is its report.
-    Entered(Frame),
+    /// The tab has entered a generation, and this is its report, in its parts.
+    Entered(Sequence<Frame>),
     /// The tab holds the lock of this number.
     Granted(u32),
     /// The request of this number waits.

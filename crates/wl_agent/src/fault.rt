@@ -14,7 +14,7 @@ pub enum AgentFault {
     /// The name has more than 255 bytes.
     #[error("NameTooLong")]
     NameTooLong,
-    /// 64 numbers of the tab are live.
+    /// As many numbers of the tab are live as may be.
     #[error("TooMany")]
     TooMany,
     /// The command has no number any more, or its release or abort would have none.

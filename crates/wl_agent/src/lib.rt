@@ -8,6 +8,7 @@ pub mod fault;
 pub mod laws;
 mod operations;
 pub mod parts;
+mod reporting;
 pub mod snapshot;
 pub mod status;
 mod statuses;

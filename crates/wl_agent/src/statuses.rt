@@ -93,7 +93,7 @@ impl Statuses {
     /// Puts the status of a number that has none.
     pub(crate) fn insert(&mut self, number: u32, status: Status) -> Result<(), AllocError>
         requires new { find self.old number ≡ None }
-        requires few { count_of is_live self.old < 64 }
+        requires few { count_of is_live self.old < 1024 }
         ensures ok { OnOk result (self.new ≡ put number status self.old) }
         ensures err { OnErr result (self.new ≡ self.old) }
     {
@@ -108,7 +108,7 @@ impl Statuses {
     /// Puts another status of a number that has one, which takes no memory.
     pub(crate) fn set(&mut self, number: u32, status: Status)
         requires there { IsSome (find self.old number) }
-        requires few { count_of is_live self.old ≤ 64 }
+        requires few { count_of is_live self.old ≤ 1024 }
         ensures { self.new ≡ put number status self.old }
     {
         match self.rows.get_mut(&number) {

@@ -2,7 +2,7 @@
 
 ghost use Rattle.std.specs.Prelude.{◌≡◌, ◌≢◌, true, IfOk, OnOk, OnErr, None};
 ghost use Rattle.wl_agent.specs.Tab.{enter};
-ghost use Rattle.wl_agent.specs.Delivery.{delivery, takes_memory, noted, acknowledged_by, of_other, told_by_answer, told_by_part, after_answer, after_part, part_refusal};
+ghost use Rattle.wl_agent.specs.Delivery.{delivery, takes_memory, noted, acknowledged_by, of_other, told_by_answer, told_by_part, after_answer, after_part, part_refusal, IsSendable};
 ghost use Rattle.wl_agent.specs.Kept.{CanFollow};
 ghost use Rattle.wl_frames.specs.declared.frame.Frame.TheVariants as frame;
 
@@ -18,6 +18,8 @@ impl Agent {
     /// Takes in a frame. A frame that is dropped for want of memory may be delivered again.
     pub fn deliver(&mut self, frame: &Frame) -> Delivered
         ensures done { result ≢ Delivered.Dropped Unheard.Memory → (self.new, result) ≡ delivery frame.now self.old }
+        // The frames of a report can be sent as they are.
+        ensures sendable { IsSendable result }
         // For want of memory a frame is dropped only where it takes memory, and then nothing is changed.
         ensures memory { result ≡ Delivered.Dropped Unheard.Memory → (self.new ≡ self.old) × (takes_memory (delivery frame.now self.old).1 ≡ true) }
     {
@@ -29,6 +31,7 @@ impl Agent {
 
     fn take(&mut self, frame: &Frame) -> Result<Delivered, AllocError>
         ensures ok { IfOk result (λ d. (self.new, d) ≡ delivery frame.now self.old) }
+        ensures sendable { IfOk result IsSendable }
         ensures memory { OnErr result (takes_memory (delivery frame.now self.old).1 ≡ true) }
         ensures err { OnErr result (self.new ≡ self.old) }
     {
@@ -42,18 +45,19 @@ impl Agent {
 
     fn greet(&mut self, hello: &Hello) -> Result<Delivered, AllocError>
         ensures ok { IfOk result (λ d. (self.new, d) ≡ delivery (frame.Hello hello.now) self.old) }
+        ensures sendable { IfOk result IsSendable }
         ensures memory { OnErr result (takes_memory (delivery (frame.Hello hello.now) self.old).1 ≡ true) }
         ensures err { OnErr result (self.new ≡ self.old) }
     {
         if hello.generation <= self.entered {
             return Ok(Delivered::Dropped(Unheard::OldGeneration));
         }
-        let report = self.enter(hello.generation)?;
-        Ok(Delivered::Entered(Frame::Report(report)))
+        Ok(Delivered::Entered(self.enter(hello.generation)?))
     }
 
     fn hear(&mut self, answer: &Answer) -> Delivered
-        ensures { (self.new, result) ≡ delivery (frame.Answer answer.now) self.old }
+        ensures ok { (self.new, result) ≡ delivery (frame.Answer answer.now) self.old }
+        ensures sendable { IsSendable result }
     {
         if answer.generation != self.entered {
             return self.of_other(answer.generation);
@@ -66,6 +70,7 @@ impl Agent {
 
     fn collect(&mut self, part: &Snapshot) -> Result<Delivered, AllocError>
         ensures ok { IfOk result (λ d. (self.new, d) ≡ delivery (frame.Snapshot part.now) self.old) }
+        ensures sendable { IfOk result IsSendable }
         ensures memory { OnErr result (takes_memory (delivery (frame.Snapshot part.now) self.old).1 ≡ true) }
         ensures err { OnErr result (self.new ≡ self.old) }
     {

@@ -1,22 +1,42 @@
 //! The end of a tab.
 
+ghost use Rattle.std.specs.Prelude.{◌≡◌};
+
 use crate::agent::Agent;
 use crate::token::{Asking, HeldLock, Pending, Probe, Token};
+use std::marker::Model;
 
-/// What is left of a dead tab's agent: it spends the tokens that are still about.
+/// What is left of a dead tab's agent: it spends the tokens that are still about. Contracts see it as the tab's number.
 #[derive(Debug, Drop)]
 pub struct DeadAgent {
-    _private: (),
+    tab: u16,
+}
+
+impl Model for DeadAgent {
+    ghost use Rattle.std.specs.Prelude.{ℕ};
+
+    ghost Value = { ℕ };
+
+    ghost view = { λ dead. dead.tab };
 }
 
 impl Agent {
     /// The tab is dead, and with it all that it knew.
-    pub fn die(self) -> DeadAgent {
-        DeadAgent { _private: () }
+    pub fn die(self) -> DeadAgent
+        ensures { result ≡ self.tab }
+    {
+        DeadAgent { tab: self.tab }
     }
 }
 
 impl DeadAgent {
+    /// The number of the tab that is dead.
+    pub fn tab(&self) -> u16
+        ensures { result ≡ self.now }
+    {
+        self.tab
+    }
+
     /// Spends a token. It takes no memory.
     pub fn void(&self, token: Token) {
         match token {

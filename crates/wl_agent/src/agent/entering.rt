@@ -1,26 +1,30 @@
 //! Entering a generation.
 
 ghost use Rattle.std.specs.Prelude.{◌≡◌, ◌<◌, ◌≤◌, length, IfOk, OnOk, OnErr};
-ghost use Rattle.wl_agent.specs.Tab.{enter};
-ghost use Rattle.wl_agent.specs.Kept.{carried_tab, begun};
+ghost use Rattle.std.specs.List.{AllByRecursion};
+ghost use Rattle.wl_frames.specs.Grammar.{IsWellFormed};
+ghost use Rattle.wl_agent.specs.Tab.{enter, report_frames};
+ghost use Rattle.wl_agent.specs.Kept.{carried_tab, begun, IsTellable};
 
 use crate::agent::Agent;
+use crate::reporting::report_frames;
 use std::alloc::AllocError;
-use wl_frames::{Report, Sequence};
+use wl_frames::{Frame, Report, Sequence};
 
 impl Agent {
-    /// Enters a later generation, and gives a copy of its report.
-    pub(crate) fn enter(&mut self, generation: u32) -> Result<Report, AllocError>
+    /// Enters a later generation, and gives the frames of its report.
+    pub(crate) fn enter(&mut self, generation: u32) -> Result<Sequence<Frame>, AllocError>
         requires { self.old.entered < generation }
         ensures ok { OnOk result (self.new ≡ enter generation self.old) }
-        ensures report { IfOk result (λ report. report ≡ (enter generation self.old).report) }
+        ensures frames { IfOk result (λ frames. frames ≡ report_frames (enter generation self.old)) }
+        ensures spoken { IfOk result (λ frames. AllByRecursion IsWellFormed frames) }
         ensures err { OnErr result (self.new ≡ self.old) }
     {
         let report = self.next_report(generation)?;
-        let copy = report.copy(self.alloc)?;
+        let frames = report_frames(self.alloc, self.in_parts, &report)?;
         self.carry();
         self.begin(report);
-        Ok(copy)
+        Ok(frames)
     }
 
     /// What entering makes of the statuses, but for the first entering of a life.
@@ -35,7 +39,8 @@ impl Agent {
 
     /// Begins the generation of this report.
     fn begin(&mut self, report: Report)
-        requires { report.base ≤ length self.old.issued }
+        requires base { report.base ≤ length self.old.issued }
+        requires tellable { IsTellable self.old.in_parts report }
         ensures { self.new ≡ begun report self.old }
     {
         self.entered = report.generation;
@@ -46,7 +51,8 @@ impl Agent {
 
     /// The report of the generation that is entered next.
     fn next_report(&self, generation: u32) -> Result<Report, AllocError>
-        ensures { IfOk result (λ report. report ≡ (enter generation self.now).report) }
+        ensures report { IfOk result (λ report. report ≡ (enter generation self.now).report) }
+        ensures tellable { IfOk result (λ report. IsTellable self.now.in_parts report) }
     {
         if self.entered == 0 {
             return Ok(Report {

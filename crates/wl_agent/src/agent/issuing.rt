@@ -1,7 +1,8 @@
 //! Requests, probes and queries.
 
 ghost use Rattle.std.specs.Prelude.{◌≡◌, ◌≢◌, ◌<◌, ◌≤◌, ◌+◌, true, false, length, Some, None, Err, IfOk, OnOk, IfErr, OnErr, if◌then◌else◌};
-ghost use Rattle.wl_agent.specs.Tab.{asked, queried, issue, ask_refusal, query_refusal, live_refusal, is_supported, keeps_number, kept_numbers, live_numbers};
+ghost use Rattle.wl_frames.specs.Grammar.{IsOperation};
+ghost use Rattle.wl_agent.specs.Tab.{asked, queried, issue, ask_refusal, query_refusal, live_refusal, is_supported, keeps_number, kept_numbers, live_numbers, live_limit};
 ghost use Rattle.wl_agent.specs.Kept.{can_become};
 
 use crate::agent::Agent;
@@ -14,9 +15,6 @@ use wl_frames::{Mode, Name, Operation};
 
 /// The most bytes of a name.
 const NAME_LIMIT: usize = 255;
-
-/// The most numbers of a tab that are live at once.
-const LIVE_LIMIT: usize = 64;
 
 impl Agent {
     /// Asks for a lock.
@@ -99,7 +97,7 @@ impl Agent {
         requires { more ≤ 2 }
         ensures { result ≡ live_refusal self.now more }
     {
-        if self.statuses.live() >= LIVE_LIMIT {
+        if self.statuses.live() >= self.live_limit() {
             return Some(AgentFault::TooMany);
         }
         if self.issued.len() + self.statuses.kept() + more > self.numbers as usize {
@@ -110,8 +108,9 @@ impl Agent {
 
     /// Issues a command, with room for what is kept then.
     fn issue(&mut self, operation: Operation, status: Status) -> Result<u32, AllocError>
-        requires few { live_numbers self.old < 64 }
+        requires few { live_numbers self.old < live_limit self.old.in_parts }
         requires becomes { can_become operation status ≡ true }
+        requires spoken { IsOperation operation }
         requires numbers { length self.old.issued + kept_numbers self.old + (if keeps_number (Some status) then 2 else 1) ≤ self.old.numbers }
         ensures ok { OnOk result (self.new ≡ issue operation status self.old) }
         ensures number { IfOk result (λ n. n ≡ length self.old.issued) }

@@ -1,13 +1,15 @@
 //! What the tab sends.
 
 ghost use Rattle.std.specs.Prelude.{◌≡◌, ◌≢◌, Some, None, Err, IfOk, OnOk, IfErr};
-ghost use Rattle.wl_frames.specs.declared.frame.Frame.TheVariants as frame;
-ghost use Rattle.wl_agent.specs.Tab.{command_frame, message_refusal, report_refusal, due, is_report_due};
+ghost use Rattle.std.specs.List.{AllByRecursion};
+ghost use Rattle.wl_frames.specs.Grammar.{IsWellFormed};
+ghost use Rattle.wl_agent.specs.Tab.{command_frame, report_frames, message_refusal, report_refusal, due, is_report_due};
 
 use crate::agent::Agent;
 use crate::fault::MessageFault;
+use crate::reporting::report_frames;
 use std::alloc::AllocError;
-use wl_frames::{Command, Frame, Memory};
+use wl_frames::{Command, Frame, Memory, Sequence};
 
 /// What the tab sends again, since nothing may have come of it.
 #[derive(Debug, Drop)]
@@ -22,6 +24,7 @@ impl Agent {
     /// The message of a command, for the broker of the entered generation.
     pub fn message(&self, number: u32) -> Result<Frame, MessageFault>
         ensures message { IfOk result (λ f. f ≡ command_frame self.now number) }
+        ensures spoken { IfOk result IsWellFormed }
         ensures allowed { OnOk result (message_refusal self.now number ≡ None) }
         ensures refused { IfErr result (λ e. e ≢ MessageFault.Memory → message_refusal self.now number ≡ Some e) }
         ensures memory { result ≡ Err MessageFault.Memory → message_refusal self.now number ≡ None }
@@ -39,9 +42,10 @@ impl Agent {
         }))
     }
 
-    /// The report of the entered generation.
-    pub fn report_frame(&self) -> Result<Frame, MessageFault>
-        ensures report { IfOk result (λ f. f ≡ frame.Report self.now.report) }
+    /// The report of the entered generation: one frame, or one for each of its parts by rising number.
+    pub fn report_frames(&self) -> Result<Sequence<Frame>, MessageFault>
+        ensures report { IfOk result (λ frames. frames ≡ report_frames self.now) }
+        ensures spoken { IfOk result (λ frames. AllByRecursion IsWellFormed frames) }
         ensures allowed { OnOk result (report_refusal self.now ≡ None) }
         ensures refused { IfErr result (λ e. e ≢ MessageFault.Memory → report_refusal self.now ≡ Some e) }
         ensures memory { result ≡ Err MessageFault.Memory → report_refusal self.now ≡ None }
@@ -49,7 +53,7 @@ impl Agent {
         if self.entered == 0 {
             return Err(MessageFault::NotEntered);
         }
-        Ok(Frame::Report(self.report.copy(self.alloc)?))
+        Ok(report_frames(self.alloc, self.in_parts, &self.report)?)
     }
 
     /// What is sent again. The broker takes each message once, however often it comes.

@@ -1,6 +1,7 @@
 //! What tokens are told, and how they are spent.
 
 ghost use Rattle.std.specs.Prelude.{◌≡◌, true, false, length, Some, None, IfOk, OnOk, IfErr, OnErr};
+ghost use Rattle.wl_frames.specs.Grammar.{IsOperation};
 ghost use Rattle.wl_agent.specs.Tab.{released, aborted, finish, keeps_number, status_of};
 ghost use Rattle.wl_agent.specs.Tokens.{is_pending, is_probing, is_holding, is_asking, is_own, told_pending, told_probe, told_query, after_query, abort_refusal};
 
@@ -137,7 +138,8 @@ impl Agent {
 
     /// Issues the command that makes a number over, in the room that the number kept for it.
     fn finish(&mut self, operation: Operation, number: u32) -> u32
-        requires { keeps_number (status_of self.old number) ≡ true }
+        requires keeps { keeps_number (status_of self.old number) ≡ true }
+        requires spoken { IsOperation operation }
         ensures new { self.new ≡ finish operation number self.old }
         ensures number { result ≡ length self.old.issued }
     {

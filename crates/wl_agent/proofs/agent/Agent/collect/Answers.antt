@@ -1,7 +1,9 @@
-use Rattle.std.proofs.Common.{ap, sym, ◌∙◌}
+use Rattle.std.proofs.Common.{refl, ap, sym, ◌∙◌, subst}
 use Rattle.wl_agent.specs.Tab.{TabState}
+use Rattle.wl_agent.specs.declared.delivered.Delivered.{Delivered}
+use Rattle.wl_agent.specs.Delivery.{IsSendable}
 use Rattle.wl_agent.proofs.Outcomes.{on_err}
-use Rattle.wl_agent.proofs.Deliveries.{collects-other, collects, collects-by_memory}
+use Rattle.wl_agent.proofs.Deliveries.{collects-other, collects, collects-by_memory, sendable, other_never, part_never}
 use Rattle.wl_agent.proofs.agent.Agent.collect.Goals as goal
 
 pub returns-then-part-self-clause-ok : goal.returns-then-part-self-clause-ok
@@ -16,3 +18,11 @@ pub returns-in_err-delivered-clause-memory : goal.returns-in_err-delivered-claus
 returns-in_err-delivered-clause-memory c =
     let same = c.if-part-self.false ∙ ap (λ (a : TabState). a.entered) c.self.view_is in
     on_err c.from_residual.result _ (collects-by_memory c.args.part.now c.args.self.now same c.in_err-delivered.ensures.memory)
+
+pub returns-then-part-self-clause-sendable : goal.returns-then-part-self-clause-sendable
+returns-then-part-self-clause-sendable c =
+    subst (λ (d : Delivered). IsSendable d) (sym c.of_other.ensures) (sendable _ (other_never c.args.part.now.generation c.args.self.now _ refl))
+
+pub returns-clause-sendable : goal.returns-clause-sendable
+returns-clause-sendable c =
+    subst (λ (d : Delivered). IsSendable d) (sym c.in_ok-delivered.ensures.told) (sendable _ (part_never c.args.part.now c.args.self.now _ refl))

@@ -21,5 +21,5 @@ returns-clause-numbers c =
     let a = c.args.self.now in
     let at = ap (λ (x : TabState). x.acknowledged) c.self.view_is in
     let within = ap (λ (x : TabState). length x.issued) c.self.view_is in
-    let more : c.loop-number.number - a.acknowledged ≡ length a.issued - a.acknowledged = omega (arith, at, c.loop-number.auto.number-end, c.loop-number-test.false, c.count-number-end.ensures, within, c.self.invariant.acknowledged) in
-    due-is _ a _ _ _ _ c.self.invariant c.self.view_is c.if-self-eq0.false more c.in_ok-numbers.ensures c.loop-number.invariant
+    let more : c.loop-number.number - a.acknowledged ≡ length a.issued - a.acknowledged = omega (arith, at, c.loop-number.auto.number-end, c.loop-number-test.false, c.count-number-end.ensures, within, c.self.invariant.0.acknowledged) in
+    due-is _ a _ _ _ _ c.self.invariant.0 c.self.view_is c.if-self-eq0.false more c.in_ok-numbers.ensures c.loop-number.invariant

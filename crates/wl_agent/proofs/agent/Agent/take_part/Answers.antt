@@ -7,7 +7,7 @@ pub invariant_of-self-2 : goal.invariant_of-self-2
 invariant_of-self-2 c =
     let p = c.args.part.now in
     let taken = sym c.part_refusal.ensures ∙ c.in_default.is in
-    tidy-part _ _ p p.number _ _ _ c.self.invariant c.self.view_is c.in_ok-take_part.ensures.ok (not-refused p c.args.self.now taken)
+    (tidy-part _ _ p p.number _ _ _ c.self.invariant.0 c.self.view_is c.in_ok-take_part.ensures.ok (not-refused p c.args.self.now taken), c.self.invariant.1)
 
 pub returns-clause-ok : goal.returns-clause-ok
 returns-clause-ok c =

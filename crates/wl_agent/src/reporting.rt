@@ -1,0 +1,63 @@
+//! A report as frames: at once, or in parts.
+
+ghost use Rattle.std.specs.Prelude.{◌≡◌, ◌≤◌, IfOk, OnOk, length, map, take, drop};
+ghost use Rattle.wl_agent.specs.Tab.{upward_frame, report_bodies, part_count};
+ghost use Rattle.wl_agent.specs.Kept.{IsTellable};
+
+use std::alloc::{AllocError, Global};
+use wl_frames::{Entry, Frame, Report, ReportPart, Sequence};
+
+/// How many entries a part of a report has, but for the last.
+const PART: usize = 64;
+
+/// The frames that tell a report, by rising part.
+pub(crate) fn report_frames(
+    alloc: Global,
+    in_parts: bool,
+    report: &Report,
+) -> Result<Sequence<Frame>, AllocError>
+    requires { IsTellable in_parts report.now }
+    ensures { IfOk result (λ frames. frames ≡ map upward_frame (report_bodies in_parts report.now)) }
+{
+    let mut frames = Vec::new(alloc);
+    if !in_parts {
+        frames.push(Frame::Report(report.copy(alloc)?))?;
+        return Ok(Sequence::new(frames));
+    }
+    let mut rest = report.entries.as_slice();
+    let parts = part_count(rest);
+    for part in 0..parts {
+        let (entries, later) = rest.split_at(PART.min(rest.len()));
+        frames.push(Frame::ReportPart(ReportPart {
+            generation: report.generation,
+            base: report.base,
+            part,
+            parts,
+            entries: copies(alloc, entries)?,
+        }))?;
+        rest = later;
+    }
+    Ok(Sequence::new(frames))
+}
+
+/// How many parts a report has. One without entries is one part.
+fn part_count(entries: &[Entry]) -> u16
+    requires { length entries.now ≤ 1024 }
+    ensures { result ≡ part_count entries.now }
+{
+    if entries.is_empty() {
+        1
+    } else {
+        entries.len().div_ceil(PART) as u16
+    }
+}
+
+fn copies(alloc: Global, entries: &[Entry]) -> Result<Sequence<Entry>, AllocError>
+    ensures { IfOk result (λ copies. copies ≡ entries.now) }
+{
+    let mut copies = Vec::with_capacity(alloc, entries.len())?;
+    for entry in entries {
+        copies.push(entry.copy(alloc)?)?;
+    }
+    Ok(Sequence::new(copies))
+}
