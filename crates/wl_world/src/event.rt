@@ -17,6 +17,11 @@ pub enum Event {
         tab: u16,
         partition: Partition,
     },
+    /// A tab is born that may have more locks, and tells its reports in parts.
+    OpenTwo {
+        tab: u16,
+        partition: Partition,
+    },
     /// The tab requests a lock, and waits for it.
     Ask {
         tab: u16,
@@ -100,7 +105,7 @@ pub enum Event {
 /// What a tab that was taken over may send: any body of a tab's kind.
 #[derive(Drop)]
 pub enum Forged {
-    /// A command or a report.
+    /// A command, a report or a part of one.
     Upward(Upward),
     Post(Post),
 }
@@ -112,6 +117,10 @@ impl Event {
     {
         Ok(match self {
             Event::Open { tab, partition } => Event::Open {
+                tab: *tab,
+                partition: partition.copy(alloc)?,
+            },
+            Event::OpenTwo { tab, partition } => Event::OpenTwo {
                 tab: *tab,
                 partition: partition.copy(alloc)?,
             },

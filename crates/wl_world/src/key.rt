@@ -21,6 +21,13 @@ pub(crate) enum Key {
         generation: u32,
         base: u32,
     },
+    ReportPart {
+        tab: u16,
+        partition: u16,
+        generation: u32,
+        base: u32,
+        part: u16,
+    },
     Hello {
         tab: u16,
         generation: u32,
@@ -61,6 +68,13 @@ pub(crate) fn key_of(message: &Message) -> Key
                 partition: stamped.partition,
                 generation: report.generation,
                 base: report.base,
+            },
+            Upward::ReportPart(part) => Key::ReportPart {
+                tab: stamped.tab,
+                partition: stamped.partition,
+                generation: part.generation,
+                base: part.base,
+                part: part.part,
             },
         },
         Message::Down { addressed, .. } => match &addressed.inner {

@@ -1,8 +1,7 @@
 //! A tab's locks: its agent, with the tokens of those who asked.
 
 ghost use Rattle.std.specs.Prelude.{◌≡◌, ◌≢◌, ◌++◌, Some, None, Err, IfOk, OnOk, IfErr};
-ghost use Rattle.wl_frames.specs.declared.frame.Frame.TheVariants as frame;
-ghost use Rattle.wl_agent.specs.Tab.{newborn, command_frame, message_refusal, report_refusal, due, is_report_due};
+ghost use Rattle.wl_agent.specs.Tab.{newborn, newborn_two, report_frames, command_frame, message_refusal, report_refusal, due, is_report_due};
 ghost use Rattle.wl_world.specs.World.{command_limit};
 ghost use Rattle.std.specs.List.{filter_map};
 ghost use Rattle.wl_world.specs.TabTokens.{holdings_of, holding_in};
@@ -18,7 +17,7 @@ use crate::locks::kept::Kept;
 use std::alloc::{AllocError, Global};
 use std::marker::Model;
 use wl_agent::{Agent, MessageFault, Resend};
-use wl_frames::Frame;
+use wl_frames::{Frame, Sequence};
 
 /// How many commands a tab may issue in its life.
 const COMMAND_LIMIT: u32 = 1_000_000;
@@ -91,6 +90,19 @@ impl TabLocks {
         }
     }
 
+    /// Those of a tab that may have more locks, and tells its reports in parts.
+    pub(crate) fn new_two(alloc: Global, tab: u16) -> TabLocks
+        ensures { result ≡ newborn_two tab command_limit }
+    {
+        TabLocks {
+            alloc,
+            tab,
+            agent: Agent::new_two(alloc, tab, COMMAND_LIMIT),
+            entered: 0,
+            kept: Vec::new(alloc),
+        }
+    }
+
     /// The generation that the tab has entered, 0 for none.
     pub(crate) fn entered(&self) -> u32
         ensures { result ≡ self.now.entered }
@@ -108,14 +120,14 @@ impl TabLocks {
         self.agent.message(number)
     }
 
-    /// The report of the entered generation.
-    pub(crate) fn report_frame(&self) -> Result<Frame, MessageFault>
-        ensures report { IfOk result (λ f. f ≡ frame.Report self.now.report) }
+    /// The report of the entered generation, in its parts.
+    pub(crate) fn report_frames(&self) -> Result<Sequence<Frame>, MessageFault>
+        ensures report { IfOk result (λ frames. frames ≡ report_frames self.now) }
         ensures allowed { OnOk result (report_refusal self.now ≡ None) }
         ensures refused { IfErr result (λ e. e ≢ MessageFault.Memory → report_refusal self.now ≡ Some e) }
         ensures memory { result ≡ Err MessageFault.Memory → report_refusal self.now ≡ None }
     {
-        self.agent.report_frame()
+        self.agent.report_frames()
     }
 
     /// What is sent again.

@@ -37,6 +37,11 @@ pub enum Said {
         tab: u16,
         partition: Partition,
     },
+    /// The tab of the second kind lives, in this partition.
+    OpenedTwo {
+        tab: u16,
+        partition: Partition,
+    },
     /// The broker of this generation is up.
     Started {
         generation: u32,
@@ -84,7 +89,7 @@ pub enum Said {
     Lost(u32),
     /// The broker has taken the release or abort of this number.
     Taken(u32),
-    /// A part of a snapshot has come, and others are missing.
+    /// A part of a snapshot or of a report has come, and others are missing.
     Part {
         part: u16,
         parts: u16,
@@ -176,7 +181,7 @@ pub enum Refusal {
     NotSupported,
     /// The name has more than 255 bytes.
     NameTooLong,
-    /// 64 numbers of the tab are asked or held.
+    /// As many numbers of the tab are asked or held as may be.
     TooMany,
     /// The tab's commands are used up, 1,000,000 in its life, those apart that its requests may still need to end.
     NumbersUsedUp,
@@ -232,10 +237,12 @@ pub enum Reason {
     AlreadyJoined,
     /// The tab is not listed, and reports a lock as held.
     HeldByNewcomer,
-    /// The report has a number that is not below its base.
+    /// The report has a number that is not below its base, or does not fit the parts that are kept.
     BadReport,
     /// The tab stands under another partition.
     Misplaced,
-    /// 64 requests of the tab are held or wait.
+    /// As many requests of the tab are held or wait as may be.
     TooMany,
+    /// This part of the report is kept already.
+    PartTwice,
 }

@@ -1,12 +1,13 @@
 //! Whether two messages are the same, in source, target and content.
 
 ghost use Rattle.std.specs.Prelude.{◌≡◌};
-ghost use Rattle.wl_world.specs.Messages.{same_mode, same_operation, same_entry, same_row, same_list, same_command, same_report, same_upward, same_outcome, same_answer, same_part, same_downward, same_heard, same_sender, same_message};
+ghost use Rattle.wl_world.specs.Messages.{same_mode, same_operation, same_entry, same_row, same_list, same_command, same_report, same_report_part, same_upward, same_outcome, same_answer, same_part, same_downward, same_heard, same_sender, same_message};
 
 use crate::message::{Message, Sender};
 use wl_draft::{Entry, Mode};
 use wl_frames::{
-    Answer, Command, Downward, Heard, Operation, Outcome, Report, Snapshot, SnapshotEntry, Upward,
+    Answer, Command, Downward, Heard, Operation, Outcome, Report, ReportPart, Snapshot,
+    SnapshotEntry, Upward,
 };
 
 pub(crate) fn same_message(one: &Message, other: &Message) -> bool
@@ -54,6 +55,7 @@ fn same_upward(one: &Upward, other: &Upward) -> bool
     match (one, other) {
         (Upward::Command(one), Upward::Command(other)) => same_command(one, other),
         (Upward::Report(one), Upward::Report(other)) => same_report(one, other),
+        (Upward::ReportPart(one), Upward::ReportPart(other)) => same_report_part(one, other),
         _ => false,
     }
 }
@@ -114,6 +116,16 @@ fn same_report(one: &Report, other: &Report) -> bool
 {
     one.generation == other.generation
         && one.base == other.base
+        && same_entries(one.entries.as_slice(), other.entries.as_slice())
+}
+
+fn same_report_part(one: &ReportPart, other: &ReportPart) -> bool
+    ensures { result ≡ same_report_part one.now other.now }
+{
+    one.generation == other.generation
+        && one.base == other.base
+        && one.part == other.part
+        && one.parts == other.parts
         && same_entries(one.entries.as_slice(), other.entries.as_slice())
 }
 

@@ -1,15 +1,15 @@
 //! What tabs and the broker send, as messages of the bag.
 
-ghost use Rattle.std.specs.Prelude.{◌≡◌, ◌++◌, [], ◌∷◌, true, IfOk, OnOk, map};
-ghost use Rattle.wl_frames.specs.declared.frame.Upward.TheVariants as up;
-ghost use Rattle.wl_world.specs.Supervised.{issued_in, command_in, passed_on, resent_in, is_upward, stamped_in};
+ghost use Rattle.std.specs.Prelude.{◌≡◌, ◌++◌, [], ◌∷◌, IfOk, OnOk, map};
+ghost use Rattle.std.specs.List.{flat_map};
+ghost use Rattle.wl_world.specs.Supervised.{issued_in, command_in, report_in, resent_in, stamped_in};
 ghost use Rattle.wl_world.specs.World.{from_broker};
 
 use crate::locks::TabLocks;
 use crate::message::{Message, Sender};
 use std::alloc::{AllocError, Global};
 use wl_broker::Outs;
-use wl_frames::Frame;
+use wl_frames::{Frame, Sequence};
 use wl_kernel::{Routed, Tabs};
 
 /// What the broker sends.
@@ -25,19 +25,18 @@ pub fn from_broker(alloc: Global, outs: Outs) -> Result<Vec<Message>, AllocError
         .collect(alloc)
 }
 
-/// Adds a tab's command or report, with the kernel's stamp.
+/// Adds what a tab says to the broker, with the kernel's stamp.
 pub fn add_stamped(
     kernel: &Tabs,
     tab: u16,
     frame: Frame,
     sends: &mut Vec<Message>,
 ) -> Result<(), AllocError>
-    requires { is_upward frame ≡ true }
     ensures { OnOk result (sends.new.items ≡ sends.old.items ++ stamped_in kernel.now tab frame) }
 {
     match kernel.route_up(tab, frame) {
         Ok(Routed::Broker(Frame::Stamped(stamped))) => sends.push(Message::Up(stamped))?,
-        // A living tab's command or report goes to the broker, so memory was refused.
+        // What a living tab says to the broker goes there, so memory was refused.
         _ => return Err(AllocError),
     }
     Ok(())
@@ -77,20 +76,34 @@ fn add_command(
     }
 }
 
-/// Adds the tab's report.
+/// Adds the tab's report, in its parts.
 pub fn add_report(
     kernel: &Tabs,
     tab: u16,
     locks: &TabLocks,
     sends: &mut Vec<Message>,
 ) -> Result<(), AllocError>
-    ensures { OnOk result (sends.new.items ≡ sends.old.items ++ passed_on kernel.now tab (up.Report locks.now.report) ∷ []) }
+    ensures { OnOk result (sends.new.items ≡ sends.old.items ++ report_in kernel.now tab locks.now) }
 {
-    match locks.report_frame() {
-        Ok(frame) => add_stamped(kernel, tab, frame, sends),
+    match locks.report_frames() {
+        Ok(frames) => add_all_stamped(kernel, tab, frames, sends),
         // The tab has entered a generation, so memory was refused.
         Err(_) => Err(AllocError),
     }
+}
+
+fn add_all_stamped(
+    kernel: &Tabs,
+    tab: u16,
+    frames: Sequence<Frame>,
+    sends: &mut Vec<Message>,
+) -> Result<(), AllocError>
+    ensures { OnOk result (sends.new.items ≡ sends.old.items ++ flat_map (stamped_in kernel.now tab) frames) }
+{
+    for frame in frames.into_vec() {
+        add_stamped(kernel, tab, frame, sends)?;
+    }
+    Ok(())
 }
 
 /// What the tab sends again.

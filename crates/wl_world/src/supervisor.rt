@@ -16,7 +16,7 @@ use wl_broker::{Broker, Dropped, Outs};
 use wl_frames::{Frame, Sequence, Stamped, Start, Upward};
 use wl_kernel::{Down, GenerationsUsedUp, OpenFault, StartFault, Tabs, Up};
 use wl_origin::Partition;
-use wl_table::PlainTable;
+use wl_table::IndexedTable;
 
 /// The last generation that there may be.
 const LAST_GENERATION: u32 = 65_535;
@@ -24,7 +24,10 @@ const LAST_GENERATION: u32 = 65_535;
 /// No broker runs, or one does. Its own drop spends the supervisor's state.
 pub enum Supervisor {
     Down(Down),
-    Up { up: Up, broker: Broker<PlainTable> },
+    Up {
+        up: Up,
+        broker: Broker<IndexedTable>,
+    },
 }
 
 impl Drop for Supervisor {
@@ -156,7 +159,7 @@ impl Supervisor {
         };
         match broker.take(stamped) {
             Ok(outs) => Ok(Outcome {
-                said: taken(stamped),
+                said: taken(broker, stamped),
                 outs,
             }),
             Err(dropped) => Ok(silent(alloc, Said::Dropped(reason_of(dropped)?))),
@@ -237,13 +240,23 @@ fn refuse(alloc: Global, down: Down, fault: StartFault) -> Result<(Supervisor, O
     Ok((supervisor, silent(alloc, Said::Refused(refusal))))
 }
 
-/// What is said of a message that the broker took.
-fn taken(stamped: &Stamped) -> Said
-    ensures { result ≡ taken_said stamped.now.tab stamped.now.inner }
+/// What is said of a message, now that the broker has taken it.
+fn taken(broker: &Broker<IndexedTable>, stamped: &Stamped) -> Said
+    ensures { result ≡ taken_said broker.now stamped.now.tab stamped.now.inner }
 {
-    match stamped.inner {
+    let tab = stamped.tab;
+    match &stamped.inner {
         Upward::Command(_) => Said::Answered,
-        Upward::Report(_) => Said::Joined { tab: stamped.tab },
+        Upward::Report(_) => Said::Joined { tab },
+        Upward::ReportPart(part) => {
+            if broker.is_joined(tab) {
+                return Said::Joined { tab };
+            }
+            Said::Part {
+                part: part.part,
+                parts: part.parts,
+            }
+        }
     }
 }
 
@@ -264,6 +277,7 @@ fn reason_of(dropped: Dropped) -> Result<Reason, AllocError>
         Dropped::BadReport => Reason::BadReport,
         Dropped::Misplaced => Reason::Misplaced,
         Dropped::TooMany => Reason::TooMany,
+        Dropped::PartTwice => Reason::PartTwice,
         Dropped::Memory => return Err(AllocError),
     })
 }

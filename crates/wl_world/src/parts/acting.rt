@@ -42,6 +42,7 @@ impl Parts {
     {
         match event {
             Event::Open { tab, partition } => self.open(*tab, partition),
+            Event::OpenTwo { tab, partition } => self.open_two(*tab, partition),
             Event::Ask { tab, mode, name } => self.ask(*tab, *mode, false, name),
             Event::Probe { tab, mode, name } => self.ask(*tab, *mode, true, name),
             Event::Query { tab } => self.query(*tab),

@@ -3,7 +3,8 @@
 ghost use Rattle.std.specs.Prelude.{◌≡◌, IfOk, OnOk};
 ghost use Rattle.wl_world.specs.World.{corrupts, forges, is_corrupt};
 ghost use Rattle.wl_world.specs.Replies.{corrupting, forging, some_forged};
-ghost use Rattle.wl_world.specs.Supervised.{up_frame, forged_in};
+ghost use Rattle.wl_agent.specs.Tab.{upward_frame};
+ghost use Rattle.wl_world.specs.Supervised.{forged_in};
 
 use crate::event::Forged;
 use crate::message::Message;
@@ -85,12 +86,13 @@ fn forgery(
     }
 }
 
-/// A command or a report, as a tab sends it.
+/// A command, a report or a part of one, as a tab sends it.
 fn frame_of(upward: Upward) -> Frame
-    ensures { result ≡ up_frame upward }
+    ensures { result ≡ upward_frame upward }
 {
     match upward {
         Upward::Command(command) => Frame::Command(command),
         Upward::Report(report) => Frame::Report(report),
+        Upward::ReportPart(part) => Frame::ReportPart(part),
     }
 }

@@ -1,12 +1,14 @@
 //! Tabs are opened and killed, the broker starts and stops.
 
 ghost use Rattle.std.specs.Prelude.{◌≡◌, ◌≢◌, IfOk, OnOk};
-ghost use Rattle.wl_world.specs.World.{opens, kills, tells, stops, starts, greets};
-ghost use Rattle.wl_world.specs.Replies.{opening, killing, telling, stopping, starting, greeting, of_open};
+ghost use Rattle.wl_world.specs.World.{opens, opens_two, kills, tells, stops, starts, greets};
+ghost use Rattle.wl_world.specs.Replies.{opening, opening_two, killing, telling, stopping, starting, greeting, of_open};
 
+use crate::locks::TabLocks;
 use crate::message::{Message, Sender};
 use crate::parts::{Done, Parts, of_broker, refused, silent};
 use crate::reply::{Refusal, Said};
+use crate::tables::put_row;
 use std::alloc::AllocError;
 use wl_frames::{Addressed, Downward, Hello};
 use wl_kernel::OpenFault;
@@ -23,6 +25,23 @@ impl Parts {
             Ok(_) => {
                 let partition = partition.copy(self.alloc)?;
                 Ok(silent(self.alloc, Said::Opened { tab, partition }))
+            }
+            Err(fault) => Ok(refused(self.alloc, open_refusal(fault)?)),
+        }
+    }
+
+    /// A tab is opened that may have more locks, and tells its reports in parts.
+    pub fn open_two(&mut self, tab: u16, partition: &Partition) -> Result<Done, AllocError>
+        ensures world { OnOk result (self.new ≡ (opens_two self.old tab partition.now).world) }
+        ensures said { IfOk result (λ done. done.said ≡ opening_two self.old.kernel tab partition.now) }
+        ensures sends { IfOk result (λ done. done.sends.items ≡ (opens_two self.old tab partition.now).sends) }
+    {
+        let copy = partition.copy(self.alloc)?;
+        match self.supervisor.open(tab, copy) {
+            Ok(_) => {
+                put_row(&mut self.tabs, tab, TabLocks::new_two(self.alloc, tab))?;
+                let partition = partition.copy(self.alloc)?;
+                Ok(silent(self.alloc, Said::OpenedTwo { tab, partition }))
             }
             Err(fault) => Ok(refused(self.alloc, open_refusal(fault)?)),
         }

@@ -1,12 +1,11 @@
-use Rattle.std.proofs.Common.{◌≡◌, List, [], ◌∷◌, ◌++◌, true, sym, ap, ◌∙◌}
+use Rattle.std.proofs.Common.{◌≡◌, List, ◌++◌, true, sym, ap, ◌∙◌}
 use Rattle.std.specs.Option.{is_some}
 use Rattle.std.proofs.lemmas.Bool.{false≢true}
 use Rattle.wl_draft.specs.Tables.{find}
 use Rattle.wl_kernel.specs.Kernel.{KernelState}
-use Rattle.wl_frames.specs.declared.frame.Upward.TheVariants as up
 use Rattle.wl_world.specs.declared.message.Message.{Message}
 use Rattle.wl_world.specs.World.{WorldState}
-use Rattle.wl_world.specs.Supervised.{passed_on}
+use Rattle.wl_world.specs.Supervised.{report_in}
 use Rattle.wl_world.proofs.TabTables.{find_there, find_absent}
 use Rattle.wl_world.proofs.parts.Parts.reported.Goals as goal
 
@@ -19,5 +18,5 @@ pub returns : goal.returns
 returns c =
     rw (← c.self.view_is, find_there c.args.tab c.self.inside.tabs.entries c.in-Some.ensures.value, c.in-Entered.is)
     (c.in_ok-add_report.ensures
-    ∙ ap (λ (ms : List Message). ms ++ passed_on c.tabs.result.now c.args.tab (up.Report c.in-Some.locks.now.report) ∷ []) c.new-sends.ensures.items
-    ∙ ap (λ (k : KernelState). passed_on k c.args.tab (up.Report c.in-Some.locks.now.report) ∷ []) c.tabs.ensures)
+    ∙ ap (λ (ms : List Message). ms ++ report_in c.tabs.result.now c.args.tab c.in-Some.locks.now) c.new-sends.ensures.items
+    ∙ ap (λ (k : KernelState). report_in k c.args.tab c.in-Some.locks.now) c.tabs.ensures)
