@@ -57,13 +57,14 @@ fn frame_of(alloc: Global, body: &[u8]) -> Result<Frame, Unread>
     Ok(decode(alloc, body)?)
 }
 
-/// A tab sends commands, reports and posts.
+/// A tab sends commands, reports, parts of reports and posts.
 fn said_by_tab(frame: Frame) -> Result<Forged, Unread>
     ensures { Gives (λ forged. forged) result (tab_says frame) }
 {
     match frame {
         Frame::Command(command) => Ok(Forged::Upward(Upward::Command(command))),
         Frame::Report(report) => Ok(Forged::Upward(Upward::Report(report))),
+        Frame::ReportPart(part) => Ok(Forged::Upward(Upward::ReportPart(part))),
         Frame::Post(post) => Ok(Forged::Post(post)),
         _ => Err(Unread::Form),
     }

@@ -14,6 +14,12 @@ pub enum Line {
         /// As it stands: a URL is no word with escapes.
         url: Name,
     },
+    /// A tab that may have more locks, of a page under another at the top.
+    OpenTwo {
+        tab: u16,
+        top: Name,
+        url: Name,
+    },
     /// The broker starts with all living tabs listed.
     StartAll,
     /// It starts with these tabs listed.

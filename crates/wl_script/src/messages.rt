@@ -2,14 +2,14 @@
 
 ghost use Rattle.std.specs.Prelude.{◌≡◌, ◌++◌, OnOk, decimal};
 ghost use Rattle.std.specs.List.{flat_map};
-ghost use Rattle.wl_script.specs.Texts.{mode_text, held_text, outcome_text, lock_text, command_number, operation_text, command_text, entry_text, report_text, upward_text, hello_text, answer_text, row_text, part_text, snapshot_text, downward_text, post_text};
+ghost use Rattle.wl_script.specs.Texts.{mode_text, held_text, outcome_text, lock_text, command_number, operation_text, command_text, entry_text, report_text, report_part_text, upward_text, hello_text, answer_text, row_text, part_text, snapshot_text, downward_text, post_text};
 
 use crate::words::put_word;
 use itoa::Buffer;
 use std::alloc::AllocError;
 use wl_frames::{
     Answer, Command, Downward, Entry, Heard, Hello, Mode, Name, Operation, Outcome, Report,
-    Snapshot, SnapshotEntry, Upward,
+    ReportPart, Snapshot, SnapshotEntry, Upward,
 };
 
 // ---- parts
@@ -75,6 +75,17 @@ fn put_command_number(out: &mut Vec<u8>, generation: u32, number: u32) -> Result
     put_number(out, u64::from(generation))?;
     put(out, " #")?;
     put_number(out, u64::from(number))
+}
+
+/// Which part of how many.
+#[tactic(auto, unfolding(crate::specs::Texts::part_text))]
+pub(crate) fn put_part(out: &mut Vec<u8>, part: u16, parts: u16) -> Result<(), AllocError>
+    ensures { OnOk result (out.new.items ≡ out.old.items ++ part_text part parts) }
+{
+    put(out, "part ")?;
+    put_number(out, u64::from(part))?;
+    put(out, " of ")?;
+    put_number(out, u64::from(parts))
 }
 
 // ---- from tabs to the broker
@@ -148,6 +159,19 @@ fn put_report(out: &mut Vec<u8>, report: &Report) -> Result<(), AllocError>
     put_entries(out, report.entries.as_slice())
 }
 
+#[tactic(auto, unfolding(crate::specs::Texts::report_part_text))]
+fn put_report_part(out: &mut Vec<u8>, report: &ReportPart) -> Result<(), AllocError>
+    ensures { OnOk result (out.new.items ≡ out.old.items ++ report_part_text report.now) }
+{
+    put(out, "report2 ")?;
+    put_number(out, u64::from(report.generation))?;
+    put(out, " base ")?;
+    put_number(out, u64::from(report.base))?;
+    put(out, " ")?;
+    put_part(out, report.part, report.parts)?;
+    put_entries(out, report.entries.as_slice())
+}
+
 /// What a tab sends to the broker.
 #[tactic(auto, unfolding(crate::specs::Texts::upward_text))]
 pub(crate) fn put_upward(out: &mut Vec<u8>, upward: &Upward) -> Result<(), AllocError>
@@ -156,6 +180,7 @@ pub(crate) fn put_upward(out: &mut Vec<u8>, upward: &Upward) -> Result<(), Alloc
     match upward {
         Upward::Command(command) => put_command(out, command),
         Upward::Report(report) => put_report(out, report),
+        Upward::ReportPart(part) => put_report_part(out, part),
     }
 }
 
@@ -199,17 +224,6 @@ fn put_rows(out: &mut Vec<u8>, rows: &[SnapshotEntry]) -> Result<(), AllocError>
         put_row(out, row)?;
     }
     Ok(())
-}
-
-/// Which part of how many.
-#[tactic(auto, unfolding(crate::specs::Texts::part_text))]
-pub(crate) fn put_part(out: &mut Vec<u8>, part: u16, parts: u16) -> Result<(), AllocError>
-    ensures { OnOk result (out.new.items ≡ out.old.items ++ part_text part parts) }
-{
-    put(out, "part ")?;
-    put_number(out, u64::from(part))?;
-    put(out, " of ")?;
-    put_number(out, u64::from(parts))
 }
 
 #[tactic(auto, unfolding(crate::specs::Texts::snapshot_text))]

@@ -1,12 +1,12 @@
 //! What a line makes of the world, and what is written for it. Each function appends to what was written before.
 
-ghost use Rattle.std.specs.Prelude.{◌≡◌, ◌++◌, is_none, IfOk, OnOk};
+ghost use Rattle.std.specs.Prelude.{◌≡◌, ◌≢◌, false, true, ◌++◌, is_none, IfOk, OnOk};
 ghost use Rattle.std.specs.List.{flat_map};
 ghost use Rattle.std.specs.Option.{option_copied};
-ghost use Rattle.wl_origin.specs.Partition.{partition_of};
+ghost use Rattle.wl_origin.specs.Partition.{partition_of, partition_of_pair};
 ghost use Rattle.wl_kernel.specs.Kernel.{open_refusal};
 ghost use Rattle.wl_script.specs.ReplyTexts.{reply_text};
-ghost use Rattle.wl_script.specs.Played.{plays, says, opens, opens_url, named as message_named, delivers, holding_text, holdings_text, played};
+ghost use Rattle.wl_script.specs.Played.{plays, says, fault_text, opening, opens, opens_url, named as message_named, delivers, holding_text, holdings_text, played};
 ghost use Rattle.wl_script.specs.SimSteps.{Becomes, is_opened};
 
 use crate::line::Line;
@@ -14,7 +14,7 @@ use crate::messages::{put, put_lock, put_number};
 use crate::replies::put_reply;
 use std::alloc::{AllocError, Global};
 use wl_frames::Sequence;
-use wl_origin::{OriginFault, Partition, partition};
+use wl_origin::{OriginFault, Partition, partition, partition_pair};
 use wl_world::event::Event;
 use wl_world::holding::Holding;
 use wl_world::message::Message;
@@ -34,6 +34,9 @@ pub(crate) fn play(
     match line {
         Line::Blank => Ok(world),
         Line::Open { tab, url } => open(alloc, world, tab, url.as_str(), out),
+        Line::OpenTwo { tab, top, url } => {
+            open_two(alloc, world, tab, top.as_str(), url.as_str(), out)
+        }
         Line::StartAll => {
             let living = Sequence::new(world.living().to_vec(alloc)?);
             happen(alloc, world, Event::Start(living), out)
@@ -111,13 +114,42 @@ fn open(
     out: &mut Vec<u8>,
 ) -> Result<World, AllocError>
     ensures { IfOk result (λ after.
-        Becomes (opens_url world.world tab (partition_of url.now)) after out.old.items out.new.items) }
+        Becomes (opens_url false world.world tab (partition_of url.now)) after out.old.items out.new.items) }
 {
     match partition(alloc, url) {
-        Ok(partition) => open_in(alloc, world, tab, partition, out),
-        Err(OriginFault::BadUrl) => say(world, "BadUrl", out),
-        Err(OriginFault::Security) => say(world, "SecurityError", out),
-        Err(OriginFault::Memory) => Err(AllocError),
+        Ok(partition) => open_in(alloc, world, tab, partition, false, out),
+        Err(fault) => refuse(world, fault, out),
+    }
+}
+
+/// A tab of the second kind is opened, if the URLs have a partition.
+fn open_two(
+    alloc: Global,
+    world: World,
+    tab: u16,
+    top: &str,
+    url: &str,
+    out: &mut Vec<u8>,
+) -> Result<World, AllocError>
+    ensures { IfOk result (λ after.
+        Becomes (opens_url true world.world tab (partition_of_pair top.now url.now)) after out.old.items out.new.items) }
+{
+    match partition_pair(alloc, top, url) {
+        Ok(partition) => open_in(alloc, world, tab, partition, true, out),
+        Err(fault) => refuse(world, fault, out),
+    }
+}
+
+/// The URLs have no partition.
+fn refuse(world: World, fault: OriginFault, out: &mut Vec<u8>) -> Result<World, AllocError>
+    ensures says { IfOk result (λ after.
+        Becomes (says world.world (fault_text fault)) after out.old.items out.new.items) }
+    ensures fault { OnOk result (fault ≢ OriginFault.Memory) }
+{
+    match fault {
+        OriginFault::BadUrl => say(world, "BadUrl", out),
+        OriginFault::Security => say(world, "SecurityError", out),
+        OriginFault::Memory => Err(AllocError),
     }
 }
 
@@ -127,13 +159,14 @@ fn open_in(
     world: World,
     tab: u16,
     partition: Partition,
+    in_parts: bool,
     out: &mut Vec<u8>,
 ) -> Result<World, AllocError>
     ensures { IfOk result (λ after.
-        Becomes (opens world.world tab partition) after out.old.items out.new.items) }
+        Becomes (opens in_parts world.world tab partition) after out.old.items out.new.items) }
 {
     let is_up = world.is_up();
-    let (world, is_opened) = try_open(alloc, world, tab, partition, out)?;
+    let (world, is_opened) = try_open(alloc, world, tab, partition, in_parts, out)?;
     if is_opened && is_up {
         return happen(alloc, world, Event::Hello { tab }, out);
     }
@@ -146,22 +179,33 @@ fn try_open(
     world: World,
     tab: u16,
     partition: Partition,
+    in_parts: bool,
     out: &mut Vec<u8>,
 ) -> Result<(World, bool), AllocError>
     ensures plays { IfOk result (λ r.
-        Becomes (plays world.world (Event.Open tab partition)) r.0 out.old.items out.new.items) }
+        Becomes (plays world.world (opening in_parts tab partition)) r.0 out.old.items out.new.items) }
     ensures opened { IfOk result (λ r. r.1 ≡ is_none (open_refusal tab partition world.world.kernel)) }
 {
-    let (world, reply) = world.step(Event::Open { tab, partition })?;
+    let (world, reply) = world.step(opening(tab, partition, in_parts))?;
     let is_opened = is_opening(&reply);
     answer(alloc, reply, out)?;
     Ok((world, is_opened))
 }
 
+fn opening(tab: u16, partition: Partition, in_parts: bool) -> Event
+    ensures { result ≡ opening in_parts tab partition }
+{
+    if in_parts {
+        Event::OpenTwo { tab, partition }
+    } else {
+        Event::Open { tab, partition }
+    }
+}
+
 fn is_opening(reply: &Reply) -> bool
     ensures { result ≡ is_opened reply.now.said }
 {
-    matches!(&reply.said, Said::Opened { .. })
+    matches!(&reply.said, Said::Opened { .. } | Said::OpenedTwo { .. })
 }
 
 // ---- deliveries

@@ -1,7 +1,7 @@
 //! Reading a line of a script.
 
 ghost use Rattle.std.specs.Prelude.{◌≡◌, ℕ, ◌+◌, ◌^◌, ◌<◌, length, IfOk};
-ghost use Rattle.wl_script.specs.Lines.{has_leading_zero as leading_zero, number_at, tab_at, message_name_at, mode_at, name_at, text_of, url_at, none, one, two, three, tab_alone, tab_and_url, tab_mode_name, tab_and_name, tab_and_number, tab_channel_data, tab_and_forged, tabs_at, start_at, said_by, said_in, line_at, words_of, texts, most_command, most_name};
+ghost use Rattle.wl_script.specs.Lines.{has_leading_zero as leading_zero, number_at, tab_at, message_name_at, mode_at, name_at, text_of, url_at, none, one, two, three, tab_alone, tab_and_url, tab_and_urls, tab_mode_name, tab_and_name, tab_and_number, tab_channel_data, tab_and_forged, tabs_at, start_at, said_by, said_in, line_at, words_of, texts, most_command, most_name};
 ghost use Rattle.wl_script.specs.Words.{Gives, unescaped};
 
 use crate::forgery::forged_of;
@@ -60,6 +60,10 @@ fn said(alloc: Global, verb: Verb, words: &[&[u8]]) -> Result<Line, Unread>
         Verb::Open => {
             let (tab, url) = tab_and_url(alloc, words)?;
             Ok(Line::Open { tab, url })
+        }
+        Verb::OpenTwo => {
+            let (tab, top, url) = tab_and_urls(alloc, words)?;
+            Ok(Line::OpenTwo { tab, top, url })
         }
         Verb::Start => start(alloc, words),
         Verb::Stop => {
@@ -185,6 +189,14 @@ fn tab_and_url(alloc: Global, words: &[&[u8]]) -> Result<(u16, Name), Unread>
 {
     let (tab, url) = two(words)?;
     Ok((tab_of(tab)?, url_of(alloc, url)?))
+}
+
+#[tactic(auto, unfolding(crate::specs::Lines::tab_and_urls))]
+fn tab_and_urls(alloc: Global, words: &[&[u8]]) -> Result<(u16, Name, Name), Unread>
+    ensures { Gives (λ x. x) result (tab_and_urls (texts words.now)) }
+{
+    let (tab, top, url) = three(words)?;
+    Ok((tab_of(tab)?, url_of(alloc, top)?, url_of(alloc, url)?))
 }
 
 #[tactic(auto, unfolding(crate::specs::Lines::tab_mode_name))]

@@ -155,6 +155,7 @@ fn reason_words(reason: Reason) -> &'static str
         Reason::BadReport => "bad report",
         Reason::Misplaced => "misplaced",
         Reason::TooMany => "too many",
+        Reason::PartTwice => "part twice",
     }
 }
 
@@ -293,6 +294,19 @@ fn put_opened(out: &mut Vec<u8>, tab: u16, partition: &Partition) -> Result<(), 
 }
 
 #[tactic(auto, unfolding(crate::specs::ReplyTexts::said_text))]
+fn put_opened_two(out: &mut Vec<u8>, tab: u16, partition: &Partition) -> Result<(), AllocError>
+    ensures { OnOk result (out.new.items ≡ out.old.items ++ said_text (Said.OpenedTwo tab partition.now)) }
+{
+    put(out, "opened ")?;
+    put_number(out, u64::from(tab))?;
+    put(out, " ")?;
+    put(out, partition.top_text())?;
+    put(out, " ")?;
+    put(out, partition.text())?;
+    put(out, "\n")
+}
+
+#[tactic(auto, unfolding(crate::specs::ReplyTexts::said_text))]
 fn put_issued(out: &mut Vec<u8>, tab: u16, number: u32) -> Result<(), AllocError>
     ensures { OnOk result (out.new.items ≡ out.old.items ++ said_text (Said.Issued tab number)) }
 {
@@ -384,6 +398,7 @@ fn put_said(alloc: Global, out: &mut Vec<u8>, said: &Said) -> Result<(), AllocEr
         Said::Refused(refusal) => put_refused(out, *refusal),
         Said::Dropped(reason) => put_dropped(out, *reason),
         Said::Opened { tab, partition } => put_opened(out, *tab, partition),
+        Said::OpenedTwo { tab, partition } => put_opened_two(out, *tab, partition),
         Said::Started { generation } => put_numbered(out, "up", u64::from(*generation)),
         Said::Stopped { generation } => put_numbered(out, "stopped", u64::from(*generation)),
         Said::Greeted | Said::Resent | Said::Answered | Said::Forged => Ok(()),

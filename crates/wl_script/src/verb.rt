@@ -9,6 +9,7 @@ use crate::unread::Unread;
 #[derive(Clone, Copy, Debug, PartialEq, Eq)]
 pub enum Verb {
     Open,
+    OpenTwo,
     Start,
     Stop,
     Hello,
@@ -31,8 +32,9 @@ pub enum Verb {
 }
 
 /// Each verb and its word.
-const VERBS: [(&'static str, Verb); 20] = [
+const VERBS: [(&'static str, Verb); 21] = [
     ("open", Verb::Open),
+    ("open2", Verb::OpenTwo),
     ("start", Verb::Start),
     ("stop", Verb::Stop),
     ("hello", Verb::Hello),
