@@ -16,7 +16,7 @@ use thiserror::Error;
 use wl_broker::{Broker, Dropped, LockTable, Outs};
 use wl_frames::device::{READ_LIMIT, ReadFault, Sink, Source, WriteFault};
 use wl_frames::{Addressed, Dead, Feed, Frame, FrameFault, Sequence, Stamped, Start, encode};
-use wl_table::PlainTable;
+use wl_table::IndexedTable;
 
 /// How many bytes are read at once, at most.
 const PIECE_LEN: usize = 4096;
@@ -317,5 +317,5 @@ pub fn desk_run<R: Read, W: Write>(
     ensures write { (result ≡ Err DeskFault.Write) ↔ (sink.new.has_failed ≡ true) }
     ensures limit { result ≡ Err DeskFault.TooManyReads → source.new.reads ≡ 1000000 }
 {
-    desk_run_on::<PlainTable, R, W>(alloc, source, sink)
+    desk_run_on::<IndexedTable, R, W>(alloc, source, sink)
 }
