@@ -29,6 +29,16 @@ const HELD_REPORT: &[u8] = b"\0\0\0\x14\x01\x02\0\0\0\x02\0\0\0\x01\0\x01\0\0\0\
 /// The report of generation 2, base 3: number 0 holds `a`, exclusive.
 const LATER_REPORT: &[u8] = b"\0\0\0\x14\x01\x02\0\0\0\x02\0\0\0\x03\0\x01\0\0\0\0\x01\x02\x01a";
 
+/// The same in parts: part 0 of 1.
+const FIRST_PART: &[u8] = b"\0\0\0\x10\x02\x02\0\0\0\x01\0\0\0\0\0\0\0\x01\0\0";
+
+/// Part 0 of 2 of generation 2, base 65, before its 64 entries.
+const PART_0: &[u8] = b"\0\0\x02\x10\x02\x02\0\0\0\x02\0\0\0\x41\0\0\0\x02\0\x40";
+
+/// Part 1 of 2: number 64 waits for `b`, shared.
+const PART_1: &[u8] =
+    b"\0\0\0\x18\x02\x02\0\0\0\x02\0\0\0\x41\0\x01\0\x02\0\x01\0\0\0\x40\x02\x01\x01b";
+
 /// Command 0 of generation 1: a request for `a`, exclusive.
 const REQUEST: &[u8] = b"\0\0\0\x0f\x01\x01\0\0\0\x01\0\0\0\0\x01\x02\0\x01a";
 
@@ -65,9 +75,9 @@ fn message(agent: &Agent, number: u32) -> Result<Frame, MessageFault> {
     }
 }
 
-fn report(agent: &Agent) -> Result<Frame, MessageFault> {
-    match agent.report_frame() {
-        Err(MessageFault::Memory) => agent.report_frame(),
+fn report(agent: &Agent) -> Result<Sequence<Frame>, MessageFault> {
+    match agent.report_frames() {
+        Err(MessageFault::Memory) => agent.report_frames(),
         answer => answer,
     }
 }
@@ -191,10 +201,22 @@ fn spells(rt: &impl Abort, alloc: Global, frame: Frame, want: &[u8]) {
     assert_eq!(rt; bytes.as_slice(), want);
 }
 
+/// Asserts how frames are spelled, one after another.
+fn spells_all(rt: &impl Abort, alloc: Global, frames: Sequence<Frame>, want: &[u8]) {
+    let mut rest = want;
+    for frame in frames.as_slice() {
+        let bytes = spelling(rt, alloc, frame);
+        rest = rest
+            .strip_prefix(bytes.as_slice())
+            .expect(rt, "what is wanted next");
+    }
+    assert!(rt; rest.is_empty());
+}
+
 /// Asserts that a hello gives this report.
 fn enters(rt: &impl Abort, alloc: Global, agent: &mut Agent, generation: u32, want: &[u8]) {
     match deliver(agent, &hello(generation)) {
-        Delivered::Entered(frame) => spells(rt, alloc, frame, want),
+        Delivered::Entered(frames) => spells_all(rt, alloc, frames, want),
         _ => panic!(rt; "no generation was entered"),
     }
 }
@@ -205,8 +227,8 @@ fn sends(rt: &impl Abort, alloc: Global, agent: &Agent, number: u32, want: &[u8]
 }
 
 fn reports(rt: &impl Abort, alloc: Global, agent: &Agent, want: &[u8]) {
-    let frame = report(agent).expect(rt, "entered");
-    spells(rt, alloc, frame, want);
+    let frames = report(agent).expect(rt, "entered");
+    spells_all(rt, alloc, frames, want);
 }
 
 fn sends_again(rt: &impl Abort, agent: &Agent, report: bool, numbers: &[u32]) {
@@ -469,9 +491,9 @@ fn snapshot_is_lost(rt: HostRuntime) {
     is_lost(&rt, &mut agent, asking);
 }
 
-/// Issues requests for `b` up to the 64th live number.
-fn fill(rt: &impl Abort, agent: &mut Agent, dead: &DeadAgent) {
-    for number in 2..64 {
+/// Issues requests for `b` from this number up to the last live one.
+fn fill(rt: &impl Abort, agent: &mut Agent, dead: &DeadAgent, first: u32, limit: u32) {
+    for number in first..limit {
         assert_eq!(rt; ask(agent, dead, "b", Mode::Shared), Ok(number));
     }
 }
@@ -497,7 +519,7 @@ fn refusals(rt: HostRuntime) {
     let empty = request(&mut agent, "", Mode::Exclusive).expect(&rt, "issued");
     assert_eq!(rt; empty.number(), 0);
     names(&rt, &mut agent, &dead);
-    fill(&rt, &mut agent, &dead);
+    fill(&rt, &mut agent, &dead, 2, 64);
     refuses_request(&rt, &mut agent, AgentFault::TooMany);
     refuses_query(&rt, &mut agent, AgentFault::TooMany);
     aborts(&rt, &mut agent, empty, 64);
@@ -541,4 +563,58 @@ fn resend_all(rt: HostRuntime) {
     hears(&rt, &mut agent, granted, Told::Granted(0));
     sends_again(&rt, &agent, false, &[]);
     agent.die().void(Token::Pending(pending));
+}
+
+// ---- reports in parts
+
+/// What a tab says of 65 requests for `b`, in two parts.
+fn two_parts(alloc: Global) -> Result<Vec<u8>, AllocError> {
+    let mut want = Vec::from_slice(alloc, PART_0)?;
+    for number in 0..64 {
+        want.extend_from_slice(&[0, 0, 0, number, 2, 1, 1, b'b'])?;
+    }
+    want.extend_from_slice(PART_1)?;
+    Ok(want)
+}
+
+#[test]
+fn report_in_parts(rt: HostRuntime) {
+    let alloc = rt.alloc();
+    let dead = Agent::new(alloc, 9, 0).die();
+    let want = match two_parts(alloc) {
+        Ok(want) => want,
+        Err(_) => two_parts(alloc).expect(&rt, "memory is back"),
+    };
+    let mut agent = Agent::new_two(alloc, 1, NUMBERS);
+    refuses_report(&rt, &agent, MessageFault::NotEntered);
+    enters(&rt, alloc, &mut agent, 1, FIRST_PART);
+    fill(&rt, &mut agent, &dead, 0, 65);
+    enters(&rt, alloc, &mut agent, 2, &want);
+    // The report stays what it was on entering.
+    fill(&rt, &mut agent, &dead, 65, 66);
+    reports(&rt, alloc, &agent, &want);
+    sends_again_all(&rt, &agent);
+}
+
+/// Asserts that the report is sent again, and all 66 requests.
+fn sends_again_all(rt: &impl Abort, agent: &Agent) {
+    let resend = resend(rt, agent);
+    assert!(rt; resend.report);
+    assert_eq!(rt; resend.numbers.len(), 66);
+}
+
+#[test]
+fn more_live_numbers(rt: HostRuntime) {
+    let alloc = rt.alloc();
+    let dead = Agent::new(alloc, 9, 0).die();
+    assert_eq!(rt; dead.tab(), 9);
+    let mut agent = Agent::new_two(alloc, 1, NUMBERS);
+    fill(&rt, &mut agent, &dead, 0, 1024);
+    refuses_request(&rt, &mut agent, AgentFault::TooMany);
+    refuses_query(&rt, &mut agent, AgentFault::TooMany);
+    enters(&rt, alloc, &mut agent, 1, FIRST_PART);
+    match deliver(&mut agent, &hello(2)) {
+        Delivered::Entered(frames) => assert_eq!(rt; frames.as_slice().len(), 16),
+        _ => panic!(&rt; "no generation was entered"),
+    }
 }

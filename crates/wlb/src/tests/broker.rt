@@ -7,17 +7,44 @@ use std::alloc::{AllocError, Global};
 use std::process::Abort;
 use std::test::Fail;
 use wl_broker::{Broker, Dropped, Outs};
-use wl_frames::{Feed, Frame, Sequence, Stamped, encode};
-use wl_table::PlainTable;
+use wl_frames::{
+    Entry, Feed, Frame, Mode, Name, Report, ReportPart, Sequence, Stamped, Upward, encode,
+};
+use wl_table::IndexedTable;
 
-type PlainBroker = Broker<PlainTable>;
+type TestedBroker = Broker<IndexedTable>;
+
+/// A report in one part is a report.
+const ONE_PART: Row = Row {
+    name: "one-part",
+    input: &[
+        "00000016 01 20 0001 0001 02 02 00000001 00000000 0000 0001 0000",
+        "00000015 01 20 0001 0001 01 01 00000001 00000000 01 02 00 0161",
+    ],
+    output: &["00000013 01 22 0001 01 11 00000001 00000001 00000000 02"],
+};
+
+/// The second part comes first and again, and the first one makes the tab join with the entries by part.
+const TWO_PARTS: Row = Row {
+    name: "two-parts",
+    input: &[
+        "0000001E 01 20 0001 0001 02 02 00000002 00000002 0001 0002 0001 00000001 02 01 0161",
+        "0000001E 01 20 0001 0001 02 02 00000002 00000002 0001 0002 0001 00000001 02 01 0161",
+        "0000001E 01 20 0001 0001 02 02 00000002 00000002 0000 0002 0001 00000000 02 01 0161",
+    ],
+    output: &[
+        "0000000A 01 22 0001 01 10 00000002",
+        "00000013 01 22 0001 01 11 00000002 00000002 00000000 02",
+        "00000013 01 22 0001 01 11 00000002 00000002 00000001 02",
+    ],
+};
 
 fn nothing(alloc: Global) -> Outs {
     Sequence::new(Vec::new(alloc))
 }
 
 /// What is answered to a tab's message: nothing where it is dropped, for a cause other than memory.
-fn take(rt: &impl Abort, alloc: Global, broker: &mut PlainBroker, stamped: &Stamped) -> Outs {
+fn take(rt: &impl Abort, alloc: Global, broker: &mut TestedBroker, stamped: &Stamped) -> Outs {
     let answer = match broker.take(stamped) {
         Err(Dropped::Memory) => broker.take(stamped),
         answer => answer,
@@ -32,7 +59,7 @@ fn take(rt: &impl Abort, alloc: Global, broker: &mut PlainBroker, stamped: &Stam
 }
 
 /// What is answered to a tab's death.
-fn bury(rt: &impl Abort, broker: &mut PlainBroker, tab: u16) -> Outs {
+fn bury(rt: &impl Abort, broker: &mut TestedBroker, tab: u16) -> Outs {
     match broker.dead(tab) {
         Ok(outs) => outs,
         Err(_) => broker.dead(tab).expect(rt, "memory is back"),
@@ -40,7 +67,7 @@ fn bury(rt: &impl Abort, broker: &mut PlainBroker, tab: u16) -> Outs {
 }
 
 /// What is answered to a frame behind the one by which the broker was started.
-fn answer(rt: &impl Abort, alloc: Global, broker: &mut PlainBroker, frame: &Frame) -> Outs {
+fn answer(rt: &impl Abort, alloc: Global, broker: &mut TestedBroker, frame: &Frame) -> Outs {
     match frame {
         Frame::Stamped(stamped) => take(rt, alloc, broker, stamped),
         Frame::Dead(dead) => bury(rt, broker, dead.tab),
@@ -72,7 +99,7 @@ fn frames(alloc: Global, row: &Row) -> Result<Vec<Frame>, AllocError> {
 fn plays(
     rt: &impl Abort,
     alloc: Global,
-    started: (PlainBroker, Outs),
+    started: (TestedBroker, Outs),
     row: &Row,
 ) -> Result<(), Fail> {
     let (mut broker, hellos) = started;
@@ -110,4 +137,90 @@ fn queries_are_taken_again(rt: HostRuntime) -> Result<(), Fail> {
 fn deaths_are_told_again(rt: HostRuntime) -> Result<(), Fail> {
     let alloc = rt.alloc();
     plays(&rt, alloc, Broker::start(alloc, 1, &[])?, &DEATH_HANDS_OVER)
+}
+
+// ---- reports in parts
+
+#[test]
+fn one_part_is_a_report(rt: HostRuntime) -> Result<(), Fail> {
+    let alloc = rt.alloc();
+    plays(&rt, alloc, Broker::start(alloc, 1, &[])?, &ONE_PART)
+}
+
+#[test]
+fn parts_are_taken_again(rt: HostRuntime) -> Result<(), Fail> {
+    let alloc = rt.alloc();
+    plays(&rt, alloc, Broker::start(alloc, 2, &[(1, 1)])?, &TWO_PARTS)
+}
+
+fn stamped(tab: u16, partition: u16, inner: Upward) -> Stamped {
+    Stamped {
+        tab,
+        partition,
+        inner,
+    }
+}
+
+/// A part of two of the report of generation 2, base 2, in which this number waits.
+fn part(alloc: Global, part: u16, number: u32) -> Result<Upward, AllocError> {
+    let mut entries = Vec::new(alloc);
+    entries.push(Entry {
+        number,
+        held: false,
+        mode: Mode::Shared,
+        name: Name::new(String::from_str(alloc, "a")?),
+    })?;
+    Ok(Upward::ReportPart(ReportPart {
+        generation: 2,
+        base: 2,
+        part,
+        parts: 2,
+        entries: Sequence::new(entries),
+    }))
+}
+
+/// A whole report of generation 2, base 2, without entries.
+fn report(alloc: Global) -> Upward {
+    Upward::Report(Report {
+        generation: 2,
+        base: 2,
+        entries: Sequence::new(Vec::new(alloc)),
+    })
+}
+
+/// Asserts why a message is dropped.
+fn drops(rt: &impl Abort, broker: &mut TestedBroker, stamped: &Stamped, want: Dropped) {
+    let answer = match broker.take(stamped) {
+        Err(Dropped::Memory) => broker.take(stamped),
+        answer => answer,
+    };
+    assert_eq!(rt; answer.err(), Some(want));
+}
+
+/// Asserts that a message is taken with no frames.
+fn keeps(rt: &impl Abort, broker: &mut TestedBroker, stamped: &Stamped) {
+    let outs = match broker.take(stamped) {
+        Ok(outs) => outs,
+        Err(_) => broker.take(stamped).expect(rt, "memory is back"),
+    };
+    assert!(rt; outs.as_slice().is_empty());
+}
+
+#[test]
+fn parts_that_do_not_fit(rt: HostRuntime) -> Result<(), Fail> {
+    let alloc = rt.alloc();
+    let (mut broker, _hellos): (TestedBroker, Outs) = Broker::start(alloc, 2, &[(2, 1)])?;
+    let second = stamped(1, 1, part(alloc, 1, 0)?);
+    keeps(&rt, &mut broker, &second);
+    drops(&rt, &mut broker, &second, Dropped::PartTwice);
+    let whole = stamped(1, 1, report(alloc));
+    drops(&rt, &mut broker, &whole, Dropped::BadReport);
+    let not_below = stamped(1, 1, part(alloc, 0, 1)?);
+    drops(&rt, &mut broker, &not_below, Dropped::BadReport);
+    let elsewhere = stamped(1, 3, part(alloc, 0, 0)?);
+    drops(&rt, &mut broker, &elsewhere, Dropped::Misplaced);
+    let outs = bury(&rt, &mut broker, 1);
+    assert!(rt; outs.as_slice().is_empty());
+    drops(&rt, &mut broker, &second, Dropped::DeadTab);
+    Ok(())
 }

@@ -66,6 +66,11 @@ fn first_grant(rt: HostRuntime) -> Result<(), Fail> {
 }
 
 #[test]
+fn report_in_one_part(rt: HostRuntime) -> Result<(), Fail> {
+    expect_row(&rt, rt.alloc(), &rows::REPORT_IN_ONE_PART)
+}
+
+#[test]
 fn handover(rt: HostRuntime) -> Result<(), Fail> {
     expect_row(&rt, rt.alloc(), &rows::HANDOVER)
 }
@@ -199,6 +204,17 @@ fn expect_bad_field(
     input.extend_from_slice(again.as_slice())?;
     let end = Err(DeskFault::Frame(FrameFault::BadField));
     expect(rt, alloc, input.as_slice(), end, output.as_slice(), name);
+    Ok(())
+}
+
+#[test]
+fn parts_out_of_form(rt: HostRuntime) -> Result<(), Fail> {
+    let alloc = rt.alloc();
+    let head = "00000016 01 20 0001 0001 02 02 00000001 00000000 0000";
+    let none = bytes_of(alloc, &[head, "0000 0000"])?;
+    expect_bad_field(&rt, alloc, none.as_slice(), "of no parts")?;
+    let many = bytes_of(alloc, &[head, "0011 0000"])?;
+    expect_bad_field(&rt, alloc, many.as_slice(), "of 17 parts")?;
     Ok(())
 }
 

@@ -6,8 +6,8 @@ use std::process::Abort;
 use std::test::Fail;
 use wl_frames::{
     Addressed, Answer, Command, Dead, Downward, Entry, Feed, Frame, FrameFault, Heard, Hello, Mode,
-    Name, Operation, Outcome, Post, PushFault, Report, Snapshot, SnapshotEntry, Stamped, Start,
-    Upward, encode,
+    Name, Operation, Origin, Outcome, PairWelcome, Post, PushFault, Report, ReportPart, Sequence,
+    Snapshot, SnapshotEntry, Stamped, Start, Upward, encode,
 };
 
 /// The command 0 of generation 1: the lock `a` is requested, exclusive.
@@ -15,13 +15,15 @@ const COMMAND: [u8; 19] = [0, 0, 0, 15, 1, 1, 0, 0, 0, 1, 0, 0, 0, 0, 1, 2, 0, 1
 
 // ---- an example of each kind
 
-const EXAMPLES: [&[u8]; 15] = [
+const EXAMPLES: [&[u8]; 18] = [
     &COMMAND,
     b"\x00\x00\x00\x0F\x01\x01\x00\x00\x00\x01\x00\x00\x00\x05\x02\x00\x00\x01\x02",
     b"\x00\x00\x00\x0F\x01\x01\x00\x00\x00\x01\x00\x00\x00\x05\x03\x00\x00\x00\x04",
     b"\x00\x00\x00\x0B\x01\x01\x00\x00\x00\x01\x00\x00\x00\x05\x04",
     b"\x00\x00\x00\x1B\x01\x02\x00\x00\x00\x02\x00\x00\x00\x01\x00\x02\
         \x00\x00\x00\x00\x01\x02\x01a\x00\x00\x00\x03\x02\x01\x00",
+    b"\x00\x00\x00\x18\x02\x02\x00\x00\x00\x02\x00\x00\x00\x42\x00\x01\x00\x02\x00\x01\
+        \x00\x00\x00\x41\x02\x02\x01a",
     b"\x00\x00\x00\x0C\x01\x03\x00\x00\x00\x09\x01-\x00\x02\xFFx",
     b"\x00\x00\x00\x06\x01\x10\x00\x00\x01\x02",
     b"\x00\x00\x00\x0F\x01\x11\x00\x00\x00\x01\x00\x00\x00\x03\x00\x00\x00\x02\x02",
@@ -29,8 +31,11 @@ const EXAMPLES: [&[u8]; 15] = [
         \x01\x00\x01\x02\x01f\x02\x00\x02\x01\x01f",
     b"\x00\x00\x00\x0D\x01\x13\x00\x02\x00\x00\x00\x04\x01n\x00\x01\x07",
     b"\x00\x00\x00\x14\x01\x14\x00\x07\x00\x0Ehttps://a.test",
+    b"\x00\x00\x00\x24\x02\x14\x00\x07\x00\x0Ehttps://t.test\x00\x0Ehttps://a.test",
     b"\x00\x00\x00\x15\x01\x20\x00\x05\x00\x06\
         \x01\x01\x00\x00\x00\x01\x00\x00\x00\x05\x03\x00\x00\x00\x04",
+    b"\x00\x00\x00\x16\x01\x20\x00\x01\x00\x01\
+        \x02\x02\x00\x00\x00\x01\x00\x00\x00\x00\x00\x00\x00\x01\x00\x00",
     b"\x00\x00\x00\x10\x01\x21\x00\x00\x00\x07\x00\x02\x00\x01\x00\x09\x01\x2C\x00\x02",
     b"\x00\x00\x00\x0A\x01\x22\x00\x05\x01\x10\x00\x00\x01\x02",
     b"\x00\x00\x00\x04\x01\x23\x01\x00",
@@ -41,12 +46,14 @@ fn is_example(frame: &Frame) -> bool {
     match frame {
         Frame::Command(command) => is_first_command(frame) || is_later_command(command),
         Frame::Report(report) => is_report(report),
+        Frame::ReportPart(part) => is_last_part(part),
         Frame::Post(post) => is_post(post),
         Frame::Hello(hello) => hello.generation == 258,
         Frame::Answer(answer) => is_answer(answer),
         Frame::Snapshot(snapshot) => is_snapshot(snapshot),
         Frame::Heard(heard) => is_heard(heard),
         Frame::Welcome(welcome) => welcome.tab == 7 && welcome.origin.as_str() == "https://a.test",
+        Frame::PairWelcome(welcome) => is_pair_welcome(welcome),
         Frame::Stamped(stamped) => is_stamped(stamped),
         Frame::Start(start) => is_start(start),
         Frame::Addressed(addressed) => is_addressed(addressed),
@@ -94,6 +101,27 @@ fn is_report(report: &Report) -> bool {
         && is_entry(second, 3, false, Mode::Shared, "")
 }
 
+/// Whether it is the second and last part of a report, with one entry.
+fn is_last_part(report: &ReportPart) -> bool {
+    let [entry] = report.entries.as_slice() else {
+        return false;
+    };
+    report.generation == 2
+        && report.base == 66
+        && report.part == 1
+        && report.parts == 2
+        && is_entry(entry, 65, false, Mode::Exclusive, "a")
+}
+
+/// Whether it is the only part of a report without entries.
+fn is_only_part(report: &ReportPart) -> bool {
+    report.generation == 1
+        && report.base == 0
+        && report.part == 0
+        && report.parts == 1
+        && report.entries.as_slice().is_empty()
+}
+
 fn is_entry(entry: &Entry, number: u32, held: bool, mode: Mode, name: &str) -> bool {
     entry.number == number
         && entry.held == held
@@ -135,12 +163,21 @@ fn is_heard(heard: &Heard) -> bool {
         && heard.bytes.as_slice() == b"\x07".as_slice()
 }
 
+fn is_pair_welcome(welcome: &PairWelcome) -> bool {
+    welcome.tab == 7
+        && welcome.top.as_str() == "https://t.test"
+        && welcome.own.as_str() == "https://a.test"
+}
+
 fn is_stamped(stamped: &Stamped) -> bool {
     match &stamped.inner {
         Upward::Command(command) => {
             stamped.tab == 5 && stamped.partition == 6 && is_later_command(command)
         }
         Upward::Report(_) => false,
+        Upward::ReportPart(part) => {
+            stamped.tab == 1 && stamped.partition == 1 && is_only_part(part)
+        }
     }
 }
 
@@ -253,12 +290,18 @@ fn one_command_frame(rt: HostRuntime) {
     assert_eq!(rt; feed.end(), Ok(()));
 }
 
-const FAULTS: [(&[u8], FrameFault); 20] = [
+const FAULTS: [(&[u8], FrameFault); 27] = [
     (b"\x00\x00\x00\x00", FrameFault::BadLength),
     (b"\x00\x00\x00\x01", FrameFault::BadLength),
     (b"\x00\x01\x00\x01", FrameFault::BadLength),
-    (b"\x00\x00\x00\x02\x02\x01", FrameFault::BadVersion),
+    // no version 3, no kind 99, and in version 2 no kind but 2 and 20
+    (b"\x00\x00\x00\x02\x03\x01", FrameFault::BadVersion),
     (b"\x00\x00\x00\x02\x01\x63", FrameFault::BadKind),
+    (b"\x00\x00\x00\x02\x02\x01", FrameFault::BadKind),
+    (
+        b"\x00\x00\x00\x06\x02\x10\x00\x00\x00\x01",
+        FrameFault::BadKind,
+    ),
     (b"\x00\x00\x00\x02\x01\x01", FrameFault::BadField),
     // the command with another flag, and with a byte more
     (
@@ -309,9 +352,33 @@ const FAULTS: [(&[u8], FrameFault); 20] = [
         b"\x00\x00\x00\x10\x01\x12\x00\x00\x00\x01\x00\x00\x00\x01\x00\x01\x00\x01\x00\x00",
         FrameFault::BadField,
     ),
-    // inner bodies: another kind, another version, and a byte more
+    // part 0 of no parts, and part 0 of 17
+    (
+        b"\x00\x00\x00\x16\x01\x20\x00\x01\x00\x01\
+            \x02\x02\x00\x00\x00\x01\x00\x00\x00\x00\x00\x00\x00\x00\x00\x00",
+        FrameFault::BadField,
+    ),
+    (
+        b"\x00\x00\x00\x16\x01\x20\x00\x01\x00\x01\
+            \x02\x02\x00\x00\x00\x01\x00\x00\x00\x00\x00\x00\x00\x11\x00\x00",
+        FrameFault::BadField,
+    ),
+    // two empty origins: the second is missing, and a byte more
+    (
+        b"\x00\x00\x00\x06\x02\x14\x00\x07\x00\x00",
+        FrameFault::BadField,
+    ),
+    (
+        b"\x00\x00\x00\x09\x02\x14\x00\x07\x00\x00\x00\x00\x00",
+        FrameFault::LeftOver,
+    ),
+    // inner bodies: another kind, another kind of version 2, another version, and a byte more
     (
         b"\x00\x00\x00\x0C\x01\x20\x00\x02\x00\x03\x01\x10\x00\x00\x00\x01",
+        FrameFault::BadField,
+    ),
+    (
+        b"\x00\x00\x00\x0E\x01\x20\x00\x01\x00\x01\x02\x14\x00\x07\x00\x00\x00\x00",
         FrameFault::BadField,
     ),
     (
@@ -364,10 +431,16 @@ fn feed_ends(rt: HostRuntime) {
     assert_eq!(rt; feed.end(), Err(FrameFault::Truncated));
 }
 
-/// The bytes of a report of so many entries, behind its length.
-fn report(alloc: Global, length: &[u8], count: u8) -> Result<Vec<u8>, AllocError> {
-    let mut bytes = length.to_vec(alloc)?;
-    bytes.extend_from_slice(&[1, 2, 0, 0, 0, 1, 0, 0, 0, 100, 0, count])?;
+/// The fields of a report before its entries, and those of its only part.
+const REPORT: &[u8] = b"\x01\x02\x00\x00\x00\x01\x00\x00\x00\x64";
+
+const REPORT_PART: &[u8] = b"\x02\x02\x00\x00\x00\x01\x00\x00\x00\x64\x00\x00\x00\x01";
+
+/// The bytes of a report or part of so many entries, behind its length.
+fn report(alloc: Global, length: u8, front: &[u8], count: u8) -> Result<Vec<u8>, AllocError> {
+    let mut bytes = vec![in alloc; 0, 0, 1, length]?;
+    bytes.extend_from_slice(front)?;
+    bytes.extend_from_slice(&[0, count])?;
     for number in 0..count {
         bytes.extend_from_slice(&[0, 0, 0, number, 1, 1, 0])?;
     }
@@ -377,11 +450,13 @@ fn report(alloc: Global, length: &[u8], count: u8) -> Result<Vec<u8>, AllocError
 #[test]
 fn at_most_64_entries(rt: HostRuntime) -> Result<(), Fail> {
     let alloc = rt.alloc();
-    let most = report(alloc, b"\x00\x00\x01\xCC", 64)?;
-    let one_more = report(alloc, b"\x00\x00\x01\xD3", 65)?;
-    let mut feed = Feed::new(alloc);
-    assert!(rt; pushed(&rt, &mut feed, &most).len() == 1);
-    fails(&rt, &mut feed, &one_more, 0, FrameFault::BadField);
+    for (front, most, one_more) in [(REPORT, 0xCC, 0xD3), (REPORT_PART, 0xD0, 0xD7)] {
+        let most = report(alloc, most, front, 64)?;
+        let one_more = report(alloc, one_more, front, 65)?;
+        let mut feed = Feed::new(alloc);
+        assert!(rt; pushed(&rt, &mut feed, &most).len() == 1);
+        fails(&rt, &mut feed, &one_more, 0, FrameFault::BadField);
+    }
     Ok(())
 }
 
@@ -443,5 +518,46 @@ fn forms_of_data_and_numbers(rt: HostRuntime) -> Result<(), Fail> {
     }
     expect_form(&rt, Frame::Hello(Hello { generation: 0 }), false);
     expect_form(&rt, Frame::Dead(Dead { tab: 0 }), false);
+    Ok(())
+}
+
+fn part(alloc: Global, part: u16, parts: u16) -> Frame {
+    Frame::ReportPart(ReportPart {
+        generation: 1,
+        base: 0,
+        part,
+        parts,
+        entries: Sequence::new(Vec::new(alloc)),
+    })
+}
+
+#[test]
+fn forms_of_parts(rt: HostRuntime) {
+    let alloc = rt.alloc();
+    expect_form(&rt, part(alloc, 0, 1), true);
+    expect_form(&rt, part(alloc, 15, 16), true);
+    expect_form(&rt, part(alloc, 0, 0), false);
+    expect_form(&rt, part(alloc, 16, 16), false);
+    expect_form(&rt, part(alloc, 0, 17), false);
+}
+
+fn pair_welcome(alloc: Global, top: &str, own: &str) -> Result<Frame, AllocError> {
+    Ok(Frame::PairWelcome(PairWelcome {
+        tab: 1,
+        top: Origin::new(String::from_str(alloc, top)?),
+        own: Origin::new(String::from_str(alloc, own)?),
+    }))
+}
+
+#[test]
+fn forms_of_origins(rt: HostRuntime) -> Result<(), Fail> {
+    let alloc = rt.alloc();
+    for length in 4096..4098 {
+        let text = "x".repeat(alloc, length)?;
+        expect_form(&rt, pair_welcome(alloc, text.as_str(), "")?, length == 4096);
+        expect_form(&rt, pair_welcome(alloc, "", text.as_str())?, length == 4096);
+    }
+    expect_form(&rt, pair_welcome(alloc, "é", "")?, false);
+    expect_form(&rt, pair_welcome(alloc, "", "é")?, false);
     Ok(())
 }

@@ -4,13 +4,13 @@ use bytes::Bytes;
 use std::alloc::{AllocError, Global};
 use std::process::Abort;
 use wl_frames::{
-    Addressed, Answer, Command, Downward, Frame, Hello, Name, Operation, Outcome, Post, Start,
-    Upward,
+    Addressed, Answer, Command, Downward, Frame, Hello, Name, Operation, Outcome, Post, ReportPart,
+    Sequence, Start, Upward,
 };
 use wl_kernel::{
     Down, GenerationsUsedUp, KillFault, OpenFault, RouteFault, Routed, StartFault, Tabs, Up,
 };
-use wl_origin::{OriginFault, Partition, partition};
+use wl_origin::{OriginFault, Partition, partition, partition_pair};
 
 /// What is told of the kernel: the generation, how many tabs live, and of the tabs 0 to 5 the partition numbers, and
 /// which live.
@@ -25,10 +25,18 @@ fn state(tabs: &Tabs) -> State {
     )
 }
 
-fn partition_of(rt: &impl Abort, alloc: Global, url: &str) -> Partition {
-    match partition(alloc, url) {
+/// The partition of a page, at the top or under another one.
+fn read_partition(alloc: Global, top: Option<&str>, url: &str) -> Result<Partition, OriginFault> {
+    match top {
+        Some(top) => partition_pair(alloc, top, url),
+        None => partition(alloc, url),
+    }
+}
+
+fn partition_of(rt: &impl Abort, alloc: Global, top: Option<&str>, url: &str) -> Partition {
+    match read_partition(alloc, top, url) {
         Ok(partition) => partition,
-        Err(_) => partition(alloc, url).expect(rt, "memory is back"),
+        Err(_) => read_partition(alloc, top, url).expect(rt, "memory is back"),
     }
 }
 
@@ -41,11 +49,24 @@ fn opens(
     url: &str,
     expected: Result<u16, OpenFault>,
 ) {
+    opens_under(rt, alloc, tabs, tab, None, url, expected);
+}
+
+/// Opens a tab under a top, which has to be answered so.
+fn opens_under(
+    rt: &impl Abort,
+    alloc: Global,
+    tabs: &mut Tabs,
+    tab: u16,
+    top: Option<&str>,
+    url: &str,
+    expected: Result<u16, OpenFault>,
+) {
     let before = state(tabs);
-    let mut answer = tabs.open(tab, partition_of(rt, alloc, url));
+    let mut answer = tabs.open(tab, partition_of(rt, alloc, top, url));
     if answer == Err(OpenFault::Memory) {
         assert!(rt; state(tabs) == before);
-        answer = tabs.open(tab, partition_of(rt, alloc, url));
+        answer = tabs.open(tab, partition_of(rt, alloc, top, url));
     }
     assert!(rt; answer == expected, "tab {tab}");
 }
@@ -413,6 +434,66 @@ fn origins_apart(rt: HostRuntime) {
     assert!(rt; is_stamped(up.tabs(), 3, 3));
     assert!(rt; is_stamped(up.tabs(), 2, 1));
     assert!(rt; passes(&up, 3));
+    up.end();
+}
+
+// A page under another top is in another partition; one under its own origin is in that of a page at the top.
+#[test]
+fn tops_apart(rt: HostRuntime) {
+    let alloc = rt.alloc();
+    let (a, t) = ("https://a.test/", "https://t.test/");
+    let mut down = Down::new(alloc, 1);
+    let tabs = down.tabs_mut();
+    opens_under(&rt, alloc, tabs, 1, Some(t), a, Ok(1));
+    opens(&rt, alloc, tabs, 2, a, Ok(2));
+    opens_under(&rt, alloc, tabs, 3, Some(a), a, Ok(2));
+    opens_under(&rt, alloc, tabs, 4, Some(t), a, Ok(1));
+    assert!(rt; is_posted(&rt, alloc, tabs, 1, &[4]));
+    assert!(rt; is_posted(&rt, alloc, tabs, 3, &[2]));
+    down.end();
+}
+
+/// The only part of an empty report, in generation 1.
+fn part(alloc: Global) -> Frame {
+    Frame::ReportPart(ReportPart {
+        generation: 1,
+        base: 0,
+        part: 0,
+        parts: 1,
+        entries: Sequence::new(Vec::new(alloc)),
+    })
+}
+
+/// Whether the frame is a part of a tab's report, stamped so.
+fn is_part(frame: &Frame, tab: u16, partition: u16) -> bool {
+    match frame {
+        Frame::Stamped(stamped) => {
+            stamped.tab == tab
+                && stamped.partition == partition
+                && matches!(stamped.inner, Upward::ReportPart(_))
+        }
+        _ => false,
+    }
+}
+
+/// Whether a part of the tab's report goes to the broker under this partition number.
+fn is_reported(alloc: Global, tabs: &Tabs, tab: u16, partition: u16) -> bool {
+    let routed = tabs.route_up(tab, part(alloc));
+    match &routed {
+        Ok(Routed::Broker(frame)) => is_part(frame, tab, partition),
+        _ => false,
+    }
+}
+
+#[test]
+fn parts_go_up(rt: HostRuntime) {
+    let alloc = rt.alloc();
+    let mut up = two_tabs(&rt, alloc);
+    assert!(rt; is_reported(alloc, up.tabs(), 2, 1));
+    assert!(rt; refuses_up(&up, 3, part(alloc), RouteFault::NoTab));
+    assert!(rt; up.tabs_mut().kill(2) == Ok(()));
+    assert!(rt; refuses_up(&up, 2, part(alloc), RouteFault::DeadTab));
+    assert!(rt; refuses_down(&up, part(alloc), RouteFault::WrongKind));
     up.end();
 }
 

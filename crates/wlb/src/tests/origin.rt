@@ -1,7 +1,7 @@
 use std::alloc::Global;
 use std::cmp::Ordering;
 use std::test::Fail;
-use wl_origin::{OriginFault, partition};
+use wl_origin::{OriginFault, partition, partition_pair};
 
 fn are_equal(alloc: Global, one: &str, other: &str) -> Result<bool, OriginFault> {
     let one = partition(alloc, one)?;
@@ -28,6 +28,60 @@ fn equal_partitions(rt: HostRuntime) -> Result<(), Fail> {
         );
     }
     Ok(())
+}
+
+/// Whether the partition of a page under a top is that of a page at the top.
+fn is_at_top(alloc: Global, top: &str, own: &str, url: &str) -> Result<bool, OriginFault> {
+    Ok(partition_pair(alloc, top, own)? == partition(alloc, url)?)
+}
+
+// Two partitions are the same where both of their origins are.
+#[test]
+fn pairs_of_origins(rt: HostRuntime) -> Result<(), Fail> {
+    let (a, b) = ("https://a.test/", "https://b.test/");
+    let cases = [
+        (a, a, a, true),
+        ("https://a.test:443/x", a, a, true),
+        (b, a, a, false),
+        (a, b, a, false),
+        (b, a, b, false),
+    ];
+    for (top, own, url, are_same) in cases {
+        assert_eq!(rt;
+            is_at_top(rt.alloc(), top, own, url)?,
+            are_same,
+            "of {own} under {top}"
+        );
+    }
+    let pair = partition_pair(rt.alloc(), "https://t.test:443/x", "http://a.test:80/y")?;
+    assert_eq!(rt; pair.top_text(), "https://t.test");
+    assert_eq!(rt; pair.text(), "http://a.test");
+    let copy = pair.copy(rt.alloc())?;
+    assert!(rt; copy == pair);
+    assert_eq!(rt; copy.top_text(), "https://t.test");
+    assert_eq!(rt; copy.text(), "http://a.test");
+    Ok(())
+}
+
+// The top-level URL is refused first.
+#[test]
+fn refusals_of_pairs(rt: HostRuntime) {
+    let page = "https://a.test/";
+    let cases = [
+        ("data:,x", "a b", OriginFault::Security),
+        ("a b", "data:,x", OriginFault::BadUrl),
+        (page, "data:,x", OriginFault::Security),
+        (page, "a b", OriginFault::BadUrl),
+        ("data:,x", page, OriginFault::Security),
+        ("a b", page, OriginFault::BadUrl),
+    ];
+    for (top, own, fault) in cases {
+        assert_eq!(rt;
+            partition_pair(rt.alloc(), top, own).err(),
+            Some(fault),
+            "of {own} under {top}"
+        );
+    }
 }
 
 #[test]
@@ -116,6 +170,12 @@ fn url_of_2048_and_of_2049_bytes(rt: HostRuntime) -> Result<(), Fail> {
         partition(rt.alloc(), url.as_str()).err(),
         Some(OriginFault::BadUrl)
     );
+    for (top, own) in [(url.as_str(), "data:,x"), ("https://a.test/", url.as_str())] {
+        assert_eq!(rt;
+            partition_pair(rt.alloc(), top, own).err(),
+            Some(OriginFault::BadUrl)
+        );
+    }
     Ok(())
 }
 
@@ -147,6 +207,29 @@ fn order_agrees_with_equality(rt: HostRuntime) -> Result<(), Fail> {
     partitions.sort()?;
     for (a, url) in partitions.iter().zip(rising) {
         assert_eq!(rt; a.text(), url);
+    }
+    Ok(())
+}
+
+// The top-level origins decide first.
+#[test]
+fn order_of_pairs(rt: HostRuntime) -> Result<(), Fail> {
+    let alloc = rt.alloc();
+    let rising = [
+        ("http://b.test", "https://b.test"),
+        ("https://a.test", "http://b.test"),
+        ("https://a.test", "https://a.test"),
+        ("https://b.test", "http://a.test"),
+    ];
+    let mut pairs = Vec::new(alloc);
+    for (top, own) in rising {
+        pairs.push(partition_pair(alloc, top, own)?)?;
+    }
+    for (i, a) in pairs.iter().enumerate() {
+        for (j, b) in pairs.iter().enumerate() {
+            assert_eq!(rt; a.cmp(b), i.cmp(&j));
+            assert_eq!(rt; a == b, i == j);
+        }
     }
     Ok(())
 }
@@ -184,4 +267,29 @@ fn refused_memory(rt: HostRuntime) {
             Err(fault) => assert_eq!(rt; fault, OriginFault::Memory),
         }
     }
+    match partition_pair(rt.alloc(), "https://t.test:8443/", "https://a.test/x") {
+        Ok(a) => {
+            assert_eq!(rt; a.top_text(), "https://t.test:8443");
+            assert_eq!(rt; a.text(), "https://a.test");
+            if let Ok(copy) = a.copy(rt.alloc()) {
+                assert!(rt; copy == a);
+            }
+        }
+        Err(fault) => assert_eq!(rt; fault, OriginFault::Memory),
+    }
+}
+
+// A text that is too long is no matter of memory.
+#[test]
+fn too_long_without_memory(rt: HostRuntime) {
+    let alloc = rt.alloc();
+    let Ok(long) = "x".repeat(alloc, 2049) else {
+        return;
+    };
+    let long = long.as_str();
+    assert_eq!(rt; partition(alloc, long).err(), Some(OriginFault::BadUrl));
+    assert_eq!(rt;
+        partition_pair(alloc, long, "data:,x").err(),
+        Some(OriginFault::BadUrl)
+    );
 }

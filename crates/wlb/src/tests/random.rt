@@ -1,15 +1,18 @@
-//! Thousands of random events in one world: opens, requests, releases, aborts, deliveries of any message of any age, deaths,
-//! stops and starts. After each event no two locks that are held conflict. It checks the definitions themselves, by what a
-//! person would look for.
+//! Thousands of random events in one world: opens of both kinds, requests, releases, aborts, deliveries of any message of any
+//! age, deaths, stops and starts. After each event no two locks that are held conflict. In a second run some tabs are taken
+//! over and forge commands, reports, parts of reports and posts, and no two locks that the others hold conflict. It checks the
+//! definitions themselves, by what a person would look for.
 
+use bytes::Bytes;
 use std::alloc::{AllocError, Global};
 use std::process::Abort;
 use std::test::Fail;
-use wl_draft::{Mode, Name};
-use wl_frames::Sequence;
+use wl_draft::{Entry, Mode, Name};
+use wl_frames::{Command, Operation, Post, Report, ReportPart, Sequence, Upward};
 use wl_origin::partition;
-use wl_world::event::Event;
+use wl_world::event::{Event, Forged};
 use wl_world::holding::Holding;
+use wl_world::reply::Said;
 use wl_world::world::World;
 
 const STEPS: u64 = 6_000;
@@ -57,11 +60,24 @@ impl Dice {
     }
 }
 
-/// A world, with how many messages were ever sent.
+/// A world, with how many messages were ever sent, the generation, and how many forgeries were sent.
 #[derive(Drop)]
 struct Play {
     world: World,
     sent: usize,
+    generation: u32,
+    forged: usize,
+}
+
+impl Play {
+    fn new(alloc: Global) -> Play {
+        Play {
+            world: World::new(alloc),
+            sent: 0,
+            generation: 0,
+            forged: 0,
+        }
+    }
 }
 
 /// Tabs with odd numbers are of one origin, those with even numbers of another.
@@ -75,7 +91,11 @@ fn url_of(tab: u16) -> &'static str {
 
 fn open(alloc: Global, tab: u16) -> Result<Event, AllocError> {
     match partition(alloc, url_of(tab)) {
-        Ok(partition) => Ok(Event::Open { tab, partition }),
+        Ok(partition) => Ok(if tab % 3 == 0 {
+            Event::OpenTwo { tab, partition }
+        } else {
+            Event::Open { tab, partition }
+        }),
         // The text is a URL with an origin, so memory was refused.
         Err(_) => Err(AllocError),
     }
@@ -146,6 +166,93 @@ fn other(dice: &mut Dice, alloc: Global, play: &Play, tab: u16) -> Result<Event,
     }
 }
 
+// ---- tabs that are taken over
+
+/// Which tabs are taken over in the second run.
+fn is_hostile(tab: u16) -> bool {
+    tab % 5 == 0
+}
+
+fn entries(dice: &mut Dice, alloc: Global) -> Result<Sequence<Entry>, AllocError> {
+    let mut entries = Vec::new(alloc);
+    for number in 0..2_u32 {
+        if dice.below(2) == 0 {
+            entries.push(Entry {
+                number,
+                held: dice.below(2) == 0,
+                mode: dice.mode(),
+                name: dice.name(alloc)?,
+            })?;
+        }
+    }
+    Ok(Sequence::new(entries))
+}
+
+fn operation(dice: &mut Dice, alloc: Global) -> Result<Operation, AllocError> {
+    let number = dice.number();
+    Ok(match dice.below(4) {
+        0 => Operation::Release { number },
+        1 => Operation::Abort { number },
+        2 => Operation::Query,
+        _ => Operation::Request {
+            mode: dice.mode(),
+            if_available: dice.below(2) == 0,
+            name: dice.name(alloc)?,
+        },
+    })
+}
+
+/// What a tab that is taken over says, most often of the generation that runs.
+fn forged(dice: &mut Dice, alloc: Global, play: &Play) -> Result<Forged, AllocError> {
+    let generation = match dice.below(4) {
+        0 => play.generation.saturating_add(1),
+        _ => play.generation.max(1),
+    };
+    let number = dice.number();
+    Ok(match dice.below(5) {
+        0 => Forged::Post(Post {
+            number,
+            channel: dice.name(alloc)?,
+            bytes: Bytes::new(),
+        }),
+        1 => Forged::Upward(Upward::Report(Report {
+            generation,
+            base: number,
+            entries: entries(dice, alloc)?,
+        })),
+        2 => Forged::Upward(Upward::ReportPart(ReportPart {
+            generation,
+            base: number,
+            part: u16::from(dice.below(2) == 0),
+            parts: 2,
+            entries: entries(dice, alloc)?,
+        })),
+        _ => Forged::Upward(Upward::Command(Command {
+            generation,
+            number,
+            operation: operation(dice, alloc)?,
+        })),
+    })
+}
+
+/// A hostile tab is taken over, or forges; now and then another one tries it in vain.
+fn hostile(dice: &mut Dice, alloc: Global, play: &Play, tab: u16) -> Result<Event, AllocError> {
+    let hostile = tab.saturating_add(4) / 5 * 5;
+    Ok(match dice.below(5) {
+        0 => Event::Corrupt { tab: hostile },
+        1 => Event::Forge {
+            tab,
+            forged: forged(dice, alloc, play)?,
+        },
+        _ => Event::Forge {
+            tab: hostile,
+            forged: forged(dice, alloc, play)?,
+        },
+    })
+}
+
+// ---- runs
+
 fn event(dice: &mut Dice, alloc: Global, play: &Play, step: u64) -> Result<Event, AllocError> {
     let tab = dice.tab(step);
     if dice.below(2) == 0 {
@@ -156,14 +263,33 @@ fn event(dice: &mut Dice, alloc: Global, play: &Play, step: u64) -> Result<Event
 }
 
 fn then(play: Play, event: Event) -> Result<Play, AllocError> {
-    let (world, reply) = play.world.step(event)?;
+    let Play {
+        world,
+        sent,
+        generation,
+        forged,
+    } = play;
+    let (world, reply) = world.step(event)?;
+    let generation = match &reply.said {
+        Said::Started { generation } => *generation,
+        _ => generation,
+    };
+    let forged = match &reply.said {
+        Said::Forged => forged.saturating_add(1),
+        _ => forged,
+    };
     let sent = reply
         .sent
         .as_slice()
         .iter()
         .map(|sent| sent.place.saturating_add(1))
-        .fold(play.sent, |most, count| most.max(count));
-    Ok(Play { world, sent })
+        .fold(sent, |most, count| most.max(count));
+    Ok(Play {
+        world,
+        sent,
+        generation,
+        forged,
+    })
 }
 
 fn conflict(one: &Holding, other: &Holding) -> bool {
@@ -172,11 +298,12 @@ fn conflict(one: &Holding, other: &Holding) -> bool {
         && !(one.mode == Mode::Shared && other.mode == Mode::Shared)
 }
 
-/// Whether any two of these conflict.
-fn any_conflict(holdings: &[Holding]) -> bool {
+/// Whether any two of these conflict; where some tabs were taken over, of those of the others.
+fn any_conflict(holdings: &[Holding], honest_alone: bool) -> bool {
     for (place, first) in holdings.iter().enumerate() {
         let mut others = holdings.iter().skip(place).skip(1);
-        if others.any(|other| conflict(first, other)) {
+        let counts = |tab: u16| !(honest_alone && is_hostile(tab));
+        if counts(first.tab) && others.any(|other| counts(other.tab) && conflict(first, other)) {
             return true;
         }
     }
@@ -187,17 +314,14 @@ fn any_conflict(holdings: &[Holding]) -> bool {
 fn no_two_locks_that_are_held_conflict(rt: HostRuntime) -> Result<(), Fail> {
     let alloc = rt.alloc();
     let mut dice = Dice { state: 20_261_122 };
-    let mut play = Play {
-        world: World::new(alloc),
-        sent: 0,
-    };
+    let mut play = Play::new(alloc);
     let mut most: usize = 0;
     let mut held: usize = 0;
     for step in 0..STEPS {
         let event = event(&mut dice, alloc, &play, step)?;
         play = then(play, event)?;
         let holdings = play.world.holdings()?;
-        assert!(rt; !any_conflict(holdings.as_slice()));
+        assert!(rt; !any_conflict(holdings.as_slice(), false));
         most = most.max(holdings.as_slice().len());
         held = held.saturating_add(holdings.as_slice().len());
     }
@@ -205,5 +329,29 @@ fn no_two_locks_that_are_held_conflict(rt: HostRuntime) -> Result<(), Fail> {
     assert!(rt; most >= 4);
     assert!(rt; held >= 1_000);
     assert!(rt; play.sent >= 500);
+    Ok(())
+}
+
+#[test]
+fn no_two_locks_of_honest_tabs_conflict(rt: HostRuntime) -> Result<(), Fail> {
+    let alloc = rt.alloc();
+    let mut dice = Dice { state: 20_261_123 };
+    let mut play = Play::new(alloc);
+    let mut held: usize = 0;
+    for step in 0..STEPS {
+        let tab = dice.tab(step);
+        let event = if dice.below(20) == 0 {
+            hostile(&mut dice, alloc, &play, tab)?
+        } else {
+            event(&mut dice, alloc, &play, step)?
+        };
+        play = then(play, event)?;
+        let holdings = play.world.holdings()?;
+        assert!(rt; !any_conflict(holdings.as_slice(), true));
+        held = held.saturating_add(holdings.as_slice().len());
+    }
+    // Locks were held, and frames forged: else nothing was tried.
+    assert!(rt; held >= 500);
+    assert!(rt; play.forged >= 20);
     Ok(())
 }

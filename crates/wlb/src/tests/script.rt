@@ -1,5 +1,6 @@
 // Scripts through the sim.
 mod hostile;
+mod parts;
 mod rows;
 mod texts;
 
@@ -195,6 +196,34 @@ fn unheard_forgery(rt: HostRuntime) -> Result<(), Fail> {
     expect_row(&rt, rt.alloc(), &hostile::UNHEARD_FORGERY)
 }
 
+#[test]
+fn reports_in_parts(rt: HostRuntime) -> Result<(), Fail> {
+    let alloc = rt.alloc();
+    parts::in_two_parts(alloc)?.expect(&rt, alloc, "reports in parts");
+    Ok(())
+}
+
+#[test]
+fn partitions_under_another_top(rt: HostRuntime) -> Result<(), Fail> {
+    let alloc = rt.alloc();
+    parts::under_another_top(alloc)?.expect(&rt, alloc, "another top");
+    Ok(())
+}
+
+#[test]
+fn refused_pairs(rt: HostRuntime) -> Result<(), Fail> {
+    let alloc = rt.alloc();
+    parts::refused_pairs(alloc)?.expect(&rt, alloc, "refused pairs");
+    Ok(())
+}
+
+#[test]
+fn forged_parts(rt: HostRuntime) -> Result<(), Fail> {
+    let alloc = rt.alloc();
+    parts::forged_parts(alloc)?.expect(&rt, alloc, "forged parts");
+    Ok(())
+}
+
 fn letters(alloc: Global, count: usize) -> Result<String, AllocError> {
     let mut text = String::new(alloc);
     for _ in 0..count {
@@ -266,11 +295,7 @@ fn lines_of_other_forms(rt: HostRuntime) {
         (b"stop \nstop\n", 1, b""),
         (b"stop\r\n", 1, b""),
         (b"stop\nstart 0", 2, b"already down\n"),
-        (
-            b"stop\nopen2 1 https://a.test/ https://a.test/\n",
-            2,
-            b"already down\n",
-        ),
+        (b"stop\nopen2 1 https://a.test/\n", 2, b"already down\n"),
         (b"ask 1 shared %FF\n", 1, b""),
     ];
     for (script, number, output) in cases {
@@ -281,7 +306,7 @@ fn lines_of_other_forms(rt: HostRuntime) {
 
 #[test]
 fn what_is_no_body_of_a_tab(rt: HostRuntime) {
-    let cases: [&[u8]; 10] = [
+    let cases: [&[u8]; 11] = [
         b"forge 1\n",
         b"forge 1 \n",
         b"forge 1 %\n",
@@ -291,9 +316,10 @@ fn what_is_no_body_of_a_tab(rt: HostRuntime) {
         b"forge 1 0103000000000161000a\n",
         b"forge 1 0103000000000161000000\n",
         b"forge 1 010300000000016100\n",
-        // A hello; a post of another version.
+        // A hello; a post of the second version, and a report of a third.
         b"forge 1 011000000001\n",
-        b"forge 1 0203000000000161000000\n",
+        b"forge 1 02030000000001610000\n",
+        b"forge 1 03020000000100000000000000010000\n",
     ];
     for script in cases {
         let lines = script.iter().filter(|byte| **byte == b'\n').count();

@@ -4,7 +4,7 @@ use std::alloc::{AllocError, Global};
 use std::process::Abort;
 use wl_draft::{Entry, Mode, Name};
 use wl_frames::{Command, Operation, Report, Sequence, Upward};
-use wl_origin::{Partition, partition};
+use wl_origin::{Partition, partition, partition_pair};
 use wl_world::event::{Event, Forged};
 use wl_world::holding::Holding;
 use wl_world::message::Message;
@@ -15,6 +15,8 @@ use wl_world::world::World;
 #[derive(Clone, Copy)]
 enum Line {
     Open(u16, &'static str),
+    /// The page's URL, under that of its top.
+    OpenTwo(u16, &'static str, &'static str),
     Start(&'static [u16]),
     Stop,
     Hello(u16),
@@ -130,6 +132,10 @@ fn event(rt: &impl Abort, alloc: Global, world: &World, line: Line) -> Result<Ev
         Line::Open(tab, url) => Event::Open {
             tab,
             partition: origin(alloc, url)?,
+        },
+        Line::OpenTwo(tab, top, url) => Event::OpenTwo {
+            tab,
+            partition: partition_pair(alloc, top, url).map_err(|_fault| AllocError)?,
         },
         Line::Start(tabs) => Event::Start(Sequence::new(Vec::from_slice(alloc, tabs)?)),
         Line::Stop => Event::Stop,
@@ -728,4 +734,29 @@ const BESIEGED: [Line; 14] = [
 fn an_honest_holder_stays(rt: HostRuntime) {
     let row: [&[Line]; 3] = [&FIRST, &SECOND, &BESIEGED];
     check(&rt, rt.alloc(), &row, &[(1, 0, Mode::Exclusive, "a")]);
+}
+
+#[test]
+fn a_page_under_another_top_shares_no_lock(rt: HostRuntime) {
+    let alloc = rt.alloc();
+    check(
+        &rt,
+        alloc,
+        &[
+            &FIRST,
+            &[
+                Line::OpenTwo(2, "https://t.test/", URL),
+                Line::Hello(2),
+                Line::Deliver(3),
+                Line::Deliver(4),
+                Line::Ask(1, Mode::Exclusive, "a"),
+                Line::Deliver(5),
+                Line::Deliver(6),
+                Line::Ask(2, Mode::Exclusive, "a"),
+                Line::Deliver(7),
+                Line::Deliver(8),
+            ],
+        ],
+        &[(1, 0, Mode::Exclusive, "a"), (2, 0, Mode::Exclusive, "a")],
+    );
 }

@@ -18,6 +18,17 @@ pub const FIRST_GRANT: Row = Row {
     output: &["00000013 01 22 0001 01 11 00000001 00000001 00000000 02"],
 };
 
+/// The first grant, after a report in one part.
+pub const REPORT_IN_ONE_PART: Row = Row {
+    name: "report in one part",
+    input: &[
+        "00000008 01 21 00000001 0000",
+        "00000016 01 20 0001 0001 02 02 00000001 00000000 0000 0001 0000",
+        "00000015 01 20 0001 0001 01 01 00000001 00000000 01 02 00 0161",
+    ],
+    output: &["00000013 01 22 0001 01 11 00000001 00000001 00000000 02"],
+};
+
 pub const HANDOVER: Row = Row {
     name: "handover",
     input: &[
