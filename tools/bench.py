@@ -1,7 +1,12 @@
-"""Times `wlb sim` on scripts of growing length: two tabs of one origin hand a lock over, again and again.
+"""Times `wlb sim`.
 
-Prints for each length the seconds and the time of a line, as a ratio to that of the shortest script. Where a line costs
-no more for the messages that were sent before it, the ratios stay near 1 (the tables are trees, so they may rise a little).
+Handover: scripts of growing length, in which two tabs of one origin hand a lock over, again and again. Prints for each length
+the seconds and the time of a line, as a ratio to that of the shortest script. Where a line costs no more for the messages that
+were sent before it, the ratios stay near 1 (the tables are trees, so they may rise a little).
+
+Recovery: 64 tabs of one partition have many live requests each when the broker is stopped, and tell them to the next one in
+parts. Prints for each count of requests the seconds from the stop on, and the time of a request, as a ratio to that of the
+smallest count.
 """
 
 import subprocess
@@ -9,6 +14,9 @@ import sys
 import time
 
 LENGTHS = [1_000, 10_000, 100_000]
+
+TABS = 64
+REQUESTS = [16, 64, 256, 1_024]
 
 
 def handover(lines):
@@ -37,6 +45,47 @@ def handover(lines):
     return "\n".join(script) + "\n"
 
 
+def asking(requests):
+    """Each of 64 tabs asks so often."""
+    script = ["start -"]
+    for tab in range(1, TABS + 1):
+        script += [f"open2 {tab} https://t.test/ https://a.test/", f"deliver m{2 * tab - 1}", f"deliver m{2 * tab}"]
+    for tab in range(1, TABS + 1):
+        script += [f"ask {tab} shared n{number}" for number in range(requests)]
+    return script
+
+
+def recovering(requests):
+    """After that the broker is stopped, and the next one is told everything."""
+    parts = -(-requests // 64)
+    script, sent = ["stop", "start"], TABS * (2 + requests)
+    for tab in range(TABS):
+        script.append(f"deliver m{sent + 1 + tab}")
+    first = sent + 1 + TABS
+    script += [f"deliver m{place}" for place in range(first, first + TABS * parts)]
+    return script
+
+
+def run(program, script):
+    text = "\n".join(script) + "\n"
+    start = time.monotonic()
+    done = subprocess.run([program, "sim"], input=text.encode(), stdout=subprocess.PIPE, check=True)
+    return time.monotonic() - start, done.stdout
+
+
+def recovery_seconds(program, requests):
+    """From the stop on: the time of the whole script without that of its first half alone."""
+    script = asking(requests)
+    before = min(run(program, script)[0] for _ in range(3))
+    whole = []
+    for _ in range(3):
+        taken, output = run(program, script + recovering(requests))
+        # All tabs have joined, and all that they asked for is granted.
+        assert output.count(b" granted upto ") == TABS * requests, output[-500:]
+        whole.append(taken)
+    return max(min(whole) - before, 0.001)
+
+
 def seconds_of(program, script):
     start = time.monotonic()
     done = subprocess.run([program, "sim"], input=script.encode(), stdout=subprocess.PIPE, check=True)
@@ -46,8 +95,7 @@ def seconds_of(program, script):
     return taken
 
 
-def main():
-    program = sys.argv[1]
+def handovers(program):
     base = None
     for lines in LENGTHS:
         script = handover(lines)
@@ -55,7 +103,22 @@ def main():
         taken = min(seconds_of(program, script) for _ in range(3))
         line = taken / count
         base = base or line
-        print(f"{count:7} lines {taken:8.3f} s  ratio of the time of a line {line / base:5.2f}")
+        print(f"handover: {count:7} lines {taken:8.3f} s  ratio of the time of a line {line / base:5.2f}")
+
+
+def recoveries(program):
+    base = None
+    for requests in REQUESTS:
+        taken = recovery_seconds(program, requests)
+        each = taken / (TABS * requests)
+        base = base or each
+        print(f"recovery: {TABS} tabs of {requests:5} requests {taken:8.3f} s  ratio of the time of a request {each / base:5.2f}")
+
+
+def main():
+    program = sys.argv[1]
+    handovers(program)
+    recoveries(program)
 
 
 if __name__ == "__main__":
