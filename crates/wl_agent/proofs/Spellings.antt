@@ -1,6 +1,6 @@
 -- What a tab has to say has a spelling.
 use Rattle.std.proofs.Common.{◌≡◌, ℕ, zero, suc, ◌+◌, ◌*◌, ◌/◌, ◌<◌, ◌≤◌, Bool, true, false, not, cond, eqb, ltb, List, [], ◌∷◌, ◌++◌, length, map, take, drop, get_or, Option, Some, None, refl, sym, ap, ◌∙◌, subst, arith}
-use Rattle.std.proofs.lemmas.Bool.{eq-eqb, ltb-false}
+use Rattle.std.proofs.lemmas.Bool.{both_ways, eq-eqb, ltb-false, not-true, not-false}
 use Rattle.std.proofs.lemmas.List.{length-take}
 use Rattle.std.proofs.lemmas.List.Elements.{All-from_recursion, recursion_from_All, All-append, All-take, All-drop}
 use Rattle.std.specs.Str.{IsUtf8}
@@ -17,6 +17,7 @@ use Rattle.wl_agent.specs.declared.status.Status.{Status}
 use Rattle.wl_agent.specs.declared.status.Status.TheVariants.{Asked, Held, Querying, Whole, Lost}
 use Rattle.wl_agent.specs.Tab.{TabState, enter, enter_first, enter_later, report_of, upward_frame, report_bodies, part_count, command_frame, ask_refusal, live_refusal, is_supported}
 use Rattle.wl_agent.specs.Kept.{Rises, IsTidy, IsTellable, IsSpoken, RowsFit, can_become, reports, entry_at, entries_of}
+use Rattle.wl_agent.proofs.Outcomes.{passed}
 use Rattle.wl_agent.proofs.ToldReports.{part_frame, told_in_parts, length-entries_of}
 
 -- ---- commands
@@ -33,28 +34,16 @@ spoken-at [] k s = tt
 spoken-at (o ∷ os) zero s = s.0
 spoken-at (o ∷ os) (suc k) s = spoken-at os k s.1
 
-passed : {X : Type 0} (b : Bool) (x : X) (rest : Option X) → cond b (Some x) rest ≡ None → (b ≡ false) × (rest ≡ None)
-passed true x rest e = cc
-passed false x rest e = (refl, e)
-
 no_dash : (name : List ℕ) → is_supported name ≡ true → HasNoDash name
 no_dash [] e = tt
-no_dash (b ∷ bs) e = λ same. let at : eqb b 45 ≡ true = eq-eqb b 45 same in clash (eqb b 45) at e
-  where
-    clash : (c : Bool) → c ≡ true → not c ≡ true → ⊥
-    clash true e f = cc
-    clash false e f = cc
-
-supported : (b : Bool) → not b ≡ false → b ≡ true
-supported true e = refl
-supported false e = cc
+no_dash (b ∷ bs) e = λ same. both_ways (eqb b 45) (not-true (eqb b 45) e) (eq-eqb b 45 same)
 
 -- a name under which a lock is asked for
 pub name-spoken : (a : TabState) (name : List ℕ) → ask_refusal a name ≡ None → IsUtf8 name → IsLockName name
 name-spoken a name e text =
     let dash = passed (not (is_supported name)) NotSupported (cond (ltb 255 (length name)) (Some NameTooLong) (live_refusal a 2)) e in
     let short = passed (ltb 255 (length name)) NameTooLong (live_refusal a 2) dash.1 in
-    ((ltb-false 255 (length name) short.0, text), no_dash name (supported (is_supported name) dash.0))
+    ((ltb-false 255 (length name) short.0, text), no_dash name (not-false (is_supported name) dash.0))
 
 pub message-spoken : (a : TabState) (k : ℕ) → IsGeneration a.entered → IsU32 k → AllByRecursion IsOperation a.issued → IsWellFormed (command_frame a k)
 message-spoken a k entered number commands =

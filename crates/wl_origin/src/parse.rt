@@ -31,8 +31,9 @@ pub fn partition_pair(alloc: Global, top: &str, own: &str) -> Result<Partition, 
         (λ e. (e ≡ OriginFault.Memory) ⊎ (partition_of_pair top.now own.now ≡ Err e)) }
     ensures memory { IfErr result (λ e. e ≡ OriginFault.Memory → length top.now ≤ url_limit) }
 {
-    let top = origin_of(alloc, top)?;
-    Ok(Partition::new(top, origin_of(alloc, own)?))
+    let top_origin = origin_of(alloc, top)?;
+    let own_origin = origin_of(alloc, own)?;
+    Ok(Partition::new(top_origin, own_origin))
 }
 
 /// The origin of an absolute URL.
