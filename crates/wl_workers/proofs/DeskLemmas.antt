@@ -95,24 +95,8 @@ unfolding desk_step
 step_other d (frame.Start s) no_start no_stamped no_dead = absurd (no_start s refl)
 step_other d (frame.Stamped s) no_start no_stamped no_dead = absurd (no_stamped s refl)
 step_other d (frame.Dead x) no_start no_stamped no_dead = absurd (no_dead x refl)
-step_other Opening (frame.Command x) no_start no_stamped no_dead = refl
-step_other Opening (frame.Report x) no_start no_stamped no_dead = refl
-step_other Opening (frame.Post x) no_start no_stamped no_dead = refl
-step_other Opening (frame.Hello x) no_start no_stamped no_dead = refl
-step_other Opening (frame.Answer x) no_start no_stamped no_dead = refl
-step_other Opening (frame.Snapshot x) no_start no_stamped no_dead = refl
-step_other Opening (frame.Heard x) no_start no_stamped no_dead = refl
-step_other Opening (frame.Welcome x) no_start no_stamped no_dead = refl
-step_other Opening (frame.Addressed x) no_start no_stamped no_dead = refl
-step_other (Serving b) (frame.Command x) no_start no_stamped no_dead = refl
-step_other (Serving b) (frame.Report x) no_start no_stamped no_dead = refl
-step_other (Serving b) (frame.Post x) no_start no_stamped no_dead = refl
-step_other (Serving b) (frame.Hello x) no_start no_stamped no_dead = refl
-step_other (Serving b) (frame.Answer x) no_start no_stamped no_dead = refl
-step_other (Serving b) (frame.Snapshot x) no_start no_stamped no_dead = refl
-step_other (Serving b) (frame.Heard x) no_start no_stamped no_dead = refl
-step_other (Serving b) (frame.Welcome x) no_start no_stamped no_dead = refl
-step_other (Serving b) (frame.Addressed x) no_start no_stamped no_dead = refl
+step_other Opening _ no_start no_stamped no_dead = refl
+step_other (Serving b) _ no_start no_stamped no_dead = refl
 step_other Refused f no_start no_stamped no_dead = refl
 
 -- nothing is expected after a frame that was not
@@ -189,30 +173,10 @@ past_taken b (Does after outs) e = cc
 
 past_step : (d : DeskState) (f : Frame) → (desk_step d f).0 ≡ Opening → ⊥
 unfolding desk_step
-past_step Opening (frame.Start s) e = cc
-past_step Opening (frame.Command x) e = cc
-past_step Opening (frame.Report x) e = cc
-past_step Opening (frame.Post x) e = cc
-past_step Opening (frame.Hello x) e = cc
-past_step Opening (frame.Answer x) e = cc
-past_step Opening (frame.Snapshot x) e = cc
-past_step Opening (frame.Heard x) e = cc
-past_step Opening (frame.Welcome x) e = cc
-past_step Opening (frame.Stamped x) e = cc
-past_step Opening (frame.Addressed x) e = cc
-past_step Opening (frame.Dead x) e = cc
-past_step (Serving b) (frame.Start s) e = cc
-past_step (Serving b) (frame.Command x) e = cc
-past_step (Serving b) (frame.Report x) e = cc
-past_step (Serving b) (frame.Post x) e = cc
-past_step (Serving b) (frame.Hello x) e = cc
-past_step (Serving b) (frame.Answer x) e = cc
-past_step (Serving b) (frame.Snapshot x) e = cc
-past_step (Serving b) (frame.Heard x) e = cc
-past_step (Serving b) (frame.Welcome x) e = cc
 past_step (Serving b) (frame.Stamped x) e = past_taken b (taking b x) e
-past_step (Serving b) (frame.Addressed x) e = cc
-past_step (Serving b) (frame.Dead x) e = cc
+past_step Opening (frame.Start s) e = cc
+past_step Opening _ e = cc
+past_step (Serving b) _ e = cc
 past_step Refused f e = cc
 
 past_after : (fs : List Frame) (d : DeskState) → (d ≡ Opening → ⊥) → desk_after d fs ≡ Opening → ⊥
