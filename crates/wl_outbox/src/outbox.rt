@@ -98,7 +98,7 @@ impl Outbox {
         ensures pass { IsSamePass pass.old pass.new }
         ensures put { OnOk result (pass.new.view ≡ with_parcel pass.old.view parcel) }
         ensures back { IfErr result (λ full. full.0 ≡ parcel) }
-        // At some moment of the call the queue held as many parcels as it has room for, and nothing was put.
+        // Nothing was put. The rule and what the pass knows allow a full queue; that it was full, no clause can say.
         ensures full { OnErr result ((pass.new ≡ pass.old) × Held 256 (IsMoment pass.old.view)) }
     {
         self.queue
@@ -113,7 +113,7 @@ impl Outbox {
         ensures pass { IsSamePass pass.old pass.new }
         ensures taken { IfSome result (λ p. pass.new.view ≡ with_parcel pass.old.view p) }
         ensures tab { IfSome result (λ p. IsFor p self.now) }
-        // At some moment of the call the queue held nothing, and nothing was taken.
+        // Nothing was taken. The rule and what the pass knows allow an empty queue; that it was empty, no clause can say.
         ensures empty { IfNone result ((pass.new ≡ pass.old) × Held 0 (IsMoment pass.old.view)) }
     {
         self.queue.pop_as::<Take, R>(rt, &mut pass.place)
