@@ -87,6 +87,13 @@ impl Board {
         Ok(list)
     }
 
+    /// The greatest number of a tab.
+    pub fn tabs(&self) -> u16
+        ensures { result ≡ self.now.tabs }
+    {
+        self.tabs
+    }
+
     /// Draws the next number. A seat that found the numbers used up says so from then on, without a step.
     pub fn draw(&self, seat: &mut Seat) -> Result<Ticket, DrawFault>
         requires { IsOf seat.old self.now }
