@@ -1,21 +1,18 @@
 -- Lemmas on readings of one piece of the input after another.
-use Rattle.std.proofs.Common.{◌≡◌, ℕ, List, [], ◌∷◌, ◌++◌, true, false, Result, Ok, Err, refl, sym, ap, subst, ◌∙◌, append_assoc, append-nil}
+use Rattle.std.proofs.Common.{◌≡◌, ℕ, List, [], ◌∷◌, ◌++◌, true, false, Result, Ok, Err, inl, inr, refl, sym, ap, subst, ◌∙◌, append_assoc, append-nil}
 use Rattle.std.specs.List.{flat_map, AllByRecursion}
 use Rattle.std.proofs.lemmas.List.Concat.{flat_map-append}
+use Rattle.wl_broker.proofs.SpeechLists.{AllByRecursion-append}
 use Rattle.wl_frames.specs.declared.fault.FrameFault.{FrameFault}
 use Rattle.wl_frames.specs.declared.fault.FrameFault.TheVariants as fault
 use Rattle.wl_frames.specs.declared.frame.Frame.{Frame}
 use Rattle.wl_frames.specs.Grammar.{IsWellFormed, spelling}
-use Rattle.wl_frames.specs.Stream.{Stop, Rest, Fault, Reads, IsPartial, Feeding, Takes, Refuses}
+use Rattle.wl_frames.specs.Stream.{Stop, Rest, Fault, HasFault, HasFaultNext, Reads, IsPartial, Feeding, Takes, Refuses}
 use Rattle.wl_workers.specs.declared.desk.DeskFault.{DeskFault}
 use Rattle.wl_workers.specs.declared.desk.DeskFault.TheVariants as desk
 use Rattle.wl_frames.specs.Device.{IsFrontOf}
 use Rattle.wl_workers.specs.Desk.{DeskState, desk_after, IsRefused, IsReadPart}
 use Rattle.wl_workers.specs.DeskSteps.{of_frame, due, Deals, EndsBy, Breaks, Treats}
-
-AllByRecursion-append : (P : Frame → Type 0) (fs gs : List Frame) → AllByRecursion P fs → AllByRecursion P gs → AllByRecursion P (fs ++ gs)
-AllByRecursion-append P [] gs p q = q
-AllByRecursion-append P (f ∷ fs) gs p q = (p.0, AllByRecursion-append P fs gs p.1 q)
 
 -- a reading up to a rest, and one of the rest and more, are one reading
 pub Reads-join : (stream piece rest : List ℕ) (fs gs : List Frame) (stop : Stop) → Reads stream fs (Rest rest) → Reads (rest ++ piece) gs stop → Reads (stream ++ piece) (fs ++ gs) stop
@@ -154,3 +151,8 @@ breaks_after old new before after piece frames fault.Memory output sound partial
     breaks_by_memory old before.rest piece output partial (h.2 ∙ ap (due old) (refuses.memory refl).0)
 breaks_after old new before after piece frames fault.Failed output sound partial refuses h =
     let failed = refuses.failed_before.0 refl in absurd (let e : true ≡ false = sym failed ∙ sound in cc)
+
+-- a fault that stands next is no frame cut short
+pub no_cut : (after : List ℕ) (f : FrameFault) → HasFaultNext after f → f ≡ fault.Truncated → ⊥
+no_cut after f (inl h) cut = let e : fault.BadLength ≡ fault.Truncated = sym h.5 ∙ cut in cc
+no_cut after f (inr h) cut = subst (λ (g : FrameFault). HasFault h.0 g) cut h.4

@@ -1,19 +1,21 @@
 -- Lemmas on whole runs: what was read and written so far, and how a run ends.
 use Rattle.std.proofs.Common.{◌≡◌, ◌↔◌, ℕ, List, [], ◌++◌, Bool, true, false, Option, Result, Ok, Err, refl, sym, ap, subst, ◌∙◌, append-nil, inl, inr, lit<}
-use Rattle.std.specs.Io.KnownBytes.{Consumes, Appends, Keeps}
+use Rattle.std.specs.Io.KnownBytes.{Consumes, Appends, Keeps, IsAtEnd}
 use Rattle.std.proofs.KnownBytes.{Consumes-nil, Appends-nil, Consumes-trans, Appends-trans, Consumes-kept}
 use Rattle.wl_frames.specs.declared.frame.Frame.{Frame}
-use Rattle.wl_frames.specs.Stream.{Stop, Rest, Reads, IsPartial, Feeding, at_start}
+use Rattle.wl_frames.specs.declared.fault.FrameFault.{FrameFault}
+use Rattle.wl_frames.specs.declared.fault.FrameFault.TheVariants as fault
+use Rattle.wl_frames.specs.Stream.{Stop, Rest, StopsAt, Reads, IsPartial, Feeding, at_start}
 use Rattle.wl_workers.specs.declared.desk.DeskFault.{DeskFault}
 use Rattle.wl_workers.specs.declared.desk.DeskFault.TheVariants as desk
 use Rattle.wl_frames.specs.declared.device.ReadFault.{ReadFault}
 use Rattle.wl_frames.specs.declared.device.ReadFault.TheVariants as read
 use Rattle.wl_frames.specs.Device.{IsFrontOf}
-use Rattle.wl_workers.specs.Desk.{DeskState, Opening, desk_after, written, IsServing, IsRefused, IsReadPart, Answered, Runs}
+use Rattle.wl_workers.specs.Desk.{DeskState, Opening, desk_after, written, IsServing, IsRefused, IsReadPart, Answered, NeedsEnd, Runs}
 use Rattle.wl_workers.specs.DeskSteps.{of_read, due, EndsBy, Passes, Breaks, Closes}
 use Rattle.wl_frames.proofs.DeviceLemmas.{append-IsFrontOf}
 use Rattle.wl_workers.proofs.DeskLemmas.{desk_after-append, due-append, frames_before_opening, IsWriteFault}
-use Rattle.wl_workers.proofs.PieceLemmas.{Reads-join}
+use Rattle.wl_workers.proofs.PieceLemmas.{Reads-join, no_cut}
 
 -- all that was read so far is answered, but for a rest that is no whole frame
 pub record Serves (reader_before reader_now writer_before writer_now : Option (List ℕ)) (rest : List ℕ) (d : DeskState) : Type 0 where
@@ -98,6 +100,16 @@ answered_after frames more state stop desk.Write output piece at is h = front_af
 answered_after frames more state stop desk.TooManyReads output piece at is h = absurd h
 answered_after frames more state stop desk.Memory output piece at is h = front_after frames more state output piece at is h
 
+needs_no_end : (stream : List ℕ) (before more : List Frame) (state : DeskState) (stop : Stop) (e : DeskFault) (output : List ℕ) (reader : Option (List ℕ)) → state ≡ desk_after Opening before
+    → Reads stream more stop → EndsBy state more stop e output → NeedsEnd (before ++ more) (Err e) reader
+needs_no_end stream before more state stop (desk.Frame f) output reader at reads h =
+    λ cut. absurd (no_cut reads.after f (subst (StopsAt reads.after) h.0 reads.stops) cut)
+needs_no_end stream before more state stop desk.Unexpected output reader at reads h = λ is_open. absurd (is_open (subst IsRefused (after-append before more state at) h.0))
+needs_no_end stream before more state stop desk.Read output reader at reads h = tt
+needs_no_end stream before more state stop desk.Write output reader at reads h = tt
+needs_no_end stream before more state stop desk.TooManyReads output reader at reads h = tt
+needs_no_end stream before more state stop desk.Memory output reader at reads h = tt
+
 -- a piece was not read or not answered
 pub Runs-broken : (a b b' c d d' : Option (List ℕ)) (rest piece output : List ℕ) (old : DeskState) (e : DeskFault) → Serves a b c d rest old → Consumes b b' piece → Appends d d' output
     → Breaks old rest piece e output → Runs a b' c d' (Err e)
@@ -114,6 +126,7 @@ Runs-broken a b b' c d d' rest piece output old e h consumed appended p = record
     reads = Reads-join h.input p.part rest h.frames p.frames p.stop h.reads p.reads;
     answered = answered_after h.frames p.frames old p.stop e h.output output h.desk_is h.output_is p.ends;
   };
+  at_end = needs_no_end (rest ++ p.part) h.frames p.frames old p.stop e output b' h.desk_is p.reads p.ends;
 }
 
 -- the reader failed
@@ -131,6 +144,7 @@ Runs-read a b b' c d rest state h kept = record {
     reads = h.reads;
     answered = (rest, refl, λ refused. h.is_open (subst IsRefused (sym h.desk_is) refused), h.output_is);
   };
+  at_end = tt;
 }
 
 -- it was read as often as it may be
@@ -148,6 +162,7 @@ Runs-limit a b c d rest state h = record {
     reads = h.reads;
     answered = (rest, refl, λ refused. h.is_open (subst IsRefused (sym h.desk_is) refused), h.output_is);
   };
+  at_end = tt;
 }
 
 -- the input is at its end
@@ -170,9 +185,18 @@ answered_at_end frames state rest (Err desk.Write) output at is_open is h = absu
 answered_at_end frames state rest (Err desk.TooManyReads) output at is_open is h = absurd h
 answered_at_end frames state rest (Err desk.Memory) output at is_open is h = absurd h
 
+end_is_needed : (frames : List Frame) (r : Result (Unit {0}) DeskFault) (reader : Option (List ℕ)) → IsAtEnd reader → NeedsEnd frames r reader
+end_is_needed frames (Ok done) reader at_end = at_end
+end_is_needed frames (Err (desk.Frame f)) reader at_end = λ cut. at_end
+end_is_needed frames (Err desk.Unexpected) reader at_end = λ is_open. at_end
+end_is_needed frames (Err desk.Read) reader at_end = tt
+end_is_needed frames (Err desk.Write) reader at_end = tt
+end_is_needed frames (Err desk.TooManyReads) reader at_end = tt
+end_is_needed frames (Err desk.Memory) reader at_end = tt
+
 pub Runs-end : (a b b' c d : Option (List ℕ)) (rest none : List ℕ) (state : DeskState) (r : Result (Unit {0}) DeskFault) → Serves a b c d rest state → Consumes b b' none → none ≡ []
-    → Closes state rest r → Runs a b' c d r
-Runs-end a b b' c d rest none state r h consumed empty closes = record {
+    → IsAtEnd b' → Closes state rest r → Runs a b' c d r
+Runs-end a b b' c d rest none state r h consumed empty at_end closes = record {
   input = h.input;
   output = h.output;
   consumed = subst (Consumes a b') (ap (λ l. h.input ++ l) empty ∙ append-nil h.input) (Consumes-trans a b b' h.input none h.consumed consumed);
@@ -185,6 +209,7 @@ Runs-end a b b' c d rest none state r h consumed empty closes = record {
     reads = h.reads;
     answered = answered_at_end h.frames state rest r h.output h.desk_is h.is_open h.output_is closes;
   };
+  at_end = end_is_needed h.frames r b' at_end;
 }
 
 -- ---- the same, as the loop meets it

@@ -1,7 +1,7 @@
 -- The desk: a broker between a stream of frames that it reads and one that it writes.
-use Rattle.std.specs.Prelude.{◌≡◌, ◌≢◌, ◌⊎◌, ℕ, List, [], ◌∷◌, ◌++◌, Option, Result, Ok, Err}
+use Rattle.std.specs.Prelude.{◌≡◌, ◌≢◌, ◌⊎◌, ℕ, List, [], ◌∷◌, ◌++◌, Option, Result, Ok, Err, ⊤}
 use Rattle.std.specs.List.{flat_map}
-use Rattle.std.specs.Io.KnownBytes.{Consumes, Appends}
+use Rattle.std.specs.Io.KnownBytes.{Consumes, Appends, IsAtEnd}
 use Rattle.wl_frames.specs.declared.frame.Addressed.{Addressed}
 use Rattle.wl_frames.specs.declared.frame.Frame.{Frame}
 use Rattle.wl_frames.specs.declared.frame.Frame.TheVariants as frame
@@ -88,6 +88,14 @@ pub record Answers (input : List ℕ) (result : Result (Unit {0}) DeskFault) (ou
   pub reads : Reads part frames stop
   pub answered : Answered frames stop result output
 
+-- a run that ended for want of more input has come to the reader's end: it ended well, or within a frame, or with no frame
+-- that was not expected
+abbrev pub NeedsEnd : List Frame → Result (Unit {0}) DeskFault → Option (List ℕ) → Type 0
+NeedsEnd frames (Ok done) reader = IsAtEnd reader
+NeedsEnd frames (Err (desk.Frame f)) reader = f ≡ fault.Truncated → IsAtEnd reader
+NeedsEnd frames (Err desk.Unexpected) reader = (IsRefused (desk_after Opening frames) → ⊥) → IsAtEnd reader
+NeedsEnd frames (Err e) reader = ⊤
+
 -- the reader gave these bytes, and the writer took the answer to them
 pub record Runs (reader_before reader_after writer_before writer_after : Option (List ℕ)) (result : Result (Unit {0}) DeskFault) : Type 0 where
   pub input : List ℕ
@@ -95,3 +103,4 @@ pub record Runs (reader_before reader_after writer_before writer_after : Option 
   pub consumed : Consumes reader_before reader_after input
   pub appended : Appends writer_before writer_after output
   pub answers : Answers input result output
+  pub at_end : NeedsEnd answers.frames result reader_after

@@ -296,7 +296,7 @@ pub fn desk_run_on<T: LockTable, R: Read, W: Write>(
     Err(DeskFault::TooManyReads)
 }
 
-/// Runs a broker over plain lock tables between a reader and a writer: reads frames, a Start frame first and then stamped
+/// Runs a broker over indexed lock tables between a reader and a writer: reads frames, a Start frame first and then stamped
 /// frames and deaths, and writes the frames that the broker sends, up to the end of the input or the first fault.
 pub fn desk_run<R: Read, W: Write>(
     alloc: Global,

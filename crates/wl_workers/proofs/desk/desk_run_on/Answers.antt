@@ -35,7 +35,7 @@ returns-in_err-n-clause-write g c =
 
 pub returns-then-n-eq0-clause-runs : goal.returns-then-n-eq0-clause-runs
 returns-then-n-eq0-clause-runs g c =
-    Runs-end _ _ _ _ _ _ _ _ _ c.loop-reads.invariant.serves c.in_ok-n.ensures.bytes (ap (λ n. take n c.read.new.buffer) c.if-n-eq0.true) c.end.ensures
+    Runs-end _ _ _ _ _ _ _ _ _ c.loop-reads.invariant.serves c.in_ok-n.ensures.bytes (ap (λ n. take n c.read.new.buffer) c.if-n-eq0.true) (c.in_ok-n.ensures.end c.if-n-eq0.true) c.end.ensures
 
 pub returns-then-n-eq0-clause-read : goal.returns-then-n-eq0-clause-read
 returns-then-n-eq0-clause-read g c = end_is_no_read _ _ _ _ c.end.ensures (c.in_ok-n.ensures.counted.1 ∙ c.loop-reads.invariant.source)
