@@ -5,3 +5,7 @@ pub use Rattle.wl_broker.specs.Broker
 pub use Rattle.wl_broker.specs.Speech
 pub mod Desk
 pub mod DeskSteps
+pub mod Told
+pub mod Looks
+pub mod TabReader
+pub mod TabWriter

@@ -1,0 +1,121 @@
+//! Who tells whether a tab lives.
+
+ghost use Rattle.std.specs.Prelude.{◌≡◌, ◌+◌, ◌≤◌};
+ghost use Rattle.std.specs.Arc.{arc_value};
+ghost use Rattle.wl_board.specs.Calls.{IsOf, IsSameSeat, tab_seen, word_of};
+ghost use Rattle.wl_board.specs.Steps.{sees};
+ghost use Rattle.wl_workers.specs.Looks.{IsOnBoard, FindsDead};
+
+use std::marker::Model;
+use std::rt::Clock;
+use std::sync::{Arc, Mutex, Wait};
+use std::thread::Parker;
+use wl_board::{Board, Life, Seat};
+
+/// Looks whether tabs live. A look may wait, as for a bell.
+pub trait Lives {
+    ghost use Rattle.std.specs.Prelude.{ℕ, List, [], ◌∷◌, Option, None};
+    ghost use Rattle.wl_board.specs.declared.tab.Life.{Life};
+    ghost use Rattle.wl_workers.specs.Told.{Grows};
+
+    /// Which tab each of its looks was at and what it found, if it tells.
+    ghost answered: { Self → Option (List (ℕ × Life)) } = { λ _. None };
+
+    fn look<R: Wait + Clock>(&mut self, rt: &R, tab: u16) -> Life
+        ensures { Grows (answered self.old) (answered self.new) ((tab, result) ∷ []) };
+}
+
+/// A board and a seat of it. Its looks do not wait.
+#[derive(Drop)]
+pub struct BoardSeat {
+    board: Arc<Board>,
+    seat: Seat,
+}
+
+impl Model for BoardSeat {
+    ghost use Rattle.std.specs.Arc.{arc_value};
+    ghost use Rattle.wl_board.specs.Calls.{IsOf};
+    ghost use Rattle.wl_workers.specs.Looks.{Watching};
+
+    ghost Value = { Watching };
+
+    ghost view = { λ s. record { board = arc_value s.board; seat = s.seat } };
+
+    ghost invariant = { λ s. IsOf s.seat (arc_value s.board) };
+}
+
+impl BoardSeat {
+    pub fn new(board: Arc<Board>, seat: Seat) -> BoardSeat
+        requires { IsOf seat (arc_value board) }
+        ensures { result ≡ record { board = arc_value board; seat = seat } }
+    {
+        BoardSeat { board, seat }
+    }
+}
+
+impl Lives for BoardSeat {
+    /// A number that the board does not have is of no tab.
+    fn look<R: Wait + Clock>(&mut self, _rt: &R, tab: u16) -> Life
+        ensures same { (self.new.board ≡ self.old.board) × IsSameSeat self.old.seat self.new.seat }
+        ensures seen { IsOnBoard tab self.old.board → self.new.seat.view ≡ sees self.old.seat.view (tab + 1) (word_of result) }
+        ensures not_back { IsOnBoard tab self.old.board → tab_seen tab self.old.seat.view ≤ word_of result }
+        ensures unknown { (¬ IsOnBoard tab self.old.board) → (result ≡ Life.None) × (self.new ≡ self.old) }
+    {
+        if tab == 0 || tab > self.board.tabs() {
+            return Life::None;
+        }
+        self.board.look(&mut self.seat, tab)
+    }
+}
+
+/// A seat that threads take turns at. Its looks wait for their turn alone.
+#[derive(Drop)]
+pub struct SharedSeat {
+    seat: Arc<Mutex<BoardSeat>>,
+}
+
+impl SharedSeat {
+    pub fn new(seat: Arc<Mutex<BoardSeat>>) -> SharedSeat {
+        SharedSeat { seat }
+    }
+}
+
+impl Lives for SharedSeat {
+    fn look<R: Wait + Clock>(&mut self, rt: &R, tab: u16) -> Life {
+        self.seat.lock(rt).look(rt, tab)
+    }
+}
+
+/// Looks that sleep until the bell was rung since the last one. Who puts a parcel or marks a tab dead rings it afterwards.
+#[derive(Drop)]
+pub struct Rung<L> {
+    bell: Arc<Parker>,
+    lives: L,
+}
+
+impl<L> Rung<L> {
+    pub fn new(bell: Arc<Parker>, lives: L) -> Rung<L>
+        ensures { result.lives ≡ lives }
+    {
+        Rung { bell, lives }
+    }
+}
+
+impl<L: Lives> Lives for Rung<L> {
+    ghost answered = { λ r. L.answered r.lives };
+
+    fn look<R: Wait + Clock>(&mut self, rt: &R, tab: u16) -> Life {
+        self.bell.park(rt);
+        self.lives.look(rt, tab)
+    }
+}
+
+/// Looks once, whether a tab is dead.
+pub(crate) fn finds_dead<R: Wait + Clock, L: Lives>(rt: &R, tab: u16, lives: &mut L) -> bool
+    ensures { FindsDead tab result (L.answered lives.old) (L.answered lives.new) }
+{
+    match lives.look(rt, tab) {
+        Life::Dead => true,
+        Life::None | Life::Living => false,
+    }
+}

@@ -1,0 +1,169 @@
+//! The kernel's reading end of a tab's link.
+
+ghost use Rattle.std.specs.Prelude.{◌≡◌, ◌≢◌, ◌↔◌, ◌≤◌, List, [], true, false, length, Err, MatchResult};
+ghost use Rattle.wl_frames.specs.declared.frame.Frame.{Frame as TheFrame};
+ghost use Rattle.wl_frames.specs.Stream.{IsPartial};
+ghost use Rattle.wl_workers.specs.declared.tab_reader.ReadEnd.TheVariants.{Frame as frame_end};
+ghost use Rattle.wl_workers.specs.TabReader.{of_read, ended, dead_look, HandsUp, IsProperFront, EndsAfter, Passes, NeedsEnd, ReadsTab, Closes, IsPieceEnd};
+
+use crate::lives::{Lives, finds_dead};
+use crate::uplink::Uplink;
+use std::alloc::Global;
+use std::io::Read;
+use std::rt::Clock;
+use std::sync::Wait;
+use wl_frames::device::{READ_LIMIT, ReadFault, Source};
+use wl_frames::{Feed, Frame, FrameFault};
+
+/// How many bytes are read at once, at most.
+const PIECE_LEN: usize = 4096;
+
+/// How the reading of a tab's link ended.
+#[derive(Clone, Copy, Debug, PartialEq, Eq)]
+pub enum ReadEnd {
+    /// The input ended between two frames.
+    End,
+    /// The input is no stream of frames, or it ended within a frame; or memory was refused.
+    Frame(FrameFault),
+    /// The reader failed.
+    Read,
+    /// The reader was read as often as it may be.
+    TooManyReads,
+    /// The tab was found dead.
+    Dead,
+}
+
+impl From<FrameFault> for ReadEnd {
+    ghost from_gives = { λ fault end. end ≡ frame_end fault };
+
+    fn from(fault: FrameFault) -> ReadEnd {
+        ReadEnd::Frame(fault)
+    }
+}
+
+impl From<ReadFault> for ReadEnd {
+    ghost from_gives = { λ fault end. end ≡ of_read fault };
+
+    fn from(fault: ReadFault) -> ReadEnd {
+        match fault {
+            ReadFault::Failed => ReadEnd::Read,
+            ReadFault::TooManyReads => ReadEnd::TooManyReads,
+        }
+    }
+}
+
+/// Hands up frames in order, each after a look, until the tab is found dead. A frame that is refused above is lost.
+fn hand_up<R: Wait + Clock, L: Lives, U: Uplink>(
+    rt: &R,
+    tab: u16,
+    frames: Vec<Frame>,
+    lives: &mut L,
+    uplink: &mut U,
+) -> Result<(), ReadEnd>
+    ensures { MatchResult result
+        (λ _. HandsUp tab (L.answered lives.old) (L.answered lives.new) (U.handed uplink.old) (U.handed uplink.new) frames.items [])
+        (λ end. IsPieceEnd end × (end ≡ ReadEnd.Dead) × ((front : List TheFrame) × IsProperFront front frames.items
+        × HandsUp tab (L.answered lives.old) (L.answered lives.new) (U.handed uplink.old) (U.handed uplink.new) front (dead_look end))) }
+{
+    for frame in frames {
+        if finds_dead(rt, tab, lives) {
+            return Err(ReadEnd::Dead);
+        }
+        let _refused = uplink.up(rt, tab, frame);
+    }
+    Ok(())
+}
+
+/// Hands up the frames of a piece of the input. What stands before a fault is handed up first.
+fn take_piece<R: Wait + Clock, L: Lives, U: Uplink>(
+    rt: &R,
+    tab: u16,
+    feed: &mut Feed,
+    piece: &[u8],
+    lives: &mut L,
+    uplink: &mut U,
+) -> Result<(), ReadEnd>
+    requires feed { feed.old.has_failed ≡ false }
+    requires rest { IsPartial feed.old.rest }
+    requires piece { length piece.now ≤ 4096 }
+    ensures { MatchResult result
+        (λ _. Passes tab (L.answered lives.old) (L.answered lives.new) (U.handed uplink.old) (U.handed uplink.new) feed.old.rest piece.now feed.new)
+        (λ end. IsPieceEnd end × ((frames : List TheFrame) × EndsAfter feed.old.rest piece.now frames end
+        × HandsUp tab (L.answered lives.old) (L.answered lives.new) (U.handed uplink.old) (U.handed uplink.new) frames (dead_look end))) }
+{
+    match feed.push(piece) {
+        Ok(frames) => hand_up(rt, tab, frames, lives, uplink),
+        Err(refused) => {
+            hand_up(rt, tab, refused.before, lives, uplink)?;
+            Err(ReadEnd::from(refused.fault))
+        }
+    }
+}
+
+/// What the end of the input means.
+fn close(feed: Feed) -> Result<(), ReadEnd>
+    requires { feed.has_failed ≡ false }
+    ensures { Closes feed.rest result }
+{
+    feed.end()?;
+    Ok(())
+}
+
+/// Reads and hands up, to the end of the input.
+fn read_all<R: Wait + Clock, S: Read, L: Lives, U: Uplink>(
+    rt: &R,
+    alloc: Global,
+    tab: u16,
+    source: &mut Source<S>,
+    lives: &mut L,
+    uplink: &mut U,
+) -> Result<(), ReadEnd>
+    requires source { source.old.has_failed ≡ false }
+    requires reads { source.old.reads ≡ 0 }
+    ensures reads { ReadsTab tab (S.remaining source.old.reader) (S.remaining source.new.reader)
+        (L.answered lives.old) (L.answered lives.new) (U.handed uplink.old) (U.handed uplink.new) (ended result) }
+    ensures end { NeedsEnd (ended result) (S.remaining source.new.reader) }
+    ensures other { result ≢ Err ReadEnd.End }
+    ensures failed { (result ≡ Err ReadEnd.Read) ↔ (source.new.has_failed ≡ true) }
+    ensures limit { result ≡ Err ReadEnd.TooManyReads → source.new.reads ≡ 1000000 }
+{
+    let mut feed = Feed::new(alloc);
+    let mut buffer = [0; PIECE_LEN];
+    // A loop is proved to end, so this one counts the reads too.
+    for _reads in 0..READ_LIMIT {
+        let n = source.read(&mut buffer)?;
+        if n == 0 {
+            return close(feed);
+        }
+        take_piece(rt, tab, &mut feed, &buffer[..n], lives, uplink)?;
+    }
+    Err(ReadEnd::TooManyReads)
+}
+
+/// Reads frames that a tab sends and hands them up, each after a look that did not find the tab dead, up to the end of the
+/// input, the first fault, or the look that finds it dead. A frame that is refused above is lost.
+pub fn tab_reader<R: Wait + Clock, S: Read, L: Lives, U: Uplink>(
+    rt: &R,
+    alloc: Global,
+    tab: u16,
+    source: &mut Source<S>,
+    lives: &mut L,
+    uplink: &mut U,
+) -> ReadEnd
+    requires source { source.old.has_failed ≡ false }
+    requires reads { source.old.reads ≡ 0 }
+
+    // The frames of what was read are handed up, in order, and nothing else.
+    ensures reads { ReadsTab tab (S.remaining source.old.reader) (S.remaining source.new.reader)
+        (L.answered lives.old) (L.answered lives.new) (U.handed uplink.old) (U.handed uplink.new) result }
+    ensures end { NeedsEnd result (S.remaining source.new.reader) }
+
+    // A fault of the reader comes exactly where it failed.
+    ensures failed { (result ≡ ReadEnd.Read) ↔ (source.new.has_failed ≡ true) }
+    ensures limit { result ≡ ReadEnd.TooManyReads → source.new.reads ≡ 1000000 }
+{
+    match read_all(rt, alloc, tab, source, lives, uplink) {
+        Ok(()) => ReadEnd::End,
+        Err(end) => end,
+    }
+}
