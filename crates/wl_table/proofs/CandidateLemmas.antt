@@ -11,7 +11,7 @@ use Rattle.wl_draft.specs.declared.row.Row.{Row}
 use Rattle.wl_draft.specs.Tables.{Table, find}
 use Rattle.wl_draft.specs.Locks.{is_free, is_grantable, is_pair, grantable_behind}
 use Rattle.wl_table.specs.Orders.{values_in, is_rising, without_order}
-use Rattle.wl_table.specs.Clients.{first_place}
+use Rattle.wl_table.specs.Places.{first_place}
 use Rattle.wl_table.specs.Index.{places_in}
 use Rattle.wl_table.specs.Nexts.{first_named, if_free, next_in, is_number, is_next, is_among, AreCandidates, AreOthers}
 use Rattle.wl_table.proofs.Stuck.{AreStuck}

@@ -10,8 +10,7 @@ use Rattle.wl_draft.specs.declared.row.Row.{Row}
 use Rattle.wl_draft.specs.Tables.{Table, find}
 use Rattle.wl_table.specs.Orders.{orders_in, is_above, is_rising, without_order, without_number}
 use Rattle.wl_table.specs.Lines.{nobody, line_seen, line_room, line_at, without_holder, without_waiter}
-use Rattle.wl_table.specs.Clients.{Places, places_at, held_room_at, with_held, with_waiting, without_held, without_waiting, without_place}
-use Rattle.wl_table.specs.declared.holdings.Place.{Place}
+use Rattle.wl_table.specs.Clients.{Places, places_at, held_room_at, with_held, with_waiting, without_held, without_waiting}
 use Rattle.wl_table.specs.declared.line.Line.{Line}
 use Rattle.wl_table.specs.declared.index.Index.{Index}
 use Rattle.wl_table.specs.Index.{IsIndexed, line_of, places_in, places_of, is_shared, is_exclusive}
@@ -26,13 +25,13 @@ room-step client k w room room' l m n = grind (arith, nat_tests)
 pub room-waiting : (client k : ℕ) (w room : ℕ → ℕ) (room' : ℕ) → w client + 1 ≤ room client → w k ≤ room k → room k ≤ room' → w k + cond (eqb client k) 1 0 ≤ room'
 room-waiting client k w room room' l m n = grind (arith, nat_tests)
 
-pub length-waiting : (b : Bool) (s : Places) (place : Place) → length (cond b (with_waiting s place) s).waiting ≡ length s.waiting + cond b 1 0
-length-waiting true s place = grind (arith, length-append)
-length-waiting false s place = omega arith
+pub length-waiting : (b : Bool) (s : Places) (order number : ℕ) → length (cond b (with_waiting s order number) s).waiting ≡ length s.waiting + cond b 1 0
+length-waiting true s order number = grind (arith, length-append)
+length-waiting false s order number = omega arith
 
-pub length-held : (b : Bool) (s : Places) (place : Place) → length (cond b (with_held s place) s).waiting ≡ length s.waiting
-length-held true s place = refl
-length-held false s place = refl
+pub length-held : (b : Bool) (s : Places) (order number : ℕ) → length (cond b (with_held s order number) s).waiting ≡ length s.waiting
+length-held true s order number = refl
+length-held false s order number = refl
 
 pub has-line : (o : Option Line) → (length (option_map_or line_seen o nobody).queue ≡ 0 → ⊥) → IsSome o
 has-line (Some x) f = search rules
@@ -52,23 +51,23 @@ pub line-let_go : (name : List ℕ) (held waiting : Table Row) (order : ℕ) (r 
 line-let_go name held waiting order r rise f =
     held-count (bytes_eq r.name name) _ _ _ _ r.mode _ (count-without (λ (p : ℕ × Row). bytes_eq p.1.name name && is_shared p.1.mode) order r held rise f) (count-without (λ (p : ℕ × Row). bytes_eq p.1.name name && is_exclusive p.1.mode) order r held rise f)
 
-places-same_step : (client order : ℕ) (p : ℕ × Row) (ps : Table Row) → places_in client (without_order order ps) ≡ without_place order (places_in client ps) → places_in client (without_order order (p ∷ ps)) ≡ without_place order (places_in client (p ∷ ps))
+places-same_step : (client order : ℕ) (p : ℕ × Row) (ps : Table Row) → places_in client (without_order order ps) ≡ without_order order (places_in client ps) → places_in client (without_order order (p ∷ ps)) ≡ without_order order (places_in client (p ∷ ps))
 places-same_step client order p ps below = grind (arith, nat_tests)
 
-places-same : (client order : ℕ) (ps : Table Row) → places_in client (without_order order ps) ≡ without_place order (places_in client ps)
+places-same : (client order : ℕ) (ps : Table Row) → places_in client (without_order order ps) ≡ without_order order (places_in client ps)
 places-same client order [] = refl
 places-same client order (p ∷ ps) = places-same_step client order p ps (places-same client order ps)
 
-places-without : (client order : ℕ) (r : Row) (ps : Table Row) (b : Bool) → (r.client == client) ≡ b → is_rising ps ≡ true → find ps order ≡ Some r → places_in client (without_order order ps) ≡ cond b (without_place order (places_in client ps)) (places_in client ps)
+places-without : (client order : ℕ) (r : Row) (ps : Table Row) (b : Bool) → (r.client == client) ≡ b → is_rising ps ≡ true → find ps order ≡ Some r → places_in client (without_order order ps) ≡ cond b (without_order order (places_in client ps)) (places_in client ps)
 places-without client order r ps true e rise f = places-same client order ps
 places-without client order r ps false e rise f =
-    ap (λ qs. map (λ (p : ℕ × Row). record { number = p.1.number; order = p.0 }) qs) (filter-without (λ (p : ℕ × Row). p.1.client == client) order r ps e rise f)
+    ap (λ qs. map (λ (p : ℕ × Row). (p.0, p.1.number)) qs) (filter-without (λ (p : ℕ × Row). p.1.client == client) order r ps e rise f)
 
-cond_held : (b : Bool) (held waiting : List Place) (order : ℕ) → cond b (without_held (record { held = held; waiting = waiting }) order) (record { held = held; waiting = waiting }) ≡ record { held = cond b (without_place order held) held; waiting = waiting }
+cond_held : (b : Bool) (held waiting : Table ℕ) (order : ℕ) → cond b (without_held (record { held = held; waiting = waiting }) order) (record { held = held; waiting = waiting }) ≡ record { held = cond b (without_order order held) held; waiting = waiting }
 cond_held true held waiting order = refl
 cond_held false held waiting order = refl
 
-cond_waiting : (b : Bool) (held waiting : List Place) (order : ℕ) → cond b (without_waiting (record { held = held; waiting = waiting }) order) (record { held = held; waiting = waiting }) ≡ record { held = held; waiting = cond b (without_place order waiting) waiting }
+cond_waiting : (b : Bool) (held waiting : Table ℕ) (order : ℕ) → cond b (without_waiting (record { held = held; waiting = waiting }) order) (record { held = held; waiting = waiting }) ≡ record { held = held; waiting = cond b (without_order order waiting) waiting }
 cond_waiting true held waiting order = refl
 cond_waiting false held waiting order = refl
 
@@ -95,10 +94,10 @@ line-take_out name held waiting order r rise f =
 
 -- ---- fewer wait for a client
 
-length-kept_step : (order : ℕ) (p : Place) (ps : List Place) → length (without_place order ps) ≤ length ps → length (without_place order (p ∷ ps)) ≤ length (p ∷ ps)
+length-kept_step : (order : ℕ) (p : ℕ × ℕ) (ps : Table ℕ) → length (without_order order ps) ≤ length ps → length (without_order order (p ∷ ps)) ≤ length (p ∷ ps)
 length-kept_step order p ps below = grind (arith, nat_tests)
 
-length-kept : (order : ℕ) (ps : List Place) → length (without_place order ps) ≤ length ps
+length-kept : (order : ℕ) (ps : Table ℕ) → length (without_order order ps) ≤ length ps
 length-kept order [] = omega arith
 length-kept order (p ∷ ps) = length-kept_step order p ps (length-kept order ps)
 

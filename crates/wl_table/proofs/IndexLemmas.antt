@@ -1,7 +1,7 @@
 -- What the index of a table says of its two lists.
 use Rattle.std.proofs.Common.{append-nil, ◌≡◌, ℕ, ◌+◌, ◌≤◌, Bool, true, false, ◌&&◌, not, cond, List, [], ◌∷◌, ◌++◌, length, refl, sym, ap, ◌∙◌, arith}
 use Rattle.std.specs.Prelude.{◌==◌, bytes_eq, filter, map, count_by}
-use Rattle.std.specs.List.{list_any}
+use Rattle.wl_table.specs.Places.{has_number}
 use Rattle.std.proofs.lemmas.Bool.Decides.{nat_tests}
 use Rattle.std.proofs.lemmas.List.{length-map, map-append}
 use Rattle.std.proofs.lemmas.List.Elements.{filter-append}
@@ -17,15 +17,14 @@ use Rattle.wl_table.specs.Lines.{LineState, lets_in, with_holder, with_waiter}
 use Rattle.wl_table.proofs.Stuck.{AreStuck}
 use Rattle.wl_table.proofs.SettleLemmas.{stuck-later, stuck-queued, settle-queued_free, settle-queued_stuck, newly-queued}
 use Rattle.wl_table.specs.Clients.{Places, with_held, with_waiting}
-use Rattle.wl_table.specs.declared.holdings.Place.{Place}
 use Rattle.wl_table.specs.Index.{line_of, places_in, places_of, locks_in, is_shared, is_exclusive}
 
 -- ---- a client's places
 
-any-places_step : (client number : ℕ) (p : ℕ × Row) (ps : Table Row) → list_any (λ (q : Place). q.number == number) (places_in client ps) ≡ has_pair client number (values_in ps) → list_any (λ (q : Place). q.number == number) (places_in client (p ∷ ps)) ≡ has_pair client number (values_in (p ∷ ps))
+any-places_step : (client number : ℕ) (p : ℕ × Row) (ps : Table Row) → has_number number (places_in client ps) ≡ has_pair client number (values_in ps) → has_number number (places_in client (p ∷ ps)) ≡ has_pair client number (values_in (p ∷ ps))
 any-places_step client number p ps below = grind (arith, nat_tests)
 
-pub any-places : (client number : ℕ) (rows : Table Row) → list_any (λ (q : Place). q.number == number) (places_in client rows) ≡ has_pair client number (values_in rows)
+pub any-places : (client number : ℕ) (rows : Table Row) → has_number number (places_in client rows) ≡ has_pair client number (values_in rows)
 any-places client number [] = refl
 any-places client number (p ∷ ps) = any-places_step client number p ps (any-places client number ps)
 
@@ -39,9 +38,9 @@ count-map t f (x ∷ xs) =
 
 pub count-places : (client : ℕ) (rows : Table Row) → length (places_in client rows) ≡ count_of client (values_in rows)
 count-places client rows =
-    length-map (filter (λ (p : ℕ × Row). p.1.client == client) rows) (λ (p : ℕ × Row). record { number = p.1.number; order = p.0 }) ∙ length-filter (λ (p : ℕ × Row). p.1.client == client) rows ∙ sym (count-map (λ (r : Row). r.client == client) (λ (p : ℕ × Row). p.1) rows)
+    length-map (filter (λ (p : ℕ × Row). p.1.client == client) rows) (λ (p : ℕ × Row). (p.0, p.1.number)) ∙ length-filter (λ (p : ℕ × Row). p.1.client == client) rows ∙ sym (count-map (λ (r : Row). r.client == client) (λ (p : ℕ × Row). p.1) rows)
 
-pub standing-places : (held waiting : Table Row) (places : Places) (client number : ℕ) → places ≡ places_of client held waiting → standing (locks_in held waiting) client number ≡ cond (list_any (λ (q : Place). q.number == number) places.held) Held (cond (list_any (λ (q : Place). q.number == number) places.waiting) Waiting Absent)
+pub standing-places : (held waiting : Table Row) (places : Places) (client number : ℕ) → places ≡ places_of client held waiting → standing (locks_in held waiting) client number ≡ cond (has_number number places.held) Held (cond (has_number number places.waiting) Waiting Absent)
 standing-places held waiting places client number e =
     rw (e, any-places client number held, any-places client number waiting) refl
 
@@ -104,21 +103,21 @@ pub line-held : (name : List ℕ) (held waiting : Table Row) (order : ℕ) (r : 
 line-held name held waiting order r =
     line-held_step (bytes_eq r.name name) _ _ 0 _ r.mode ∙ sym (rw (count-last (λ (p : ℕ × Row). bytes_eq p.1.name name && is_shared p.1.mode) (order, r) held, count-last (λ (p : ℕ × Row). bytes_eq p.1.name name && is_exclusive p.1.mode) (order, r) held) refl)
 
-place_step : (b : Bool) (places : List Place) (p : ℕ × Row) → places ++ map (λ (q : ℕ × Row). record { number = q.1.number; order = q.0 }) (cond b (p ∷ []) []) ≡ cond b (places ++ record { number = p.1.number; order = p.0 } ∷ []) places
+place_step : (b : Bool) (places : Table ℕ) (p : ℕ × Row) → places ++ map (λ (q : ℕ × Row). (q.0, q.1.number)) (cond b (p ∷ []) []) ≡ cond b (places ++ (p.0, p.1.number) ∷ []) places
 place_step true places p = refl
 place_step false places p = append-nil places
 
-places-held : (client : ℕ) (held : Table Row) (order : ℕ) (r : Row) → places_in client (held ++ (order, r) ∷ []) ≡ cond (r.client == client) (places_in client held ++ record { number = r.number; order = order } ∷ []) (places_in client held)
+places-held : (client : ℕ) (held : Table Row) (order : ℕ) (r : Row) → places_in client (held ++ (order, r) ∷ []) ≡ cond (r.client == client) (places_in client held ++ (order, r.number) ∷ []) (places_in client held)
 places-held client held order r =
     rw (filter-append, map-append) (place_step (r.client == client) (places_in client held) (order, r))
 
-client_cond : (b : Bool) (places : List Place) (waiting : List Place) (place : Place) → cond b (with_held (record { held = places; waiting = waiting }) place) (record { held = places; waiting = waiting }) ≡ record { held = cond b (places ++ place ∷ []) places; waiting = waiting }
-client_cond true places waiting place = refl
-client_cond false places waiting place = refl
+client_cond : (b : Bool) (places waiting : Table ℕ) (order number : ℕ) → cond b (with_held (record { held = places; waiting = waiting }) order number) (record { held = places; waiting = waiting }) ≡ record { held = cond b (places ++ (order, number) ∷ []) places; waiting = waiting }
+client_cond true places waiting order number = refl
+client_cond false places waiting order number = refl
 
-pub client-held : (client : ℕ) (held waiting : Table Row) (order : ℕ) (r : Row) → cond (r.client == client) (with_held (places_of client held waiting) (record { number = r.number; order = order })) (places_of client held waiting) ≡ places_of client (held ++ (order, r) ∷ []) waiting
+pub client-held : (client : ℕ) (held waiting : Table Row) (order : ℕ) (r : Row) → cond (r.client == client) (with_held (places_of client held waiting) order r.number) (places_of client held waiting) ≡ places_of client (held ++ (order, r) ∷ []) waiting
 client-held client held waiting order r =
-    client_cond (r.client == client) _ _ _ ∙ sym (rw (places-held client held order r) refl)
+    client_cond (r.client == client) _ _ order r.number ∙ sym (rw (places-held client held order r) refl)
 
 pub stuck-held : (held waiting : Table Row) (order : ℕ) (r : Row) → AreStuck (values_in held) [] (values_in waiting) → AreStuck (values_in (held ++ (order, r) ∷ [])) [] (values_in waiting)
 stuck-held held waiting order r s =
@@ -169,13 +168,13 @@ pub line-queued : (name : List ℕ) (held waiting : Table Row) (order : ℕ) (r 
 line-queued name held waiting order r =
     line-queued_step (bytes_eq r.name name) _ _ _ (order, r) ∙ sym (rw (filter-append, map-append) refl)
 
-client_cond_waiting : (b : Bool) (held : List Place) (places : List Place) (place : Place) → cond b (with_waiting (record { held = held; waiting = places }) place) (record { held = held; waiting = places }) ≡ record { held = held; waiting = cond b (places ++ place ∷ []) places }
-client_cond_waiting true held places place = refl
-client_cond_waiting false held places place = refl
+client_cond_waiting : (b : Bool) (held places : Table ℕ) (order number : ℕ) → cond b (with_waiting (record { held = held; waiting = places }) order number) (record { held = held; waiting = places }) ≡ record { held = held; waiting = cond b (places ++ (order, number) ∷ []) places }
+client_cond_waiting true held places order number = refl
+client_cond_waiting false held places order number = refl
 
-pub client-queued : (client : ℕ) (held waiting : Table Row) (order : ℕ) (r : Row) → cond (r.client == client) (with_waiting (places_of client held waiting) (record { number = r.number; order = order })) (places_of client held waiting) ≡ places_of client held (waiting ++ (order, r) ∷ [])
+pub client-queued : (client : ℕ) (held waiting : Table Row) (order : ℕ) (r : Row) → cond (r.client == client) (with_waiting (places_of client held waiting) order r.number) (places_of client held waiting) ≡ places_of client held (waiting ++ (order, r) ∷ [])
 client-queued client held waiting order r =
-    client_cond_waiting (r.client == client) _ _ _ ∙ sym (rw (places-held client waiting order r) refl)
+    client_cond_waiting (r.client == client) _ _ order r.number ∙ sym (rw (places-held client waiting order r) refl)
 
 pub stuck-waiting : (held waiting : Table Row) (order : ℕ) (r : Row) → AreStuck (values_in held) [] (values_in waiting) → is_grantable (values_in held) (values_in waiting) r ≡ false → AreStuck (values_in held) [] (values_in (waiting ++ (order, r) ∷ []))
 stuck-waiting held waiting order r s e =

@@ -3,6 +3,7 @@ mod OrderLemmas
 mod SettleLemmas
 mod WithoutLemmas
 mod IndexLemmas
+mod PlaceLemmas
 mod EntryLemmas
 mod NextLemmas
 mod RemovalLemmas

@@ -30,7 +30,7 @@ above-put j k x (p ∷ ps) = above-put_step j k x p ps (above-put j k x ps)
 above-less_step : {X : Type 0} (j k : ℕ) (p : ℕ × X) (ps : Table X) → nat_lt j k ≡ true → (is_above k ps ≡ true → is_above j ps ≡ true) → is_above k (p ∷ ps) ≡ true → is_above j (p ∷ ps) ≡ true
 above-less_step j k p ps less below a = grind (arith, nat_tests)
 
-above-less : {X : Type 0} (j k : ℕ) (ps : Table X) → nat_lt j k ≡ true → is_above k ps ≡ true → is_above j ps ≡ true
+pub above-less : {X : Type 0} (j k : ℕ) (ps : Table X) → nat_lt j k ≡ true → is_above k ps ≡ true → is_above j ps ≡ true
 above-less j k [] less a = refl
 above-less j k (p ∷ ps) less a = above-less_step j k p ps less (above-less j k ps less) a
 
@@ -151,7 +151,7 @@ length-put k x (p ∷ ps) n = length-put_step k x p ps (length-put k x ps) n
 lookup-absent_step : {X : Type 0} (k : ℕ) (p : ℕ × X) (ps : List (ℕ × X)) → nat_eq k p.0 ≡ false → lookup (nat_eq k) ps ≡ None → lookup (nat_eq k) (p ∷ ps) ≡ None
 lookup-absent_step k p ps e below = grind (arith, nat_tests)
 
-lookup-absent : {X : Type 0} (k : ℕ) (ps : List (ℕ × X)) → AllByRecursion (λ y. nat_eq k y ≡ false) (keys_of ps) → lookup (nat_eq k) ps ≡ None
+pub lookup-absent : {X : Type 0} (k : ℕ) (ps : List (ℕ × X)) → AllByRecursion (λ y. nat_eq k y ≡ false) (keys_of ps) → lookup (nat_eq k) ps ≡ None
 lookup-absent k [] a = refl
 lookup-absent k (p ∷ ps) a = lookup-absent_step k p ps a.0 (lookup-absent k ps a.1)
 

@@ -7,26 +7,17 @@ use Rattle.wl_draft.specs.declared.row.Row.{Row}
 use Rattle.wl_draft.specs.Tables.{Table, find}
 use Rattle.wl_draft.specs.Locks.{is_free, without, without_client, released, aborted, ended}
 use Rattle.wl_table.specs.Orders.{values_in, is_above, is_rising, without_order}
-use Rattle.wl_table.specs.Clients.{first_place, meets}
+use Rattle.wl_table.specs.Places.{first_place, meets, IsPlace}
 use Rattle.wl_table.specs.Index.{places_in, locks_in}
 use Rattle.wl_table.specs.Nexts.{first_named, if_free, is_meant, without_meant}
 use Rattle.wl_table.proofs.OrderLemmas.{find-above}
 use Rattle.wl_table.proofs.WithoutLemmas.{without-above, filter-without}
 
--- the first row that is meant, in the list that its place was read off
+-- a row that is meant, in the list that its place was read off
 pub record IsMeant (client : ℕ) (which : Option ℕ) (rows : Table Row) (order : ℕ) : Type 0 where
   pub row : Row
   pub found : find rows order ≡ Some row
   pub meant : is_meant client which row ≡ true
-
-no_place : (order : ℕ) → None ≡ Some order → ⊥
-no_place order e = cc
-
-some_same : (j k : ℕ) → Some j ≡ Some k → j ≡ k
-some_same j k e = cc
-
-find-here : (p : ℕ × Row) (ps : Table Row) (order : ℕ) → p.0 ≡ order → find (p ∷ ps) order ≡ Some p.1
-find-here p ps order e = grind (arith, nat_tests)
 
 pub none-found : (r : Row) → None ≡ Some r → ⊥
 none-found r e = cc
@@ -44,23 +35,42 @@ pub find-later : (p : ℕ × Row) (ps : Table Row) (order : ℕ) (r : Row) → i
 find-later p ps order r rise f =
     find-later_step p ps order r (p.0 == order) refl (rising-parts p ps rise).0 f
 
-place-step : (client : ℕ) (which : Option ℕ) (p : ℕ × Row) (ps : Table Row) (order : ℕ) (b d : Bool) → (p.1.client == client) ≡ b → meets which p.1.number ≡ d → is_rising (p ∷ ps) ≡ true → first_place which (places_in client (p ∷ ps)) ≡ Some order → (first_place which (places_in client ps) ≡ Some order → IsMeant client which ps order) → IsMeant client which (p ∷ ps) order
-place-step client which p ps order true true e m rise f below =
-    let o : first_place which (places_in client (p ∷ ps)) ≡ Some p.0 = rw (e, m) refl in
-    record { row = p.1; found = find-here p ps order (some_same p.0 order (sym o ∙ f)); meant = rw (e, m) refl }
-place-step client which p ps order true false e m rise f below =
-    let o : first_place which (places_in client (p ∷ ps)) ≡ first_place which (places_in client ps) = rw (e, m) refl in
-    let i = below (sym o ∙ f) in
+no-number : (number : ℕ) → None ≡ Some number → ⊥
+no-number number e = cc
+
+same-number : (j k : ℕ) → Some j ≡ Some k → k ≡ j
+same-number j k e = cc
+
+place-at : (p : ℕ × ℕ) (ps : Table ℕ) (order : ℕ) → (p.0 == order) ≡ true → find (p ∷ ps) order ≡ Some p.1
+place-at p ps order e = rw e refl
+
+place-later : (p : ℕ × ℕ) (ps : Table ℕ) (order : ℕ) → (p.0 == order) ≡ false → find (p ∷ ps) order ≡ find ps order
+place-later p ps order e = rw e refl
+
+row-step : (client : ℕ) (which : Option ℕ) (number order : ℕ) (p : ℕ × Row) (ps : Table Row) (b d : Bool) → (p.1.client == client) ≡ b → (p.0 == order) ≡ d → is_rising (p ∷ ps) ≡ true → meets which number ≡ true → find (places_in client (p ∷ ps)) order ≡ Some number → (find (places_in client ps) order ≡ Some number → IsMeant client which ps order) → IsMeant client which (p ∷ ps) order
+row-step client which number order p ps true true e d rise m f below =
+    let here : find (places_in client (p ∷ ps)) order ≡ Some p.1.number = rw e (place-at (p.0, p.1.number) (places_in client ps) order d) in
+    let n : number ≡ p.1.number = same-number p.1.number number (sym here ∙ f) in
+    let w : meets which p.1.number ≡ true = ap (λ k. meets which k) (sym n) ∙ m in
+    record { row = p.1; found = rw d refl; meant = rw (e, w) refl }
+row-step client which number order p ps true false e d rise m f below =
+    let later : find (places_in client (p ∷ ps)) order ≡ find (places_in client ps) order = rw e (place-later (p.0, p.1.number) (places_in client ps) order d) in
+    let i = below (sym later ∙ f) in
     record { row = i.row; found = find-later p ps order i.row rise i.found; meant = i.meant }
-place-step client which p ps order false d e m rise f below =
-    let o : first_place which (places_in client (p ∷ ps)) ≡ first_place which (places_in client ps) = rw e refl in
-    let i = below (sym o ∙ f) in
+row-step client which number order p ps false d e f' rise m f below =
+    let later : find (places_in client (p ∷ ps)) order ≡ find (places_in client ps) order = rw e refl in
+    let i = below (sym later ∙ f) in
     record { row = i.row; found = find-later p ps order i.row rise i.found; meant = i.meant }
 
-pub first-meant : (client : ℕ) (which : Option ℕ) (rows : Table Row) (order : ℕ) → is_rising rows ≡ true → first_place which (places_in client rows) ≡ Some order → IsMeant client which rows order
-first-meant client which [] order rise f = absurd (no_place order f)
-first-meant client which (p ∷ ps) order rise f =
-    place-step client which p ps order (p.1.client == client) (meets which p.1.number) refl refl rise f (first-meant client which ps order (rising-parts p ps rise).1)
+row-found : (client : ℕ) (which : Option ℕ) (number order : ℕ) (rows : Table Row) → is_rising rows ≡ true → meets which number ≡ true → find (places_in client rows) order ≡ Some number → IsMeant client which rows order
+row-found client which number order [] rise m f = absurd (no-number number f)
+row-found client which number order (p ∷ ps) rise m f =
+    row-step client which number order p ps (p.1.client == client) (p.0 == order) refl refl rise m f (row-found client which number order ps (rising-parts p ps rise).1 m)
+
+-- a client's place is that of a row that is meant
+pub place-meant : (client : ℕ) (which : Option ℕ) (rows : Table Row) (order : ℕ) → is_rising rows ≡ true → IsPlace which (places_in client rows) order → IsMeant client which rows order
+place-meant client which rows order rise p =
+    row-found client which p.number order rows rise p.meant p.found
 
 some-absent : (k : ℕ) → Some k ≡ None → ⊥
 some-absent k e = cc

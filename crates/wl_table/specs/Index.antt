@@ -9,7 +9,6 @@ use Rattle.wl_table.specs.Orders.{values_in, orders_in, is_below, is_rising}
 use Rattle.wl_table.specs.Lines.{LineState, line_at, room_at, HasLine, count_named}
 use Rattle.wl_table.specs.Clients.{Places, places_at, held_room_at, waiting_room_at}
 use Rattle.std.specs.List.{list_all}
-use Rattle.wl_table.specs.declared.holdings.Place.{Place}
 use Rattle.wl_table.specs.declared.index.Index.{Index}
 
 abbrev pub is_shared : Mode → Bool
@@ -29,8 +28,8 @@ line_of name held waiting = record {
 }
 
 -- a client's places in a list
-abbrev pub places_in : ℕ → Table Row → List Place
-places_in client rows = map (λ p. record { number = p.1.number; order = p.0 }) (filter (λ p. p.1.client == client) rows)
+abbrev pub places_in : ℕ → Table Row → Table ℕ
+places_in client rows = map (λ p. (p.0, p.1.number)) (filter (λ p. p.1.client == client) rows)
 
 abbrev pub places_of : ℕ → Table Row → Table Row → Places
 places_of client held waiting = record { held = places_in client held; waiting = places_in client waiting }

@@ -6,7 +6,7 @@ use Rattle.wl_draft.specs.declared.row.Row.{Row}
 use Rattle.wl_draft.specs.Locks.{is_free}
 use Rattle.wl_draft.specs.Tables.{Table, find}
 use Rattle.wl_table.specs.Orders.{values_in}
-use Rattle.wl_table.specs.Clients.{meets}
+use Rattle.wl_table.specs.Places.{meets}
 
 -- the first row of a name
 abbrev pub first_named : List ℕ → Table Row → Option (ℕ × Row)

@@ -1,10 +1,11 @@
 //! The entries of all clients.
 
-ghost use Rattle.std.specs.Prelude.{true, ◌≡◌, ◌+◌, ◌<◌, ◌≤◌, ◌==◌, ℕ, length, OnOk, if◌then◌else◌};
-ghost use Rattle.std.specs.List.{list_any};
-ghost use Rattle.wl_table.specs.Clients.{no_places, places_at, held_room_at, with_held, waiting_room_at, with_waiting, without_held, without_waiting, first_place};
+ghost use Rattle.std.specs.Prelude.{true, ◌≡◌, ◌+◌, ◌<◌, ◌≤◌, ◌==◌, ℕ, length, OnOk, IfSome, IfNone, Some, None, if◌then◌else◌};
+ghost use Rattle.wl_table.specs.Orders.{is_below};
+ghost use Rattle.wl_table.specs.Places.{first_place, has_number, IsPlace};
+ghost use Rattle.wl_table.specs.Clients.{no_places, places_at, held_room_at, with_held, waiting_room_at, with_waiting, without_held, without_waiting};
 
-use crate::holdings::{Holdings, Place};
+use crate::holdings::Holdings;
 use indexmap::IndexMap;
 use std::alloc::{AllocError, Global};
 
@@ -27,20 +28,20 @@ impl Clients {
 
     /// Whether the client holds a lock of this number.
     pub fn holds(&self, client: u16, number: u32) -> bool
-        ensures { result ≡ list_any (λ p. p.number == number) (places_at self.now client).held }
+        ensures { result ≡ has_number number (places_at self.now client).held }
     {
         match self.clients.get(&client) {
-            Some(holdings) => holdings.holds(number),
+            Some(holdings) => holdings.held.contains(number),
             None => false,
         }
     }
 
     /// Whether the client waits for a lock of this number.
     pub fn waits(&self, client: u16, number: u32) -> bool
-        ensures { result ≡ list_any (λ p. p.number == number) (places_at self.now client).waiting }
+        ensures { result ≡ has_number number (places_at self.now client).waiting }
     {
         match self.clients.get(&client) {
-            Some(holdings) => holdings.waits(number),
+            Some(holdings) => holdings.waiting.contains(number),
             None => false,
         }
     }
@@ -55,22 +56,34 @@ impl Clients {
         }
     }
 
-    /// The client's first lock of the number that is meant.
-    pub fn first_held(&self, client: u16, which: Option<u32>) -> Option<u64>
-        ensures { result ≡ first_place which (places_at self.now client).held }
+    /// Some lock of the client of the number that is meant.
+    pub fn find_held(&self, client: u16, which: Option<u32>) -> Option<u64>
+        ensures some { IfSome result (λ order. IsPlace which (places_at self.now client).held order) }
+        ensures none { IfNone result (first_place which (places_at self.now client).held ≡ None) }
     {
         match self.clients.get(&client) {
-            Some(holdings) => holdings.first_held(which),
+            Some(holdings) => holdings.held.find(which),
             None => None,
         }
     }
 
-    /// The client's first request of the number that is meant.
-    pub fn first_waiting(&self, client: u16, which: Option<u32>) -> Option<u64>
-        ensures { result ≡ first_place which (places_at self.now client).waiting }
+    /// Some request of the client of the number that is meant.
+    pub fn find_waiting(&self, client: u16, which: Option<u32>) -> Option<u64>
+        ensures some { IfSome result (λ order. IsPlace which (places_at self.now client).waiting order) }
+        ensures none { IfNone result (first_place which (places_at self.now client).waiting ≡ None) }
     {
         match self.clients.get(&client) {
-            Some(holdings) => holdings.first_waiting(which),
+            Some(holdings) => holdings.waiting.find(which),
+            None => None,
+        }
+    }
+
+    /// The client's first request of a number.
+    pub fn first_waiting(&self, client: u16, number: u32) -> Option<u64>
+        ensures { result ≡ first_place (Some number) (places_at self.now client).waiting }
+    {
+        match self.clients.get(&client) {
+            Some(holdings) => holdings.waiting.first(number),
             None => None,
         }
     }
@@ -93,27 +106,29 @@ impl Clients {
     }
 
     /// Puts a lock last in the client's. There is room for it.
-    pub fn hold(&mut self, client: u16, place: Place)
-        requires { 0 < held_room_at self.old client }
-        ensures places { (c : ℕ) → places_at self.new c ≡ (if client == c then with_held (places_at self.old c) place else places_at self.old c) }
+    pub fn hold(&mut self, client: u16, order: u64, number: u32)
+        requires last { is_below (places_at self.old client).held order ≡ true }
+        requires room { 0 < held_room_at self.old client }
+        ensures places { (c : ℕ) → places_at self.new c ≡ (if client == c then with_held (places_at self.old c) order number else places_at self.old c) }
         ensures held { (c : ℕ) → held_room_at self.old c ≤ held_room_at self.new c + (if client == c then 1 else 0) }
         ensures waiting { (c : ℕ) → waiting_room_at self.old c ≤ waiting_room_at self.new c }
     {
         match self.clients.get_mut(&client) {
-            Some(holdings) => holdings.hold(place),
+            Some(holdings) => holdings.held.push(order, number),
             None => {}
         }
     }
 
     /// Puts a request last in the client's. There is room for it.
-    pub fn wait(&mut self, client: u16, place: Place)
-        requires { 0 < waiting_room_at self.old client }
-        ensures places { (c : ℕ) → places_at self.new c ≡ (if client == c then with_waiting (places_at self.old c) place else places_at self.old c) }
+    pub fn wait(&mut self, client: u16, order: u64, number: u32)
+        requires last { is_below (places_at self.old client).waiting order ≡ true }
+        requires room { 0 < waiting_room_at self.old client }
+        ensures places { (c : ℕ) → places_at self.new c ≡ (if client == c then with_waiting (places_at self.old c) order number else places_at self.old c) }
         ensures held { (c : ℕ) → held_room_at self.old c ≤ held_room_at self.new c }
         ensures waiting { (c : ℕ) → waiting_room_at self.old c ≤ waiting_room_at self.new c + (if client == c then 1 else 0) }
     {
         match self.clients.get_mut(&client) {
-            Some(holdings) => holdings.wait(place),
+            Some(holdings) => holdings.waiting.push(order, number),
             None => {}
         }
     }
@@ -125,7 +140,7 @@ impl Clients {
         ensures waiting { (c : ℕ) → waiting_room_at self.old c ≤ waiting_room_at self.new c }
     {
         match self.clients.get_mut(&client) {
-            Some(holdings) => holdings.drop_held(order),
+            Some(holdings) => holdings.held.remove(order),
             None => {}
         }
     }
@@ -137,7 +152,7 @@ impl Clients {
         ensures waiting { (c : ℕ) → waiting_room_at self.old c ≤ waiting_room_at self.new c }
     {
         match self.clients.get_mut(&client) {
-            Some(holdings) => holdings.drop_waiting(order),
+            Some(holdings) => holdings.waiting.remove(order),
             None => {}
         }
     }

@@ -9,7 +9,6 @@ ghost use Rattle.wl_table.specs.Clients.{held_room_at, waiting_room_at};
 ghost use Rattle.wl_table.specs.Index.{IsIndexed, IsHoldable, IsReady, TakesRoom};
 
 use crate::clients::Clients;
-use crate::holdings::Place;
 use crate::lines::Lines;
 use crate::rows::Rows;
 use std::alloc::{AllocError, Global};
@@ -55,13 +54,7 @@ impl Index {
         let _count = self.held.len();
         self.next = order + 1;
         self.lines.hold(&row.name, row.mode);
-        self.clients.hold(
-            row.client,
-            Place {
-                number: row.number,
-                order,
-            },
-        );
+        self.clients.hold(row.client, order, row.number);
         self.held.push(order, row);
     }
 
@@ -79,13 +72,7 @@ impl Index {
         let order = self.next;
         self.next = order + 1;
         self.lines.push(&row.name, order);
-        self.clients.wait(
-            row.client,
-            Place {
-                number: row.number,
-                order,
-            },
-        );
+        self.clients.wait(row.client, order, row.number);
         self.waiting.push(order, row);
     }
 

@@ -126,7 +126,7 @@ impl LockTable for IndexedTable {
     }
 
     fn grantable(&self, client: u16, number: u32) -> bool {
-        match self.index.clients.first_waiting(client, Some(number)) {
+        match self.index.clients.first_waiting(client, number) {
             Some(order) => self.index.is_next(order),
             None => false,
         }

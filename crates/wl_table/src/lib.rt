@@ -9,6 +9,7 @@ pub mod indexed_table;
 mod line;
 mod lines;
 pub mod lock_table;
+mod place_index;
 pub mod plain_table;
 mod removal;
 mod restoring;

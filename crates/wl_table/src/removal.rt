@@ -22,7 +22,7 @@ impl Index {
         ensures room { length (places_in client self.new.waiting.items) ≤ candidates.new.room }
         ensures candidates { AreCandidates candidates.new.items self.new.held.items self.new.waiting.items }
     {
-        while let Some(order) = self.clients.first_held(client, which) {
+        while let Some(order) = self.clients.find_held(client, which) {
             match self.take_held(order) {
                 Some(row) => {
                     self.note_front(&row.name, candidates);
@@ -45,7 +45,7 @@ impl Index {
         ensures fewer { length self.new.waiting.items ≤ length self.old.waiting.items }
         ensures candidates { AreCandidates candidates.new.items self.new.held.items self.new.waiting.items }
     {
-        while let Some(order) = self.clients.first_waiting(client, which) {
+        while let Some(order) = self.clients.find_waiting(client, which) {
             match self.take_waiting(order) {
                 Some(row) => {
                     self.note_front(&row.name, candidates);

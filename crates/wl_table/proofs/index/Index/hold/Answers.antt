@@ -6,7 +6,12 @@ use Rattle.wl_table.specs.Clients.{places_at, held_room_at, with_held}
 use Rattle.wl_table.proofs.OrderLemmas.{rising-last}
 use Rattle.wl_table.proofs.IndexLemmas.{below-last, below-next, line-held, client-held, counts-length}
 use Rattle.wl_table.proofs.EntryLemmas.{room-step, length-held}
+use Rattle.wl_table.proofs.PlaceLemmas.{below-places}
 use Rattle.wl_table.proofs.index.Index.hold.Goals as goal
+
+pub hold-requires-2-clause-last : goal.hold-requires-2-clause-last
+hold-requires-2-clause-last c =
+    rw (c.requires.indexed.clients c.args.row.client) (below-places c.args.row.client c.args.self.now.next c.args.self.now.held.items c.requires.indexed.held_below)
 
 pub hold-requires-clause-there : goal.hold-requires-clause-there
 hold-requires-clause-there c = c.requires.holdable.line
@@ -27,10 +32,10 @@ returns-clause-indexed c =
       held_below = rw c.push.ensures.items (below-last t.next r t.held.items i.held_below);
       waiting_below = below-next t.next t.waiting.items i.waiting_below;
       lines = λ n. c.hold.ensures.lines n ∙ ap (λ s. cond (bytes_eq r.name n) (with_holder s r.mode) s) (i.lines n) ∙ line-held n t.held.items t.waiting.items t.next r ∙ ap (λ h. line_of n h t.waiting.items) (sym c.push.ensures.items);
-      clients = λ k. c.hold-2.ensures.places k ∙ ap (λ s. cond (r.client == k) (with_held s (record { number = r.number; order = t.next })) s) (i.clients k) ∙ client-held k t.held.items t.waiting.items t.next r ∙ ap (λ h. places_of k h t.waiting.items) (sym c.push.ensures.items);
+      clients = λ k. c.hold-2.ensures.places k ∙ ap (λ s. cond (r.client == k) (with_held s t.next r.number) s) (i.clients k) ∙ client-held k t.held.items t.waiting.items t.next r ∙ ap (λ h. places_of k h t.waiting.items) (sym c.push.ensures.items);
       room = omega (arith, c.requires.holdable.held, c.push.ensures.room);
       client_room = λ k.
-          let e = length-held (r.client == k) (places_at t.clients k) (record { number = r.number; order = t.next }) in
+          let e = length-held (r.client == k) (places_at t.clients k) t.next r.number in
           let m = room-step r.client k (λ j. length (places_at t.clients j).waiting) (λ j. held_room_at t.clients j) (λ j. held_room_at c.hold-2.new.self j) c.requires.holdable.client_held (i.client_room k) (c.hold-2.ensures.held k) in
           rw (c.hold-2.ensures.places k, e) m;
     }

@@ -2,11 +2,11 @@ use Rattle.std.proofs.Common.{◌≡◌, ◌∙◌, ℕ, true, Some, None, lengt
 use Rattle.wl_draft.specs.Tables.{find}
 use Rattle.wl_table.specs.Orders.{without_order}
 use Rattle.wl_table.specs.Index.{places_in}
-use Rattle.wl_table.specs.Clients.{places_at, first_place}
+use Rattle.wl_table.specs.Places.{first_place}
 use Rattle.wl_table.specs.Nexts.{next_in, is_among}
 use Rattle.wl_table.proofs.WithoutLemmas.{length-without}
 use Rattle.wl_table.proofs.EntryLemmas.{places-fewer}
-use Rattle.wl_table.proofs.RemovalLemmas.{first-meant, none-meant, one-meant, meant-client, none-found}
+use Rattle.wl_table.proofs.RemovalLemmas.{place-meant, none-meant, one-meant, meant-client, none-found}
 use Rattle.wl_table.proofs.CandidateLemmas.{candidates-let_go}
 use Rattle.wl_table.proofs.index.Index.take_all_held.Goals as goal
 
@@ -17,8 +17,7 @@ note_front-requires-clause-room c =
     let o = c.in-Some.order in
     let t = l.self.held.items in
     let rise = i.indexed.held_rise in
-    let e : first_place c.args.which (places_in c.args.client t) ≡ Some o = sym (c.in-Some.ensures ∙ ap (λ s. first_place c.args.which s.held) (i.indexed.clients c.args.client)) in
-    let m = first-meant c.args.client c.args.which t o rise e in
+    let m = place-meant c.args.client c.args.which t o rise (rw (ap (λ s. s.held) (i.indexed.clients c.args.client)) at c.in-Some.ensures.some) in
     let fewer : suc (length (places_in c.args.client (without_order o t))) ≡ length (places_in c.args.client t) = rw (meant-client c.args.client c.args.which m.row m.meant) at (places-fewer o m.row t rise m.found) in
     omega (arith, i.room, fewer)
 
@@ -40,8 +39,7 @@ loop-order-preserved-in-Some-take_held c =
     let o = c.in-Some.order in
     let t = l.self.held.items in
     let rise = i.indexed.held_rise in
-    let e : first_place c.args.which (places_in c.args.client t) ≡ Some o = sym (c.in-Some.ensures ∙ ap (λ s. first_place c.args.which s.held) (i.indexed.clients c.args.client)) in
-    let m = first-meant c.args.client c.args.which t o rise e in
+    let m = place-meant c.args.client c.args.which t o rise (rw (ap (λ s. s.held) (i.indexed.clients c.args.client)) at c.in-Some.ensures.some) in
     let w = c.in-Some-take_held.row in
     let f : find t o ≡ Some w = sym c.in-Some-take_held.ensures.value in
     let fewer : suc (length (places_in c.args.client (without_order o t))) ≡ length (places_in c.args.client t) = rw (meant-client c.args.client c.args.which m.row m.meant) at (places-fewer o m.row t rise m.found) in
@@ -65,8 +63,7 @@ loop-order-smaller c =
     let o = c.in-Some.order in
     let t = l.self.held.items in
     let rise = i.indexed.held_rise in
-    let e : first_place c.args.which (places_in c.args.client t) ≡ Some o = sym (c.in-Some.ensures ∙ ap (λ s. first_place c.args.which s.held) (i.indexed.clients c.args.client)) in
-    let m = first-meant c.args.client c.args.which t o rise e in
+    let m = place-meant c.args.client c.args.which t o rise (rw (ap (λ s. s.held) (i.indexed.clients c.args.client)) at c.in-Some.ensures.some) in
     absurd (none-found m.row (c.in-None.ensures.value ∙ m.found))
 
 pub loop-order-preserved : goal.loop-order-preserved
@@ -76,13 +73,11 @@ loop-order-preserved c =
     let o = c.in-Some.order in
     let t = l.self.held.items in
     let rise = i.indexed.held_rise in
-    let e : first_place c.args.which (places_in c.args.client t) ≡ Some o = sym (c.in-Some.ensures ∙ ap (λ s. first_place c.args.which s.held) (i.indexed.clients c.args.client)) in
-    let m = first-meant c.args.client c.args.which t o rise e in
+    let m = place-meant c.args.client c.args.which t o rise (rw (ap (λ s. s.held) (i.indexed.clients c.args.client)) at c.in-Some.ensures.some) in
     absurd (none-found m.row (c.in-None.ensures.value ∙ m.found))
 
 pub returns-clause-held : goal.returns-clause-held
 returns-clause-held c =
     let l = c.loop-order in
-    let none' : first_place c.args.which (places_at l.self.clients c.args.client).held ≡ None = grind arith in
-    let none : first_place c.args.which (places_in c.args.client l.self.held.items) ≡ None = ap (λ s. first_place c.args.which s.held) (sym (l.invariant.indexed.clients c.args.client)) ∙ none' in
+    let none : first_place c.args.which (places_in c.args.client l.self.held.items) ≡ None = ap (λ s. first_place c.args.which s.held) (sym (l.invariant.indexed.clients c.args.client)) ∙ c.in_default.ensures.none in
     sym (none-meant c.args.client c.args.which l.self.held.items none) ∙ l.invariant.meant
