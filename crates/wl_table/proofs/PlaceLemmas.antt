@@ -1,5 +1,5 @@
 -- A client's places: which is the first of a number, with one place more and with one less.
-use Rattle.std.proofs.Common.{rules, ◌≡◌, ℕ, ◌+◌, ◌<◌, ◌≤◌, Bool, true, false, ◌&&◌, ◌||◌, not, cond, List, [], ◌∷◌, ◌++◌, Option, Some, None, length, drop, suc, zero, refl, sym, ap, ◌∙◌, arith}
+use Rattle.std.proofs.Common.{rules, ◌≡◌, ℕ, ◌+◌, ◌<◌, Bool, true, false, ◌||◌, cond, List, [], ◌∷◌, ◌++◌, Option, Some, None, length, drop, suc, zero, refl, sym, ap, ◌∙◌, arith}
 use Rattle.std.specs.Prelude.{◌==◌, nat_lt, nat_eq, is_some, slice_get, IfSome}
 use Rattle.std.specs.Map.{keys_of}
 use Rattle.std.specs.List.{IsDistinct}
@@ -7,7 +7,7 @@ use Rattle.std.proofs.lemmas.Bool.Decides.{nat_tests}
 use Rattle.wl_draft.specs.Tables.{Table, find, put}
 use Rattle.wl_draft.specs.declared.row.Row.{Row}
 use Rattle.wl_table.specs.Orders.{ordered, is_below, is_above, is_rising, without_order}
-use Rattle.wl_table.specs.Places.{meets, first_place, has_number, is_once, lesser_of, IsPlace}
+use Rattle.wl_table.specs.Places.{first_place, has_number, is_once, lesser_of, IsPlace}
 use Rattle.wl_table.specs.Index.{places_in}
 use Rattle.wl_table.proofs.OrderLemmas.{find-ordered, find-above, above-less, rising-ordered, lookup-absent}
 use Rattle.wl_table.proofs.WithoutLemmas.{without-above}

@@ -1,4 +1,5 @@
 -- What an indexed table keeps true.
+use Rattle.std.specs.Prelude.{◌≡◌, []}
 use Rattle.wl_table.specs.Index.{IsIndexed}
 use Rattle.wl_table.specs.Nexts.{AreCandidates}
 use Rattle.wl_table.specs.declared.indexed_table.IndexedTable.TheInside.{Inside}
@@ -6,3 +7,4 @@ use Rattle.wl_table.specs.declared.indexed_table.IndexedTable.TheInside.{Inside}
 pub record IsKept (t : Inside) : Type 0 where
   pub index : IsIndexed t.index
   pub candidates : AreCandidates t.candidates.items t.index.held.items t.index.waiting.items
+  pub granted : t.granted.items ≡ []

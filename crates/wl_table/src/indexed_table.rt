@@ -1,9 +1,12 @@
+ghost use Rattle.std.specs.Prelude.{◌≡◌, []};
+
 use crate::candidates::Candidates;
 use crate::index::Index;
 use crate::lock_table::LockTable;
 use crate::restoring::rows_of;
 use std::alloc::{AllocError, Global};
 use std::marker::Model;
+use std::mem;
 use wl_draft::{Entry, Grant, Mode, Name, Row, Standing};
 
 /// A lock table with an index of its names and one of its clients: what a command costs does not grow with what others
@@ -14,6 +17,8 @@ pub struct IndexedTable {
     index: Index,
     // Whatever can be granted now is among them. None is left once the table is settled.
     candidates: Candidates,
+    // Room for what a command grants. Between commands nothing is in it.
+    granted: Vec<Grant>,
 }
 
 impl Model for IndexedTable {
@@ -37,6 +42,7 @@ impl LockTable for IndexedTable {
             alloc,
             index: Index::new(alloc),
             candidates: Candidates::new(alloc),
+            granted: Vec::new(alloc),
         }
     }
 
@@ -47,13 +53,13 @@ impl LockTable for IndexedTable {
         name: &Name,
         mode: Mode,
     ) -> Result<Vec<Grant>, AllocError> {
-        let mut granted = self.index.room_to_settle(self.alloc, 1)?;
+        self.index.room_to_settle(&mut self.granted, 1)?;
         let row = self.index.ready(self.alloc, client, number, name, mode)?;
         self.candidates.reserve(1)?;
         self.candidates.push(self.index.next);
         self.index.queue(row);
-        self.index.settle(&mut self.candidates, &mut granted);
-        Ok(granted)
+        self.index.settle(&mut self.candidates, &mut self.granted);
+        Ok(hand_out(self.alloc, &mut self.granted))
     }
 
     fn probe(
@@ -74,37 +80,38 @@ impl LockTable for IndexedTable {
     }
 
     fn release(&mut self, client: u16, number: u32) -> Result<Vec<Grant>, AllocError> {
-        let mut granted = self.index.room_to_settle(self.alloc, 0)?;
+        self.index.room_to_settle(&mut self.granted, 0)?;
         self.candidates.reserve(self.index.clients.live(client))?;
         self.index
             .take_all_held(client, Some(number), &mut self.candidates);
-        self.index.settle(&mut self.candidates, &mut granted);
-        Ok(granted)
+        self.index.settle(&mut self.candidates, &mut self.granted);
+        Ok(hand_out(self.alloc, &mut self.granted))
     }
 
     fn abort(&mut self, client: u16, number: u32) -> Result<Vec<Grant>, AllocError> {
-        let mut granted = self.index.room_to_settle(self.alloc, 0)?;
+        self.index.room_to_settle(&mut self.granted, 0)?;
         self.candidates.reserve(self.index.clients.live(client))?;
         let which = Some(number);
         self.index
             .take_all_held(client, which, &mut self.candidates);
         self.index
             .take_all_waiting(client, which, &mut self.candidates);
-        self.index.settle(&mut self.candidates, &mut granted);
-        Ok(granted)
+        self.index.settle(&mut self.candidates, &mut self.granted);
+        Ok(hand_out(self.alloc, &mut self.granted))
     }
 
     fn end_client(&mut self, client: u16, settle: bool) -> Result<Vec<Grant>, AllocError> {
-        let mut granted = self.index.room_to_settle(self.alloc, 0)?;
+        self.index.room_to_settle(&mut self.granted, 0)?;
         self.candidates.reserve(self.index.clients.live(client))?;
         self.index.take_all_held(client, None, &mut self.candidates);
         self.index
             .take_all_waiting(client, None, &mut self.candidates);
         self.index.forget_client(client);
-        if settle {
-            self.index.settle(&mut self.candidates, &mut granted);
+        if !settle {
+            return Ok(Vec::new(self.alloc));
         }
-        Ok(granted)
+        self.index.settle(&mut self.candidates, &mut self.granted);
+        Ok(hand_out(self.alloc, &mut self.granted))
     }
 
     fn restore(
@@ -114,15 +121,16 @@ impl LockTable for IndexedTable {
         settle: bool,
     ) -> Result<Vec<Grant>, AllocError> {
         let (held, waiting) = rows_of(self.alloc, client, entries)?;
-        let mut granted = self.index.room_to_settle(self.alloc, entries.len())?;
+        self.index.room_to_settle(&mut self.granted, entries.len())?;
         self.candidates.reserve(waiting.len())?;
         self.index.make_room(client, &held, &waiting)?;
         self.index
             .put_all(client, held, waiting, &mut self.candidates);
-        if settle {
-            self.index.settle(&mut self.candidates, &mut granted);
+        if !settle {
+            return Ok(Vec::new(self.alloc));
         }
-        Ok(granted)
+        self.index.settle(&mut self.candidates, &mut self.granted);
+        Ok(hand_out(self.alloc, &mut self.granted))
     }
 
     fn grantable(&self, client: u16, number: u32) -> bool {
@@ -154,5 +162,19 @@ impl LockTable for IndexedTable {
         let held = self.index.held.copies(self.alloc)?;
         let waiting = self.index.waiting.copies(self.alloc)?;
         Ok((held, waiting))
+    }
+}
+
+// What was granted, in a list of its own size. Where there is no memory for one, it is the list with all its room.
+fn hand_out(alloc: Global, granted: &mut Vec<Grant>) -> Vec<Grant>
+    ensures value { result.items ≡ granted.old.items }
+    ensures emptied { granted.new.items ≡ [] }
+{
+    match granted.clone() {
+        Ok(copy) => {
+            granted.clear();
+            copy
+        }
+        Err(_) => mem::replace(granted, Vec::new(alloc)),
     }
 }

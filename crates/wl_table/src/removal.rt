@@ -1,12 +1,12 @@
 //! Takes out a client's entries.
 
-ghost use Rattle.std.specs.Prelude.{◌≡◌, ◌+◌, ◌<◌, ◌≤◌, ◌^◌, [], ℕ, List, IfOk, OnOk, length, vec_len, vec_capacity};
+ghost use Rattle.std.specs.Prelude.{◌≡◌, ◌+◌, ◌<◌, ◌≤◌, ◌^◌, [], ℕ, List, OnOk, length, vec_len, vec_capacity};
 ghost use Rattle.wl_table.specs.Index.{IsIndexed, places_in};
 ghost use Rattle.wl_table.specs.Nexts.{without_meant, AreCandidates};
 
 use crate::candidates::Candidates;
 use crate::index::Index;
-use std::alloc::{AllocError, Global};
+use std::alloc::AllocError;
 use wl_draft::{Grant, Name};
 
 impl Index {
@@ -78,17 +78,17 @@ impl Index {
         self.clients.forget(client);
     }
 
-    /// Room for what settling grants once so many more entries were put in, and numbers for them.
-    pub fn room_to_settle(&self, alloc: Global, more: usize) -> Result<Vec<Grant>, AllocError>
-        ensures items { IfOk result (λ g. g.items ≡ []) }
-        ensures room { IfOk result (λ g. vec_len g + length self.now.waiting.items + more ≤ vec_capacity g) }
+    /// Makes room for what settling grants once so many more entries were put in, and sees that there are numbers for them.
+    pub fn room_to_settle(&self, granted: &mut Vec<Grant>, more: usize) -> Result<(), AllocError>
+        ensures items { granted.new.items ≡ granted.old.items }
+        ensures room { OnOk result (vec_len granted.new + length self.now.waiting.items + more ≤ vec_capacity granted.new) }
         ensures small { OnOk result (self.now.next + length self.now.waiting.items + more + more < 2 ^ 64) }
     {
         let waiting = self.waiting.len();
         if self.next >= LAST_ORDER || more >= MOST_ENTRIES {
             return Err(AllocError);
         }
-        Vec::with_capacity(alloc, waiting + more)
+        granted.reserve(waiting + more)
     }
 }
 

@@ -26,6 +26,7 @@ invariant_of-self-2 c =
     record {
       index = c.hold.ensures.indexed;
       candidates = rw (items, same) (candidates-held c.self.inside.candidates.items c.self.inside.index.held.items c.self.inside.index.waiting.items k (row_of c.args.client c.args.number c.args.name.now c.args.mode) c.self.invariant.candidates);
+      granted = c.self.invariant.granted;
     }
 
 pub returns-clause-grants : goal.returns-clause-grants

@@ -18,7 +18,7 @@ pub returns-clause-grants : goal.returns-clause-grants
 returns-clause-grants c =
     let t = c.self.inside.index in
     let before : locks_in c.queue.new.self.held.items c.queue.new.self.waiting.items ≡ queued (row_of c.args.client c.args.number c.args.name.now c.args.mode) (locks_in t.held.items t.waiting.items) = ap (λ h. locks_in h c.queue.new.self.waiting.items) (c.queue.ensures.held ∙ c.in_ok-row.ensures.held) ∙ ap (λ w. locks_in t.held.items w) (c.queue.ensures.waiting ∙ ap (λ w. w ++ (c.ready.new.self.next, c.in_ok-row.row) ∷ []) c.in_ok-row.ensures.waiting ∙ ap (λ r. t.waiting.items ++ (c.ready.new.self.next, r) ∷ []) c.in_ok-row.ensures.row) ∙ queued-in t.held.items t.waiting.items c.ready.new.self.next (row_of c.args.client c.args.number c.args.name.now c.args.mode) in
-    let e : c.settle.new.granted.items ≡ grants (newly (queued (row_of c.args.client c.args.number c.args.name.now c.args.mode) (locks_in t.held.items t.waiting.items))) = c.settle.ensures.granted ∙ ap (λ g. g ++ grants (newly (locks_in c.queue.new.self.held.items c.queue.new.self.waiting.items))) c.in_ok-granted.ensures.items ∙ ap (λ m. grants (newly m)) before in
+    let e : c.hand_out.result.items ≡ grants (newly (queued (row_of c.args.client c.args.number c.args.name.now c.args.mode) (locks_in t.held.items t.waiting.items))) = c.hand_out.ensures.value ∙ c.settle.ensures.granted ∙ ap (λ g. g ++ grants (newly (locks_in c.queue.new.self.held.items c.queue.new.self.waiting.items))) (c.room_to_settle.ensures.items ∙ c.self.invariant.granted) ∙ ap (λ m. grants (newly m)) before in
     rw (← c.self.view_is) e
 
 pub returns-clause-ok : goal.returns-clause-ok

@@ -1,4 +1,4 @@
-use Rattle.std.proofs.Common.{◌≡◌, ◌∙◌, Some, refl, sym}
+use Rattle.std.proofs.Common.{◌≡◌, ◌∙◌, Some, refl}
 use Rattle.wl_draft.specs.Tables.{find}
 use Rattle.wl_table.specs.Orders.{ordered}
 use Rattle.wl_table.proofs.OrderLemmas.{find-ordered}

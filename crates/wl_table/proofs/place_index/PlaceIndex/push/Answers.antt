@@ -1,9 +1,9 @@
-use Rattle.std.proofs.Common.{◌≡◌, ◌<◌, ◌∙◌, ◌++◌, ◌∷◌, [], Some, None, true, false, cond, sym, ap, arith}
-use Rattle.std.specs.Prelude.{nat_eq, is_some}
+use Rattle.std.proofs.Common.{◌≡◌, ◌<◌, ◌∙◌, ◌++◌, ◌∷◌, [], Some, None, cond, sym, ap, arith}
+use Rattle.std.specs.Prelude.{nat_eq}
 use Rattle.std.specs.HashMap.{get}
 use Rattle.indexmap.specs.IndexMap.{spare}
 use Rattle.wl_table.specs.Orders.{ordered}
-use Rattle.wl_table.specs.Places.{first_place, is_once}
+use Rattle.wl_table.specs.Places.{first_place}
 use Rattle.wl_table.proofs.OrderLemmas.{ordered-push, on_ok}
 use Rattle.wl_table.proofs.PlaceLemmas.{first-pushed, once-pushed, not-some, true-false}
 use Rattle.wl_table.proofs.place_index.PlaceIndex.push.Goals.{then-self, else-self}

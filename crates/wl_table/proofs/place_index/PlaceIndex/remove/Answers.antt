@@ -1,4 +1,4 @@
-use Rattle.std.proofs.Common.{◌≡◌, ◌∙◌, Some, None, false, cond, sym, ap}
+use Rattle.std.proofs.Common.{◌≡◌, ◌∙◌, Some, None, cond, sym, ap}
 use Rattle.std.specs.Prelude.{nat_eq}
 use Rattle.wl_draft.specs.Tables.{find}
 use Rattle.wl_table.specs.Orders.{ordered, without_order}
