@@ -2,3 +2,6 @@ pub mod Delivering
 pub mod Numbered
 pub mod Gained
 pub mod Rising
+pub mod Received
+pub mod Bounds
+pub mod ChannelNames

@@ -1,9 +1,10 @@
 //! A tab's channels.
 
-ghost use Rattle.std.specs.Prelude.{◌≡◌, ◌≢◌, ◌==◌, ◌<◌, ◌^◌, ◌++◌, length, filter, not, None, Some, Err, IfOk, OnOk, IfErr, OnErr, IsTrue};
+ghost use Rattle.std.specs.Prelude.{◌≡◌, ◌≢◌, ◌==◌, ◌<◌, ◌^◌, ◌++◌, length, filter, not, true, None, Some, Err, IfOk, OnOk, IfErr, OnErr, IsTrue};
 ghost use Rattle.wl_draft.specs.Tables.{put};
-ghost use Rattle.wl_broadcast.specs.OpenObjects.{all_seen, open_from};
-ghost use Rattle.wl_broadcast.specs.Channels.{no_channels, opened, delivered, posted, post_frame, name_at, taking, full, after_hearing, hearing_of, read_at, closed_at, inbox_at, first_of, is_own, is_old, open_refusal, post_refusal, own_refusal, heard_refusal};
+ghost use Rattle.wl_frames.specs.Grammar.{IsWellFormed};
+ghost use Rattle.wl_broadcast.specs.OpenObjects.{all_seen, open_from, AreChannels};
+ghost use Rattle.wl_broadcast.specs.Channels.{no_channels, opened, delivered, posted, post_frame, name_at, taking, full, after_hearing, hearing_of, read_at, closed_at, inbox_at, first_of, is_own, is_old, is_news, open_refusal, post_refusal, own_refusal, heard_refusal};
 
 use crate::channel::{Channel, Foreign};
 use crate::fault::ChannelFault;
@@ -17,16 +18,16 @@ use wl_draft::Name;
 use wl_frames::{Frame, Post, Sequence};
 
 /// The most bytes of a name.
-const NAME_LIMIT: usize = 255;
+pub const NAME_LIMIT: usize = 255;
 
 /// The most bytes of a post.
-const DATA_LIMIT: usize = 16_384;
+pub const DATA_LIMIT: usize = 16_384;
 
 /// The most channels of a tab that are open at once.
-const CHANNEL_LIMIT: usize = 64;
+pub const CHANNEL_LIMIT: usize = 64;
 
 /// The most posts of a tab in its life.
-const POST_LIMIT: u32 = 1_000_000;
+pub const POST_LIMIT: u32 = 1_000_000;
 
 /// The channels of a tab, its posts, and the last post that it heard of each other tab.
 #[derive(Drop)]
@@ -43,15 +44,14 @@ pub struct Channels {
 }
 
 impl Model for Channels {
-    ghost use Rattle.std.specs.Prelude.{◌≡◌};
     ghost use Rattle.wl_broadcast.specs.Channels.{ChannelState};
-    ghost use Rattle.wl_broadcast.specs.OpenObjects.{all_seen, open_from};
+    ghost use Rattle.wl_broadcast.specs.OpenObjects.{all_seen, IsKept};
 
     ghost Value = { ChannelState };
 
     ghost view = { λ c. record { tab = c.tab; objects = all_seen c.objects.items; posts = c.posts; last = c.last.entries } };
 
-    ghost invariant = { λ c. c.open_numbers.items ≡ open_from 0 (all_seen c.objects.items) };
+    ghost invariant = { λ c. IsKept c.open_numbers.items (all_seen c.objects.items) };
 }
 
 impl Channels {
@@ -105,6 +105,7 @@ impl Channels {
             × (p.full ≡ full (Some channel.now.number) (name_at self.old.objects channel.now.number) self.old.objects)) }
         ensures refused { IfErr result (λ e. e ≢ ChannelFault.Memory → post_refusal channel.now.tab channel.now.number bytes.now self.old ≡ Some e) }
         ensures memory { result ≡ Err ChannelFault.Memory → post_refusal channel.now.tab channel.now.number bytes.now self.old ≡ None }
+        ensures well_formed { IfOk result (λ p. IsWellFormed p.frame) }
         ensures err { OnErr result (self.new ≡ self.old) }
     {
         if bytes.len() > DATA_LIMIT {
@@ -148,6 +149,7 @@ impl Channels {
         ensures hearing { IfOk result (λ h. h ≡ hearing_of frame.now self.old) }
         ensures refused { IfErr result (λ e. e ≢ ChannelFault.Memory → heard_refusal frame.now ≡ Some e) }
         ensures memory { result ≡ Err ChannelFault.Memory → heard_refusal frame.now ≡ None }
+        ensures growth { result ≡ Err ChannelFault.Memory → is_news frame.now self.old ≡ true }
         ensures err { OnErr result (self.new ≡ self.old) }
     {
         let Frame::Heard(heard) = frame else {
@@ -290,6 +292,7 @@ fn hear(
     ensures ok { OnOk result (all_seen objects.new
         ≡ delivered delivery.now.sender delivery.now.name.now delivery.now.letter.now (all_seen objects.old)) }
     ensures kept_open { OnOk result (open_from 0 (all_seen objects.new) ≡ open_from 0 (all_seen objects.old)) }
+    ensures kept_names { OnOk result (AreChannels (all_seen objects.old) → AreChannels (all_seen objects.new)) }
     ensures last { OnOk result (last.new.entries
         ≡ put delivery.now.letter.now.source delivery.now.letter.now.number last.old.entries) }
     ensures took { OnOk result (takers.new.took.items

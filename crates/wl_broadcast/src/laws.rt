@@ -1,12 +1,20 @@
 //! What a channel object hears, as laws over the definition.
 
-ghost use Rattle.wl_broadcast.specs.Heard.{TakesRising, TakesPosts, KeepsName, ClosedTakesNothing};
+ghost use Rattle.wl_broadcast.specs.Heard.{TakesRising, TakesPosts, KeepsName, ClosedTakesNothing, ReadsInOrder, DeliversNew, DeliversOwn, NeverTooManyOpen, NeverTooManyWait, NeverTooManyPosts};
 
 /// What a channel object takes of one source, read or not, is a list of that source's posts to its name, with strictly
-/// rising numbers. None was posted on the object itself, and none comes after its close.
+/// rising numbers. None was posted on the object itself, and none comes after its close. A post that is not old is delivered
+/// to each open object of its name that has room, and posts are read in the order in which they were taken. Over any calls,
+/// the limits of open objects, of inboxes and of posts hold.
 pub fn law_channels()
     ensures rising { TakesRising }
     ensures posts { TakesPosts }
     ensures names { KeepsName }
     ensures closed { ClosedTakesNothing }
+    ensures reads { ReadsInOrder }
+    ensures delivers { DeliversNew }
+    ensures delivers_own { DeliversOwn }
+    ensures open_limit { NeverTooManyOpen }
+    ensures inbox_limit { NeverTooManyWait }
+    ensures post_limit { NeverTooManyPosts }
 {}

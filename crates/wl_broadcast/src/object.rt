@@ -10,7 +10,7 @@ use std::collections::VecDeque;
 use wl_draft::Name;
 
 /// How many posts an inbox holds.
-const INBOX_LIMIT: usize = 256;
+pub const INBOX_LIMIT: usize = 256;
 
 /// A channel object of the tab.
 #[derive(Drop)]
