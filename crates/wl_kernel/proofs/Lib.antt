@@ -6,3 +6,5 @@ pub mod Consistency
 pub mod Hearing
 pub mod Calls
 pub mod WellFormed
+pub mod Limits
+pub mod Routing

@@ -1,6 +1,6 @@
 //! The routes of frames, up from the tabs and down from the broker.
 
-ghost use Rattle.std.specs.Prelude.{◌≡◌, ◌==◌, IfOk, filter, map, not};
+ghost use Rattle.std.specs.Prelude.{◌≡◌, ◌≢◌, ◌==◌, [], IfOk, OnErr, count_by, filter, map, not};
 ghost use Rattle.wl_kernel.specs.Routes.{generation_of, frame_of, heard_of};
 
 use std::alloc::{AllocError, Global};
@@ -36,6 +36,13 @@ pub(crate) fn frame_of(inner: Downward) -> Frame
     }
 }
 
+/// How many of the members are not the source.
+fn others_of(source: u16, members: &[u16]) -> usize
+    ensures { result ≡ count_by (λ n. not (n == source)) members.now }
+{
+    members.iter().filter(|member| **member != source).count()
+}
+
 /// The post of a tab for each other member of its partition. The last one gets the post itself, the others copies.
 pub(crate) fn heard(
     alloc: Global,
@@ -43,8 +50,13 @@ pub(crate) fn heard(
     post: Post,
     members: &[u16],
 ) -> Result<Vec<(u16, Frame)>, AllocError>
-    ensures { IfOk result (λ heard. heard.items ≡ map (λ n. (n, heard_of source post)) (filter (λ n. not (n == source)) members.now)) }
+    ensures heard { IfOk result (λ heard. heard.items ≡ map (λ n. (n, heard_of source post)) (filter (λ n. not (n == source)) members.now)) }
+    ensures growth { OnErr result (filter (λ n. not (n == source)) members.now ≢ []) }
 {
+    let others = others_of(source, members);
+    if others == 0 {
+        return Ok(Vec::new(alloc));
+    }
     let Post {
         number,
         channel,
@@ -56,7 +68,7 @@ pub(crate) fn heard(
         channel,
         bytes,
     };
-    let mut heard = Vec::with_capacity(alloc, members.len())?;
+    let mut heard = Vec::with_capacity(alloc, others)?;
     let mut last = None;
     for member in members {
         if *member == source {

@@ -19,6 +19,15 @@ pub(crate) struct TabRow {
     pub(crate) is_living: bool,
 }
 
+impl TabRow {
+    /// The number of the partition.
+    pub(crate) fn number(&self) -> u16
+        ensures { result ≡ self.now.number }
+    {
+        self.number
+    }
+}
+
 /// The row of a tab, if it was ever opened.
 pub(crate) fn row_of<'a>(
     rows: &'a [TabRow],

@@ -1,8 +1,8 @@
 //! The states of the supervisor: no broker runs, or one does.
 
-ghost use Rattle.std.specs.Prelude.{◌≡◌, ◌≢◌, ◌≤◌, None, Some, Err, IfOk, OnOk, IfErr, OnErr, IsTrue, false};
+ghost use Rattle.std.specs.Prelude.{◌≡◌, ◌≢◌, ◌<◌, ◌≤◌, length, None, Some, Err, IfOk, OnOk, IfErr, OnErr, IsTrue, false};
 ghost use Rattle.std.specs.Borrow.{sem};
-ghost use Rattle.wl_frames.specs.Grammar.{IsWellFormed};
+ghost use Rattle.wl_frames.specs.Grammar.{IsTab, IsWellFormed};
 ghost use Rattle.wl_kernel.specs.Kernel.{no_tabs, start_refusal, start_frame, may_stop, stopped};
 ghost use Rattle.wl_kernel.specs.Routes.{route_down_refusal, routed_down};
 ghost use Rattle.wl_kernel.specs.Lending.{LendsDownTabs, LendsUpTabs};
@@ -58,6 +58,7 @@ impl Down {
         ensures allowed { OnOk result (start_refusal listed.now self ≡ None) }
         ensures refused { IfErr result (λ r. r.1 ≢ StartFault.Memory → start_refusal listed.now self ≡ Some r.1) }
         ensures memory { IfErr result (λ r. r.1 ≡ StartFault.Memory → start_refusal listed.now self ≡ None) }
+        ensures growth { IfErr result (λ r. r.1 ≡ StartFault.Memory → 0 < length listed.now) }
         ensures err { IfErr result (λ r. r.0 ≡ self) }
     {
         let list = match self.tabs.listed(listed) {
@@ -116,6 +117,7 @@ impl Up {
         ensures routed { IfOk result (λ r. routed_down frame ≡ Some r) }
         ensures allowed { OnOk result (route_down_refusal link frame self.now ≡ None) }
         ensures refused { IfErr result (λ e. route_down_refusal link frame self.now ≡ Some e) }
+        ensures well_formed { IfOk result (λ r. IsWellFormed frame → IsTab r.0 × IsWellFormed r.1) }
     {
         self.tabs.route_down(link, frame)
     }

@@ -1,10 +1,11 @@
 //! The tab table, which belongs to the supervisor.
 
-ghost use Rattle.std.specs.Prelude.{◌≡◌, ◌≢◌, ◌≤◌, None, Some, Err, IfOk, OnOk, IfErr, OnErr, IfSome, IsTrue, true, false, option_map, if◌then◌else◌};
+ghost use Rattle.std.specs.Prelude.{◌≡◌, ◌≢◌, ◌<◌, ◌≤◌, [], length, None, Some, Err, IfOk, OnOk, IfErr, OnErr, IfSome, IsTrue, true, false, option_map, if◌then◌else◌};
+ghost use Rattle.wl_frames.specs.Grammar.{IsTab, IsUpward, IsPost, IsWellFormed};
 ghost use Rattle.wl_frames.specs.declared.frame.Frame.TheVariants as frame;
 ghost use Rattle.wl_kernel.specs.declared.routes.Routed.TheVariants.{Broker};
-ghost use Rattle.wl_kernel.specs.Kernel.{no_tabs, tab_of, is_opened, is_living, living_tabs, living_of, partition_number, number_for, open_refusal, opened, kill_refusal, killed, start_refusal, placed, stranger, missing, is_from_before, rises, may_stop, stopped};
-ghost use Rattle.wl_kernel.specs.Routes.{tab_refusal, stamped, route_up_refusal, routed_up, route_down_refusal, routed_down};
+ghost use Rattle.wl_kernel.specs.Kernel.{OpenedTab, no_tabs, tab_of, is_opened, is_living, living_tabs, living_of, partition_number, number_for, open_refusal, opened, kill_refusal, killed, start_refusal, placed, stranger, missing, is_from_before, rises, may_stop, stopped};
+ghost use Rattle.wl_kernel.specs.Routes.{tab_refusal, stamped, hearers, route_up_refusal, routed_up, TakesMemory, IsWellRouted, route_down_refusal, routed_down};
 ghost use Rattle.wl_kernel.specs.Kept.{seen, place_in, IsList};
 
 use crate::fault::{GenerationsUsedUp, KillFault, OpenFault, RouteFault, StartFault};
@@ -19,13 +20,13 @@ use wl_frames::{Frame, Post, Sequence, Stamped, Upward};
 use wl_origin::Partition;
 
 /// The most tabs that live at once.
-const LIVING_LIMIT: usize = 1_024;
+pub const LIVING_LIMIT: usize = 1_024;
 
 /// The most tabs of one partition that live at once.
-const PARTITION_LIMIT: usize = 64;
+pub const PARTITION_LIMIT: usize = 64;
 
 /// The most tabs that a broker is started with.
-const LIST_LIMIT: usize = 1_024;
+pub const LIST_LIMIT: usize = 1_024;
 
 /// The tabs that were ever opened, and the generation of the broker that runs or is the next to run. It stands in `Down`
 /// or `Up`, which lend it.
@@ -159,6 +160,8 @@ impl Tabs {
         ensures allowed { OnOk result (route_up_refusal tab frame self.now ≡ None) }
         ensures refused { IfErr result (λ e. e ≢ RouteFault.Memory → route_up_refusal tab frame self.now ≡ Some e) }
         ensures memory { result ≡ Err RouteFault.Memory → route_up_refusal tab frame self.now ≡ None }
+        ensures growth { result ≡ Err RouteFault.Memory → TakesMemory tab frame self.now }
+        ensures well_formed { IfOk result (λ routed. IsWellFormed frame → IsWellRouted routed) }
     {
         match frame {
             Frame::Command(command) => self.to_broker(tab, Upward::Command(command)),
@@ -174,6 +177,7 @@ impl Tabs {
         ensures routed { IfOk result (λ r. routed_down frame ≡ Some r) }
         ensures allowed { OnOk result (route_down_refusal link frame self.now ≡ None) }
         ensures refused { IfErr result (λ e. route_down_refusal link frame self.now ≡ Some e) }
+        ensures well_formed { IfOk result (λ r. IsWellFormed frame → IsTab r.0 × IsWellFormed r.1) }
     {
         if link != self.generation {
             return Err(RouteFault::StaleLink);
@@ -195,6 +199,7 @@ impl Tabs {
         ensures allowed { OnOk result (start_refusal listed.now self.now ≡ None) }
         ensures refused { IfErr result (λ e. e ≢ StartFault.Memory → start_refusal listed.now self.now ≡ Some e) }
         ensures memory { result ≡ Err StartFault.Memory → start_refusal listed.now self.now ≡ None }
+        ensures growth { result ≡ Err StartFault.Memory → 0 < length listed.now }
     {
         if listed.len() > LIST_LIMIT {
             return Err(StartFault::TooManyListed);
@@ -266,6 +271,7 @@ impl Tabs {
     fn row_of(&self, tab: u16) -> Option<&TabRow>
         ensures row { option_map (λ row. seen row.now) result ≡ tab_of self.now tab }
         ensures number { IfSome result (λ row. row.now.number ≡ partition_number self.now tab) }
+        ensures from_one { (o : OpenedTab) → tab_of self.now tab ≡ Some o → (1 ≤ tab) × (1 ≤ partition_number self.now tab) }
     {
         rows::row_of(&self.rows, &self.places, tab)
     }
@@ -276,6 +282,8 @@ impl Tabs {
         ensures number { IfOk result (λ row. row.now.number ≡ partition_number self.now tab) }
         ensures allowed { OnOk result (tab_refusal self.now tab ≡ None) }
         ensures refused { IfErr result (λ e. tab_refusal self.now tab ≡ Some e) }
+        ensures no_memory { IfErr result (λ e. e ≢ RouteFault.Memory) }
+        ensures from_one { (o : OpenedTab) → tab_of self.now tab ≡ Some o → (1 ≤ tab) × (1 ≤ partition_number self.now tab) }
     {
         match self.row_of(tab) {
             Some(row) if row.is_living => Ok(row),
@@ -289,8 +297,11 @@ impl Tabs {
         ensures routed { IfOk result (λ routed. routed ≡ Broker (stamped self.now tab inner)) }
         ensures allowed { OnOk result (tab_refusal self.now tab ≡ None) }
         ensures refused { IfErr result (λ e. tab_refusal self.now tab ≡ Some e) }
+        ensures no_memory { IfErr result (λ e. e ≢ RouteFault.Memory) }
+        ensures well_formed { IfOk result (λ routed. IsUpward inner → IsWellRouted routed) }
     {
-        let partition = self.living_row(tab)?.number;
+        let row = self.living_row(tab)?;
+        let partition = row.number();
         Ok(Routed::Broker(Frame::Stamped(Stamped {
             tab,
             partition,
@@ -304,6 +315,8 @@ impl Tabs {
         ensures allowed { OnOk result (tab_refusal self.now tab ≡ None) }
         ensures refused { IfErr result (λ e. e ≢ RouteFault.Memory → tab_refusal self.now tab ≡ Some e) }
         ensures memory { result ≡ Err RouteFault.Memory → tab_refusal self.now tab ≡ None }
+        ensures growth { result ≡ Err RouteFault.Memory → hearers tab self.now ≢ [] }
+        ensures well_formed { IfOk result (λ routed. IsPost post → IsWellRouted routed) }
     {
         let row = self.living_row(tab)?;
         let members = self.members(&row.partition);
@@ -352,6 +365,7 @@ impl Tabs {
         requires { start_refusal listed.now self.now ≡ None }
         ensures placed { IfOk result (λ list. list.items ≡ placed listed.now self.now) }
         ensures well_formed { IfOk result (λ list. IsList list.items) }
+        ensures growth { OnErr result (0 < length listed.now) }
     {
         let mut list = Vec::with_capacity(self.alloc, listed.len())?;
         for tab in listed {

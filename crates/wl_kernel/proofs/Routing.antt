@@ -1,0 +1,45 @@
+-- What is passed on has a spelling where what came has one.
+use Rattle.std.proofs.Common.{◌≡◌, ◌≢◌, ℕ, Bool, List, [], ◌∷◌, length, map, filter, count_by, Some, Result, Ok, Err, OnErr, refl, sym, ap, ◌∙◌, subst, arith}
+use Rattle.std.proofs.lemmas.List.Sums.{length-filter}
+use Rattle.std.specs.List.{AllByRecursion}
+use Rattle.wl_frames.specs.declared.frame.Post.{Post}
+use Rattle.wl_frames.specs.declared.frame.Downward.{Downward}
+use Rattle.wl_frames.specs.declared.frame.Downward.TheVariants as down
+use Rattle.wl_frames.specs.declared.frame.Frame.{Frame}
+use Rattle.wl_frames.specs.declared.frame.Frame.TheVariants as frame
+use Rattle.wl_frames.specs.Grammar.{IsTab, IsPost, IsDownward, IsWellFormed}
+use Rattle.wl_kernel.specs.Routes.{heard_of, frame_of, routed_down}
+
+-- a post of a tab is heard as it was sent
+pub all_heard : (t : ℕ) (p : Post) (xs : List ℕ) → IsTab t → IsPost p → AllByRecursion (λ (h : ℕ × Frame). IsWellFormed h.1) (map (λ n. (n, heard_of t p)) xs)
+all_heard t p [] tab post = tt
+all_heard t p (x ∷ xs) tab post =
+    (record { source = tab; number = post.number; channel = post.channel; bytes = post.bytes }, all_heard t p xs tab post)
+
+framed : (d : Downward) → IsDownward d → IsWellFormed (frame_of d)
+framed (down.Hello h) w = w
+framed (down.Answer a) w = w
+framed (down.Snapshot s) w = w
+
+pub sent_down : (f : Frame) (r : ℕ × Frame) → routed_down f ≡ Some r → IsWellFormed f → IsTab r.0 × IsWellFormed r.1
+sent_down (frame.Addressed a) r e w =
+    let same : (a.tab, frame_of a.inner) ≡ r = cc in
+    subst (λ (p : ℕ × Frame). IsTab p.0 × IsWellFormed p.1) same (w.tab, framed a.inner w.inner)
+sent_down _ r e w = cc
+
+-- ---- whether anybody hears
+
+empty : (xs : List ℕ) → length xs ≡ 0 → xs ≡ []
+empty [] none = refl
+empty (x ∷ xs) none = absurd (omega arith)
+
+pub nobody : (test : ℕ → Bool) (xs : List ℕ) (n : ℕ) → n ≡ count_by test xs → n ≡ 0 → filter test xs ≡ []
+nobody test xs n counted none = empty (filter test xs) (length-filter test xs ∙ sym counted ∙ none)
+
+pub somebody : (test : ℕ → Bool) (xs : List ℕ) (n : ℕ) → n ≡ count_by test xs → n ≢ 0 → filter test xs ≢ []
+somebody test xs n counted some none = some (counted ∙ sym (length-filter test xs) ∙ ap length none)
+
+-- what holds anyway holds at an error
+pub at_error : {T E : Type 0} (r : Result T E) (P : Type 0) → P → OnErr r P
+at_error (Ok x) P holds = tt
+at_error (Err e) P holds = holds
