@@ -9,11 +9,10 @@ use Rattle.wl_draft.specs.declared.mode.Mode.TheVariants.{Shared, Exclusive}
 use Rattle.wl_draft.specs.declared.row.Row.{Row}
 use Rattle.wl_draft.specs.Tables.{Table, find}
 use Rattle.wl_table.specs.Orders.{orders_in, is_above, is_rising, without_order, without_number}
-use Rattle.wl_table.specs.Lines.{nobody, line_seen, line_room, line_at, without_holder, without_waiter}
-use Rattle.wl_table.specs.Clients.{Places, places_at, held_room_at, with_held, with_waiting, without_held, without_waiting}
+use Rattle.wl_table.specs.Lines.{nobody, line_seen, line_room, without_holder, without_waiter}
+use Rattle.wl_table.specs.Clients.{Places, with_held, with_waiting, without_held, without_waiting}
 use Rattle.wl_table.specs.declared.line.Line.{Line}
-use Rattle.wl_table.specs.declared.index.Index.{Index}
-use Rattle.wl_table.specs.Index.{IsIndexed, line_of, places_in, places_of, is_shared, is_exclusive}
+use Rattle.wl_table.specs.Index.{line_of, places_in, places_of, is_shared, is_exclusive}
 use Rattle.std.proofs.lemmas.Slice.Eq.{bytes_eq-Decides}
 use Rattle.wl_table.proofs.WithoutLemmas.{without-above, count-without, filter-without, orders-without}
 
@@ -136,19 +135,7 @@ places-fewer order r [] rise f = absurd (no_request order r f)
 places-fewer order r (p ∷ ps) rise f =
     places-fewer_step order r p ps (client-self p.1 r) (places-fewer order r ps) (without-above p.0 ps) rise f
 
--- ---- more room
-
-pub indexed-same : (t u : Index) → IsIndexed t → u.held.items ≡ t.held.items → u.waiting.items ≡ t.waiting.items → u.next ≡ t.next → ((n : List ℕ) → line_at u.lines n ≡ line_at t.lines n) → ((c : ℕ) → places_at u.clients c ≡ places_at t.clients c) → t.held.room ≤ u.held.room → ((c : ℕ) → held_room_at t.clients c ≤ held_room_at u.clients c) → IsIndexed u
-indexed-same t u i h w k lines places room rooms = record {
-  held_rise = rw h i.held_rise;
-  waiting_rise = rw w i.waiting_rise;
-  held_below = rw (h, k) i.held_below;
-  waiting_below = rw (w, k) i.waiting_below;
-  lines = λ n. lines n ∙ i.lines n ∙ ap (λ x. line_of n x t.waiting.items) (sym h) ∙ ap (λ x. line_of n u.held.items x) (sym w);
-  clients = λ c. places c ∙ i.clients c ∙ ap (λ x. places_of c x t.waiting.items) (sym h) ∙ ap (λ x. places_of c u.held.items x) (sym w);
-  room = rw w (omega (arith, i.room, room));
-  client_room = λ c. rw (places c) (omega (arith, i.client_room c, rooms c));
-}
+-- ---- room in a line
 
 no_room : 0 < 0 → ⊥
 no_room l = omega (arith, l)

@@ -11,11 +11,9 @@ use Rattle.wl_draft.specs.declared.mode.Mode.TheVariants.{Shared, Exclusive}
 use Rattle.wl_draft.specs.declared.row.Row.{Row}
 use Rattle.wl_draft.specs.declared.row.Standing.TheVariants.{Held, Waiting, Absent}
 use Rattle.wl_draft.specs.Tables.{Table}
-use Rattle.wl_draft.specs.Locks.{probed, queued, settle, newly, is_named, is_free, is_grantable, has_pair, count_of, standing, live}
+use Rattle.wl_draft.specs.Locks.{probed, queued, is_named, is_free, is_grantable, has_pair, count_of, standing, live}
 use Rattle.wl_table.specs.Orders.{values_in, orders_in, is_below}
 use Rattle.wl_table.specs.Lines.{LineState, lets_in, with_holder, with_waiter}
-use Rattle.wl_table.proofs.Stuck.{AreStuck}
-use Rattle.wl_table.proofs.SettleLemmas.{stuck-later, stuck-queued, settle-queued_free, settle-queued_stuck, newly-queued}
 use Rattle.wl_table.specs.Clients.{Places, with_held, with_waiting}
 use Rattle.wl_table.specs.Index.{line_of, places_in, places_of, locks_in, is_shared, is_exclusive}
 
@@ -119,10 +117,6 @@ pub client-held : (client : ℕ) (held waiting : Table Row) (order : ℕ) (r : R
 client-held client held waiting order r =
     client_cond (r.client == client) _ _ order r.number ∙ sym (rw (places-held client held order r) refl)
 
-pub stuck-held : (held waiting : Table Row) (order : ℕ) (r : Row) → AreStuck (values_in held) [] (values_in waiting) → AreStuck (values_in (held ++ (order, r) ∷ [])) [] (values_in waiting)
-stuck-held held waiting order r s =
-    rw map-append (stuck-later (values_in held) (r ∷ []) [] (values_in waiting) s)
-
 counts-length_step : (name : List ℕ) (p : ℕ × Row) (ps waiting : Table Row) (mode : Mode) → p.1.mode ≡ mode → (line_of name ps waiting).shared + (line_of name ps waiting).exclusive ≤ length ps → (line_of name (p ∷ ps) waiting).shared + (line_of name (p ∷ ps) waiting).exclusive ≤ length (p ∷ ps)
 counts-length_step name p ps waiting Shared e below =
     grind (arith, nat_tests, count-cons (λ (q : ℕ × Row). bytes_eq q.1.name name && is_exclusive q.1.mode) p ps, count-cons (λ (q : ℕ × Row). bytes_eq q.1.name name && is_shared q.1.mode) p ps)
@@ -176,28 +170,9 @@ pub client-queued : (client : ℕ) (held waiting : Table Row) (order : ℕ) (r :
 client-queued client held waiting order r =
     client_cond_waiting (r.client == client) _ _ order r.number ∙ sym (rw (places-held client waiting order r) refl)
 
-pub stuck-waiting : (held waiting : Table Row) (order : ℕ) (r : Row) → AreStuck (values_in held) [] (values_in waiting) → is_grantable (values_in held) (values_in waiting) r ≡ false → AreStuck (values_in held) [] (values_in (waiting ++ (order, r) ∷ []))
-stuck-waiting held waiting order r s e =
-    rw map-append (stuck-queued (locks_in held waiting) r s e)
-
 pub length-queued : (waiting : Table Row) (order : ℕ) (r : Row) → length (waiting ++ (order, r) ∷ []) ≡ length waiting + 1
 length-queued [] order r = refl
 length-queued (p ∷ ps) order r = grind (arith, length-queued ps order r)
-
-pub settled-queued : (held waiting : Table Row) (order : ℕ) (r : Row) → AreStuck (values_in held) [] (values_in waiting) → is_grantable (values_in held) (values_in waiting) r ≡ false → locks_in held (waiting ++ (order, r) ∷ []) ≡ settle (queued r (locks_in held waiting))
-unfolding queued
-settled-queued held waiting order r s e =
-    rw map-append (sym (settle-queued_stuck (locks_in held waiting) r s e))
-
-pub newly-waiting : (held waiting : Table Row) (r : Row) → AreStuck (values_in held) [] (values_in waiting) → is_grantable (values_in held) (values_in waiting) r ≡ false → newly (queued r (locks_in held waiting)) ≡ []
-newly-waiting held waiting r s e = newly-queued (locks_in held waiting) r s ∙ (rw e refl)
-
-pub newly-free : (held waiting : Table Row) (r : Row) → AreStuck (values_in held) [] (values_in waiting) → is_grantable (values_in held) (values_in waiting) r ≡ true → newly (queued r (locks_in held waiting)) ≡ r ∷ []
-newly-free held waiting r s e = newly-queued (locks_in held waiting) r s ∙ (rw e refl)
-
-pub settled-free : (held waiting : Table Row) (r : Row) → AreStuck (values_in held) [] (values_in waiting) → is_grantable (values_in held) (values_in waiting) r ≡ true → probed r (locks_in held waiting) ≡ settle (queued r (locks_in held waiting))
-unfolding probed
-settled-free held waiting r s e = rw e (sym (settle-queued_free (locks_in held waiting) r s e))
 
 -- ---- the draft's words
 

@@ -4,7 +4,6 @@ use Rattle.std.specs.Prelude.{bytes_eq, filter, slice_get}
 use Rattle.std.proofs.lemmas.Bool.Decides.{nat_tests}
 use Rattle.std.proofs.lemmas.List.{map-append}
 use Rattle.std.proofs.lemmas.Slice.Eq.{bytes_eq-Decides}
-use Rattle.wl_draft.specs.declared.mode.Mode.{Mode}
 use Rattle.wl_draft.specs.declared.row.Row.{Row}
 use Rattle.wl_draft.specs.Tables.{Table, find}
 use Rattle.wl_draft.specs.Locks.{is_named, is_free, is_grantable, newly, settle}
@@ -14,7 +13,7 @@ use Rattle.wl_table.proofs.Stuck.{AreStuck}
 use Rattle.wl_table.specs.Index.{line_of, locks_in}
 use Rattle.wl_table.specs.Nexts.{first_named, if_free, next_in, is_number}
 use Rattle.wl_table.proofs.OrderLemmas.{find-above}
-use Rattle.wl_table.proofs.SettleLemmas.{newly-first, settle-first, free-other}
+use Rattle.wl_table.proofs.SettleLemmas.{newly-first, settle-first}
 use Rattle.wl_table.proofs.WithoutLemmas.{without-above}
 use Rattle.wl_table.proofs.IndexLemmas.{free-line}
 
@@ -215,27 +214,12 @@ pub stuck-nexts : (held waiting : Table Row) → ((name : List ℕ) → next_in 
 stuck-nexts held waiting f =
     stuck-rows held [] waiting (λ front back p e. not-true (is_grantable (values_in held) (values_in front) p.1) (λ g. some-none p.0 (sym (ap (λ w. next_in p.1.name held w) e ∙ grantable-next held front back p g) ∙ f p.1.name)))
 
--- what is stuck is stuck behind what is ahead of it
-stuck-at : (held ahead front back : List Row) (r : Row) → AreStuck held ahead (front ++ r ∷ back) → is_grantable held (ahead ++ front) r ≡ false
-stuck-at held ahead [] back r s = rw append-nil s.0
-stuck-at held ahead (f ∷ front) back r s =
-    let e = stuck-at held (ahead ++ f ∷ []) front back r s.1 in
-    rw append_assoc at e
-
 false-true : (b : Bool) → b ≡ false → b ≡ true → ⊥
 false-true b e f = cc
 
 pub next-stuck_step : (held waiting : Table Row) (o : Option ℕ) → ((k : ℕ) → o ≡ Some k → ⊥) → o ≡ None
 next-stuck_step held waiting None f = refl
 next-stuck_step held waiting (Some k) f = absurd (f k refl)
-
--- and where all that waits is stuck, no name has anything to grant
-pub nexts-stuck : (held waiting : Table Row) → AreStuck (values_in held) [] (values_in waiting) → (name : List ℕ) → next_in name held waiting ≡ None
-nexts-stuck held waiting s name =
-    next-stuck_step held waiting (next_in name held waiting) (λ k e.
-    let n = next-split name held waiting k e in
-    let s' : AreStuck (values_in held) [] (values_in n.front ++ n.row ∷ values_in n.back) = rw (n.split, map-append) at s in
-    false-true (is_grantable (values_in held) (values_in n.front) n.row) (stuck-at (values_in held) [] (values_in n.front) (values_in n.back) n.row s') n.free)
 
 -- ---- rows that stand apart
 
@@ -317,25 +301,6 @@ grant-newly held waiting order k g rise =
 pub grant-settle : (held waiting : Table Row) (order k : ℕ) (g : IsGrant held waiting order) → is_rising waiting ≡ true → settle (locks_in held waiting) ≡ settle (locks_in (held ++ (k, g.row) ∷ []) (without_order order waiting))
 grant-settle held waiting order k g rise =
     ap (λ w. settle (locks_in held w)) g.split ∙ ap (λ v. settle (record { held = values_in held; waiting = v })) (values-append g.front ((order, g.row) ∷ g.back)) ∙ settle-first (values_in held) (values_in g.front) (values_in g.back) g.row g.stuck g.free ∙ ap (λ m. settle m) (sym (after-grant held waiting order k g rise))
-
-first-other_step : (name : List ℕ) (q f : ℕ × Row) (front back : Table Row) → first_named name (front ++ q ∷ back) ≡ first_named name (front ++ back) → first_named name ((f ∷ front) ++ q ∷ back) ≡ first_named name ((f ∷ front) ++ back)
-first-other_step name q f front back below = ap (λ o. cond (bytes_eq f.1.name name) (Some f) o) below
-
-first-other : (name : List ℕ) (q : ℕ × Row) (front back : Table Row) → bytes_eq q.1.name name ≡ false → first_named name (front ++ q ∷ back) ≡ first_named name (front ++ back)
-first-other name q [] back e = rw e refl
-first-other name q (f ∷ front) back e = first-other_step name q f front back (first-other name q front back e)
-
-free-held : (name : List ℕ) (held : Table Row) (k : ℕ) (r : Row) (mode : Mode) → bytes_eq r.name name ≡ false → is_free name mode (values_in (held ++ (k, r) ∷ [])) ≡ is_free name mode (values_in held)
-free-held name held k r mode e =
-    rw map-append (free-other name mode (values_in held) [] r e ∙ ap (λ xs. is_free name mode xs) (append-nil (values_in held)))
-
-if-held : (name : List ℕ) (held : Table Row) (k : ℕ) (r : Row) (o : Option (ℕ × Row)) → bytes_eq r.name name ≡ false → if_free name (held ++ (k, r) ∷ []) o ≡ if_free name held o
-if-held name held k r None e = refl
-if-held name held k r (Some p) e = ap (λ b. cond b (Some p.0) None) (free-held name held k r p.1.mode e)
-
-pub next-other : (held front back : Table Row) (order k : ℕ) (r : Row) (name : List ℕ) → bytes_eq r.name name ≡ false → next_in name (held ++ (k, r) ∷ []) (front ++ back) ≡ next_in name held (front ++ (order, r) ∷ back)
-next-other held front back order k r name e =
-    if-held name held k r (first_named name (front ++ back)) e ∙ ap (λ o. if_free name held o) (sym (first-other name (order, r) front back e))
 
 -- ---- whether a request can be granted, by its number
 

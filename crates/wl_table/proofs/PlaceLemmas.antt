@@ -1,5 +1,5 @@
 -- A client's places: which is the first of a number, with one place more and with one less.
-use Rattle.std.proofs.Common.{rules, ◌≡◌, ℕ, ◌+◌, ◌<◌, Bool, true, false, ◌||◌, cond, List, [], ◌∷◌, ◌++◌, Option, Some, None, length, drop, suc, zero, refl, sym, ap, ◌∙◌, arith}
+use Rattle.std.proofs.Common.{rules, ◌≡◌, ℕ, ◌+◌, ◌<◌, Bool, true, false, ◌||◌, cond, List, [], ◌∷◌, ◌++◌, Option, Some, None, drop, suc, zero, refl, sym, ap, ◌∙◌, arith}
 use Rattle.std.specs.Prelude.{◌==◌, nat_lt, nat_eq, is_some, slice_get, IfSome}
 use Rattle.std.specs.Map.{keys_of}
 use Rattle.std.specs.List.{IsDistinct}
@@ -205,10 +205,6 @@ least-more order (Some x) (Some y) = grind (arith, nat_tests)
 pub least-end : (o : Option ℕ) → lesser_both o None ≡ o
 least-end None = refl
 least-end (Some x) = refl
-
-pub no-places : (ps : List (ℕ × ℕ)) → length ps ≡ 0 → ps ≡ []
-no-places [] e = refl
-no-places (p ∷ ps) e = cc
 
 -- ---- a client's places are below the next order number
 

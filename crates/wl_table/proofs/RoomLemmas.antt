@@ -10,7 +10,7 @@ use Rattle.wl_draft.specs.Tables.{Table}
 use Rattle.wl_draft.specs.Locks.{is_named}
 use Rattle.wl_table.specs.Lines.{room_at, count_named}
 use Rattle.wl_table.specs.Clients.{places_at}
-use Rattle.wl_table.specs.Index.{IsIndexed, IsHoldable, IsReady, HasRoom, TakesRoom, places_in, are_of}
+use Rattle.wl_table.specs.Index.{IsIndexed, IsReady, HasRoom, TakesRoom, places_in, are_of}
 use Rattle.wl_table.specs.declared.index.Index.{Index}
 use Rattle.wl_table.proofs.WithoutLemmas.{count-one}
 use Rattle.wl_table.proofs.NextLemmas.{text-same, text-self}
@@ -67,22 +67,12 @@ client-first client r rs e =
 named-rest : (name : List ℕ) (r : Row) (rs : List Row) → is_named name rs ≡ true → is_named name (r ∷ rs) ≡ true
 named-rest name r rs e = grind (arith, nat_tests)
 
-named-first : (r : Row) (rs : List Row) → is_named r.name (r ∷ rs) ≡ true
-named-first r rs = rw (text-self r.name) refl
-
 no_cond : (b : Bool) → cond {A = ℕ} b 0 0 ≡ 0
 no_cond true = refl
 no_cond false = refl
 
 places-waiting : (t : Index) (client : ℕ) → IsIndexed t → length (places_at t.clients client).waiting ≡ length (places_in client t.waiting.items)
 places-waiting t client i = ap (λ s. length s.waiting) (i.clients client)
-
-pub holdable-first : (t : Index) (client : ℕ) (r : Row) (rs requests : List Row) → r.client ≡ client → HasRoom t client (r ∷ rs) requests → IsHoldable t r.client r.name
-holdable-first t client r rs requests e h = rw e (record {
-  held = omega (arith, h.held);
-  client_held = omega (arith, h.client_held);
-  line = h.lines r.name (named-first r rs);
-})
 
 pub room-held : (t u : Index) (client : ℕ) (r : Row) (rs requests : List Row) → IsIndexed t → IsIndexed u → u.waiting.items ≡ t.waiting.items → TakesRoom t u 1 0 r.name → HasRoom t client (r ∷ rs) requests → HasRoom u client rs requests
 room-held t u client r rs requests i j w k h =

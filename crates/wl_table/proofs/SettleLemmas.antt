@@ -1,13 +1,9 @@
 -- Settling one grant at a time: what can't be granted is passed over, and the first request that can be granted is the
 -- first that is granted.
-use Rattle.std.proofs.Common.{◌≡◌, ℕ, true, false, cond, List, [], ◌∷◌, ◌++◌, refl, sym, ap, ◌∙◌, append_assoc, append-nil, arith}
+use Rattle.std.proofs.Common.{◌≡◌, true, false, List, [], ◌∷◌, ◌++◌, refl, sym, ap, ◌∙◌, append_assoc, append-nil, arith}
 use Rattle.std.proofs.lemmas.List.Folds.{list_all-append}
 use Rattle.wl_draft.specs.declared.row.Row.{Row}
-use Rattle.wl_draft.specs.Locks.{Locks, is_free, is_grantable, granted, left_waiting, newly, settle, queued}
-use Rattle.std.specs.Prelude.{bytes_eq}
-use Rattle.wl_draft.specs.declared.mode.Mode.{Mode}
-use Rattle.wl_draft.specs.Settling.{IsSettled}
-use Rattle.wl_draft.proofs.Settled.{settle-IsSettled}
+use Rattle.wl_draft.specs.Locks.{Locks, is_grantable, granted, left_waiting, newly, settle}
 use Rattle.wl_table.proofs.Stuck.{AreStuck}
 
 -- more locks free nobody
@@ -67,52 +63,3 @@ pub settle-first : (held front back : List Row) (r : Row) → AreStuck held [] f
 unfolding settle newly
 settle-first held front back r s e =
     rw (granted-first held front back r s e, left-first held front back r s e, append_assoc held (r ∷ [])) refl
-
--- ---- a request
-
-pub newly-queued : (m : Locks) (r : Row) → AreStuck m.held [] m.waiting → newly (queued r m) ≡ cond (is_grantable m.held m.waiting r) (r ∷ []) []
-unfolding newly queued
-newly-queued m r s = granted-stuck m.held [] m.waiting (r ∷ []) s
-
--- behind the others a request that can be granted is held, and another waits
-pub settle-queued_free : (m : Locks) (r : Row) → AreStuck m.held [] m.waiting → is_grantable m.held m.waiting r ≡ true → settle (queued r m) ≡ record { held = m.held ++ r ∷ []; waiting = m.waiting }
-unfolding settle newly queued
-settle-queued_free m r s e =
-    rw (granted-stuck m.held [] m.waiting (r ∷ []) s, left-stuck m.held [] m.waiting (r ∷ []) s, e) refl
-
-pub settle-queued_stuck : (m : Locks) (r : Row) → AreStuck m.held [] m.waiting → is_grantable m.held m.waiting r ≡ false → settle (queued r m) ≡ queued r m
-unfolding settle newly queued
-settle-queued_stuck m r s e =
-    rw (granted-stuck m.held [] m.waiting (r ∷ []) s, left-stuck m.held [] m.waiting (r ∷ []) s, e, append-nil) refl
-
-stuck-push : (held ahead ws : List Row) (r : Row) → AreStuck held ahead ws → is_grantable held (ahead ++ ws) r ≡ false → AreStuck held ahead (ws ++ r ∷ [])
-stuck-push held ahead [] r s e = (rw append-nil at e, tt)
-stuck-push held ahead (w ∷ ws) r s e =
-    (s.0, stuck-push held (ahead ++ w ∷ []) ws r s.1 (rw append_assoc e))
-
--- the table stays settled by a request
-pub stuck-queued : (m : Locks) (r : Row) → AreStuck m.held [] m.waiting → is_grantable m.held m.waiting r ≡ false → AreStuck m.held [] (m.waiting ++ r ∷ [])
-stuck-queued m r s e = stuck-push m.held [] m.waiting r s e
-
--- ---- what is stuck, from each request by itself
-
-pub stuck-each : (held ahead rs : List Row) → ((front back : List Row) (r : Row) → rs ≡ front ++ r ∷ back → is_grantable held (ahead ++ front) r ≡ false) → AreStuck held ahead rs
-stuck-each held ahead [] f = tt
-stuck-each held ahead (r ∷ rs) f =
-    let here : is_grantable held (ahead ++ []) r ≡ false = f [] rs r refl in
-    (rw append-nil at here, stuck-each held (ahead ++ r ∷ []) rs (λ front back x e. rw append_assoc (f (r ∷ front) back x (ap (λ ys. r ∷ ys) e))))
-
--- a settled table is stuck
-pub stuck-settled : (m : Locks) → IsSettled m → AreStuck m.held [] m.waiting
-stuck-settled m s = stuck-each m.held [] m.waiting s
-
-pub stuck-settle : (m : Locks) → AreStuck (settle m).held [] (settle m).waiting
-stuck-settle m = stuck-settled (settle m) (settle-IsSettled m)
-
--- a lock of another name stands in nobody's way
-pub free-other : (name : List ℕ) (mode : Mode) (front back : List Row) (x : Row) → bytes_eq x.name name ≡ false → is_free name mode (front ++ x ∷ back) ≡ is_free name mode (front ++ back)
-free-other name mode front back x e = grind (arith, list_all-append {X = Row})
-
-pub grantable-other : (front back ahead : List Row) (x r : Row) → bytes_eq x.name r.name ≡ false → is_grantable (front ++ x ∷ back) ahead r ≡ is_grantable (front ++ back) ahead r
-unfolding is_grantable
-grantable-other front back ahead x r e = rw (free-other r.name r.mode front back x e) refl
