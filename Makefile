@@ -6,11 +6,14 @@ EXAMPLE ?= examples/handover.sim
 demo: crates/wlb/out/wlb
 	python3 tools/demo.py $(EXAMPLE) crates/wlb/out/wlb
 
-bench: crates/wlb/out/wlb
-	python3 tools/bench.py crates/wlb/out/wlb
+bench: crates/wlb/out/wlb crates/table_speed/out/table_speed
+	python3 tools/bench.py crates/wlb/out/wlb crates/table_speed/out/table_speed
 
 crates/wlb/out/wlb: crates.txt $(wildcard crates/*/src/*.rt crates/*/src/*/*.rt crates/*/specs/*.antt)
 	cd crates/wlb && rt run < stdin > /dev/null
+
+crates/table_speed/out/table_speed: crates.txt $(wildcard crates/table_speed/src/*.rt crates/wl_table/src/*.rt crates/wl_draft/src/*.rt)
+	cd crates/table_speed && rt run > /dev/null
 
 test:
 	rt ci

@@ -1,4 +1,4 @@
-"""Times `wlb sim`.
+"""Times `wlb sim`, and the lock tables.
 
 Handover: scripts of growing length, in which two tabs of one origin hand a lock over, again and again. Prints for each length
 the seconds and the time of a line, as a ratio to that of the shortest script. Where a line costs no more for the messages that
@@ -7,6 +7,9 @@ were sent before it, the ratios stay near 1 (the tables are trees, so they may r
 Recovery: 64 tabs of one partition have many live requests each when the broker is stopped, and tell them to the next one in
 parts. Prints for each count of requests the seconds from the stop on, and the time of a request, as a ratio to that of the
 smallest count.
+
+Lock tables: `table_speed` plays the same random calls on the indexed table and on the plain one, and prints for each trace how
+many calls a second either makes and their ratio, and how much longer a call takes with 65,536 entries than with 64.
 """
 
 import subprocess
@@ -116,9 +119,10 @@ def recoveries(program):
 
 
 def main():
-    program = sys.argv[1]
+    program, tables = sys.argv[1:]
     handovers(program)
     recoveries(program)
+    subprocess.run([tables, "time"], check=True)
 
 
 if __name__ == "__main__":

@@ -1,0 +1,295 @@
+//! Plays one trace of calls on each lock table. With the word `time` it prints how many calls a second each made; without,
+//! it plays a short trace, and says whether the two answered the same.
+#![tactic(auto)]
+
+use std::alloc::{AllocError, Global};
+use std::time::Instant;
+use wl_table::{Entry, Grant, IndexedTable, LockTable, Mode, Name, PlainTable, Standing};
+
+/// A trace of calls: a client asks for a number that it does not have, and else lets it go.
+#[derive(Clone, Copy)]
+struct Trace {
+    title: &'static str,
+    clients: u16,
+    // How many numbers each client uses.
+    entries: u32,
+    names: usize,
+    // Whether each number has a name of its own.
+    is_apart: bool,
+    // How many calls the indexed table gets, and how many the plain one.
+    calls: usize,
+    plain_calls: usize,
+}
+
+const SHORT: Trace = Trace {
+    title: "short",
+    clients: 8,
+    entries: 4,
+    names: 5,
+    is_apart: false,
+    calls: 2_000,
+    plain_calls: 2_000,
+};
+
+const FEW: Trace = Trace {
+    title: "64 restored entries",
+    clients: 16,
+    entries: 4,
+    names: 64,
+    is_apart: false,
+    calls: 400_000,
+    plain_calls: 40_000,
+};
+
+const CONTENDED: Trace = Trace {
+    title: "one name, 64 clients",
+    clients: 64,
+    entries: 4,
+    names: 1,
+    is_apart: false,
+    calls: 400_000,
+    plain_calls: 4_000,
+};
+
+const APART: Trace = Trace {
+    title: "1,000 names, nobody waits",
+    clients: 50,
+    entries: 20,
+    names: 1_000,
+    is_apart: true,
+    calls: 400_000,
+    plain_calls: 20_000,
+};
+
+const MANY: Trace = Trace {
+    title: "1,024 clients with 16 entries each",
+    clients: 1_024,
+    entries: 16,
+    names: 16_384,
+    is_apart: false,
+    calls: 400_000,
+    plain_calls: 40,
+};
+
+const RESTORED: Trace = Trace {
+    title: "65,536 restored entries",
+    clients: 1_024,
+    entries: 64,
+    names: 65_536,
+    is_apart: false,
+    calls: 400_000,
+    plain_calls: 4,
+};
+
+/// A sequence of numbers that look random: the high bits of a linear congruence.
+#[derive(Drop)]
+struct Dice {
+    state: u64,
+}
+
+impl Dice {
+    fn below(&mut self, sides: usize) -> usize {
+        self.state = self
+            .state
+            .wrapping_mul(6_364_136_223_846_793_005)
+            .wrapping_add(1_442_695_040_888_963_407);
+        ((self.state >> 33) as usize)
+            .checked_rem(sides)
+            .unwrap_or(0)
+    }
+
+    fn mode(&mut self) -> Mode {
+        match self.below(2) {
+            0 => Mode::Shared,
+            _ => Mode::Exclusive,
+        }
+    }
+}
+
+fn names_of(alloc: Global, count: usize) -> Result<Vec<Name>, AllocError> {
+    let mut names = Vec::with_capacity(alloc, count)?;
+    for index in 0..count {
+        names.push(Name::new(format!(in alloc; "lock/name/{index}")?))?;
+    }
+    Ok(names)
+}
+
+/// The place of a name: by chance, or the one of this client and number.
+fn place_of(dice: &mut Dice, trace: Trace, client: u16, number: u32) -> usize {
+    let chance = dice.below(trace.names);
+    if trace.is_apart {
+        (client as usize)
+            .wrapping_mul(trace.entries as usize)
+            .wrapping_add(number as usize)
+    } else {
+        chance
+    }
+}
+
+/// What was answered so far, in one number.
+fn mixed(digest: u64, granted: &[Grant]) -> u64 {
+    let mut sum = digest.wrapping_mul(31);
+    for grant in granted {
+        sum = sum
+            .wrapping_mul(31)
+            .wrapping_add(u64::from(grant.client))
+            .wrapping_mul(31)
+            .wrapping_add(u64::from(grant.number));
+    }
+    sum
+}
+
+/// One call of the trace.
+fn turn<T: LockTable>(
+    table: &mut T,
+    dice: &mut Dice,
+    trace: Trace,
+    names: &[Name],
+) -> Result<Vec<Grant>, AllocError> {
+    let client = u16::try_from(dice.below(trace.clients as usize)).unwrap_or(0);
+    let number = u32::try_from(dice.below(trace.entries as usize)).unwrap_or(0);
+    let mode = dice.mode();
+    let place = place_of(dice, trace, client, number);
+    match (table.state(client, number), names.get(place)) {
+        (Standing::Absent, Some(name)) => table.request(client, number, name, mode),
+        (Standing::Held, _) => table.release(client, number),
+        (_, _) => table.abort(client, number),
+    }
+}
+
+/// A report of a client that waits for, or holds, all its numbers.
+fn report_of(
+    alloc: Global,
+    dice: &mut Dice,
+    trace: Trace,
+    client: u16,
+    names: &[Name],
+) -> Result<Vec<Entry>, AllocError> {
+    let mut entries = Vec::with_capacity(alloc, trace.entries as usize)?;
+    for number in 0..trace.entries {
+        let held = dice.below(4) > 0;
+        let mode = dice.mode();
+        let place = place_of(dice, trace, client, number);
+        if let Some(name) = names.get(place) {
+            entries.push(Entry {
+                number,
+                held,
+                mode,
+                name: name.copy(alloc)?,
+            })?;
+        }
+    }
+    Ok(entries)
+}
+
+/// How long the reports of all clients took, how long a number of calls took, and what was answered.
+#[derive(Clone, Copy)]
+struct Played {
+    restore: u64,
+    calls: u64,
+    digest: u64,
+}
+
+fn micros_since(rt: &HostRuntime, began: Instant) -> anyhow::Result<u64> {
+    Ok(u64::try_from(began.elapsed(rt)?.as_micros()).unwrap_or(u64::MAX))
+}
+
+/// Fills a table with the reports of all clients, the last of which settles, and plays so many calls on it.
+fn play<T: LockTable>(
+    rt: &HostRuntime,
+    table: &mut T,
+    trace: Trace,
+    calls: usize,
+) -> anyhow::Result<Played> {
+    let alloc = rt.alloc();
+    let names = names_of(alloc, trace.names)?;
+    let mut dice = Dice { state: 20_261_123 };
+    let mut digest = 0;
+    let mut restore: u64 = 0;
+    for client in 0..trace.clients {
+        let report = report_of(alloc, &mut dice, trace, client, &names)?;
+        let began = Instant::now(rt)?;
+        let granted = table.restore(client, &report, client.wrapping_add(1) == trace.clients)?;
+        restore = restore.saturating_add(micros_since(rt, began)?);
+        digest = mixed(digest, &granted);
+    }
+    let began = Instant::now(rt)?;
+    for _ in 0..calls {
+        let granted = turn(table, &mut dice, trace, &names)?;
+        digest = mixed(digest, &granted);
+    }
+    Ok(Played {
+        restore,
+        calls: micros_since(rt, began)?,
+        digest,
+    })
+}
+
+/// So many a second.
+fn rate(count: usize, micros: u64) -> u64 {
+    (count as u64)
+        .saturating_mul(1_000_000)
+        .checked_div(micros)
+        .unwrap_or(u64::MAX)
+}
+
+fn print_rates(rt: &HostRuntime, what: &str, indexed: u64, plain: u64) -> anyhow::Result<()> {
+    let ratio = indexed.checked_div(plain).unwrap_or(indexed);
+    println!(rt; "  {what} a second: indexed {indexed}, plain {plain}, ratio {ratio}")?;
+    Ok(())
+}
+
+/// Prints how fast each table plays a trace, and answers how many calls a second the indexed one makes.
+fn compare(rt: &HostRuntime, trace: Trace) -> anyhow::Result<u64> {
+    let alloc = rt.alloc();
+    let entries = (trace.clients as usize).saturating_mul(trace.entries as usize);
+    let indexed = play(rt, &mut IndexedTable::new(alloc), trace, trace.calls)?;
+    let plain = play(rt, &mut PlainTable::new(alloc), trace, trace.plain_calls)?;
+    let fast = rate(trace.calls, indexed.calls);
+    println!(rt; "{}", trace.title)?;
+    print_rates(rt, "calls", fast, rate(trace.plain_calls, plain.calls))?;
+    print_rates(
+        rt,
+        "entries restored",
+        rate(entries, indexed.restore),
+        rate(entries, plain.restore),
+    )?;
+    Ok(fast)
+}
+
+/// Times all traces.
+fn time(rt: &HostRuntime) -> anyhow::Result<()> {
+    compare(rt, CONTENDED)?;
+    compare(rt, APART)?;
+    compare(rt, MANY)?;
+    let few = compare(rt, FEW)?;
+    let restored = compare(rt, RESTORED)?;
+    let tenths = few
+        .saturating_mul(10)
+        .checked_div(restored)
+        .unwrap_or(u64::MAX);
+    println!(rt;
+        "a call's time with 65,536 entries, over that with 64: {}.{}",
+        tenths / 10,
+        tenths % 10
+    )?;
+    Ok(())
+}
+
+/// Whether both tables answer a short trace alike.
+fn agree(rt: &HostRuntime) -> anyhow::Result<bool> {
+    let alloc = rt.alloc();
+    let indexed = play(rt, &mut IndexedTable::new(alloc), SHORT, SHORT.calls)?;
+    let plain = play(rt, &mut PlainTable::new(alloc), SHORT, SHORT.plain_calls)?;
+    Ok(indexed.digest == plain.digest)
+}
+
+fn main(rt: HostRuntime) -> anyhow::Result<()> {
+    let words = std::env::args(&rt)?;
+    if words.skip(1).any(|word| word.as_str() == "time") {
+        return time(&rt);
+    }
+    let same = agree(&rt)?;
+    println!(rt; "both tables answer alike: {same}")?;
+    Ok(())
+}
