@@ -1,7 +1,7 @@
 //! What no list of events can break.
 
 ghost use Rattle.wl_world.specs.Apart.{DroppedLeavesAlone, KeptDoesAlike, RunsApartForAll};
-ghost use Rattle.wl_world.specs.Heard.{HeardIsReadOrWaitsForAll, HeardPostsForAll, HeardRisingForAll, HeardTillClosedForAll};
+ghost use Rattle.wl_world.specs.Heard.{HeardIsReadForAll, HeardPostsForAll, HeardRisingForAll, HeardTillClosedForAll};
 ghost use Rattle.wl_world.specs.Holdings.{ExclusionForAll, OwnForAll};
 ghost use Rattle.wl_world.specs.Hostile.{HonestBefore, HonestUnlessNamed, TakesOwnAlone};
 ghost use Rattle.wl_world.specs.Orders.{CommandsInOrderForAll, GrantedWereHeldForAll, GrantsWereSentForAll, ManagerIsFoldForAll};
@@ -43,10 +43,10 @@ pub fn law_safety()
     ensures rising { HeardRisingForAll }
     // Of honest sources it takes nothing but posts of its partition's tabs to its name, none of them made on the object itself.
     ensures posts { HeardPostsForAll }
-    // It takes nothing after its close.
+    // It takes nothing after its close, and nothing is read of it then.
     ensures closed { HeardTillClosedForAll }
-    // While it is open, all that it took was read or waits in its inbox.
-    ensures told { HeardIsReadOrWaitsForAll }
+    // What it took is what was read of it, as the replies say, and then a rest, which waits in its inbox while it is open.
+    ensures told { HeardIsReadForAll }
 
     // A message that comes to the broker, forged or not, moves locks of its own tab alone; others move only by settling.
     ensures moves { TakesOwnAlone }

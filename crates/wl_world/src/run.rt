@@ -5,7 +5,7 @@ ghost use Rattle.wl_world.specs.World.{empty_world, run};
 ghost use Rattle.wl_world.specs.Holdings.{Exclusion, Own};
 ghost use Rattle.wl_world.specs.Hostile.{HonestIfUnnamed};
 ghost use Rattle.wl_world.specs.Orders.{CommandsInOrder, GrantedWereHeld, GrantsWereSent, ManagerIsFold};
-ghost use Rattle.wl_world.specs.Heard.{HeardIsReadOrWaits, HeardPosts, HeardRising, HeardTillClosed};
+ghost use Rattle.wl_world.specs.Heard.{HeardIsRead, HeardPosts, HeardRising, HeardTillClosed};
 ghost use Rattle.wl_world.specs.Apart.{RunsApart};
 
 use crate::event::Event;
@@ -34,10 +34,10 @@ pub fn run(alloc: Global, events: &[Event]) -> Result<World, AllocError>
     ensures heard_rising { IfOk result (λ w. HeardRising events.now) }
     // each of an honest source is a post to its name by a tab of its partition, not made on the object itself,
     ensures heard_posts { IfOk result (λ w. HeardPosts events.now) }
-    // none comes after its close,
+    // none comes or is read after its close,
     ensures heard_closed { IfOk result (λ w. HeardTillClosed events.now) }
-    // and while it is open, all that it took was read, as the replies say, or waits in its inbox.
-    ensures heard_told { IfOk result (λ w. HeardIsReadOrWaits events.now w.world) }
+    // and what it took is what was read, as the replies say, and then a rest, which waits in its inbox while it is open.
+    ensures heard_told { IfOk result (λ w. HeardIsRead events.now w.world) }
     // What the world has of a partition is what the events about that partition alone make of the empty world.
     ensures apart { IfOk result (λ w. RunsApart events.now w.world) }
 {

@@ -1,11 +1,11 @@
 use Rattle.wl_world.specs.World.{empty_world, run}
 use Rattle.wl_world.proofs.Cover.{Sound-exclusion}
-use Rattle.wl_world.proofs.Hearings.{heard-rising, heard-posts, heard-till_closed}
+use Rattle.wl_world.proofs.Hearings.{heard-rising, heard-posts}
 use Rattle.wl_world.proofs.Honesty.{honest-unless_named, honest-sooner}
 use Rattle.wl_world.proofs.Isolation.{dropped-leaves_alone, kept-does_alike, runs-apart}
 use Rattle.wl_world.proofs.Moving.{takes-own_alone}
 use Rattle.wl_world.proofs.Order.{commands-in_order, granted-were_held, grants-were_sent, manager-is_fold}
-use Rattle.wl_world.proofs.Readings.{heard-is_read_or_waits}
+use Rattle.wl_world.proofs.Readings.{heard-till_closed, heard-is_read}
 use Rattle.wl_world.proofs.Refused.{refused-changes_nothing}
 use Rattle.wl_world.proofs.Runs.{run-sound}
 use Rattle.wl_world.proofs.Sources.{run-own}
@@ -51,7 +51,7 @@ pub returns-clause-closed : goal.returns-clause-closed
 returns-clause-closed c = heard-till_closed
 
 pub returns-clause-told : goal.returns-clause-told
-returns-clause-told c = heard-is_read_or_waits
+returns-clause-told c = heard-is_read
 
 pub returns-clause-moves : goal.returns-clause-moves
 returns-clause-moves c = takes-own_alone

@@ -5,15 +5,15 @@ use Rattle.wl_world.specs.World.{empty_world, run}
 use Rattle.wl_world.specs.Holdings.{Exclusion, Own}
 use Rattle.wl_world.specs.Hostile.{HonestIfUnnamed}
 use Rattle.wl_world.specs.Orders.{CommandsInOrder, GrantedWereHeld, GrantsWereSent, ManagerIsFold}
-use Rattle.wl_world.specs.Heard.{HeardIsReadOrWaits}
+use Rattle.wl_world.specs.Heard.{HeardIsRead}
 use Rattle.wl_world.specs.Apart.{RunsApart}
 use Rattle.wl_world.proofs.Cover.{Sound-exclusion}
 use Rattle.wl_world.proofs.Honesty.{honest-unless_named}
 use Rattle.wl_world.proofs.Runs.{run-sound}
 use Rattle.wl_world.proofs.Sources.{run-own}
 use Rattle.wl_world.proofs.Order.{commands-in_order, granted-were_held, grants-were_sent, manager-is_fold}
-use Rattle.wl_world.proofs.Hearings.{heard-rising, heard-posts, heard-till_closed}
-use Rattle.wl_world.proofs.Readings.{heard-is_read_or_waits}
+use Rattle.wl_world.proofs.Hearings.{heard-rising, heard-posts}
+use Rattle.wl_world.proofs.Readings.{heard-till_closed, heard-is_read}
 use Rattle.wl_world.proofs.Isolation.{runs-apart}
 use Rattle.wl_world.proofs.run.run.Goals as goal
 
@@ -53,7 +53,7 @@ pub returns-clause-heard_closed : goal.returns-clause-heard_closed
 returns-clause-heard_closed c = heard-till_closed c.args.events.now
 
 pub returns-clause-heard_told : goal.returns-clause-heard_told
-returns-clause-heard_told c = subst (HeardIsReadOrWaits c.args.events.now) (made c) (heard-is_read_or_waits c.args.events.now)
+returns-clause-heard_told c = subst (HeardIsRead c.args.events.now) (made c) (heard-is_read c.args.events.now)
 
 pub returns-clause-apart : goal.returns-clause-apart
 returns-clause-apart c = subst (RunsApart c.args.events.now) (made c) (runs-apart c.args.events.now)

@@ -359,6 +359,9 @@ const BROADCAST_STEPS: &[Step] = &[
     ("close 1 0", &["closed 0"]),
     ("close 1 0", &["closed 0"]),
     ("post 1 0 y", &["InvalidStateError"]),
+    ("read 1 0", &["InvalidStateError"]),
+    ("close 2 0", &["closed 0"]),
+    ("read 2 0", &["InvalidStateError"]),
 ];
 
 const RESEND_STEPS: &[Step] = &[
