@@ -190,25 +190,27 @@ Plays-at-byte a s piece i output lt other h =
     subst (λ bytes. Plays a bytes new output) (sym (take_more piece i 0 lt))
     (subst (Plays a (take i piece ++ b ∷ []) new) (append-nil output) (Plays-more a s new (take i piece) (b ∷ []) output [] h (Plays-byte s b (other_byte b other))))
 
-ends-at : (a s : SimState) (piece : List ℕ) (i : ℕ) (output last : List ℕ) (e : SimFault) → i < length piece → Plays a (take i piece) s output
-    → EndsBy (runs s.number s.world (lines_after s.text (get_or piece i 0 ∷ drop (i + 1) piece))) e last
-    → EndsBy (runs a.number a.world (lines_after a.text piece)) e (output ++ last)
-ends-at a s piece i output last e lt h ends =
-    let more = get_or piece i 0 ∷ drop (i + 1) piece in
-    let all : take i piece ++ more ≡ piece = ap (λ l. take i piece ++ l) (sym (drop_more piece i 0 lt)) ∙ take-append-drop i piece in
-    subst (λ bytes. EndsBy (runs a.number a.world (lines_after a.text bytes)) e (output ++ last)) all (Ends-after a s (take i piece) more output last e h ends)
+ends-at : (a s : SimState) (piece more : List ℕ) (i : ℕ) (output last : List ℕ) (e : SimFault) → i < length piece → Plays a (take i piece) s output
+    → EndsBy (runs s.number s.world (lines_after s.text (get_or piece i 0 ∷ drop (i + 1) piece ++ more))) e last
+    → EndsBy (runs a.number a.world (lines_after a.text (piece ++ more))) e (output ++ last)
+ends-at a s piece more i output last e lt h ends =
+    let rest = get_or piece i 0 ∷ drop (i + 1) piece in
+    let all : take i piece ++ rest ≡ piece = ap (λ l. take i piece ++ l) (sym (drop_more piece i 0 lt)) ∙ take-append-drop i piece in
+    subst (λ bytes. EndsBy (runs a.number a.world (lines_after a.text bytes)) e (output ++ last))
+    (sym (append_assoc (take i piece) rest more) ∙ ap (λ l. l ++ more) all)
+    (Ends-after a s (take i piece) (rest ++ more) output last e h ends)
 
-pub Ends-at-feed : (a s : SimState) (piece : List ℕ) (i : ℕ) (output last : List ℕ) (e : SimFault) → i < length piece → get_or piece i 0 ≡ 10 → Plays a (take i piece) s output
-    → EndsBy (runs s.number s.world (s.text ∷ [])) e last → EndsBy (runs a.number a.world (lines_after a.text piece)) e (output ++ last)
-Ends-at-feed a s piece i output last e lt feed h ends =
-    ends-at a s piece i output last e lt h (Ends-feed s (get_or piece i 0) (drop (i + 1) piece) e last (same_byte (get_or piece i 0) feed) ends)
+pub Ends-at-feed : (a s : SimState) (piece more : List ℕ) (i : ℕ) (output last : List ℕ) (e : SimFault) → i < length piece → get_or piece i 0 ≡ 10 → Plays a (take i piece) s output
+    → EndsBy (runs s.number s.world (s.text ∷ [])) e last → EndsBy (runs a.number a.world (lines_after a.text (piece ++ more))) e (output ++ last)
+Ends-at-feed a s piece more i output last e lt feed h ends =
+    ends-at a s piece more i output last e lt h (Ends-feed s (get_or piece i 0) (drop (i + 1) piece ++ more) e last (same_byte (get_or piece i 0) feed) ends)
 
-pub Ends-at-long : (a s : SimState) (piece : List ℕ) (i : ℕ) (output : List ℕ) → i < length piece → (get_or piece i 0 ≡ 10 → ⊥) → 65536 ≤ length s.text → Plays a (take i piece) s output
-    → EndsBy (runs a.number a.world (lines_after a.text piece)) (sim.Line s.number) (output ++ [])
-Ends-at-long a s piece i output lt other long h =
-    ends-at a s piece i output [] (sim.Line s.number) lt h (Ends-long s (get_or piece i 0) (drop (i + 1) piece) (other_byte (get_or piece i 0) other) long)
+pub Ends-at-long : (a s : SimState) (piece more : List ℕ) (i : ℕ) (output : List ℕ) → i < length piece → (get_or piece i 0 ≡ 10 → ⊥) → 65536 ≤ length s.text → Plays a (take i piece) s output
+    → EndsBy (runs a.number a.world (lines_after a.text (piece ++ more))) (sim.Line s.number) (output ++ [])
+Ends-at-long a s piece more i output lt other long h =
+    ends-at a s piece more i output [] (sim.Line s.number) lt h (Ends-long s (get_or piece i 0) (drop (i + 1) piece ++ more) (other_byte (get_or piece i 0) other) long)
 
-pub Ends-at-memory : (a s : SimState) (piece : List ℕ) (i : ℕ) (output : List ℕ) → i < length piece → Plays a (take i piece) s output
-    → EndsBy (runs a.number a.world (lines_after a.text piece)) sim.Memory (output ++ [])
-Ends-at-memory a s piece i output lt h =
-    ends-at a s piece i output [] sim.Memory lt h (Ends-memory (runs s.number s.world (lines_after s.text (get_or piece i 0 ∷ drop (i + 1) piece))))
+pub Ends-at-memory : (a s : SimState) (piece more : List ℕ) (i : ℕ) (output : List ℕ) → i < length piece → Plays a (take i piece) s output
+    → EndsBy (runs a.number a.world (lines_after a.text (piece ++ more))) sim.Memory (output ++ [])
+Ends-at-memory a s piece more i output lt h =
+    ends-at a s piece more i output [] sim.Memory lt h (Ends-memory (runs s.number s.world (lines_after s.text (get_or piece i 0 ∷ drop (i + 1) piece ++ more))))

@@ -1,7 +1,7 @@
 -- What the sim writes for a script.
-use Rattle.std.specs.Prelude.{◌≡◌, ℕ, ◌+◌, ◌==◌, List, [], ◌∷◌, ◌++◌, Option, Some, None, Result, Ok, Err}
+use Rattle.std.specs.Prelude.{◌≡◌, ◌⊎◌, ⊤, ℕ, ◌+◌, ◌==◌, List, [], ◌∷◌, ◌++◌, Option, Some, None, Result, Ok, Err}
 use Rattle.std.specs.List.{slice_split}
-use Rattle.std.specs.Io.KnownBytes.{Consumes, Appends}
+use Rattle.std.specs.Io.KnownBytes.{Consumes, Appends, IsAtEnd}
 use Rattle.wl_world.specs.World.{WorldState, empty_world}
 use Rattle.wl_frames.specs.Device.{IsFrontOf}
 use Rattle.wl_script.specs.declared.line.Line.{Line}
@@ -56,6 +56,12 @@ Answered input (Err sim.TooManyReads) output = ((whole_run_of input).refused ≡
 Answered input (Err sim.Write) output = IsFrontOf output (run_of input).written
 Answered input (Err sim.Memory) output = IsFrontOf output (run_of input).written
 
+-- a run ends well at the end of the script alone; and a line is refused there, or whatever stands behind what was read
+abbrev pub NeedsEnd : List ℕ → Result (Unit {0}) SimFault → Option (List ℕ) → Type 0
+NeedsEnd input (Ok done) reader = IsAtEnd reader
+NeedsEnd input (Err (sim.Line n)) reader = IsAtEnd reader ⊎ ((more : List ℕ) → (run_of (input ++ more)).refused ≡ Some n)
+NeedsEnd input (Err e) reader = ⊤
+
 -- the reader gave these bytes, and the writer took the answer to them
 pub record Runs (reader_before reader_after writer_before writer_after : Option (List ℕ)) (result : Result (Unit {0}) SimFault) : Type 0 where
   pub input : List ℕ
@@ -63,3 +69,4 @@ pub record Runs (reader_before reader_after writer_before writer_after : Option 
   pub consumed : Consumes reader_before reader_after input
   pub appended : Appends writer_before writer_after output
   pub answered : Answered input result output
+  pub at_end : NeedsEnd input result reader_after

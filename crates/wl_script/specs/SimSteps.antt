@@ -67,9 +67,10 @@ pub record Plays (old : SimState) (piece : List ℕ) (new : SimState) (output : 
   pub number_is : new.number ≡ old.number + length texts
   pub within : new.number ≤ old.number + length piece
 
+-- a run that ends in a piece ends so whatever stands behind the piece
 abbrev pub Takes : SimState → List ℕ → Result SimState SimFault → List ℕ → Type 0
 Takes old piece (Ok new) output = Plays old piece new output
-Takes old piece (Err e) output = EndsBy (runs old.number old.world (lines_after old.text piece)) e output
+Takes old piece (Err e) output = (more : List ℕ) → EndsBy (runs old.number old.world (lines_after old.text (piece ++ more))) e output
 
 -- the end of the script: what has come of the last line is all of it
 abbrev pub Closes : SimState → Result (Unit {0}) SimFault → List ℕ → Type 0

@@ -26,7 +26,7 @@ returns-in_err-world-clause-taken g c =
     rw (p.1, p.2) (
       h.output ++ done.0,
       Appends-trans _ _ _ h.output done.0 h.appended done.1,
-      Ends-at-feed c.args.self _ c.args.piece.now c.loop-byte.byte-index h.output done.0 c.in_err-world.field-0.0 c.loop-byte-test.true c.if-byte-eq10.true h.plays
+      λ more. Ends-at-feed c.args.self _ c.args.piece.now more c.loop-byte.byte-index h.output done.0 c.in_err-world.field-0.0 c.loop-byte-test.true c.if-byte-eq10.true h.plays
           (subst (λ text. EndsBy (runs c.loop-byte.number c.loop-byte.world.world (text ∷ [])) c.in_err-world.field-0.0 done.0) c.as_slice.ensures.value done.2),
     )
 
@@ -35,7 +35,7 @@ returns-then-len-ge-LINE_LIMIT-clause-taken g c =
     let h = c.loop-byte.invariant in (
       h.output ++ [],
       Appends-trans _ _ _ h.output [] h.appended (Appends-nil _),
-      Ends-at-long c.args.self _ c.args.piece.now c.loop-byte.byte-index h.output c.loop-byte-test.true c.if-byte-eq10.false (omega arith) h.plays,
+      λ more. Ends-at-long c.args.self _ c.args.piece.now more c.loop-byte.byte-index h.output c.loop-byte-test.true c.if-byte-eq10.false (omega arith) h.plays,
     )
 
 pub returns-in_err-push-clause-taken : goal.returns-in_err-push-clause-taken
@@ -45,7 +45,7 @@ returns-in_err-push-clause-taken g c =
     rw (p.1, p.2) (
       h.output ++ [],
       Appends-trans _ _ _ h.output [] h.appended (Appends-nil _),
-      Ends-at-memory c.args.self _ c.args.piece.now c.loop-byte.byte-index h.output c.loop-byte-test.true h.plays,
+      λ more. Ends-at-memory c.args.self _ c.args.piece.now more c.loop-byte.byte-index h.output c.loop-byte-test.true h.plays,
     )
 
 pub loop-byte-preserved : goal.loop-byte-preserved
