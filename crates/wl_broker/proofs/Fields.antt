@@ -1,5 +1,5 @@
 -- A broker's fields after a change, or after one that was taken back.
-use Rattle.std.proofs.Common.{◌≡◌, ◌≢◌, ℕ, ◌≤◌, nat_lt, nat_le, eqb, not, ◌&&◌, ◌||◌, Bool, true, false, List, [], ◌∷◌, Option, Some, None, IsSome, is_some, Result, Ok, Err, IfOk, IfErr, MatchResult, refl, sym, ap, ◌∙◌, subst, arith}
+use Rattle.std.proofs.Common.{◌≡◌, ◌≢◌, ℕ, ◌≤◌, nat_lt, nat_le, eqb, not, ◌&&◌, ◌||◌, Bool, true, false, List, [], ◌∷◌, Option, Some, None, IsSome, is_some, length, Result, Ok, Err, IfOk, IfErr, MatchResult, refl, sym, ap, ◌∙◌, subst, arith}
 use Rattle.std.specs.Result.{IsErrAnd}
 use Rattle.std.proofs.lemmas.Bool.{or_parts, false≢true, eqb-true, eqb-false, ltb-false, not-false}
 use Rattle.std.specs.Option.{MatchOption}
@@ -81,44 +81,55 @@ unseated (Some (Joined q n l)) j d = absurd (false≢true (sym j))
 unseated (Some Dead) j d = absurd (false≢true (sym d))
 
 -- a tab that has joined and is not misplaced has joined here, and the partition's row says whether it is active
-module _ (g : ℕ) (listed : List (ℕ × ℕ)) (seats : Table Seat) (partitions : Table PartitionState) (partial : Table Partial) (b : BrokerState) (t p : ℕ) (v : broker_of g listed seats partitions partial ≡ b) (placed : is_misplaced b t p ≡ false) (joined : is_joined (find seats t) ≡ true) where
-  pub seated_here : find seats t ≡ Some (Joined p (next_in (find seats t)) (limit_in (find seats t)))
-  seated_here = seated_as (find seats t) p joined (placed_seen g listed seats partitions partial b t p v placed)
+module _ (g : ℕ) (listed : List (ℕ × ℕ)) (seats : Table Seat) (partitions : Table PartitionState) (partial : Table Partial) (b : BrokerState) (t p : ℕ) (v : broker_of g listed seats partitions partial ≡ b) (placed : is_misplaced b t p ≡ false) (o : Option Seat) (same : o ≡ seat_of b t) (joined : is_joined o ≡ true) where
+  in_seats : o ≡ find seats t
+  in_seats = same ∙ ap (λ x. seat_of x t) (sym v)
+
+  seated : o ≡ Some (Joined p (next_in o) (limit_in o))
+  seated = seated_as o p joined (ap (λ s. elsewhere (seated_at s) p) in_seats ∙ placed_seen g listed seats partitions partial b t p v placed)
+
+  pub seated_here : seat_of b t ≡ Some (Joined p (next_in o) (limit_in o))
+  seated_here = sym same ∙ seated
 
   pub joined_here : is_joined (seat_of b t) ≡ true
-  joined_here = ap (λ x. is_joined (seat_of x t)) (sym v) ∙ joined
+  joined_here = ap is_joined (sym same) ∙ joined
 
-  pub next_here : next_of b t ≡ next_in (find seats t)
-  next_here = ap (λ x. next_of x t) (sym v)
+  pub next_here : next_of b t ≡ next_in o
+  next_here = ap next_in (sym same)
 
-  pub active_here : IsConsistent listed seats partitions → is_active b p ≡ (at no_partition partitions p).is_active
-  active_here k =
+  pub active_here : (row : PartitionState) → row ≡ at no_partition partitions p → IsConsistent listed seats partitions → is_active b p ≡ row.is_active
+  active_here row r k =
       ap (λ x. is_active x p) (sym v) ∙ is_active-fields g listed seats partitions partial p
-      ∙ sym (IsConsistent-active t p (next_in (find seats t)) (limit_in (find seats t)) k seated_here)
+      ∙ sym (IsConsistent-active t p (next_in o) (limit_in o) k (sym in_seats ∙ seated)) ∙ ap (λ (s : PartitionState). s.is_active) (sym r)
+
+  -- how many wait
+  pub waiting_here : (row : PartitionState) → row ≡ at no_partition partitions p → length row.locks.waiting ≡ length (manager_of b p).waiting
+  waiting_here row r = rw (← v, manager_of-fields g listed seats partitions partial p, ← r) refl
 
   -- the number of its command is no later than the next one
-  pub turn_here : (next n : ℕ) (out : Bool) → next ≡ next_in (find seats t) → out ≡ (nat_lt next n || eqb n 4294967295) → out ≡ false → (n ≤ next_of b t) × (n ≢ 4294967295)
-  turn_here next n out e o f =
-      let parts = or_parts (nat_lt next n) (eqb n 4294967295) (sym o ∙ f) in
+  pub turn_here : (next n : ℕ) (out : Bool) → next ≡ next_in o → out ≡ (nat_lt next n || eqb n 4294967295) → out ≡ false → (n ≤ next_of b t) × (n ≢ 4294967295)
+  turn_here next n out e r f =
+      let parts = or_parts (nat_lt next n) (eqb n 4294967295) (sym r ∙ f) in
       (omega (arith, ltb-false next n parts.0, e, next_here), eqb-false n 4294967295 parts.1)
 
   -- a tab may have one more lock, or may not
-  pub live_here : (limit : ℕ) (o : Operation) (many : Bool) → limit ≡ limit_in (find seats t) → many ≡ (is_lock o && nat_le limit (live (at no_partition partitions p).locks t)) → (is_lock o && nat_le (limit_of b t) (live (manager_of b p) t)) ≡ many
-  live_here limit o many same e = rw (← v, manager_of-fields g listed seats partitions partial p, ← same) (sym e)
+  pub live_here : (row : PartitionState) → row ≡ at no_partition partitions p → (limit : ℕ) (u : Operation) (many : Bool) → limit ≡ limit_in o → many ≡ (is_lock u && nat_le limit (live row.locks t)) → (is_lock u && nat_le (limit_of b t) (live (manager_of b p) t)) ≡ many
+  live_here row r limit u many l e =
+      rw (← v, manager_of-fields g listed seats partitions partial p, ← r, ← in_seats, ← l) (sym e)
 
 -- what a report is judged by
-pub joined_seen : (g : ℕ) (listed : List (ℕ × ℕ)) (seats : Table Seat) (partitions : Table PartitionState) (partial : Table Partial) (b : BrokerState) (t : ℕ) (r : Bool) → broker_of g listed seats partitions partial ≡ b → r ≡ is_joined (find seats t) → is_joined (seat_of b t) ≡ r
-joined_seen g listed seats partitions partial b t r v e = ap (λ x. is_joined (seat_of x t)) (sym v) ∙ sym e
+pub joined_seen : (o o' : Option Seat) (r : Bool) → o ≡ o' → r ≡ is_joined o → is_joined o' ≡ r
+joined_seen o o' r s e = ap is_joined (sym s) ∙ sym e
 
-pub dead_seen : (g : ℕ) (listed : List (ℕ × ℕ)) (seats : Table Seat) (partitions : Table PartitionState) (partial : Table Partial) (b : BrokerState) (t : ℕ) (r : Bool) → broker_of g listed seats partitions partial ≡ b → r ≡ is_dead (find seats t) → is_dead (seat_of b t) ≡ r
-dead_seen g listed seats partitions partial b t r v e = ap (λ x. is_dead (seat_of x t)) (sym v) ∙ sym e
+pub dead_seen : (g : ℕ) (listed : List (ℕ × ℕ)) (seats : Table Seat) (partitions : Table PartitionState) (partial : Table Partial) (b : BrokerState) (t : ℕ) (o : Option Seat) (r : Bool) → broker_of g listed seats partitions partial ≡ b → o ≡ find seats t → r ≡ is_dead o → is_dead (seat_of b t) ≡ r
+dead_seen g listed seats partitions partial b t o r v s e = ap (λ x. is_dead (seat_of x t)) (sym v) ∙ ap is_dead (sym s) ∙ sym e
 
-pub newcomer_seen : (g : ℕ) (listed : List (ℕ × ℕ)) (seats : Table Seat) (partitions : Table PartitionState) (partial : Table Partial) (b : BrokerState) (t : ℕ) (xs : List (ℕ × ℕ)) (es entries : List Entry) (r : Bool) → broker_of g listed seats partitions partial ≡ b → xs ≡ listed → es ≡ entries → r ≡ (not (is_listed (listed_at t xs)) && has_held es) → (not (is_listed (listed_at t b.listed)) && has_held entries) ≡ r
-newcomer_seen g listed seats partitions partial b t xs es entries r v x e q = rw (← v, ← x, ← e) (sym q)
+pub newcomer_seen : (o o' : Option ℕ) (entries : List Entry) (r : Bool) → o ≡ o' → r ≡ (not (is_listed o) && has_held entries) → (not (is_listed o') && has_held entries) ≡ r
+newcomer_seen o o' entries r x q = rw (← x) (sym q)
 
-pub misplaced_seen : (g : ℕ) (listed : List (ℕ × ℕ)) (seats : Table Seat) (partitions : Table PartitionState) (partial : Table Partial) (b : BrokerState) (t p : ℕ) (xs : List (ℕ × ℕ)) (r : Bool) → broker_of g listed seats partitions partial ≡ b → xs ≡ listed → r ≡ (elsewhere (listed_at t xs) p || (elsewhere (seated_at (find seats t)) p || elsewhere (kept_at (find partial t)) p)) → is_misplaced b t p ≡ r
+pub misplaced_seen : (g : ℕ) (listed : List (ℕ × ℕ)) (seats : Table Seat) (partitions : Table PartitionState) (partial : Table Partial) (b : BrokerState) (t p : ℕ) (place : Option ℕ) (o : Option Seat) (r : Bool) → broker_of g listed seats partitions partial ≡ b → place ≡ listed_at t listed → o ≡ find seats t → r ≡ (elsewhere place p || (elsewhere (seated_at o) p || elsewhere (kept_at (find partial t)) p)) → is_misplaced b t p ≡ r
 unfolding is_misplaced
-misplaced_seen g listed seats partitions partial b t p xs r v x q = rw (← v, ← x) (sym q)
+misplaced_seen g listed seats partitions partial b t p place o r v x s q = rw (← v, ← x, ← s) (sym q)
 
 -- ---- a result whose error is mapped
 

@@ -1,5 +1,6 @@
 pub mod Activity
 pub mod Arrivals
+pub mod Bounds
 pub mod BrokerSteps
 pub mod Compatible
 pub mod Consistency
@@ -8,6 +9,7 @@ pub mod Drops
 pub mod Fields
 pub mod GrantRoom
 pub mod KeptParts
+pub mod Missing
 pub mod Others
 pub mod PartitionRows
 pub mod SettledLocks

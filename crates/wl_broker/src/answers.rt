@@ -7,7 +7,7 @@ ghost use Rattle.wl_broker.specs.Broker.{hello_to, hellos, outcome_of, parts_of}
 ghost use Rattle.wl_broker.specs.Kept.{answer_of, grant_of, snapshot_entry_of, snapshot_of};
 
 use crate::seat::Seat;
-use crate::seats::next_of;
+use crate::seats::{next_in, seat_of};
 use std::alloc::{AllocError, Global};
 use std::collections::BTreeMap;
 use std::vec::IntoIter;
@@ -86,7 +86,7 @@ pub fn push_grants(
     ensures { outs.new.items ≡ outs.old.items ++ map (grant_of generation seats.now.entries) granted.now }
 {
     for grant in granted {
-        let upto = next_of(seats, grant.client);
+        let upto = next_in(seat_of(seats, grant.client));
         outs.push_reserved(answer(
             generation,
             upto,

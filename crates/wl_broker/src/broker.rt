@@ -1,26 +1,27 @@
 //! The broker.
 
-ghost use Rattle.std.specs.Prelude.{◌≡◌, ◌≢◌, ◌<◌, IfOk, IfErr, OnErr, ℕ, List, [], ◌∷◌, true, false};
+ghost use Rattle.std.specs.Prelude.{◌≡◌, ◌≢◌, ◌<◌, IfOk, IfErr, OnErr, ℕ, List, [], ◌∷◌, true, false, length};
 ghost use Rattle.wl_frames.specs.declared.frame.Operation.TheVariants.{Query};
 ghost use Rattle.wl_frames.specs.Grammar.{TabsRiseFrom};
 ghost use Rattle.wl_broker.specs.declared.seat.Seat.TheVariants.{Joined, Dead};
-ghost use Rattle.wl_broker.specs.Broker.{started, hellos, taking, burial, Does, Drops, IsTaken, is_active, is_dead, is_joined, seat_of, listed_at, elsewhere, is_misplaced, take_told, take_command, partial_of, fits, is_there, with_told, is_whole, join_if, keeping, join, perform, later_answer, buried_at, with_seat, all_below};
+ghost use Rattle.wl_broker.specs.Broker.{started, hellos, taking, burial, Does, Drops, IsTaken, is_active, is_dead, is_joined, seat_of, listed_at, elsewhere, is_misplaced, take_told, take_command, partial_of, fits, is_there, with_told, is_whole, join_if, keeping, join, perform, later_answer, next_of, buried_at, with_seat, all_below, manager_of};
 ghost use Rattle.wl_broker.specs.Kept.{Had, told, joining};
 
 use crate::answers::{answer, hellos, push_grants, room_for, snapshot};
 use crate::changes::{
-    command_at, end_at, is_active_at, is_too_many, outcome_at, restore_at, snapshot_at, waiting_at,
+    command_at, end_at, is_active_in, is_too_many, outcome_in, restore_at, row_at, snapshot_at,
+    waiting_in,
 };
 use crate::dropped::Dropped;
 use crate::heading::Heading;
 use crate::judging::{
-    all_come, generation_of, is_bad_report, is_held_by_newcomer, is_misplaced, is_out_of_turn,
-    listed_at,
+    generation_of, is_bad_report, is_held_by_newcomer, is_misplaced, is_out_of_turn,
 };
 use crate::kept::{Kept, give_up, is_last, is_there, keep, kept_of};
+use crate::listed::{awaited_at, count_arrival, listed_at, missing_at, missing_without, read_list};
 use crate::partition::Partition;
 use crate::seat::Seat;
-use crate::seats::{is_dead, is_joined, limit_of, next_of, put_back, seat_of, set_seat};
+use crate::seats::{is_dead, is_joined, limit_in, next_in, put_back, seat_of, set_seat};
 use std::alloc::{AllocError, Global};
 use std::collections::BTreeMap;
 use std::marker::Model;
@@ -35,7 +36,10 @@ pub type Outs = Sequence<Addressed>;
 pub struct Broker<T: LockTable> {
     alloc: Global,
     generation: u32,
-    listed: Vec<(u16, u16)>,
+    /// The tabs that are waited for, each with its partition.
+    listed: BTreeMap<u16, u16>,
+    /// How many of these have not come, by partition.
+    missing: BTreeMap<u16, usize>,
     seats: BTreeMap<u16, Seat>,
     partitions: BTreeMap<u16, Partition<T>>,
     /// The reports of which a part is missing, by tab.
@@ -44,13 +48,14 @@ pub struct Broker<T: LockTable> {
 
 impl<T: LockTable> Model for Broker<T> {
     ghost use Rattle.wl_broker.specs.Broker.{BrokerState};
-    ghost use Rattle.wl_broker.specs.Kept.{broker_of, IsConsistent, AwaitsParts};
+    ghost use Rattle.wl_broker.specs.Kept.{broker_of, IsConsistent, AwaitsParts, AreCounts};
 
     ghost Value = { BrokerState };
 
-    ghost view = { λ b. broker_of b.generation b.listed.items b.seats.entries b.partitions.entries b.kept.entries };
+    ghost view = { λ b. broker_of b.generation b.listed.entries b.seats.entries b.partitions.entries b.kept.entries };
 
-    ghost invariant = { λ b. IsConsistent b.listed.items b.seats.entries b.partitions.entries × AwaitsParts b.seats.entries b.kept.entries };
+    ghost invariant = { λ b. IsConsistent b.listed.entries b.seats.entries b.partitions.entries
+        × AwaitsParts b.seats.entries b.kept.entries × AreCounts b.listed.entries b.seats.entries b.missing.entries };
 }
 
 impl<T: LockTable> Broker<T> {
@@ -65,12 +70,13 @@ impl<T: LockTable> Broker<T> {
         ensures broker { IfOk result (λ r. r.0 ≡ started generation list.now) }
         ensures hellos { IfOk result (λ r. r.1 ≡ hellos generation list.now) }
     {
-        let listed = Vec::from_slice(alloc, list)?;
+        let (listed, missing) = read_list(alloc, list)?;
         let hellos = hellos(alloc, generation, list)?;
         let broker = Broker {
             alloc,
             generation,
             listed,
+            missing,
             seats: BTreeMap::new(alloc),
             partitions: BTreeMap::new(alloc),
             kept: BTreeMap::new(alloc),
@@ -95,34 +101,35 @@ impl<T: LockTable> Broker<T> {
         if generation > self.generation {
             return Err(Dropped::LaterGeneration);
         }
-        if is_dead(&self.seats, stamped.tab) {
+        let seat = seat_of(&self.seats, stamped.tab);
+        if is_dead(seat) {
             return Err(Dropped::DeadTab);
         }
-        if is_misplaced(
-            &self.listed,
-            &self.seats,
-            &self.kept,
-            stamped.tab,
-            stamped.partition,
-        ) {
+        let place = listed_at(&self.listed, stamped.tab);
+        if is_misplaced(place, seat, &self.kept, stamped.tab, stamped.partition) {
             return Err(Dropped::Misplaced);
         }
         match &stamped.inner {
             Upward::Command(command) => self.take_command(
                 stamped.tab,
                 stamped.partition,
+                seat,
                 command.number,
                 &command.operation,
             ),
             Upward::Report(report) => self.take_told(
                 stamped.tab,
                 stamped.partition,
+                seat,
+                place,
                 Heading::at_once(report),
                 report.entries.as_slice(),
             ),
             Upward::ReportPart(part) => self.take_told(
                 stamped.tab,
                 stamped.partition,
+                seat,
+                place,
                 Heading::in_part(part),
                 part.entries.as_slice(),
             ),
@@ -152,14 +159,14 @@ impl<T: LockTable> Broker<T> {
     pub fn is_active(&self, partition: u16) -> bool
         ensures { result ≡ is_active self.now partition }
     {
-        all_come(&self.listed, &self.seats, partition)
+        missing_at(&self.missing, partition) == 0
     }
 
     /// Whether the tab has joined: its whole report was taken, and its death was not told since.
     pub fn is_joined(&self, tab: u16) -> bool
         ensures { result ≡ is_joined (seat_of self.now tab) }
     {
-        is_joined(&self.seats, tab)
+        is_joined(seat_of(&self.seats, tab))
     }
 
     /// Takes what a tab that is not dead and not misplaced reports, at once or in part.
@@ -167,9 +174,13 @@ impl<T: LockTable> Broker<T> {
         &mut self,
         tab: u16,
         partition: u16,
+        seat: Option<Seat>,
+        place: Option<u16>,
         heading: Heading,
         entries: &[Entry],
     ) -> Result<Outs, Dropped>
+        requires seat { seat ≡ seat_of self.old tab }
+        requires place { place ≡ listed_at tab self.old.listed }
         requires alive { is_dead (seat_of self.old tab) ≡ false }
         requires placed { is_misplaced self.old tab partition ≡ false }
         ensures taken { IfOk result (λ outs. take_told self.old tab partition (told heading entries.now) ≡ Does self.new outs) }
@@ -177,10 +188,10 @@ impl<T: LockTable> Broker<T> {
         ensures memory { IfErr result (λ d. d ≡ Dropped.Memory → IsTaken (take_told self.old tab partition (told heading entries.now))) }
         ensures err { OnErr result (self.new ≡ self.old) }
     {
-        if is_joined(&self.seats, tab) {
+        if is_joined(seat) {
             return Err(Dropped::AlreadyJoined);
         }
-        if is_held_by_newcomer(&self.listed, tab, entries) {
+        if is_held_by_newcomer(place, entries) {
             return Err(Dropped::HeldByNewcomer);
         }
         if is_bad_report(&self.kept, tab, heading, entries) {
@@ -189,7 +200,7 @@ impl<T: LockTable> Broker<T> {
         if is_there(&self.kept, tab, heading.part) {
             return Err(Dropped::PartTwice);
         }
-        self.join_if(tab, partition, heading, entries)
+        self.join_if(tab, partition, place, heading, entries)
             .map_err(|_| Dropped::Memory)
     }
 
@@ -198,35 +209,39 @@ impl<T: LockTable> Broker<T> {
         &mut self,
         tab: u16,
         partition: u16,
+        seat: Option<Seat>,
         number: u32,
         operation: &Operation,
     ) -> Result<Outs, Dropped>
+        requires seat { seat ≡ seat_of self.old tab }
         requires placed { is_misplaced self.old tab partition ≡ false }
         ensures taken { IfOk result (λ outs. take_command self.old tab partition number operation.now ≡ Does self.new outs) }
         ensures dropped { IfErr result (λ d. d ≢ Dropped.Memory → take_command self.old tab partition number operation.now ≡ Drops d) }
         ensures memory { IfErr result (λ d. d ≡ Dropped.Memory → IsTaken (take_command self.old tab partition number operation.now)) }
         ensures err { OnErr result (self.new ≡ self.old) }
     {
-        if !is_joined(&self.seats, tab) {
+        if !is_joined(seat) {
             return Err(Dropped::NotJoined);
         }
-        if !is_active_at(&self.partitions, partition) {
+        let row = row_at(&self.partitions, partition);
+        if !is_active_in(row) {
             return Err(Dropped::Recovering);
         }
-        let next = next_of(&self.seats, tab);
+        let next = next_in(seat);
         if is_out_of_turn(next, number) {
             return Err(Dropped::OutOfTurn);
         }
         if number < next {
             return self
-                .answer_again(tab, partition, number, operation)
+                .answer_again(tab, partition, next, number, operation)
                 .map_err(|_| Dropped::Memory);
         }
-        let limit = limit_of(&self.seats, tab);
-        if is_too_many(&self.partitions, partition, tab, limit, operation) {
+        let limit = limit_in(seat);
+        if is_too_many(row, tab, limit, operation) {
             return Err(Dropped::TooMany);
         }
-        self.perform(tab, partition, number, limit, operation)
+        let waiting = waiting_in(row);
+        self.perform(tab, partition, number, limit, waiting, operation)
             .map_err(|_| Dropped::Memory)
     }
 
@@ -235,10 +250,12 @@ impl<T: LockTable> Broker<T> {
         &mut self,
         tab: u16,
         partition: u16,
+        place: Option<u16>,
         heading: Heading,
         entries: &[Entry],
     ) -> Result<Outs, AllocError>
         requires new { seat_of self.old tab ≡ None }
+        requires place { place ≡ listed_at tab self.old.listed }
         requires placed { elsewhere (listed_at tab self.old.listed) partition ≡ false }
         requires below { all_below heading.base entries.now ≡ true }
         requires fits { fits (told heading entries.now) (partial_of self.old tab) ≡ true }
@@ -253,9 +270,9 @@ impl<T: LockTable> Broker<T> {
         match kept_of(&self.kept, tab) {
             Some(kept) => {
                 let gathered = kept.gathered(self.alloc, heading.part, entries)?;
-                self.join(tab, partition, heading, &gathered)
+                self.join(tab, partition, place, heading, &gathered)
             }
-            None => self.join(tab, partition, heading, entries),
+            None => self.join(tab, partition, place, heading, entries),
         }
     }
 
@@ -283,16 +300,18 @@ impl<T: LockTable> Broker<T> {
         &mut self,
         tab: u16,
         partition: u16,
+        place: Option<u16>,
         heading: Heading,
         entries: &[Entry],
     ) -> Result<Outs, AllocError>
         requires new { seat_of self.old tab ≡ None }
+        requires place { place ≡ listed_at tab self.old.listed }
         requires placed { elsewhere (listed_at tab self.old.listed) partition ≡ false }
         requires below { all_below heading.base entries.now ≡ true }
         ensures joined { IfOk result (λ outs. join self.old tab partition (joining heading entries.now) ≡ Does self.new outs) }
         ensures err { OnErr result (self.new ≡ self.old) }
     {
-        let waiting = waiting_at(&self.partitions, partition);
+        let waiting = waiting_in(row_at(&self.partitions, partition));
         let mut outs = room_for(self.alloc, entries.len(), waiting)?;
         let seat = Seat::Joined {
             partition,
@@ -300,7 +319,7 @@ impl<T: LockTable> Broker<T> {
             limit: heading.limit,
         };
         self.seats.insert(tab, seat)?;
-        let is_active = all_come(&self.listed, &self.seats, partition);
+        let is_active = missing_without(&self.missing, place, partition) == 0;
         match restore_at(
             self.alloc,
             &mut self.partitions,
@@ -310,6 +329,7 @@ impl<T: LockTable> Broker<T> {
             is_active,
         ) {
             Ok(granted) => {
+                count_arrival(&mut self.missing, place);
                 give_up(&mut self.kept, tab);
                 push_grants(&mut outs, self.generation, &self.seats, &granted);
                 Ok(Sequence::new(outs))
@@ -328,12 +348,14 @@ impl<T: LockTable> Broker<T> {
         ensures err { OnErr result (self.new ≡ self.old) }
     {
         let before = seat_of(&self.seats, tab);
-        let waiting = waiting_at(&self.partitions, partition);
+        let waiting = waiting_in(row_at(&self.partitions, partition));
         let mut outs = room_for(self.alloc, 0, waiting)?;
         self.seats.insert(tab, Seat::Dead)?;
-        let is_active = all_come(&self.listed, &self.seats, partition);
+        let place = awaited_at(before, partition);
+        let is_active = missing_without(&self.missing, place, partition) == 0;
         match end_at(self.alloc, &mut self.partitions, partition, tab, is_active) {
             Ok(granted) => {
+                count_arrival(&mut self.missing, place);
                 give_up(&mut self.kept, tab);
                 push_grants(&mut outs, self.generation, &self.seats, &granted);
                 Ok(Sequence::new(outs))
@@ -350,13 +372,15 @@ impl<T: LockTable> Broker<T> {
         &self,
         tab: u16,
         partition: u16,
+        upto: u32,
         number: u32,
         operation: &Operation,
     ) -> Result<Outs, AllocError>
+        requires { upto ≡ next_of self.now tab }
         ensures { IfOk result (λ outs. outs ≡ later_answer self.now tab partition number operation.now ∷ []) }
     {
-        let upto = next_of(&self.seats, tab);
-        let outcome = outcome_at(&self.partitions, partition, tab, number, operation);
+        let row = row_at(&self.partitions, partition);
+        let outcome = outcome_in(row, tab, number, operation);
         let mut outs = Vec::new(self.alloc);
         outs.push(answer(self.generation, upto, tab, number, outcome))?;
         Ok(Sequence::new(outs))
@@ -369,9 +393,11 @@ impl<T: LockTable> Broker<T> {
         partition: u16,
         number: u32,
         limit: u16,
+        waiting: usize,
         operation: &Operation,
     ) -> Result<Outs, AllocError>
         requires joined { seat_of self.old tab ≡ Some (Joined partition number limit) }
+        requires waiting { waiting ≡ length (manager_of self.old partition).waiting }
         requires active { is_active self.old partition ≡ true }
         requires more { number < 4294967295 }
         ensures performed { IfOk result (λ outs. perform self.old tab partition number operation.now ≡ Does self.new outs) }
@@ -380,10 +406,9 @@ impl<T: LockTable> Broker<T> {
         if let Operation::Query = operation {
             return self.query(tab, partition, number, limit);
         }
-        let waiting = waiting_at(&self.partitions, partition);
         // Its answer, and a grant for each request that then waits, its own among them.
         let mut outs = room_for(self.alloc, 2, waiting)?;
-        let granted = command_at(
+        let (granted, outcome) = command_at(
             self.alloc,
             &mut self.partitions,
             partition,
@@ -398,7 +423,6 @@ impl<T: LockTable> Broker<T> {
             limit,
         };
         set_seat(&mut self.seats, tab, seat);
-        let outcome = outcome_at(&self.partitions, partition, tab, number, operation);
         outs.push_reserved(answer(self.generation, next, tab, number, outcome));
         push_grants(&mut outs, self.generation, &self.seats, &granted);
         Ok(Sequence::new(outs))

@@ -1,11 +1,12 @@
 //! What a report, a death and a command do to the partitions.
 
-ghost use Rattle.std.specs.Prelude.{◌≡◌, IfOk, OnOk, OnErr, IsTrue, true, [], length, MatchOption, ◌&&◌, nat_le};
+ghost use Rattle.std.specs.Prelude.{◌≡◌, IfOk, OnOk, OnErr, IsTrue, true, [], length, ◌&&◌, nat_le};
+ghost use Rattle.std.specs.Option.{option_copied};
 ghost use Rattle.wl_draft.specs.declared.row.Standing.TheVariants.{Absent};
 ghost use Rattle.wl_draft.specs.Tables.{at, put};
 ghost use Rattle.wl_draft.specs.Locks.{settle, newly, settle_if, newly_if, standing, live, grants, without, ended, restored};
 ghost use Rattle.wl_broker.specs.Broker.{drafted, is_lock};
-ghost use Rattle.wl_broker.specs.Kept.{no_partition, state_of, outcome_at};
+ghost use Rattle.wl_broker.specs.Kept.{no_partition, state_of, row_or, outcome_at};
 
 use crate::answers::outcome;
 use crate::judging::is_lock;
@@ -17,44 +18,39 @@ use wl_frames::{Operation, Outcome};
 use wl_table::LockTable;
 
 /// The partition, if one has come to it.
-fn row_at<T: LockTable>(
+pub fn row_at<T: LockTable>(
     partitions: &BTreeMap<u16, Partition<T>>,
     partition: u16,
 ) -> Option<&Partition<T>>
-    ensures { let row = at no_partition partitions.now.entries partition in
-        MatchOption result (row ≡ no_partition) (λ r. row ≡ r.now) }
+    ensures { row_or (option_copied result) ≡ at no_partition partitions.now.entries partition }
 {
     partitions.get(&partition)
 }
 
-pub fn is_active_at<T: LockTable>(partitions: &BTreeMap<u16, Partition<T>>, partition: u16) -> bool
-    ensures { result ≡ (at no_partition partitions.now.entries partition).is_active }
+pub fn is_active_in<T: LockTable>(row: Option<&Partition<T>>) -> bool
+    ensures { result ≡ (row_or (option_copied row.entry)).is_active }
 {
-    match row_at(partitions, partition) {
+    match row {
         Some(row) => row.is_active(),
         None => false,
     }
 }
 
 /// How many requests wait in the partition.
-pub fn waiting_at<T: LockTable>(partitions: &BTreeMap<u16, Partition<T>>, partition: u16) -> usize
-    ensures { result ≡ length (at no_partition partitions.now.entries partition).locks.waiting }
+pub fn waiting_in<T: LockTable>(row: Option<&Partition<T>>) -> usize
+    ensures { result ≡ length (row_or (option_copied row.entry)).locks.waiting }
 {
-    match row_at(partitions, partition) {
+    match row {
         Some(row) => row.waiting(),
         None => 0,
     }
 }
 
 /// How many locks the tab holds or waits for.
-fn live_at<T: LockTable>(
-    partitions: &BTreeMap<u16, Partition<T>>,
-    partition: u16,
-    tab: u16,
-) -> usize
-    ensures { result ≡ live (at no_partition partitions.now.entries partition).locks tab }
+fn live_in<T: LockTable>(row: Option<&Partition<T>>, tab: u16) -> usize
+    ensures { result ≡ live (row_or (option_copied row.entry)).locks tab }
 {
-    match row_at(partitions, partition) {
+    match row {
         Some(row) => row.live(tab),
         None => 0,
     }
@@ -62,29 +58,27 @@ fn live_at<T: LockTable>(
 
 /// Whether the operation asks for a lock beyond those that a tab may have.
 pub fn is_too_many<T: LockTable>(
-    partitions: &BTreeMap<u16, Partition<T>>,
-    partition: u16,
+    row: Option<&Partition<T>>,
     tab: u16,
     limit: u16,
     operation: &Operation,
 ) -> bool
-    ensures { result ≡ (is_lock operation.now && nat_le limit (live (at no_partition partitions.now.entries partition).locks tab)) }
+    ensures { result ≡ (is_lock operation.now && nat_le limit (live (row_or (option_copied row.entry)).locks tab)) }
 {
-    is_lock(operation) && live_at(partitions, partition, tab) >= usize::from(limit)
+    is_lock(operation) && live_in(row, tab) >= usize::from(limit)
 }
 
 /// What is answered to a command that was taken, but to the first of a query.
-pub fn outcome_at<T: LockTable>(
-    partitions: &BTreeMap<u16, Partition<T>>,
-    partition: u16,
+pub fn outcome_in<T: LockTable>(
+    row: Option<&Partition<T>>,
     tab: u16,
     number: u32,
     operation: &Operation,
 ) -> Outcome
-    ensures { result ≡ outcome_at (at no_partition partitions.now.entries partition).locks tab number operation.now }
+    ensures { result ≡ outcome_at (row_or (option_copied row.entry)).locks tab number operation.now }
 {
     match operation {
-        Operation::Request { .. } => match row_at(partitions, partition) {
+        Operation::Request { .. } => match row {
             Some(row) => outcome(row.state(tab, number)),
             None => Outcome::Gone,
         },
@@ -160,7 +154,8 @@ pub fn end_at<T: LockTable>(
     }
 }
 
-/// Does a tab's command, whose number is new, in its partition, which is active, and says what it granted beside it.
+/// Does a tab's command, whose number is new, in its partition, which is active, and says what it granted beside it and
+/// what is answered to it.
 pub fn command_at<T: LockTable>(
     alloc: Global,
     partitions: &mut BTreeMap<u16, Partition<T>>,
@@ -168,17 +163,23 @@ pub fn command_at<T: LockTable>(
     tab: u16,
     number: u32,
     operation: &Operation,
-) -> Result<Vec<Grant>, AllocError>
+) -> Result<(Vec<Grant>, Outcome), AllocError>
     requires active { IsTrue (at no_partition partitions.old.entries partition).is_active }
     requires new { standing (at no_partition partitions.old.entries partition).locks tab number ≡ Absent }
     ensures grants { let m = drafted tab number operation.now (at no_partition partitions.old.entries partition).locks in
-        IfOk result (λ g. g.items ≡ grants (without tab number (newly m))) }
+        IfOk result (λ r. r.0.items ≡ grants (without tab number (newly m))) }
+    ensures outcome { let m = drafted tab number operation.now (at no_partition partitions.old.entries partition).locks in
+        IfOk result (λ r. r.1 ≡ outcome_at (settle m) tab number operation.now) }
     ensures ok { let m = drafted tab number operation.now (at no_partition partitions.old.entries partition).locks in
         OnOk result (partitions.new.entries ≡ put partition (state_of (settle m) true) partitions.old.entries) }
     ensures err { OnErr result (partitions.new.entries ≡ partitions.old.entries) }
 {
     match partitions.get_mut(&partition) {
-        Some(row) => row.command(alloc, tab, number, operation),
+        Some(row) => {
+            let granted = row.command(alloc, tab, number, operation)?;
+            let outcome = outcome_in(Some(&*row), tab, number, operation);
+            Ok((granted, outcome))
+        }
         None => unreachable!(),
     }
 }

@@ -2,13 +2,13 @@
 
 ghost use Rattle.std.specs.Prelude.{◌≡◌, ◌&&◌, ◌||◌, ◌==◌, not, nat_lt};
 ghost use Rattle.wl_draft.specs.Tables.{find};
-ghost use Rattle.wl_broker.specs.Broker.{generation_of, listed_at, elsewhere, seated_at, kept_at, is_listed, has_held, all_below, fits, is_lock, last_number};
-ghost use Rattle.wl_broker.specs.Kept.{all_come, told};
+ghost use Rattle.wl_broker.specs.Broker.{generation_of, elsewhere, seated_at, kept_at, is_listed, has_held, all_below, fits, is_lock, last_number};
+ghost use Rattle.wl_broker.specs.Kept.{told};
 
 use crate::heading::Heading;
 use crate::kept::{Kept, fits, kept_at};
 use crate::seat::Seat;
-use crate::seats::{has_come, seated_at};
+use crate::seats::seated_at;
 use std::collections::BTreeMap;
 use wl_draft::Entry;
 use wl_frames::{Operation, Upward};
@@ -23,18 +23,6 @@ pub fn generation_of(inner: &Upward) -> u32
     }
 }
 
-/// The partition under which a tab is listed.
-pub fn listed_at(listed: &[(u16, u16)], tab: u16) -> Option<u16>
-    ensures { result ≡ listed_at tab listed.now }
-{
-    for (listed_tab, partition) in listed {
-        if *listed_tab == tab {
-            return Some(*partition);
-        }
-    }
-    None
-}
-
 fn elsewhere(place: Option<u16>, partition: u16) -> bool
     ensures { result ≡ elsewhere place partition }
 {
@@ -46,27 +34,18 @@ fn elsewhere(place: Option<u16>, partition: u16) -> bool
 
 /// Whether a tab is listed or has joined under another partition, or a part of its report is kept there.
 pub fn is_misplaced(
-    listed: &[(u16, u16)],
-    seats: &BTreeMap<u16, Seat>,
+    place: Option<u16>,
+    seat: Option<Seat>,
     kept: &BTreeMap<u16, Kept>,
     tab: u16,
     partition: u16,
 ) -> bool
-    ensures { result ≡ (elsewhere (listed_at tab listed.now) partition
-        || (elsewhere (seated_at (find seats.now.entries tab)) partition || elsewhere (kept_at (find kept.now.entries tab)) partition)) }
+    ensures { result ≡ (elsewhere place partition
+        || (elsewhere (seated_at seat) partition || elsewhere (kept_at (find kept.now.entries tab)) partition)) }
 {
-    elsewhere(listed_at(listed, tab), partition)
-        || elsewhere(seated_at(seats, tab), partition)
+    elsewhere(place, partition)
+        || elsewhere(seated_at(seat), partition)
         || elsewhere(kept_at(kept, tab), partition)
-}
-
-/// Whether each listed tab of the partition has come.
-pub fn all_come(listed: &[(u16, u16)], seats: &BTreeMap<u16, Seat>, partition: u16) -> bool
-    ensures { result ≡ all_come listed.now seats.now.entries partition }
-{
-    listed
-        .iter()
-        .all(|x| x.1 != partition || has_come(seats, x.0))
 }
 
 fn has_held(entries: &[Entry]) -> bool
@@ -76,13 +55,13 @@ fn has_held(entries: &[Entry]) -> bool
 }
 
 /// Whether the tab is not listed, and reports a held lock.
-pub fn is_held_by_newcomer(listed: &[(u16, u16)], tab: u16, entries: &[Entry]) -> bool
-    ensures { result ≡ (not (is_listed (listed_at tab listed.now)) && has_held entries.now) }
+pub fn is_held_by_newcomer(place: Option<u16>, entries: &[Entry]) -> bool
+    ensures { result ≡ (not (is_listed place) && has_held entries.now) }
 {
-    listed_at(listed, tab).is_none() && has_held(entries)
+    place.is_none() && has_held(entries)
 }
 
-pub fn all_below(base: u32, entries: &[Entry]) -> bool
+fn all_below(base: u32, entries: &[Entry]) -> bool
     ensures { result ≡ all_below base entries.now }
 {
     entries.iter().all(|entry| entry.number < base)

@@ -1,14 +1,13 @@
 //! Reports of which a part is missing.
 
-ghost use Rattle.std.specs.Prelude.{◌≡◌, ◌<◌, ◌++◌, ◌==◌, ◌+◌, ◌^◌, [], true, false, Some, IfOk, OnOk, OnErr, length};
+ghost use Rattle.std.specs.Prelude.{◌≡◌, ◌<◌, ◌++◌, ◌==◌, ◌+◌, ◌^◌, [], true, false, Some, IfOk, OnOk, OnErr, length, nat_le};
 ghost use Rattle.std.specs.List.{list_all, flat_map};
 ghost use Rattle.std.specs.Option.{option_copied};
 ghost use Rattle.wl_draft.specs.Tables.{find, put, has_row};
 ghost use Rattle.wl_broker.specs.Broker.{all_above, all_below, is_in_order, fits, kept_at, came_in, with_told, without_partial};
-ghost use Rattle.wl_broker.specs.Kept.{Rises, told, is_kept, all_in_below};
+ghost use Rattle.wl_broker.specs.Kept.{Rises, told, is_kept, all_in_below, end_of};
 
 use crate::heading::Heading;
-use crate::judging::all_below;
 use std::alloc::{AllocError, Global};
 use std::collections::BTreeMap;
 use std::marker::Model;
@@ -137,11 +136,29 @@ fn push_copies(alloc: Global, entries: &[Entry], copies: &mut Vec<Entry>) -> Res
     Ok(())
 }
 
+/// The least number that is above all of these.
+fn end_of(entries: &[Entry]) -> u64
+    ensures { result ≡ end_of entries.now }
+{
+    let mut end = 0;
+    for entry in entries {
+        end = end.max(u64::from(entry.number) + 1);
+    }
+    end
+}
+
+/// Whether no number is below this one.
+fn all_from(least: u64, entries: &[Entry]) -> bool
+    ensures { result ≡ list_all (λ e. nat_le least e.number) entries.now }
+{
+    entries.iter().all(|entry| least <= u64::from(entry.number))
+}
+
 /// Whether each number of the second list is above all of the first.
 fn all_above(below: &[Entry], above: &[Entry]) -> bool
     ensures { result ≡ all_above below.now above.now }
 {
-    above.iter().all(|entry| all_below(entry.number, below))
+    all_from(end_of(below), above)
 }
 
 /// Whether the entries are in order beside those of another part.

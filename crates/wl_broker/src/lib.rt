@@ -9,6 +9,7 @@ mod heading;
 mod judging;
 mod kept;
 pub mod laws;
+mod listed;
 mod partition;
 pub mod rows;
 pub mod seat;

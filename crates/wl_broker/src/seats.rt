@@ -5,7 +5,7 @@ ghost use Rattle.std.specs.Map.{remove_entry};
 ghost use Rattle.std.specs.BTreeMap.{is_at};
 ghost use Rattle.std.specs.Ordering.{nat_cmp};
 ghost use Rattle.wl_draft.specs.Tables.{find, put};
-ghost use Rattle.wl_broker.specs.Broker.{is_joined, is_dead, has_come, next_in, limit_in, seated_at};
+ghost use Rattle.wl_broker.specs.Broker.{is_joined, is_dead, next_in, limit_in, seated_at};
 
 use crate::seat::Seat;
 use std::collections::BTreeMap;
@@ -18,60 +18,50 @@ pub fn seat_of(seats: &BTreeMap<u16, Seat>, tab: u16) -> Option<Seat>
 }
 
 /// The number of a tab's next command.
-pub fn next_of(seats: &BTreeMap<u16, Seat>, tab: u16) -> u32
-    ensures { result ≡ next_in (find seats.now.entries tab) }
+pub fn next_in(seat: Option<Seat>) -> u32
+    ensures { result ≡ next_in seat }
 {
-    match seat_of(seats, tab) {
+    match seat {
         Some(Seat::Joined { next, .. }) => next,
         Some(Seat::Dead) | None => 0,
     }
 }
 
 /// How many locks a tab may have.
-pub fn limit_of(seats: &BTreeMap<u16, Seat>, tab: u16) -> u16
-    ensures { result ≡ limit_in (find seats.now.entries tab) }
+pub fn limit_in(seat: Option<Seat>) -> u16
+    ensures { result ≡ limit_in seat }
 {
-    match seat_of(seats, tab) {
+    match seat {
         Some(Seat::Joined { limit, .. }) => limit,
         Some(Seat::Dead) | None => 0,
     }
 }
 
 /// The partition in which a tab has joined.
-pub fn seated_at(seats: &BTreeMap<u16, Seat>, tab: u16) -> Option<u16>
-    ensures { result ≡ seated_at (find seats.now.entries tab) }
+pub fn seated_at(seat: Option<Seat>) -> Option<u16>
+    ensures { result ≡ seated_at seat }
 {
-    match seat_of(seats, tab) {
+    match seat {
         Some(Seat::Joined { partition, .. }) => Some(partition),
         Some(Seat::Dead) | None => None,
     }
 }
 
-pub fn is_joined(seats: &BTreeMap<u16, Seat>, tab: u16) -> bool
-    ensures { result ≡ is_joined (find seats.now.entries tab) }
+pub fn is_joined(seat: Option<Seat>) -> bool
+    ensures { result ≡ is_joined seat }
 {
-    match seat_of(seats, tab) {
+    match seat {
         Some(Seat::Joined { .. }) => true,
         Some(Seat::Dead) | None => false,
     }
 }
 
-pub fn is_dead(seats: &BTreeMap<u16, Seat>, tab: u16) -> bool
-    ensures { result ≡ is_dead (find seats.now.entries tab) }
+pub fn is_dead(seat: Option<Seat>) -> bool
+    ensures { result ≡ is_dead seat }
 {
-    match seat_of(seats, tab) {
+    match seat {
         Some(Seat::Dead) => true,
         Some(Seat::Joined { .. }) | None => false,
-    }
-}
-
-/// Whether a tab has joined or was named dead.
-pub fn has_come(seats: &BTreeMap<u16, Seat>, tab: u16) -> bool
-    ensures { result ≡ has_come (find seats.now.entries tab) }
-{
-    match seat_of(seats, tab) {
-        Some(Seat::Joined { .. } | Seat::Dead) => true,
-        None => false,
     }
 }
 

@@ -1,10 +1,10 @@
 use Rattle.std.proofs.Common.{sym, ap, ◌∙◌}
 use Rattle.std.proofs.lemmas.Bool.{false≢true}
-use Rattle.std.proofs.lemmas.Result.{IfOk-weaker, on_err_weaker}
 use Rattle.wl_draft.specs.Tables.{put}
 use Rattle.wl_draft.specs.Locks.{standing, settle}
 use Rattle.wl_broker.specs.Broker.{drafted}
-use Rattle.wl_broker.specs.Kept.{PartitionState, state_of, no_partition}
+use Rattle.wl_broker.specs.Kept.{PartitionState, state_of, no_partition, outcome_at}
+use Rattle.wl_broker.proofs.Fields.{if_err_always}
 use Rattle.wl_broker.proofs.PartitionRows.{at-lookup, at-lookup_none, written, written_same}
 use Rattle.wl_broker.proofs.changes.command_at.Goals as goal
 
@@ -24,15 +24,22 @@ unreachable-requires g c =
 pub returns-clause-grants : goal.returns-clause-grants
 returns-clause-grants g c =
     let e = at-lookup no_partition _ c.args.partition c.args.partitions.now.entries c.in-Some.ensures.value in
-    rw e c.command.ensures.grants
+    rw e c.in_ok-granted-in-Some.ensures.grants
+
+pub returns-clause-outcome : goal.returns-clause-outcome
+returns-clause-outcome g c =
+    let e = at-lookup no_partition _ c.args.partition c.args.partitions.now.entries c.in-Some.ensures.value in
+    rw e
+    (c.outcome_in-outcome.ensures ∙ ap (λ (s : PartitionState). outcome_at s.locks c.args.tab c.args.number c.args.operation.now) c.in_ok-granted-in-Some.ensures.ok)
 
 pub returns-clause-ok : goal.returns-clause-ok
 returns-clause-ok g c =
     let es = c.args.partitions.now.entries in
     let row = at-lookup no_partition _ c.args.partition es c.in-Some.ensures.value in
     rw row
-    (IfOk-weaker c.command.result _ _ (λ x e. written _ _ _ es _ c.in-Some.ensures.ordered c.in-Some.ensures.value (c.get_mut.follows.holds _).0 ∙ ap (λ (s : PartitionState). put c.args.partition s es) (e ∙ ap (λ b. state_of (settle (drafted c.args.tab c.args.number c.args.operation.now c.in-Some.row.now.locks)) b) (ap (λ (s : PartitionState). s.is_active) (sym row) ∙ c.requires.active))) c.command.ensures.ok)
+    (written _ _ _ es _ c.in-Some.ensures.ordered c.in-Some.ensures.value (c.get_mut.follows.holds _).0
+    ∙ ap (λ (s : PartitionState). put c.args.partition s es) (c.in_ok-granted-in-Some.ensures.ok ∙ ap (λ b. state_of (settle (drafted c.args.tab c.args.number c.args.operation.now c.in-Some.row.now.locks)) b) (ap (λ (s : PartitionState). s.is_active) (sym row) ∙ c.requires.active)))
 
-pub returns-clause-err : goal.returns-clause-err
-returns-clause-err g c =
-    on_err_weaker c.command.result (λ e. written_same _ _ _ _ _ c.in-Some.ensures.value (c.get_mut.follows.holds _).0 e) c.command.ensures.err
+pub returns-in_err-granted-in-Some-clause-err : goal.returns-in_err-granted-in-Some-clause-err
+returns-in_err-granted-in-Some-clause-err g c =
+    if_err_always _ _ (λ _. written_same _ _ _ _ _ c.in-Some.ensures.value (c.get_mut.follows.holds _).0 c.in_err-granted-in-Some.ensures.err)

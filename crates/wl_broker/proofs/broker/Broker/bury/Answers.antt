@@ -1,33 +1,36 @@
-use Rattle.std.proofs.Common.{◌≡◌, ◌≤◌, ℕ, List, ◌++◌, map, length, refl, sym, ap, ◌∙◌, subst, arith}
+use Rattle.std.proofs.Common.{◌≡◌, ◌≤◌, ℕ, List, Option, Some, eqb, ◌++◌, map, length, refl, sym, ap, ◌∙◌, subst, arith}
 use Rattle.wl_draft.specs.Tables.{Table, at}
 use Rattle.wl_draft.specs.declared.row.Grant.{Grant}
 use Rattle.wl_frames.specs.declared.frame.Addressed.{Addressed}
 use Rattle.wl_broker.specs.declared.seat.Seat.{Seat}
 use Rattle.wl_broker.specs.declared.seat.Seat.TheVariants.{Dead}
 use Rattle.wl_broker.specs.Broker.{BrokerState}
-use Rattle.wl_broker.specs.Kept.{no_partition, all_come, grant_of, Had}
+use Rattle.wl_broker.specs.Kept.{PartitionState, no_partition, all_come, grant_of, Had, awaited_at}
 use Rattle.wl_broker.proofs.Consistency.{IsConsistent-dead}
 use Rattle.wl_broker.proofs.BrokerSteps.{bury_does}
 use Rattle.wl_broker.proofs.Fields.{consistent_as, same_fields, seat_put, seat_there, given_back}
 use Rattle.wl_broker.proofs.KeptParts.{AwaitsParts-seat, awaits_as}
+use Rattle.wl_broker.proofs.Missing.{active_once, counts_as, awaited_had, AreCounts-arrival}
 use Rattle.wl_broker.proofs.GrantRoom.{room_to_bury}
 use Rattle.wl_broker.proofs.broker.Broker.bury.Goals as goal
 
 pub push_grants-requires : goal.push_grants-requires
 push_grants-requires g c =
     let m = (at no_partition c.self.inside.partitions.entries c.args.partition).locks in
-    let few : length c.in-Ok.granted.items ≤ length m.waiting = room_to_bury c.args.tab m c.all_come-is_active.result c.in-Ok.granted.items c.in-Ok.ensures.grants in
-    let same : length c.deref-in-Ok.result.now ≡ length c.in-Ok.granted.items = ap (λ (xs : List Grant). length xs) c.deref-in-Ok.ensures.value in
-    omega (arith, few, same, c.in_ok-outs.ensures.len, c.in_ok-outs.ensures.room, c.waiting_at-waiting.ensures)
+    let few : length c.in-Ok.granted.items ≤ length m.waiting = room_to_bury c.args.tab m (eqb c.missing_without-is_active.result 0) c.in-Ok.granted.items c.in-Ok.ensures.grants in
+    let same : length c.deref.result.now ≡ length c.in-Ok.granted.items = ap (λ (xs : List Grant). length xs) c.deref.ensures.value in
+    omega (arith, few, same, c.in_ok-outs.ensures.len, c.in_ok-outs.ensures.room, c.waiting_in-waiting.ensures, ap (λ (s : PartitionState). length s.locks.waiting) c.row_at.ensures)
 
 pub invariant_of-self-in-Ok : goal.invariant_of-self-in-Ok
 invariant_of-self-in-Ok g c =
     let b = c.self.inside in
     let seats = seat_put c.args.tab Dead b.seats.entries _ c.in_ok-insert.ensures.entries in
     let had = subst (λ (x : BrokerState). Had x c.args.tab c.args.partition) (sym c.self.view_is) c.requires in
-    let active = c.all_come-is_active.ensures ∙ ap (λ (xs : List (ℕ × ℕ)). all_come xs c.insert.new.self.entries c.args.partition) c.deref.ensures.value ∙ ap (λ (ss : Table Seat). all_come b.listed.items ss c.args.partition) seats in (
-      consistent_as seats c.in-Ok.ensures.ok (IsConsistent-dead b.kept.entries b.generation c.args.tab c.args.partition c.all_come-is_active.result c.self.invariant.0 had active),
+    let place = c.awaited_at-place.ensures ∙ ap (λ (o : Option Seat). awaited_at o (Some c.args.partition)) c.seat_of-before.ensures ∙ awaited_had _ _ c.args.partition had in
+    let active = active_once b.listed.entries b.seats.entries b.missing.entries c.args.tab Dead c.awaited_at-place.result c.args.partition c.missing_without-is_active.result c.self.invariant.0.listed_once c.self.invariant.2 place c.missing_without-is_active.ensures in (
+      consistent_as seats c.in-Ok.ensures.ok (IsConsistent-dead b.kept.entries b.generation c.args.tab c.args.partition (eqb c.missing_without-is_active.result 0) c.self.invariant.0 had active),
       awaits_as seats c.give_up.ensures (AwaitsParts-seat c.args.tab Dead c.self.invariant.1),
+      counts_as b.listed.entries _ _ _ seats (AreCounts-arrival b.listed.entries b.seats.entries b.missing.entries _ c.args.tab Dead c.awaited_at-place.result c.self.invariant.0.listed_once c.self.invariant.2 place c.count_arrival.ensures),
     )
 
 pub put_back-requires : goal.put_back-requires
@@ -36,18 +39,23 @@ put_back-requires g c = seat_there c.args.tab Dead c.self.inside.seats.entries _
 pub invariant_of-self-in-Err-1 : goal.invariant_of-self-in-Err-1
 invariant_of-self-in-Err-1 g c =
     let back = given_back c.args.tab Dead c.seat_of-before.result c.self.inside.seats.entries _ _ c.seat_of-before.ensures c.in_ok-insert.ensures.was_ordered c.in_ok-insert.ensures.entries c.put_back.ensures in
-    (consistent_as back c.in-Err.ensures.err c.self.invariant.0, awaits_as back refl c.self.invariant.1)
+    (consistent_as back c.in-Err.ensures.err c.self.invariant.0, awaits_as back refl c.self.invariant.1, counts_as _ _ _ _ back c.self.invariant.2)
 
 pub returns-in-Ok-clause-buried : goal.returns-in-Ok-clause-buried
 returns-in-Ok-clause-buried g c =
     let b = c.self.inside in
-    let active = c.all_come-is_active.ensures ∙ ap (λ (xs : List (ℕ × ℕ)). all_come xs c.insert.new.self.entries c.args.partition) c.deref.ensures.value in
-    let outs = c.new.ensures ∙ c.push_grants.ensures ∙ ap (λ (xs : List Addressed). xs ++ map (grant_of b.generation c.insert.new.self.entries) c.deref-in-Ok.result.now) c.in_ok-outs.ensures.items in
+    let had = subst (λ (x : BrokerState). Had x c.args.tab c.args.partition) (sym c.self.view_is) c.requires in
+    let place = c.awaited_at-place.ensures ∙ ap (λ (o : Option Seat). awaited_at o (Some c.args.partition)) c.seat_of-before.ensures ∙ awaited_had _ _ c.args.partition had in
+    let seats = seat_put c.args.tab Dead b.seats.entries _ c.in_ok-insert.ensures.entries in
+    let active =
+    active_once b.listed.entries b.seats.entries b.missing.entries c.args.tab Dead c.awaited_at-place.result c.args.partition c.missing_without-is_active.result c.self.invariant.0.listed_once c.self.invariant.2 place c.missing_without-is_active.ensures
+    ∙ ap (λ (ss : Table Seat). all_come b.listed.entries ss c.args.partition) (sym seats) in
+    let outs = c.new.ensures ∙ c.push_grants.ensures ∙ ap (λ (xs : List Addressed). xs ++ map (grant_of b.generation c.insert.new.self.entries) c.deref.result.now) c.in_ok-outs.ensures.items in
     rw (← c.self.view_is)
-    (bury_does b.generation b.listed.items b.seats.entries b.partitions.entries b.kept.entries c.args.tab c.args.partition c.all_come-is_active.result c.deref-in-Ok.result.now _ _ _ _ (seat_put c.args.tab Dead b.seats.entries _ c.in_ok-insert.ensures.entries) active (c.deref-in-Ok.ensures.value ∙ c.in-Ok.ensures.grants) c.in-Ok.ensures.ok c.give_up.ensures outs)
+    (bury_does b.generation b.listed.entries b.seats.entries b.partitions.entries b.kept.entries c.args.tab c.args.partition (eqb c.missing_without-is_active.result 0) c.deref.result.now _ _ _ _ seats active (c.deref.ensures.value ∙ c.in-Ok.ensures.grants) c.in-Ok.ensures.ok c.give_up.ensures outs)
 
 pub returns-in-Err-clause-err : goal.returns-in-Err-clause-err
 returns-in-Err-clause-err g c =
     let b = c.self.inside in
     let back = given_back c.args.tab Dead c.seat_of-before.result b.seats.entries _ _ c.seat_of-before.ensures c.in_ok-insert.ensures.was_ordered c.in_ok-insert.ensures.entries c.put_back.ensures in
-    same_fields b.generation b.listed.items b.kept.entries back c.in-Err.ensures.err ∙ c.self.view_is
+    same_fields b.generation b.listed.entries b.kept.entries back c.in-Err.ensures.err ∙ c.self.view_is

@@ -9,7 +9,7 @@ pub join-requires-clause-below : goal.join-requires-clause-below
 join-requires-clause-below g c =
     let b = c.self.inside in
     let x = told c.args.heading c.args.entries.now in
-    let found = partial_seen b.generation b.listed.items b.seats.entries b.partitions.entries b.kept.entries c.args.self.now c.args.tab c.self.view_is ∙ sym c.in-Some.ensures in
+    let found = partial_seen b.generation b.listed.entries b.seats.entries b.partitions.entries b.kept.entries c.args.self.now c.args.tab c.self.view_is ∙ sym c.in-Some.ensures in
     let fitting = subst (λ (o : Option Partial). fits x o ≡ true) found c.requires.fits in
     below-more c.args.heading c.args.entries.now _ c.in-Some.kept.now fitting c.requires.below c.gathered.ensures.below (c.deref.ensures.value ∙ c.in_ok-gathered-in-Some.ensures.gathered)
 
@@ -17,7 +17,7 @@ pub returns-then-not-is_last-clause-joined : goal.returns-then-not-is_last-claus
 returns-then-not-is_last-clause-joined g c =
     let b = c.self.inside in
     let x = told c.args.heading c.args.entries.now in
-    let seen = partial_seen b.generation b.listed.items b.seats.entries b.partitions.entries b.kept.entries c.args.self.now c.args.tab c.self.view_is in
+    let seen = partial_seen b.generation b.listed.entries b.seats.entries b.partitions.entries b.kept.entries c.args.self.now c.args.tab c.self.view_is in
     let k = with_told c.args.partition x (partial_of c.args.self.now c.args.tab) in
     let last = c.is_last.ensures ∙ ap (λ (o : Option Partial). eqb (length (came_in o) + 1) x.parts) (sym seen) in
     let part = last-whole c.args.partition x (partial_of c.args.self.now c.args.tab) _ c.requires.missing last ∙ c.if-not-is_last.true in
@@ -28,7 +28,7 @@ returns-in_ok-gathered-in-Some-clause-joined g c =
     let b = c.self.inside in
     let p = c.args.partition in
     let x = told c.args.heading c.args.entries.now in
-    let seen = partial_seen b.generation b.listed.items b.seats.entries b.partitions.entries b.kept.entries c.args.self.now c.args.tab c.self.view_is in
+    let seen = partial_seen b.generation b.listed.entries b.seats.entries b.partitions.entries b.kept.entries c.args.self.now c.args.tab c.self.view_is in
     let k = with_told p x (partial_of c.args.self.now c.args.tab) in
     let last = c.is_last.ensures ∙ ap (λ (o : Option Partial). eqb (length (came_in o) + 1) x.parts) (sym seen) in
     let whole = last-whole p x (partial_of c.args.self.now c.args.tab) _ c.requires.missing last ∙ c.if-not-is_last.false in
@@ -41,7 +41,7 @@ returns-in-None-clause-joined g c =
     let b = c.self.inside in
     let p = c.args.partition in
     let x = told c.args.heading c.args.entries.now in
-    let seen = partial_seen b.generation b.listed.items b.seats.entries b.partitions.entries b.kept.entries c.args.self.now c.args.tab c.self.view_is in
+    let seen = partial_seen b.generation b.listed.entries b.seats.entries b.partitions.entries b.kept.entries c.args.self.now c.args.tab c.self.view_is in
     let k = with_told p x (partial_of c.args.self.now c.args.tab) in
     let last = c.is_last.ensures ∙ ap (λ (o : Option Partial). eqb (length (came_in o) + 1) x.parts) (sym seen) in
     let whole = last-whole p x (partial_of c.args.self.now c.args.tab) _ c.requires.missing last ∙ c.if-not-is_last.false in

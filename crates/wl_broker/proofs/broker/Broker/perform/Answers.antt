@@ -1,13 +1,16 @@
-use Rattle.std.proofs.Common.{◌≡◌, ◌+◌, ◌≤◌, [], ◌∷◌, ◌++◌, map, length, List, refl, ap, ◌∙◌, arith}
-use Rattle.wl_draft.specs.Tables.{at}
+use Rattle.std.proofs.Common.{◌≡◌, ◌+◌, ◌≤◌, [], ◌∷◌, ◌++◌, map, length, List, refl, sym, ap, ◌∙◌, arith}
+use Rattle.wl_draft.specs.Tables.{Table, at}
+use Rattle.wl_draft.proofs.TableLemmas.{at-put_same}
+use Rattle.wl_draft.specs.Locks.{Locks}
 use Rattle.wl_draft.specs.declared.row.Grant.{Grant}
 use Rattle.wl_frames.specs.declared.frame.Addressed.{Addressed}
 use Rattle.wl_frames.specs.declared.frame.Outcome.{Outcome}
-use Rattle.wl_broker.specs.Broker.{BrokerState, seat_of}
-use Rattle.wl_broker.specs.Kept.{no_partition, answer_of, grant_of}
-use Rattle.wl_broker.proofs.BrokerSteps.{change_does}
+use Rattle.wl_broker.specs.Broker.{BrokerState, seat_of, manager_of}
+use Rattle.wl_broker.specs.Kept.{PartitionState, no_partition, outcome_at, answer_of, grant_of}
+use Rattle.wl_broker.proofs.BrokerSteps.{change_does, manager_of-fields}
 use Rattle.wl_broker.proofs.Consistency.{IsConsistent-active, IsConsistent-new, IsConsistent-command}
 use Rattle.wl_broker.specs.declared.seat.Seat.TheVariants.{Joined}
+use Rattle.wl_broker.proofs.Missing.{counts_as, AreCounts-again}
 use Rattle.wl_broker.proofs.KeptParts.{AwaitsParts-again, awaits_as}
 use Rattle.wl_broker.proofs.Fields.{consistent_as, active_seen}
 use Rattle.wl_broker.proofs.GrantRoom.{room_to_change}
@@ -16,7 +19,7 @@ use Rattle.wl_broker.proofs.broker.Broker.perform.Goals as goal
 pub command_at-requires : goal.command_at-requires
 command_at-requires g c =
     let joined = ap (λ (x : BrokerState). seat_of x c.args.tab) c.self.view_is ∙ c.requires.joined in
-    let active = active_seen c.self.inside.generation c.self.inside.listed.items c.self.inside.seats.entries c.self.inside.partitions.entries c.self.inside.kept.entries _ c.args.partition c.self.view_is c.requires.active in
+    let active = active_seen c.self.inside.generation c.self.inside.listed.entries c.self.inside.seats.entries c.self.inside.partitions.entries c.self.inside.kept.entries _ c.args.partition c.self.view_is c.requires.active in
     record {
       active = IsConsistent-active c.args.tab c.args.partition c.args.number c.args.limit c.self.invariant.0 joined ∙ active;
       new = IsConsistent-new c.args.tab c.args.partition c.args.number c.args.limit c.self.invariant.0 joined;
@@ -25,29 +28,33 @@ command_at-requires g c =
 pub push_grants-requires : goal.push_grants-requires
 push_grants-requires g c =
     let m = (at no_partition c.self.inside.partitions.entries c.args.partition).locks in
+    let waiting = c.requires.waiting ∙ ap (λ (x : BrokerState). length (manager_of x c.args.partition).waiting) (sym c.self.view_is) ∙ ap (λ (x : Locks). length x.waiting) (manager_of-fields c.self.inside.generation c.self.inside.listed.entries c.self.inside.seats.entries c.self.inside.partitions.entries c.self.inside.kept.entries c.args.partition) in
     let few : length c.in_ok-granted.granted.items ≤ length m.waiting + 1 = room_to_change c.args.tab c.args.number c.args.operation.now m c.in_ok-granted.granted.items c.in_ok-granted.ensures.grants in
     let same : length c.deref.result.now ≡ length c.in_ok-granted.granted.items = ap (λ (xs : List Grant). length xs) c.deref.ensures.value in
-    omega (arith, few, same, c.push_reserved.ensures.len, c.push_reserved.ensures.capacity, c.in_ok-outs.ensures.len, c.in_ok-outs.ensures.room, c.waiting_at-waiting.ensures)
+    omega (arith, few, same, c.push_reserved.ensures.len, c.push_reserved.ensures.capacity, c.in_ok-outs.ensures.len, c.in_ok-outs.ensures.room, waiting)
 
 pub invariant_of-self-2 : goal.invariant_of-self-2
 invariant_of-self-2 g c =
     let joined = ap (λ (x : BrokerState). seat_of x c.args.tab) c.self.view_is ∙ c.requires.joined in
-    let active = active_seen c.self.inside.generation c.self.inside.listed.items c.self.inside.seats.entries c.self.inside.partitions.entries c.self.inside.kept.entries _ c.args.partition c.self.view_is c.requires.active in (
+    let active = active_seen c.self.inside.generation c.self.inside.listed.entries c.self.inside.seats.entries c.self.inside.partitions.entries c.self.inside.kept.entries _ c.args.partition c.self.view_is c.requires.active in (
       consistent_as c.set_seat.ensures c.in_ok-granted.ensures.ok (IsConsistent-command c.args.tab c.args.partition c.args.number c.args.limit c.args.operation.now c.self.invariant.0 joined active),
       awaits_as c.set_seat.ensures refl (AwaitsParts-again c.args.tab (Joined c.args.partition (c.args.number + 1) c.args.limit) _ c.self.invariant.1 joined),
+      counts_as _ _ _ _ c.set_seat.ensures (AreCounts-again c.self.inside.listed.entries c.self.inside.seats.entries c.self.inside.missing.entries c.args.tab (Joined c.args.partition (c.args.number + 1) c.args.limit) _ c.self.invariant.0.listed_once c.self.invariant.2 joined),
     )
 
 pub returns : goal.returns
 returns g c =
     let b = c.self.inside in
     let joined = ap (λ (x : BrokerState). seat_of x c.args.tab) c.self.view_is ∙ c.requires.joined in
-    let active = active_seen c.self.inside.generation c.self.inside.listed.items c.self.inside.seats.entries c.self.inside.partitions.entries c.self.inside.kept.entries _ c.args.partition c.self.view_is c.requires.active in
-    let answered = c.answer.ensures ∙ ap (λ (x : Outcome). answer_of b.generation (c.args.number + 1) c.args.tab c.args.number x) c.outcome_at-outcome.ensures in
+    let active = active_seen c.self.inside.generation c.self.inside.listed.entries c.self.inside.seats.entries c.self.inside.partitions.entries c.self.inside.kept.entries _ c.args.partition c.self.view_is c.requires.active in
+    let row = ap (λ (ps : Table PartitionState). at no_partition ps c.args.partition) c.in_ok-granted.ensures.ok ∙ at-put_same no_partition c.args.partition _ b.partitions.entries in
+    let outcome = c.in_ok-granted.ensures.outcome ∙ ap (λ (s : PartitionState). outcome_at s.locks c.args.tab c.args.number c.args.operation.now) (sym row) in
+    let answered = c.answer.ensures ∙ ap (λ (x : Outcome). answer_of b.generation (c.args.number + 1) c.args.tab c.args.number x) outcome in
     let first = c.push_reserved.ensures.items ∙ ap (λ (xs : List Addressed). xs ++ c.answer.result ∷ []) c.in_ok-outs.ensures.items ∙ ap (λ (x : Addressed). [] ++ x ∷ []) answered in
     let outs = c.new.ensures ∙ c.push_grants.ensures ∙ ap (λ (xs : List Addressed). xs ++ map (grant_of b.generation c.set_seat.new.seats.entries) c.deref.result.now) first in
     record {
       performed =
           rw (← c.self.view_is)
-          (change_does b.generation b.listed.items b.seats.entries b.partitions.entries b.kept.entries c.args.tab c.args.partition c.args.number c.args.limit c.args.operation.now c.deref.result.now _ _ _ c.in_default.not-Query joined (c.self.invariant.1.not_come c.args.tab _ joined) active c.set_seat.ensures (c.deref.ensures.value ∙ c.in_ok-granted.ensures.grants) c.in_ok-granted.ensures.ok outs);
+          (change_does b.generation b.listed.entries b.seats.entries b.partitions.entries b.kept.entries c.args.tab c.args.partition c.args.number c.args.limit c.args.operation.now c.deref.result.now _ _ _ c.in_default.not-Query joined (c.self.invariant.1.not_come c.args.tab _ joined) active c.set_seat.ensures (c.deref.ensures.value ∙ c.in_ok-granted.ensures.grants) c.in_ok-granted.ensures.ok outs);
       err = tt;
     }

@@ -2,7 +2,7 @@ use Rattle.std.proofs.Common.{List, ◌≤◌, sym, ap, ◌∙◌, subst, arith}
 use Rattle.std.proofs.lemmas.Result.{IfOk-weaker, IfErr-weaker}
 use Rattle.wl_draft.specs.declared.row.Entry.{Entry}
 use Rattle.wl_frames.specs.declared.frame.Upward.{Upward}
-use Rattle.wl_broker.specs.Broker.{BrokerState, Taking, Told, IsTaken, generation_of, take_inner, take_told}
+use Rattle.wl_broker.specs.Broker.{BrokerState, seat_of, Taking, Told, IsTaken, generation_of, take_inner, take_told}
 use Rattle.wl_broker.specs.Kept.{told}
 use Rattle.wl_broker.proofs.Drops.{old_generation, later_generation, dead_tab, misplaced, inner_taken}
 use Rattle.wl_broker.proofs.Fields.{dead_seen, misplaced_seen}
@@ -27,7 +27,7 @@ returns-then-is_dead-clause-dropped g c = λ _.
     let mine = ap (λ (x : BrokerState). x.generation) c.self.view_is in
     let old : c.args.self.now.generation ≤ generation_of c.args.stamped.now.inner = omega (arith, mine, c.generation_of-generation.ensures, c.if-generation-self.false) in
     let later : generation_of c.args.stamped.now.inner ≤ c.args.self.now.generation = omega (arith, mine, c.generation_of-generation.ensures, c.if-generation-self-2.false) in
-    dead_tab c.args.self.now c.args.stamped.now old later (dead_seen b.generation b.listed.items b.seats.entries b.partitions.entries b.kept.entries c.args.self.now c.args.stamped.now.tab _ c.self.view_is c.is_dead.ensures ∙ c.if-is_dead.true)
+    dead_tab c.args.self.now c.args.stamped.now old later (dead_seen b.generation b.listed.entries b.seats.entries b.partitions.entries b.kept.entries c.args.self.now c.args.stamped.now.tab _ _ c.self.view_is c.seat_of-seat.ensures c.is_dead.ensures ∙ c.if-is_dead.true)
 
 pub returns-then-is_misplaced-clause-dropped : goal.returns-then-is_misplaced-clause-dropped
 returns-then-is_misplaced-clause-dropped g c = λ _.
@@ -35,33 +35,36 @@ returns-then-is_misplaced-clause-dropped g c = λ _.
     let mine = ap (λ (x : BrokerState). x.generation) c.self.view_is in
     let old : c.args.self.now.generation ≤ generation_of c.args.stamped.now.inner = omega (arith, mine, c.generation_of-generation.ensures, c.if-generation-self.false) in
     let later : generation_of c.args.stamped.now.inner ≤ c.args.self.now.generation = omega (arith, mine, c.generation_of-generation.ensures, c.if-generation-self-2.false) in
-    let alive = dead_seen b.generation b.listed.items b.seats.entries b.partitions.entries b.kept.entries c.args.self.now c.args.stamped.now.tab _ c.self.view_is c.is_dead.ensures ∙ c.if-is_dead.false in
-    misplaced c.args.self.now c.args.stamped.now old later alive (misplaced_seen b.generation b.listed.items b.seats.entries b.partitions.entries b.kept.entries c.args.self.now c.args.stamped.now.tab c.args.stamped.now.partition _ _ c.self.view_is c.deref.ensures.value c.is_misplaced.ensures ∙ c.if-is_misplaced.true)
+    let alive = dead_seen b.generation b.listed.entries b.seats.entries b.partitions.entries b.kept.entries c.args.self.now c.args.stamped.now.tab _ _ c.self.view_is c.seat_of-seat.ensures c.is_dead.ensures ∙ c.if-is_dead.false in
+    misplaced c.args.self.now c.args.stamped.now old later alive (misplaced_seen b.generation b.listed.entries b.seats.entries b.partitions.entries b.kept.entries c.args.self.now c.args.stamped.now.tab c.args.stamped.now.partition _ _ _ c.self.view_is c.listed_at-place.ensures c.seat_of-seat.ensures c.is_misplaced.ensures ∙ c.if-is_misplaced.true)
 
 pub take_command-requires : goal.take_command-requires
 take_command-requires g c =
     let b = c.self.inside in
-    record { placed = misplaced_seen b.generation b.listed.items b.seats.entries b.partitions.entries b.kept.entries c.args.self.now c.args.stamped.now.tab c.args.stamped.now.partition _ _ c.self.view_is c.deref.ensures.value c.is_misplaced.ensures ∙ c.if-is_misplaced.false }
+    record {
+      seat = c.seat_of-seat.ensures ∙ ap (λ (x : BrokerState). seat_of x c.args.stamped.now.tab) c.self.view_is;
+      placed = misplaced_seen b.generation b.listed.entries b.seats.entries b.partitions.entries b.kept.entries c.args.self.now c.args.stamped.now.tab c.args.stamped.now.partition _ _ _ c.self.view_is c.listed_at-place.ensures c.seat_of-seat.ensures c.is_misplaced.ensures ∙ c.if-is_misplaced.false;
+    }
 
 pub take_told-requires-clause-alive : goal.take_told-requires-clause-alive
 take_told-requires-clause-alive g c =
     let b = c.self.inside in
-    dead_seen b.generation b.listed.items b.seats.entries b.partitions.entries b.kept.entries c.args.self.now c.args.stamped.now.tab _ c.self.view_is c.is_dead.ensures ∙ c.if-is_dead.false
+    dead_seen b.generation b.listed.entries b.seats.entries b.partitions.entries b.kept.entries c.args.self.now c.args.stamped.now.tab _ _ c.self.view_is c.seat_of-seat.ensures c.is_dead.ensures ∙ c.if-is_dead.false
 
 pub take_told-requires-clause-placed : goal.take_told-requires-clause-placed
 take_told-requires-clause-placed g c =
     let b = c.self.inside in
-    misplaced_seen b.generation b.listed.items b.seats.entries b.partitions.entries b.kept.entries c.args.self.now c.args.stamped.now.tab c.args.stamped.now.partition _ _ c.self.view_is c.deref.ensures.value c.is_misplaced.ensures ∙ c.if-is_misplaced.false
+    misplaced_seen b.generation b.listed.entries b.seats.entries b.partitions.entries b.kept.entries c.args.self.now c.args.stamped.now.tab c.args.stamped.now.partition _ _ _ c.self.view_is c.listed_at-place.ensures c.seat_of-seat.ensures c.is_misplaced.ensures ∙ c.if-is_misplaced.false
 
 pub take_told-requires-in-ReportPart-clause-alive : goal.take_told-requires-in-ReportPart-clause-alive
 take_told-requires-in-ReportPart-clause-alive g c =
     let b = c.self.inside in
-    dead_seen b.generation b.listed.items b.seats.entries b.partitions.entries b.kept.entries c.args.self.now c.args.stamped.now.tab _ c.self.view_is c.is_dead.ensures ∙ c.if-is_dead.false
+    dead_seen b.generation b.listed.entries b.seats.entries b.partitions.entries b.kept.entries c.args.self.now c.args.stamped.now.tab _ _ c.self.view_is c.seat_of-seat.ensures c.is_dead.ensures ∙ c.if-is_dead.false
 
 pub take_told-requires-in-ReportPart-clause-placed : goal.take_told-requires-in-ReportPart-clause-placed
 take_told-requires-in-ReportPart-clause-placed g c =
     let b = c.self.inside in
-    misplaced_seen b.generation b.listed.items b.seats.entries b.partitions.entries b.kept.entries c.args.self.now c.args.stamped.now.tab c.args.stamped.now.partition _ _ c.self.view_is c.deref.ensures.value c.is_misplaced.ensures ∙ c.if-is_misplaced.false
+    misplaced_seen b.generation b.listed.entries b.seats.entries b.partitions.entries b.kept.entries c.args.self.now c.args.stamped.now.tab c.args.stamped.now.partition _ _ _ c.self.view_is c.listed_at-place.ensures c.seat_of-seat.ensures c.is_misplaced.ensures ∙ c.if-is_misplaced.false
 
 pub returns-in-Command-clause-taken : goal.returns-in-Command-clause-taken
 returns-in-Command-clause-taken g c =
@@ -69,8 +72,8 @@ returns-in-Command-clause-taken g c =
     let mine = ap (λ (x : BrokerState). x.generation) c.self.view_is in
     let old : c.args.self.now.generation ≤ generation_of c.args.stamped.now.inner = omega (arith, mine, c.generation_of-generation.ensures, c.if-generation-self.false) in
     let later : generation_of c.args.stamped.now.inner ≤ c.args.self.now.generation = omega (arith, mine, c.generation_of-generation.ensures, c.if-generation-self-2.false) in
-    let alive = dead_seen b.generation b.listed.items b.seats.entries b.partitions.entries b.kept.entries c.args.self.now c.args.stamped.now.tab _ c.self.view_is c.is_dead.ensures ∙ c.if-is_dead.false in
-    let placed = misplaced_seen b.generation b.listed.items b.seats.entries b.partitions.entries b.kept.entries c.args.self.now c.args.stamped.now.tab c.args.stamped.now.partition _ _ c.self.view_is c.deref.ensures.value c.is_misplaced.ensures ∙ c.if-is_misplaced.false in
+    let alive = dead_seen b.generation b.listed.entries b.seats.entries b.partitions.entries b.kept.entries c.args.self.now c.args.stamped.now.tab _ _ c.self.view_is c.seat_of-seat.ensures c.is_dead.ensures ∙ c.if-is_dead.false in
+    let placed = misplaced_seen b.generation b.listed.entries b.seats.entries b.partitions.entries b.kept.entries c.args.self.now c.args.stamped.now.tab c.args.stamped.now.partition _ _ _ c.self.view_is c.listed_at-place.ensures c.seat_of-seat.ensures c.is_misplaced.ensures ∙ c.if-is_misplaced.false in
     let inner = inner_taken c.args.self.now c.args.stamped.now old later alive placed ∙ ap (λ (x : Upward). take_inner c.args.self.now c.args.stamped.now.tab c.args.stamped.now.partition x) c.in-Command.is in
     IfOk-weaker c.take_command.result _ _ (λ outs e. inner ∙ e) c.take_command.ensures.taken
 
@@ -80,8 +83,8 @@ returns-in-Command-clause-dropped g c =
     let mine = ap (λ (x : BrokerState). x.generation) c.self.view_is in
     let old : c.args.self.now.generation ≤ generation_of c.args.stamped.now.inner = omega (arith, mine, c.generation_of-generation.ensures, c.if-generation-self.false) in
     let later : generation_of c.args.stamped.now.inner ≤ c.args.self.now.generation = omega (arith, mine, c.generation_of-generation.ensures, c.if-generation-self-2.false) in
-    let alive = dead_seen b.generation b.listed.items b.seats.entries b.partitions.entries b.kept.entries c.args.self.now c.args.stamped.now.tab _ c.self.view_is c.is_dead.ensures ∙ c.if-is_dead.false in
-    let placed = misplaced_seen b.generation b.listed.items b.seats.entries b.partitions.entries b.kept.entries c.args.self.now c.args.stamped.now.tab c.args.stamped.now.partition _ _ c.self.view_is c.deref.ensures.value c.is_misplaced.ensures ∙ c.if-is_misplaced.false in
+    let alive = dead_seen b.generation b.listed.entries b.seats.entries b.partitions.entries b.kept.entries c.args.self.now c.args.stamped.now.tab _ _ c.self.view_is c.seat_of-seat.ensures c.is_dead.ensures ∙ c.if-is_dead.false in
+    let placed = misplaced_seen b.generation b.listed.entries b.seats.entries b.partitions.entries b.kept.entries c.args.self.now c.args.stamped.now.tab c.args.stamped.now.partition _ _ _ c.self.view_is c.listed_at-place.ensures c.seat_of-seat.ensures c.is_misplaced.ensures ∙ c.if-is_misplaced.false in
     let inner = inner_taken c.args.self.now c.args.stamped.now old later alive placed ∙ ap (λ (x : Upward). take_inner c.args.self.now c.args.stamped.now.tab c.args.stamped.now.partition x) c.in-Command.is in
     IfErr-weaker c.take_command.result _ _ (λ d e h. inner ∙ e h) c.take_command.ensures.dropped
 
@@ -91,8 +94,8 @@ returns-in-Command-clause-memory g c =
     let mine = ap (λ (x : BrokerState). x.generation) c.self.view_is in
     let old : c.args.self.now.generation ≤ generation_of c.args.stamped.now.inner = omega (arith, mine, c.generation_of-generation.ensures, c.if-generation-self.false) in
     let later : generation_of c.args.stamped.now.inner ≤ c.args.self.now.generation = omega (arith, mine, c.generation_of-generation.ensures, c.if-generation-self-2.false) in
-    let alive = dead_seen b.generation b.listed.items b.seats.entries b.partitions.entries b.kept.entries c.args.self.now c.args.stamped.now.tab _ c.self.view_is c.is_dead.ensures ∙ c.if-is_dead.false in
-    let placed = misplaced_seen b.generation b.listed.items b.seats.entries b.partitions.entries b.kept.entries c.args.self.now c.args.stamped.now.tab c.args.stamped.now.partition _ _ c.self.view_is c.deref.ensures.value c.is_misplaced.ensures ∙ c.if-is_misplaced.false in
+    let alive = dead_seen b.generation b.listed.entries b.seats.entries b.partitions.entries b.kept.entries c.args.self.now c.args.stamped.now.tab _ _ c.self.view_is c.seat_of-seat.ensures c.is_dead.ensures ∙ c.if-is_dead.false in
+    let placed = misplaced_seen b.generation b.listed.entries b.seats.entries b.partitions.entries b.kept.entries c.args.self.now c.args.stamped.now.tab c.args.stamped.now.partition _ _ _ c.self.view_is c.listed_at-place.ensures c.seat_of-seat.ensures c.is_misplaced.ensures ∙ c.if-is_misplaced.false in
     let inner = inner_taken c.args.self.now c.args.stamped.now old later alive placed ∙ ap (λ (x : Upward). take_inner c.args.self.now c.args.stamped.now.tab c.args.stamped.now.partition x) c.in-Command.is in
     IfErr-weaker c.take_command.result _ _ (λ d e h. subst (λ (x : Taking). IsTaken x) (sym inner) (e h)) c.take_command.ensures.memory
 
@@ -102,8 +105,8 @@ returns-in-Report-clause-taken g c =
     let mine = ap (λ (x : BrokerState). x.generation) c.self.view_is in
     let old : c.args.self.now.generation ≤ generation_of c.args.stamped.now.inner = omega (arith, mine, c.generation_of-generation.ensures, c.if-generation-self.false) in
     let later : generation_of c.args.stamped.now.inner ≤ c.args.self.now.generation = omega (arith, mine, c.generation_of-generation.ensures, c.if-generation-self-2.false) in
-    let alive = dead_seen b.generation b.listed.items b.seats.entries b.partitions.entries b.kept.entries c.args.self.now c.args.stamped.now.tab _ c.self.view_is c.is_dead.ensures ∙ c.if-is_dead.false in
-    let placed = misplaced_seen b.generation b.listed.items b.seats.entries b.partitions.entries b.kept.entries c.args.self.now c.args.stamped.now.tab c.args.stamped.now.partition _ _ c.self.view_is c.deref.ensures.value c.is_misplaced.ensures ∙ c.if-is_misplaced.false in
+    let alive = dead_seen b.generation b.listed.entries b.seats.entries b.partitions.entries b.kept.entries c.args.self.now c.args.stamped.now.tab _ _ c.self.view_is c.seat_of-seat.ensures c.is_dead.ensures ∙ c.if-is_dead.false in
+    let placed = misplaced_seen b.generation b.listed.entries b.seats.entries b.partitions.entries b.kept.entries c.args.self.now c.args.stamped.now.tab c.args.stamped.now.partition _ _ _ c.self.view_is c.listed_at-place.ensures c.seat_of-seat.ensures c.is_misplaced.ensures ∙ c.if-is_misplaced.false in
     let inner = inner_taken c.args.self.now c.args.stamped.now old later alive placed ∙ ap (λ (x : Upward). take_inner c.args.self.now c.args.stamped.now.tab c.args.stamped.now.partition x) c.in-Report.is ∙ ap (λ (x : Told). take_told c.args.self.now c.args.stamped.now.tab c.args.stamped.now.partition x) (sym (ap (λ (es : List Entry). told c.at_once.result es) c.as_slice.ensures ∙ c.at_once.ensures)) in
     IfOk-weaker c.take_told.result _ _ (λ outs e. inner ∙ e) c.take_told.ensures.taken
 
@@ -113,8 +116,8 @@ returns-in-Report-clause-dropped g c =
     let mine = ap (λ (x : BrokerState). x.generation) c.self.view_is in
     let old : c.args.self.now.generation ≤ generation_of c.args.stamped.now.inner = omega (arith, mine, c.generation_of-generation.ensures, c.if-generation-self.false) in
     let later : generation_of c.args.stamped.now.inner ≤ c.args.self.now.generation = omega (arith, mine, c.generation_of-generation.ensures, c.if-generation-self-2.false) in
-    let alive = dead_seen b.generation b.listed.items b.seats.entries b.partitions.entries b.kept.entries c.args.self.now c.args.stamped.now.tab _ c.self.view_is c.is_dead.ensures ∙ c.if-is_dead.false in
-    let placed = misplaced_seen b.generation b.listed.items b.seats.entries b.partitions.entries b.kept.entries c.args.self.now c.args.stamped.now.tab c.args.stamped.now.partition _ _ c.self.view_is c.deref.ensures.value c.is_misplaced.ensures ∙ c.if-is_misplaced.false in
+    let alive = dead_seen b.generation b.listed.entries b.seats.entries b.partitions.entries b.kept.entries c.args.self.now c.args.stamped.now.tab _ _ c.self.view_is c.seat_of-seat.ensures c.is_dead.ensures ∙ c.if-is_dead.false in
+    let placed = misplaced_seen b.generation b.listed.entries b.seats.entries b.partitions.entries b.kept.entries c.args.self.now c.args.stamped.now.tab c.args.stamped.now.partition _ _ _ c.self.view_is c.listed_at-place.ensures c.seat_of-seat.ensures c.is_misplaced.ensures ∙ c.if-is_misplaced.false in
     let inner = inner_taken c.args.self.now c.args.stamped.now old later alive placed ∙ ap (λ (x : Upward). take_inner c.args.self.now c.args.stamped.now.tab c.args.stamped.now.partition x) c.in-Report.is ∙ ap (λ (x : Told). take_told c.args.self.now c.args.stamped.now.tab c.args.stamped.now.partition x) (sym (ap (λ (es : List Entry). told c.at_once.result es) c.as_slice.ensures ∙ c.at_once.ensures)) in
     IfErr-weaker c.take_told.result _ _ (λ d e h. inner ∙ e h) c.take_told.ensures.dropped
 
@@ -124,8 +127,8 @@ returns-in-Report-clause-memory g c =
     let mine = ap (λ (x : BrokerState). x.generation) c.self.view_is in
     let old : c.args.self.now.generation ≤ generation_of c.args.stamped.now.inner = omega (arith, mine, c.generation_of-generation.ensures, c.if-generation-self.false) in
     let later : generation_of c.args.stamped.now.inner ≤ c.args.self.now.generation = omega (arith, mine, c.generation_of-generation.ensures, c.if-generation-self-2.false) in
-    let alive = dead_seen b.generation b.listed.items b.seats.entries b.partitions.entries b.kept.entries c.args.self.now c.args.stamped.now.tab _ c.self.view_is c.is_dead.ensures ∙ c.if-is_dead.false in
-    let placed = misplaced_seen b.generation b.listed.items b.seats.entries b.partitions.entries b.kept.entries c.args.self.now c.args.stamped.now.tab c.args.stamped.now.partition _ _ c.self.view_is c.deref.ensures.value c.is_misplaced.ensures ∙ c.if-is_misplaced.false in
+    let alive = dead_seen b.generation b.listed.entries b.seats.entries b.partitions.entries b.kept.entries c.args.self.now c.args.stamped.now.tab _ _ c.self.view_is c.seat_of-seat.ensures c.is_dead.ensures ∙ c.if-is_dead.false in
+    let placed = misplaced_seen b.generation b.listed.entries b.seats.entries b.partitions.entries b.kept.entries c.args.self.now c.args.stamped.now.tab c.args.stamped.now.partition _ _ _ c.self.view_is c.listed_at-place.ensures c.seat_of-seat.ensures c.is_misplaced.ensures ∙ c.if-is_misplaced.false in
     let inner = inner_taken c.args.self.now c.args.stamped.now old later alive placed ∙ ap (λ (x : Upward). take_inner c.args.self.now c.args.stamped.now.tab c.args.stamped.now.partition x) c.in-Report.is ∙ ap (λ (x : Told). take_told c.args.self.now c.args.stamped.now.tab c.args.stamped.now.partition x) (sym (ap (λ (es : List Entry). told c.at_once.result es) c.as_slice.ensures ∙ c.at_once.ensures)) in
     IfErr-weaker c.take_told.result _ _ (λ d e h. subst (λ (x : Taking). IsTaken x) (sym inner) (e h)) c.take_told.ensures.memory
 
@@ -135,8 +138,8 @@ returns-in-ReportPart-clause-taken g c =
     let mine = ap (λ (x : BrokerState). x.generation) c.self.view_is in
     let old : c.args.self.now.generation ≤ generation_of c.args.stamped.now.inner = omega (arith, mine, c.generation_of-generation.ensures, c.if-generation-self.false) in
     let later : generation_of c.args.stamped.now.inner ≤ c.args.self.now.generation = omega (arith, mine, c.generation_of-generation.ensures, c.if-generation-self-2.false) in
-    let alive = dead_seen b.generation b.listed.items b.seats.entries b.partitions.entries b.kept.entries c.args.self.now c.args.stamped.now.tab _ c.self.view_is c.is_dead.ensures ∙ c.if-is_dead.false in
-    let placed = misplaced_seen b.generation b.listed.items b.seats.entries b.partitions.entries b.kept.entries c.args.self.now c.args.stamped.now.tab c.args.stamped.now.partition _ _ c.self.view_is c.deref.ensures.value c.is_misplaced.ensures ∙ c.if-is_misplaced.false in
+    let alive = dead_seen b.generation b.listed.entries b.seats.entries b.partitions.entries b.kept.entries c.args.self.now c.args.stamped.now.tab _ _ c.self.view_is c.seat_of-seat.ensures c.is_dead.ensures ∙ c.if-is_dead.false in
+    let placed = misplaced_seen b.generation b.listed.entries b.seats.entries b.partitions.entries b.kept.entries c.args.self.now c.args.stamped.now.tab c.args.stamped.now.partition _ _ _ c.self.view_is c.listed_at-place.ensures c.seat_of-seat.ensures c.is_misplaced.ensures ∙ c.if-is_misplaced.false in
     let inner = inner_taken c.args.self.now c.args.stamped.now old later alive placed ∙ ap (λ (x : Upward). take_inner c.args.self.now c.args.stamped.now.tab c.args.stamped.now.partition x) c.in-ReportPart.is ∙ ap (λ (x : Told). take_told c.args.self.now c.args.stamped.now.tab c.args.stamped.now.partition x) (sym (ap (λ (es : List Entry). told c.in_part.result es) c.as_slice-in-ReportPart.ensures ∙ c.in_part.ensures)) in
     IfOk-weaker c.take_told-in-ReportPart.result _ _ (λ outs e. inner ∙ e) c.take_told-in-ReportPart.ensures.taken
 
@@ -146,8 +149,8 @@ returns-in-ReportPart-clause-dropped g c =
     let mine = ap (λ (x : BrokerState). x.generation) c.self.view_is in
     let old : c.args.self.now.generation ≤ generation_of c.args.stamped.now.inner = omega (arith, mine, c.generation_of-generation.ensures, c.if-generation-self.false) in
     let later : generation_of c.args.stamped.now.inner ≤ c.args.self.now.generation = omega (arith, mine, c.generation_of-generation.ensures, c.if-generation-self-2.false) in
-    let alive = dead_seen b.generation b.listed.items b.seats.entries b.partitions.entries b.kept.entries c.args.self.now c.args.stamped.now.tab _ c.self.view_is c.is_dead.ensures ∙ c.if-is_dead.false in
-    let placed = misplaced_seen b.generation b.listed.items b.seats.entries b.partitions.entries b.kept.entries c.args.self.now c.args.stamped.now.tab c.args.stamped.now.partition _ _ c.self.view_is c.deref.ensures.value c.is_misplaced.ensures ∙ c.if-is_misplaced.false in
+    let alive = dead_seen b.generation b.listed.entries b.seats.entries b.partitions.entries b.kept.entries c.args.self.now c.args.stamped.now.tab _ _ c.self.view_is c.seat_of-seat.ensures c.is_dead.ensures ∙ c.if-is_dead.false in
+    let placed = misplaced_seen b.generation b.listed.entries b.seats.entries b.partitions.entries b.kept.entries c.args.self.now c.args.stamped.now.tab c.args.stamped.now.partition _ _ _ c.self.view_is c.listed_at-place.ensures c.seat_of-seat.ensures c.is_misplaced.ensures ∙ c.if-is_misplaced.false in
     let inner = inner_taken c.args.self.now c.args.stamped.now old later alive placed ∙ ap (λ (x : Upward). take_inner c.args.self.now c.args.stamped.now.tab c.args.stamped.now.partition x) c.in-ReportPart.is ∙ ap (λ (x : Told). take_told c.args.self.now c.args.stamped.now.tab c.args.stamped.now.partition x) (sym (ap (λ (es : List Entry). told c.in_part.result es) c.as_slice-in-ReportPart.ensures ∙ c.in_part.ensures)) in
     IfErr-weaker c.take_told-in-ReportPart.result _ _ (λ d e h. inner ∙ e h) c.take_told-in-ReportPart.ensures.dropped
 
@@ -157,7 +160,7 @@ returns-in-ReportPart-clause-memory g c =
     let mine = ap (λ (x : BrokerState). x.generation) c.self.view_is in
     let old : c.args.self.now.generation ≤ generation_of c.args.stamped.now.inner = omega (arith, mine, c.generation_of-generation.ensures, c.if-generation-self.false) in
     let later : generation_of c.args.stamped.now.inner ≤ c.args.self.now.generation = omega (arith, mine, c.generation_of-generation.ensures, c.if-generation-self-2.false) in
-    let alive = dead_seen b.generation b.listed.items b.seats.entries b.partitions.entries b.kept.entries c.args.self.now c.args.stamped.now.tab _ c.self.view_is c.is_dead.ensures ∙ c.if-is_dead.false in
-    let placed = misplaced_seen b.generation b.listed.items b.seats.entries b.partitions.entries b.kept.entries c.args.self.now c.args.stamped.now.tab c.args.stamped.now.partition _ _ c.self.view_is c.deref.ensures.value c.is_misplaced.ensures ∙ c.if-is_misplaced.false in
+    let alive = dead_seen b.generation b.listed.entries b.seats.entries b.partitions.entries b.kept.entries c.args.self.now c.args.stamped.now.tab _ _ c.self.view_is c.seat_of-seat.ensures c.is_dead.ensures ∙ c.if-is_dead.false in
+    let placed = misplaced_seen b.generation b.listed.entries b.seats.entries b.partitions.entries b.kept.entries c.args.self.now c.args.stamped.now.tab c.args.stamped.now.partition _ _ _ c.self.view_is c.listed_at-place.ensures c.seat_of-seat.ensures c.is_misplaced.ensures ∙ c.if-is_misplaced.false in
     let inner = inner_taken c.args.self.now c.args.stamped.now old later alive placed ∙ ap (λ (x : Upward). take_inner c.args.self.now c.args.stamped.now.tab c.args.stamped.now.partition x) c.in-ReportPart.is ∙ ap (λ (x : Told). take_told c.args.self.now c.args.stamped.now.tab c.args.stamped.now.partition x) (sym (ap (λ (es : List Entry). told c.in_part.result es) c.as_slice-in-ReportPart.ensures ∙ c.in_part.ensures)) in
     IfErr-weaker c.take_told-in-ReportPart.result _ _ (λ d e h. subst (λ (x : Taking). IsTaken x) (sym inner) (e h)) c.take_told-in-ReportPart.ensures.memory

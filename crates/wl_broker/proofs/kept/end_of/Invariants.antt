@@ -1,0 +1,7 @@
+use Rattle.std.proofs.Common.{◌≡◌, drop, max}
+use Rattle.wl_broker.specs.Kept.{end_of}
+use Rattle.wl_broker.proofs.kept.end_of.Given as goal
+
+-- what is left to try goes on from the end so far
+abbrev pub invariant-loop-entry : goal.invariant-loop-entry
+invariant-loop-entry l = max l.end (end_of (drop l.entry-index l.entries)) ≡ end_of l.entries

@@ -1,0 +1,10 @@
+use Rattle.std.proofs.Common.{◌≡◌, ℕ, [], take}
+use Rattle.wl_draft.specs.Tables.{at}
+use Rattle.wl_broker.specs.Kept.{missing_in}
+use Rattle.wl_broker.proofs.listed.read_list.Given as goal
+
+-- what was read of the list
+abbrev pub invariant-loop-tab : goal.invariant-loop-tab
+invariant-loop-tab l =
+    (l.listed.entries ≡ take l.tab-index l.list)
+    × ((p : ℕ) → at 0 l.missing.entries p ≡ missing_in (take l.tab-index l.list) [] p)
