@@ -123,6 +123,9 @@ pub burial_listed : (b : BrokerState) (t p : ℕ) → seat_of b t ≡ None → l
 unfolding burial place_of
 burial_listed b t p e l = rw (e, l) refl
 
-pub burial_unknown : (g : ℕ) (listed : List (ℕ × ℕ)) (seats : Table Seat) (partitions : Table PartitionState) (partial : Table Partial) (t : ℕ) (outs : List Addressed) (seats' : Table Seat) (partial' : Table Partial) → find seats t ≡ None → listed_at t listed ≡ None → seats' ≡ put t Dead seats → partial' ≡ without_partial t partial → outs ≡ [] → burial (broker_of g listed seats partitions partial) t ≡ (broker_of g listed seats' partitions partial', outs)
+pub burial_stranger : (b : BrokerState) (t : ℕ) → seat_of b t ≡ None → listed_at t b.listed ≡ None → burial b t ≡ (with_seat t Dead b, [])
 unfolding burial place_of
-burial_unknown g listed seats partitions partial t outs seats' partial' e l s ks os = rw (e, l, s, ks, os) refl
+burial_stranger b t e l = rw (e, l) refl
+
+pub stranger_buried : (g : ℕ) (listed : List (ℕ × ℕ)) (seats : Table Seat) (partitions : Table PartitionState) (partial : Table Partial) (t : ℕ) (seats' : Table Seat) (partial' : Table Partial) → seats' ≡ put t Dead seats → partial' ≡ without_partial t partial → ◌≡◌ {A = BrokerState × List Addressed} (with_seat t Dead (broker_of g listed seats partitions partial), []) (broker_of g listed seats' partitions partial', [])
+stranger_buried g listed seats partitions partial t seats' partial' s ks = rw (s, ks) refl

@@ -4,6 +4,7 @@ pub mod Bounds
 pub mod BrokerSteps
 pub mod Compatible
 pub mod Consistency
+pub mod Copies
 pub mod Counting
 pub mod Drops
 pub mod Fields

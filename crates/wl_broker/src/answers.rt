@@ -26,6 +26,23 @@ fn hello(generation: u32, tab: u16) -> Addressed
     }
 }
 
+/// An answer to a tab, which tells how many of its commands were taken.
+#[derive(Clone, Copy)]
+pub struct Reply {
+    pub tab: u16,
+    pub upto: u32,
+    pub number: u32,
+    pub outcome: Outcome,
+}
+
+impl Reply {
+    pub fn to_frame(self, generation: u32) -> Addressed
+        ensures { result ≡ answer_of generation self.upto self.tab self.number self.outcome }
+    {
+        answer(generation, self.upto, self.tab, self.number, self.outcome)
+    }
+}
+
 /// Greets each listed tab.
 pub fn hellos(
     alloc: Global,
@@ -41,7 +58,7 @@ pub fn hellos(
 }
 
 /// An answer, which tells how many commands of its tab were taken.
-pub fn answer(generation: u32, upto: u32, tab: u16, number: u32, outcome: Outcome) -> Addressed
+fn answer(generation: u32, upto: u32, tab: u16, number: u32, outcome: Outcome) -> Addressed
     ensures { result ≡ answer_of generation upto tab number outcome }
 {
     Addressed {
@@ -64,15 +81,6 @@ pub fn outcome(standing: Standing) -> Outcome
         Standing::Waiting => Outcome::Waiting,
         Standing::Absent => Outcome::Gone,
     }
-}
-
-/// Room for these answers and those.
-pub fn room_for(alloc: Global, answers: usize, grants: usize) -> Result<Vec<Addressed>, AllocError>
-    ensures items { IfOk result (λ outs. outs.items ≡ []) }
-    ensures len { IfOk result (λ outs. vec_len outs ≡ 0) }
-    ensures room { IfOk result (λ outs. vec_capacity outs ≡ answers + grants) }
-{
-    Vec::with_capacity(alloc, answers.checked_add(grants).ok_or(AllocError)?)
 }
 
 /// Tells each tab what it was granted. There is room for that.

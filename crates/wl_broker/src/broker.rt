@@ -1,15 +1,16 @@
 //! The broker.
 
-ghost use Rattle.std.specs.Prelude.{◌≡◌, ◌≢◌, ◌<◌, IfOk, IfErr, OnErr, ℕ, List, [], ◌∷◌, true, false, length};
+ghost use Rattle.std.specs.Prelude.{◌≡◌, ◌≢◌, ◌<◌, IfOk, IfErr, OnErr, ℕ, List, [], ◌∷◌, true, false, length, replicate};
+ghost use Rattle.wl_frames.specs.declared.frame.Addressed.{Addressed};
 ghost use Rattle.wl_frames.specs.declared.frame.Operation.TheVariants.{Query};
 ghost use Rattle.wl_frames.specs.Grammar.{TabsRiseFrom};
 ghost use Rattle.wl_broker.specs.declared.seat.Seat.TheVariants.{Joined, Dead};
-ghost use Rattle.wl_broker.specs.Broker.{started, hellos, taking, burial, Does, Drops, IsTaken, is_active, is_dead, is_joined, seat_of, listed_at, elsewhere, is_misplaced, take_told, take_command, partial_of, fits, is_there, with_told, is_whole, join_if, keeping, join, perform, later_answer, next_of, buried_at, with_seat, all_below, manager_of};
+ghost use Rattle.wl_broker.specs.Broker.{started, hellos, taking, burial, Does, Drops, copied, repeated, IsTaken, is_active, is_dead, is_joined, seat_of, listed_at, elsewhere, is_misplaced, take_told, take_command, partial_of, fits, is_there, with_told, is_whole, join_if, keeping, join, perform, later_answer, next_of, buried_at, with_seat, all_below, manager_of};
 ghost use Rattle.wl_broker.specs.Kept.{Had, told, joining};
 
-use crate::answers::{answer, hellos, push_grants, room_for, snapshot};
+use crate::answers::{Reply, hellos};
 use crate::changes::{
-    command_at, end_at, is_active_in, is_too_many, outcome_in, restore_at, row_at, snapshot_at,
+    command_at, end_at, is_active_in, is_too_many, outcome_in, restore_at, row_at, snapshots_at,
     waiting_in,
 };
 use crate::dropped::Dropped;
@@ -20,6 +21,7 @@ use crate::judging::{
 use crate::kept::{Kept, give_up, is_last, is_there, keep, kept_of};
 use crate::listed::{awaited_at, count_arrival, listed_at, missing_at, missing_without, read_list};
 use crate::partition::Partition;
+use crate::rooms::Rooms;
 use crate::seat::Seat;
 use crate::seats::{is_dead, is_joined, limit_in, next_in, put_back, seat_of, set_seat};
 use std::alloc::{AllocError, Global};
@@ -44,6 +46,8 @@ pub struct Broker<T: LockTable> {
     partitions: BTreeMap<u16, Partition<T>>,
     /// The reports of which a part is missing, by tab.
     kept: BTreeMap<u16, Kept>,
+    /// Room for what a change makes it say.
+    rooms: Rooms,
 }
 
 impl<T: LockTable> Model for Broker<T> {
@@ -80,6 +84,7 @@ impl<T: LockTable> Broker<T> {
             seats: BTreeMap::new(alloc),
             partitions: BTreeMap::new(alloc),
             kept: BTreeMap::new(alloc),
+            rooms: Rooms::new(alloc),
         };
         Ok((broker, Sequence::new(hellos)))
     }
@@ -88,6 +93,21 @@ impl<T: LockTable> Broker<T> {
     /// nothing. A part is kept until those that are missing have come.
     pub fn take(&mut self, stamped: &Stamped) -> Result<Outs, Dropped>
         ensures taken { IfOk result (λ outs. taking self.old stamped.now ≡ Does self.new outs) }
+        // It is dropped for the first cause that applies,
+        ensures dropped { IfErr result (λ d. d ≢ Dropped.Memory → taking self.old stamped.now ≡ Drops d) }
+        // and for want of memory only where no other cause does.
+        ensures memory { IfErr result (λ d. d ≡ Dropped.Memory → IsTaken (taking self.old stamped.now)) }
+        ensures err { OnErr result (self.new ≡ self.old) }
+    {
+        match self.take_copies(stamped, 1) {
+            Ok(all) => Ok(only(all)),
+            Err(dropped) => Err(dropped),
+        }
+    }
+
+    /// Does what `take` does, and tells it in so many equal lists. All memory is taken before anything is changed.
+    pub fn take_copies(&mut self, stamped: &Stamped, copies: usize) -> Result<Vec<Outs>, Dropped>
+        ensures taken { IfOk result (λ all. copied copies (taking self.old stamped.now) ≡ Some (self.new, all.items)) }
         // It is dropped for the first cause that applies,
         ensures dropped { IfErr result (λ d. d ≢ Dropped.Memory → taking self.old stamped.now ≡ Drops d) }
         // and for want of memory only where no other cause does.
@@ -116,6 +136,7 @@ impl<T: LockTable> Broker<T> {
                 seat,
                 command.number,
                 &command.operation,
+                copies,
             ),
             Upward::Report(report) => self.take_told(
                 stamped.tab,
@@ -124,6 +145,7 @@ impl<T: LockTable> Broker<T> {
                 place,
                 Heading::at_once(report),
                 report.entries.as_slice(),
+                copies,
             ),
             Upward::ReportPart(part) => self.take_told(
                 stamped.tab,
@@ -132,6 +154,7 @@ impl<T: LockTable> Broker<T> {
                 place,
                 Heading::in_part(part),
                 part.entries.as_slice(),
+                copies,
             ),
         }
     }
@@ -141,16 +164,23 @@ impl<T: LockTable> Broker<T> {
         ensures dead { IfOk result (λ outs. burial self.old tab ≡ (self.new, outs)) }
         ensures err { OnErr result (self.new ≡ self.old) }
     {
+        match self.dead_copies(tab, 1) {
+            Ok(all) => Ok(only(all)),
+            Err(error) => Err(error),
+        }
+    }
+
+    /// Does what `dead` does, and tells it in so many equal lists. All memory is taken before anything is changed.
+    pub fn dead_copies(&mut self, tab: u16, copies: usize) -> Result<Vec<Outs>, AllocError>
+        ensures dead { IfOk result (λ all. repeated copies (burial self.old tab) ≡ (self.new, all.items)) }
+        ensures err { OnErr result (self.new ≡ self.old) }
+    {
         match seat_of(&self.seats, tab) {
-            Some(Seat::Dead) => Ok(Sequence::new(Vec::new(self.alloc))),
-            Some(Seat::Joined { partition, .. }) => self.bury(tab, partition),
+            Some(Seat::Dead) => self.say_nothing(copies),
+            Some(Seat::Joined { partition, .. }) => self.bury(tab, partition, copies),
             None => match listed_at(&self.listed, tab) {
-                Some(partition) => self.bury(tab, partition),
-                None => {
-                    self.seats.insert(tab, Seat::Dead)?;
-                    give_up(&mut self.kept, tab);
-                    Ok(Sequence::new(Vec::new(self.alloc)))
-                }
+                Some(partition) => self.bury(tab, partition, copies),
+                None => self.bury_stranger(tab, copies),
             },
         }
     }
@@ -178,12 +208,13 @@ impl<T: LockTable> Broker<T> {
         place: Option<u16>,
         heading: Heading,
         entries: &[Entry],
-    ) -> Result<Outs, Dropped>
+        copies: usize,
+    ) -> Result<Vec<Outs>, Dropped>
         requires seat { seat ≡ seat_of self.old tab }
         requires place { place ≡ listed_at tab self.old.listed }
         requires alive { is_dead (seat_of self.old tab) ≡ false }
         requires placed { is_misplaced self.old tab partition ≡ false }
-        ensures taken { IfOk result (λ outs. take_told self.old tab partition (told heading entries.now) ≡ Does self.new outs) }
+        ensures taken { IfOk result (λ all. copied copies (take_told self.old tab partition (told heading entries.now)) ≡ Some (self.new, all.items)) }
         ensures dropped { IfErr result (λ d. d ≢ Dropped.Memory → take_told self.old tab partition (told heading entries.now) ≡ Drops d) }
         ensures memory { IfErr result (λ d. d ≡ Dropped.Memory → IsTaken (take_told self.old tab partition (told heading entries.now))) }
         ensures err { OnErr result (self.new ≡ self.old) }
@@ -200,7 +231,7 @@ impl<T: LockTable> Broker<T> {
         if is_there(&self.kept, tab, heading.part) {
             return Err(Dropped::PartTwice);
         }
-        self.join_if(tab, partition, place, heading, entries)
+        self.join_if(tab, partition, place, heading, entries, copies)
             .map_err(|_| Dropped::Memory)
     }
 
@@ -212,10 +243,11 @@ impl<T: LockTable> Broker<T> {
         seat: Option<Seat>,
         number: u32,
         operation: &Operation,
-    ) -> Result<Outs, Dropped>
+        copies: usize,
+    ) -> Result<Vec<Outs>, Dropped>
         requires seat { seat ≡ seat_of self.old tab }
         requires placed { is_misplaced self.old tab partition ≡ false }
-        ensures taken { IfOk result (λ outs. take_command self.old tab partition number operation.now ≡ Does self.new outs) }
+        ensures taken { IfOk result (λ all. copied copies (take_command self.old tab partition number operation.now) ≡ Some (self.new, all.items)) }
         ensures dropped { IfErr result (λ d. d ≢ Dropped.Memory → take_command self.old tab partition number operation.now ≡ Drops d) }
         ensures memory { IfErr result (λ d. d ≡ Dropped.Memory → IsTaken (take_command self.old tab partition number operation.now)) }
         ensures err { OnErr result (self.new ≡ self.old) }
@@ -233,7 +265,7 @@ impl<T: LockTable> Broker<T> {
         }
         if number < next {
             return self
-                .answer_again(tab, partition, next, number, operation)
+                .answer_again(tab, partition, next, number, operation, copies)
                 .map_err(|_| Dropped::Memory);
         }
         let limit = limit_in(seat);
@@ -241,7 +273,7 @@ impl<T: LockTable> Broker<T> {
             return Err(Dropped::TooMany);
         }
         let waiting = waiting_in(row);
-        self.perform(tab, partition, number, limit, waiting, operation)
+        self.perform(tab, partition, number, limit, waiting, operation, copies)
             .map_err(|_| Dropped::Memory)
     }
 
@@ -253,7 +285,8 @@ impl<T: LockTable> Broker<T> {
         place: Option<u16>,
         heading: Heading,
         entries: &[Entry],
-    ) -> Result<Outs, AllocError>
+        copies: usize,
+    ) -> Result<Vec<Outs>, AllocError>
         requires new { seat_of self.old tab ≡ None }
         requires place { place ≡ listed_at tab self.old.listed }
         requires placed { elsewhere (listed_at tab self.old.listed) partition ≡ false }
@@ -261,18 +294,18 @@ impl<T: LockTable> Broker<T> {
         requires fits { fits (told heading entries.now) (partial_of self.old tab) ≡ true }
         requires missing { is_there (told heading entries.now) (partial_of self.old tab) ≡ false }
         ensures joined { let k = with_told partition (told heading entries.now) (partial_of self.old tab) in
-            IfOk result (λ outs. join_if self.old tab partition k ≡ Does self.new outs) }
+            IfOk result (λ all. copied copies (join_if self.old tab partition k) ≡ Some (self.new, all.items)) }
         ensures err { OnErr result (self.new ≡ self.old) }
     {
         if !is_last(&self.kept, tab, heading) {
-            return self.keep(tab, partition, heading, entries);
+            return self.keep(tab, partition, heading, entries, copies);
         }
         match kept_of(&self.kept, tab) {
             Some(kept) => {
                 let gathered = kept.gathered(self.alloc, heading.part, entries)?;
-                self.join(tab, partition, place, heading, &gathered)
+                self.join(tab, partition, place, heading, &gathered, copies)
             }
-            None => self.join(tab, partition, place, heading, entries),
+            None => self.join(tab, partition, place, heading, entries, copies),
         }
     }
 
@@ -283,16 +316,20 @@ impl<T: LockTable> Broker<T> {
         partition: u16,
         heading: Heading,
         entries: &[Entry],
-    ) -> Result<Outs, AllocError>
+        copies: usize,
+    ) -> Result<Vec<Outs>, AllocError>
         requires new { seat_of self.old tab ≡ None }
         requires below { all_below heading.base entries.now ≡ true }
         requires fits { fits (told heading entries.now) (partial_of self.old tab) ≡ true }
         ensures kept { let k = with_told partition (told heading entries.now) (partial_of self.old tab) in
-            IfOk result (λ outs. Does (keeping tab k self.old) [] ≡ Does self.new outs) }
+            IfOk result (λ all. copied copies (Does (keeping tab k self.old) []) ≡ Some (self.new, all.items)) }
         ensures err { OnErr result (self.new ≡ self.old) }
     {
+        let mut all = self.rooms.prepare(copies, 0, 0)?;
         keep(self.alloc, &mut self.kept, tab, partition, heading, entries)?;
-        Ok(Sequence::new(Vec::new(self.alloc)))
+        self.rooms
+            .tell(&mut all, copies, self.generation, &self.seats, None, &[]);
+        Ok(all)
     }
 
     /// A tab joins with what all parts of its report say.
@@ -303,16 +340,17 @@ impl<T: LockTable> Broker<T> {
         place: Option<u16>,
         heading: Heading,
         entries: &[Entry],
-    ) -> Result<Outs, AllocError>
+        copies: usize,
+    ) -> Result<Vec<Outs>, AllocError>
         requires new { seat_of self.old tab ≡ None }
         requires place { place ≡ listed_at tab self.old.listed }
         requires placed { elsewhere (listed_at tab self.old.listed) partition ≡ false }
         requires below { all_below heading.base entries.now ≡ true }
-        ensures joined { IfOk result (λ outs. join self.old tab partition (joining heading entries.now) ≡ Does self.new outs) }
+        ensures joined { IfOk result (λ all. copied copies (join self.old tab partition (joining heading entries.now)) ≡ Some (self.new, all.items)) }
         ensures err { OnErr result (self.new ≡ self.old) }
     {
         let waiting = waiting_in(row_at(&self.partitions, partition));
-        let mut outs = room_for(self.alloc, entries.len(), waiting)?;
+        let mut all = self.rooms.prepare(copies, entries.len(), waiting)?;
         let seat = Seat::Joined {
             partition,
             next: heading.base,
@@ -331,8 +369,15 @@ impl<T: LockTable> Broker<T> {
             Ok(granted) => {
                 count_arrival(&mut self.missing, place);
                 give_up(&mut self.kept, tab);
-                push_grants(&mut outs, self.generation, &self.seats, &granted);
-                Ok(Sequence::new(outs))
+                self.rooms.tell(
+                    &mut all,
+                    copies,
+                    self.generation,
+                    &self.seats,
+                    None,
+                    &granted,
+                );
+                Ok(all)
             }
             Err(error) => {
                 put_back(&mut self.seats, tab, None);
@@ -342,14 +387,14 @@ impl<T: LockTable> Broker<T> {
     }
 
     /// What a tab has in its partition is gone, now that it is dead.
-    fn bury(&mut self, tab: u16, partition: u16) -> Result<Outs, AllocError>
+    fn bury(&mut self, tab: u16, partition: u16, copies: usize) -> Result<Vec<Outs>, AllocError>
         requires { Had self.old tab partition }
-        ensures buried { IfOk result (λ outs. buried_at (with_seat tab Dead self.old) tab (Some partition) ≡ (self.new, outs)) }
+        ensures buried { IfOk result (λ all. repeated copies (buried_at (with_seat tab Dead self.old) tab (Some partition)) ≡ (self.new, all.items)) }
         ensures err { OnErr result (self.new ≡ self.old) }
     {
         let before = seat_of(&self.seats, tab);
         let waiting = waiting_in(row_at(&self.partitions, partition));
-        let mut outs = room_for(self.alloc, 0, waiting)?;
+        let mut all = self.rooms.prepare(copies, 0, waiting)?;
         self.seats.insert(tab, Seat::Dead)?;
         let place = awaited_at(before, partition);
         let is_active = missing_without(&self.missing, place, partition) == 0;
@@ -357,8 +402,15 @@ impl<T: LockTable> Broker<T> {
             Ok(granted) => {
                 count_arrival(&mut self.missing, place);
                 give_up(&mut self.kept, tab);
-                push_grants(&mut outs, self.generation, &self.seats, &granted);
-                Ok(Sequence::new(outs))
+                self.rooms.tell(
+                    &mut all,
+                    copies,
+                    self.generation,
+                    &self.seats,
+                    None,
+                    &granted,
+                );
+                Ok(all)
             }
             Err(error) => {
                 put_back(&mut self.seats, tab, before);
@@ -367,23 +419,62 @@ impl<T: LockTable> Broker<T> {
         }
     }
 
+    /// A tab is dead that belongs to no partition.
+    fn bury_stranger(&mut self, tab: u16, copies: usize) -> Result<Vec<Outs>, AllocError>
+        requires new { seat_of self.old tab ≡ None }
+        requires unlisted { listed_at tab self.old.listed ≡ None }
+        ensures buried { IfOk result (λ all. repeated copies (with_seat tab Dead self.old, []) ≡ (self.new, all.items)) }
+        ensures err { OnErr result (self.new ≡ self.old) }
+    {
+        let mut all = self.rooms.prepare(copies, 0, 0)?;
+        self.seats.insert(tab, Seat::Dead)?;
+        give_up(&mut self.kept, tab);
+        self.rooms
+            .tell(&mut all, copies, self.generation, &self.seats, None, &[]);
+        Ok(all)
+    }
+
+    fn say_nothing(&mut self, copies: usize) -> Result<Vec<Outs>, AllocError>
+        ensures nothing { IfOk result (λ all. all.items ≡ replicate copies []) }
+        ensures same { self.new ≡ self.old }
+    {
+        let mut all = self.rooms.prepare(copies, 0, 0)?;
+        self.rooms
+            .tell(&mut all, copies, self.generation, &self.seats, None, &[]);
+        Ok(all)
+    }
+
     /// Answers a command that was taken before.
     fn answer_again(
-        &self,
+        &mut self,
         tab: u16,
         partition: u16,
         upto: u32,
         number: u32,
         operation: &Operation,
-    ) -> Result<Outs, AllocError>
-        requires { upto ≡ next_of self.now tab }
-        ensures { IfOk result (λ outs. outs ≡ later_answer self.now tab partition number operation.now ∷ []) }
+        copies: usize,
+    ) -> Result<Vec<Outs>, AllocError>
+        requires { upto ≡ next_of self.old tab }
+        ensures again { IfOk result (λ all. all.items ≡ replicate copies (later_answer self.old tab partition number operation.now ∷ [])) }
+        ensures same { self.new ≡ self.old }
     {
-        let row = row_at(&self.partitions, partition);
-        let outcome = outcome_in(row, tab, number, operation);
-        let mut outs = Vec::new(self.alloc);
-        outs.push(answer(self.generation, upto, tab, number, outcome))?;
-        Ok(Sequence::new(outs))
+        let outcome = outcome_in(row_at(&self.partitions, partition), tab, number, operation);
+        let reply = Reply {
+            tab,
+            upto,
+            number,
+            outcome,
+        };
+        let mut all = self.rooms.prepare(copies, 1, 0)?;
+        self.rooms.tell(
+            &mut all,
+            copies,
+            self.generation,
+            &self.seats,
+            Some(reply),
+            &[],
+        );
+        Ok(all)
     }
 
     /// The next command of a tab is done.
@@ -395,19 +486,20 @@ impl<T: LockTable> Broker<T> {
         limit: u16,
         waiting: usize,
         operation: &Operation,
-    ) -> Result<Outs, AllocError>
+        copies: usize,
+    ) -> Result<Vec<Outs>, AllocError>
         requires joined { seat_of self.old tab ≡ Some (Joined partition number limit) }
         requires waiting { waiting ≡ length (manager_of self.old partition).waiting }
         requires active { is_active self.old partition ≡ true }
         requires more { number < 4294967295 }
-        ensures performed { IfOk result (λ outs. perform self.old tab partition number operation.now ≡ Does self.new outs) }
+        ensures performed { IfOk result (λ all. copied copies (perform self.old tab partition number operation.now) ≡ Some (self.new, all.items)) }
         ensures err { OnErr result (self.new ≡ self.old) }
     {
         if let Operation::Query = operation {
-            return self.query(tab, partition, number, limit);
+            return self.query(tab, partition, number, limit, copies);
         }
         // Its answer, and a grant for each request that then waits, its own among them.
-        let mut outs = room_for(self.alloc, 2, waiting)?;
+        let mut all = self.rooms.prepare(copies, 2, waiting)?;
         let (granted, outcome) = command_at(
             self.alloc,
             &mut self.partitions,
@@ -423,9 +515,21 @@ impl<T: LockTable> Broker<T> {
             limit,
         };
         set_seat(&mut self.seats, tab, seat);
-        outs.push_reserved(answer(self.generation, next, tab, number, outcome));
-        push_grants(&mut outs, self.generation, &self.seats, &granted);
-        Ok(Sequence::new(outs))
+        let reply = Reply {
+            tab,
+            upto: next,
+            number,
+            outcome,
+        };
+        self.rooms.tell(
+            &mut all,
+            copies,
+            self.generation,
+            &self.seats,
+            Some(reply),
+            &granted,
+        );
+        Ok(all)
     }
 
     /// The next command of a tab is a query, which changes nothing but the tab's next number.
@@ -435,23 +539,24 @@ impl<T: LockTable> Broker<T> {
         partition: u16,
         number: u32,
         limit: u16,
-    ) -> Result<Outs, AllocError>
+        copies: usize,
+    ) -> Result<Vec<Outs>, AllocError>
         requires joined { seat_of self.old tab ≡ Some (Joined partition number limit) }
         requires active { is_active self.old partition ≡ true }
         requires more { number < 4294967295 }
-        ensures performed { IfOk result (λ outs. perform self.old tab partition number Query ≡ Does self.new outs) }
+        ensures performed { IfOk result (λ all. copied copies (perform self.old tab partition number Query) ≡ Some (self.new, all.items)) }
         ensures err { OnErr result (self.new ≡ self.old) }
     {
-        let (held, waiting) = snapshot_at(&self.partitions, partition)?;
         let next = number + 1;
-        let outs = snapshot(
+        let all = snapshots_at(
             self.alloc,
+            &self.partitions,
+            partition,
+            copies,
             self.generation,
             next,
             tab,
             number,
-            held,
-            waiting,
         )?;
         let seat = Seat::Joined {
             partition,
@@ -459,6 +564,14 @@ impl<T: LockTable> Broker<T> {
             limit,
         };
         set_seat(&mut self.seats, tab, seat);
-        Ok(Sequence::new(outs))
+        Ok(all)
     }
+}
+
+/// The one list.
+fn only(mut all: Vec<Outs>) -> Outs
+    requires { length all.items ≡ 1 }
+    ensures { (outs : List Addressed) → all.items ≡ outs ∷ [] → result ≡ outs }
+{
+    all.pop().unwrap()
 }

@@ -1,19 +1,20 @@
 //! What a report, a death and a command do to the partitions.
 
-ghost use Rattle.std.specs.Prelude.{◌≡◌, IfOk, OnOk, OnErr, IsTrue, true, [], length, ◌&&◌, nat_le};
+ghost use Rattle.std.specs.Prelude.{◌≡◌, IfOk, OnOk, OnErr, IsTrue, true, [], length, replicate, ◌&&◌, nat_le};
 ghost use Rattle.std.specs.Option.{option_copied};
 ghost use Rattle.wl_draft.specs.declared.row.Standing.TheVariants.{Absent};
 ghost use Rattle.wl_draft.specs.Tables.{at, put};
 ghost use Rattle.wl_draft.specs.Locks.{settle, newly, settle_if, newly_if, standing, live, grants, without, ended, restored};
 ghost use Rattle.wl_broker.specs.Broker.{drafted, is_lock};
-ghost use Rattle.wl_broker.specs.Kept.{no_partition, state_of, row_or, outcome_at};
+ghost use Rattle.wl_broker.specs.Kept.{no_partition, state_of, row_or, outcome_at, snapshot_of, entries_of};
 
 use crate::answers::outcome;
+use crate::broker::Outs;
 use crate::judging::is_lock;
 use crate::partition::Partition;
 use std::alloc::{AllocError, Global};
 use std::collections::BTreeMap;
-use wl_draft::{Entry, Grant, Row};
+use wl_draft::{Entry, Grant};
 use wl_frames::{Operation, Outcome};
 use wl_table::LockTable;
 
@@ -87,18 +88,24 @@ pub fn outcome_in<T: LockTable>(
     }
 }
 
-/// Copies of the held locks and of the waiting requests of a partition that is active.
-pub fn snapshot_at<T: LockTable>(
+/// So many copies of the answer to a query of a partition that is active.
+pub fn snapshots_at<T: LockTable>(
+    alloc: Global,
     partitions: &BTreeMap<u16, Partition<T>>,
     partition: u16,
-) -> Result<(Vec<Row>, Vec<Row>), AllocError>
+    copies: usize,
+    generation: u32,
+    upto: u32,
+    tab: u16,
+    number: u32,
+) -> Result<Vec<Outs>, AllocError>
     requires { IsTrue (at no_partition partitions.now.entries partition).is_active }
-    ensures rows { let m = (at no_partition partitions.now.entries partition).locks in
-        IfOk result (λ s. (s.0.items ≡ m.held) × (s.1.items ≡ m.waiting)) }
-    ensures settled { newly (at no_partition partitions.now.entries partition).locks ≡ [] }
+    ensures copies { let m = (at no_partition partitions.now.entries partition).locks in
+        IfOk result (λ all. all.items ≡ replicate copies (snapshot_of generation upto tab number (entries_of m))) }
+    ensures settled { OnOk result (newly (at no_partition partitions.now.entries partition).locks ≡ []) }
 {
     match row_at(partitions, partition) {
-        Some(row) => row.snapshot(),
+        Some(row) => row.snapshots(alloc, copies, generation, upto, tab, number),
         None => unreachable!(),
     }
 }

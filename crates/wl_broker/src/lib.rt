@@ -11,6 +11,7 @@ mod kept;
 pub mod laws;
 mod listed;
 mod partition;
+mod rooms;
 pub mod rows;
 pub mod seat;
 mod seats;

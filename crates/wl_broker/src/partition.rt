@@ -1,16 +1,18 @@
 //! One partition: its locks, and whether they are granted.
 
-ghost use Rattle.std.specs.Prelude.{◌≡◌, length, IfOk, OnOk, OnErr, IsTrue, not, []};
+ghost use Rattle.std.specs.Prelude.{◌≡◌, length, replicate, IfOk, OnOk, OnErr, IsTrue, not, []};
 ghost use Rattle.std.specs.List.{filter};
 ghost use Rattle.wl_draft.specs.declared.row.Standing.TheVariants.{Absent};
 ghost use Rattle.wl_draft.specs.Locks.{settle, newly, settle_if, newly_if, standing, live, grants, without, ended, restored};
 ghost use Rattle.wl_broker.specs.Broker.{drafted};
-ghost use Rattle.wl_broker.specs.Kept.{no_partition, is_grant_of};
+ghost use Rattle.wl_broker.specs.Kept.{no_partition, is_grant_of, snapshot_of, entries_of};
 
+use crate::answers::snapshot;
+use crate::broker::Outs;
 use std::alloc::{AllocError, Global};
 use std::marker::Model;
-use wl_draft::{Entry, Grant, Row, Standing};
-use wl_frames::Operation;
+use wl_draft::{Entry, Grant, Standing};
+use wl_frames::{Operation, Sequence};
 use wl_table::LockTable;
 
 /// The locks of one partition. While it is active they are settled.
@@ -68,12 +70,26 @@ impl<T: LockTable> Partition<T> {
         self.table.state(tab, number)
     }
 
-    /// Copies of the held locks and of the waiting requests.
-    pub fn snapshot(&self) -> Result<(Vec<Row>, Vec<Row>), AllocError>
-        ensures rows { IfOk result (λ s. (s.0.items ≡ self.now.locks.held) × (s.1.items ≡ self.now.locks.waiting)) }
-        ensures settled { IsTrue self.now.is_active → newly self.now.locks ≡ [] }
+    /// So many copies of the answer to a query: the held locks and the waiting requests, in parts.
+    pub fn snapshots(
+        &self,
+        alloc: Global,
+        copies: usize,
+        generation: u32,
+        upto: u32,
+        tab: u16,
+        number: u32,
+    ) -> Result<Vec<Outs>, AllocError>
+        ensures copies { IfOk result (λ all. all.items ≡ replicate copies (snapshot_of generation upto tab number (entries_of self.now.locks))) }
+        ensures settled { OnOk result (IsTrue self.now.is_active → newly self.now.locks ≡ []) }
     {
-        self.table.snapshot()
+        let mut all = Vec::with_capacity(alloc, copies)?;
+        for _ in 0..copies {
+            let (held, waiting) = self.table.snapshot()?;
+            let outs = snapshot(alloc, generation, upto, tab, number, held, waiting)?;
+            all.push_reserved(Sequence::new(outs));
+        }
+        Ok(all)
     }
 
     /// Appends what a tab reports. From now on the partition is active or not, as is said.

@@ -1,4 +1,4 @@
-use Rattle.std.proofs.Common.{◌≡◌, ◌+◌, ℕ, List, [], ap, ◌∙◌, get_or, arith}
+use Rattle.std.proofs.Common.{◌+◌, ℕ, List, [], ap, ◌∙◌, get_or, arith}
 use Rattle.std.proofs.lemmas.List.{take_all}
 use Rattle.wl_draft.specs.Tables.{Table, at, put}
 use Rattle.wl_draft.proofs.TableLemmas.{insert_entry-put}

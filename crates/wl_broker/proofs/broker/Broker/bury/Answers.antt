@@ -1,25 +1,25 @@
-use Rattle.std.proofs.Common.{◌≡◌, ◌≤◌, ℕ, List, Option, Some, eqb, ◌++◌, map, length, refl, sym, ap, ◌∙◌, subst, arith}
+use Rattle.std.proofs.Common.{◌≡◌, ◌≤◌, List, Option, Some, eqb, length, refl, sym, ap, ◌∙◌, subst, arith}
 use Rattle.wl_draft.specs.Tables.{Table, at}
 use Rattle.wl_draft.specs.declared.row.Grant.{Grant}
-use Rattle.wl_frames.specs.declared.frame.Addressed.{Addressed}
 use Rattle.wl_broker.specs.declared.seat.Seat.{Seat}
 use Rattle.wl_broker.specs.declared.seat.Seat.TheVariants.{Dead}
 use Rattle.wl_broker.specs.Broker.{BrokerState}
-use Rattle.wl_broker.specs.Kept.{PartitionState, no_partition, all_come, grant_of, Had, awaited_at}
+use Rattle.wl_broker.specs.Kept.{PartitionState, no_partition, all_come, Had, awaited_at}
 use Rattle.wl_broker.proofs.Consistency.{IsConsistent-dead}
 use Rattle.wl_broker.proofs.BrokerSteps.{bury_does}
 use Rattle.wl_broker.proofs.Fields.{consistent_as, same_fields, seat_put, seat_there, given_back}
 use Rattle.wl_broker.proofs.KeptParts.{AwaitsParts-seat, awaits_as}
 use Rattle.wl_broker.proofs.Missing.{active_once, counts_as, awaited_had, AreCounts-arrival}
+use Rattle.wl_broker.proofs.Copies.{repeated_as}
 use Rattle.wl_broker.proofs.GrantRoom.{room_to_bury}
 use Rattle.wl_broker.proofs.broker.Broker.bury.Goals as goal
 
-pub push_grants-requires : goal.push_grants-requires
-push_grants-requires g c =
+pub tell-requires-clause-frames : goal.tell-requires-clause-frames
+tell-requires-clause-frames g c =
     let m = (at no_partition c.self.inside.partitions.entries c.args.partition).locks in
     let few : length c.in-Ok.granted.items ≤ length m.waiting = room_to_bury c.args.tab m (eqb c.missing_without-is_active.result 0) c.in-Ok.granted.items c.in-Ok.ensures.grants in
     let same : length c.deref.result.now ≡ length c.in-Ok.granted.items = ap (λ (xs : List Grant). length xs) c.deref.ensures.value in
-    omega (arith, few, same, c.in_ok-outs.ensures.len, c.in_ok-outs.ensures.room, c.waiting_in-waiting.ensures, ap (λ (s : PartitionState). length s.locks.waiting) c.row_at.ensures)
+    omega (arith, few, same, c.in_ok-all.ensures.frames, c.waiting_in-waiting.ensures, ap (λ (s : PartitionState). length s.locks.waiting) c.row_at.ensures)
 
 pub invariant_of-self-in-Ok : goal.invariant_of-self-in-Ok
 invariant_of-self-in-Ok g c =
@@ -50,9 +50,8 @@ returns-in-Ok-clause-buried g c =
     let active =
     active_once b.listed.entries b.seats.entries b.missing.entries c.args.tab Dead c.awaited_at-place.result c.args.partition c.missing_without-is_active.result c.self.invariant.0.listed_once c.self.invariant.2 place c.missing_without-is_active.ensures
     ∙ ap (λ (ss : Table Seat). all_come b.listed.entries ss c.args.partition) (sym seats) in
-    let outs = c.new.ensures ∙ c.push_grants.ensures ∙ ap (λ (xs : List Addressed). xs ++ map (grant_of b.generation c.insert.new.self.entries) c.deref.result.now) c.in_ok-outs.ensures.items in
     rw (← c.self.view_is)
-    (bury_does b.generation b.listed.entries b.seats.entries b.partitions.entries b.kept.entries c.args.tab c.args.partition (eqb c.missing_without-is_active.result 0) c.deref.result.now _ _ _ _ seats active (c.deref.ensures.value ∙ c.in-Ok.ensures.grants) c.in-Ok.ensures.ok c.give_up.ensures outs)
+    (repeated_as _ _ _ _ _ (bury_does b.generation b.listed.entries b.seats.entries b.partitions.entries b.kept.entries c.args.tab c.args.partition (eqb c.missing_without-is_active.result 0) c.deref.result.now _ _ _ _ seats active (c.deref.ensures.value ∙ c.in-Ok.ensures.grants) c.in-Ok.ensures.ok c.give_up.ensures refl) c.tell.ensures)
 
 pub returns-in-Err-clause-err : goal.returns-in-Err-clause-err
 returns-in-Err-clause-err g c =

@@ -1,6 +1,6 @@
 use Rattle.std.proofs.Common.{◌≡◌, ◌+◌, true, Option, eqb, length, sym, ap, ◌∙◌, subst}
 use Rattle.std.proofs.lemmas.Result.{IfOk-weaker}
-use Rattle.wl_broker.specs.Broker.{Partial, whole_of, fits, came_in, with_told, partial_of, join}
+use Rattle.wl_broker.specs.Broker.{Partial, copied, whole_of, fits, came_in, with_told, partial_of, join}
 use Rattle.wl_broker.specs.Kept.{told}
 use Rattle.wl_broker.proofs.KeptParts.{partial_seen, last-whole, keeps_part, joins_whole, whole-one, whole-more, below-more}
 use Rattle.wl_broker.proofs.broker.Broker.join_if.Goals as goal
@@ -21,7 +21,7 @@ returns-then-not-is_last-clause-joined g c =
     let k = with_told c.args.partition x (partial_of c.args.self.now c.args.tab) in
     let last = c.is_last.ensures ∙ ap (λ (o : Option Partial). eqb (length (came_in o) + 1) x.parts) (sym seen) in
     let part = last-whole c.args.partition x (partial_of c.args.self.now c.args.tab) _ c.requires.missing last ∙ c.if-not-is_last.true in
-    IfOk-weaker c.keep.result _ _ (λ outs e. keeps_part c.args.self.now c.args.tab c.args.partition k part ∙ e) c.keep.ensures.kept
+    IfOk-weaker c.keep.result _ _ (λ all e. ap (copied c.args.copies) (keeps_part c.args.self.now c.args.tab c.args.partition k part) ∙ e) c.keep.ensures.kept
 
 pub returns-in_ok-gathered-in-Some-clause-joined : goal.returns-in_ok-gathered-in-Some-clause-joined
 returns-in_ok-gathered-in-Some-clause-joined g c =
@@ -34,7 +34,7 @@ returns-in_ok-gathered-in-Some-clause-joined g c =
     let whole = last-whole p x (partial_of c.args.self.now c.args.tab) _ c.requires.missing last ∙ c.if-not-is_last.false in
     let all = whole-more p c.args.heading c.args.entries.now _ c.in-Some.kept.now (c.deref.ensures.value ∙ c.in_ok-gathered-in-Some.ensures.gathered) in
     let same = joins_whole c.args.self.now c.args.tab p k whole ∙ ap (λ (o : Option Partial). join c.args.self.now c.args.tab p (whole_of (with_told p x o))) (seen ∙ sym c.in-Some.ensures) ∙ ap (join c.args.self.now c.args.tab p) all in
-    IfOk-weaker c.join.result _ _ (λ outs e. same ∙ e) c.join.ensures.joined
+    IfOk-weaker c.join.result _ _ (λ all e. ap (copied c.args.copies) same ∙ e) c.join.ensures.joined
 
 pub returns-in-None-clause-joined : goal.returns-in-None-clause-joined
 returns-in-None-clause-joined g c =
@@ -47,4 +47,4 @@ returns-in-None-clause-joined g c =
     let whole = last-whole p x (partial_of c.args.self.now c.args.tab) _ c.requires.missing last ∙ c.if-not-is_last.false in
     let all = whole-one p c.args.heading c.args.entries.now in
     let same = joins_whole c.args.self.now c.args.tab p k whole ∙ ap (λ (o : Option Partial). join c.args.self.now c.args.tab p (whole_of (with_told p x o))) (seen ∙ sym c.in-None.ensures) ∙ ap (join c.args.self.now c.args.tab p) all in
-    IfOk-weaker c.join-in-None.result _ _ (λ outs e. same ∙ e) c.join-in-None.ensures.joined
+    IfOk-weaker c.join-in-None.result _ _ (λ all e. ap (copied c.args.copies) same ∙ e) c.join-in-None.ensures.joined

@@ -1,8 +1,9 @@
-use Rattle.std.proofs.Common.{◌≡◌, ◌<◌, ◌||◌, ℕ, Some, nat_lt, eqb, sym, ap, ◌∙◌, subst, arith}
+use Rattle.std.proofs.Common.{◌≡◌, ◌<◌, ◌||◌, ℕ, List, Some, nat_lt, eqb, sym, ap, ◌∙◌, subst, arith}
 use Rattle.std.proofs.Math.Path.{ap₂}
 use Rattle.std.proofs.lemmas.Result.{IfOk-weaker}
+use Rattle.wl_frames.specs.declared.frame.Addressed.{Addressed}
 use Rattle.wl_broker.specs.declared.seat.Seat.TheVariants.{Joined}
-use Rattle.wl_broker.specs.Broker.{BrokerState, Taking, Does, IsTaken, seat_of, next_of}
+use Rattle.wl_broker.specs.Broker.{BrokerState, Taking, copied, IsTaken, next_of}
 use Rattle.wl_broker.proofs.Drops.{not_joined, recovering, out_of_turn, taken_before, too_many, command_taken, perform_taken}
 use Rattle.wl_broker.proofs.Fields.{joined_seen, seated_here, joined_here, next_here, active_here, turn_here, live_here, waiting_here, if_ok_mapped, if_err_always}
 use Rattle.wl_broker.proofs.broker.Broker.take_command.Goals as goal
@@ -37,7 +38,7 @@ returns-then-number-next-clause-taken g c =
     let next = next_here b.generation b.listed.entries b.seats.entries b.partitions.entries b.kept.entries c.args.self.now c.args.tab c.args.partition c.self.view_is c.requires.placed _ c.requires.seat (sym c.is_joined.ensures ∙ c.if-not-is_joined.false) ∙ sym c.next_in-next.ensures in
     let before : c.args.number < next_of c.args.self.now c.args.tab = omega (arith, next, c.if-number-next.true) in
     let taken = taken_before c.args.self.now c.args.tab c.args.partition c.args.number c.args.operation.now joined active before turn.1 in
-    if_ok_mapped c.answer_again.result c.map_err.result _ _ c.map_err.ensures.cases (IfOk-weaker c.answer_again.result _ _ (λ outs e. taken ∙ ap (Does c.args.self.now) (sym e)) c.answer_again.ensures)
+    if_ok_mapped c.answer_again.result c.map_err.result _ _ c.map_err.ensures.cases (IfOk-weaker c.answer_again.result _ _ (λ all e. ap (copied c.args.copies) taken ∙ ap₂ (λ (x : BrokerState) (xs : List (List Addressed)). Some (x, xs)) (sym c.answer_again.ensures.same) (sym e)) c.answer_again.ensures.again)
 
 pub returns-then-number-next-clause-memory : goal.returns-then-number-next-clause-memory
 returns-then-number-next-clause-memory g c =
@@ -102,7 +103,7 @@ returns-clause-taken g c =
     let now : c.args.number ≡ next_of c.args.self.now c.args.tab = omega (arith, next, turn.0, c.if-number-next.false) in
     let few = live_here b.generation b.listed.entries b.seats.entries b.partitions.entries b.kept.entries c.args.self.now c.args.tab c.args.partition c.self.view_is c.requires.placed _ c.requires.seat (sym c.is_joined.ensures ∙ c.if-not-is_joined.false) _ c.row_at-row.ensures c.limit_in-limit.result c.args.operation.now _ c.limit_in-limit.ensures c.is_too_many.ensures ∙ c.if-is_too_many.false in
     let taken = command_taken c.args.self.now c.args.tab c.args.partition c.args.number c.args.operation.now joined active now turn.1 few in
-    if_ok_mapped c.perform.result c.map_err-2.result _ _ c.map_err-2.ensures.cases (IfOk-weaker c.perform.result _ _ (λ outs e. taken ∙ e) c.perform.ensures.performed)
+    if_ok_mapped c.perform.result c.map_err-2.result _ _ c.map_err-2.ensures.cases (IfOk-weaker c.perform.result _ _ (λ all e. ap (copied c.args.copies) taken ∙ e) c.perform.ensures.performed)
 
 pub returns-clause-memory : goal.returns-clause-memory
 returns-clause-memory g c =

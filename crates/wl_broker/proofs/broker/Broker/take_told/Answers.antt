@@ -1,6 +1,6 @@
-use Rattle.std.proofs.Common.{refl, sym, ◌∙◌, subst}
+use Rattle.std.proofs.Common.{sym, ap, ◌∙◌, subst}
 use Rattle.std.proofs.lemmas.Result.{IfOk-weaker}
-use Rattle.wl_broker.specs.Broker.{Taking, IsTaken, seat_of, with_told, partial_of}
+use Rattle.wl_broker.specs.Broker.{Taking, copied, IsTaken, seat_of, with_told, partial_of}
 use Rattle.wl_broker.specs.Kept.{told}
 use Rattle.wl_broker.proofs.Drops.{already_joined, held_by_newcomer, bad_report, part_twice, told_taken, join_if_taken}
 use Rattle.wl_broker.proofs.Fields.{unseated, listed_seen, joined_seen, newcomer_seen, if_ok_mapped, if_err_always}
@@ -64,7 +64,7 @@ returns-clause-taken g c =
     let fitting = bad_seen b.generation b.listed.entries b.seats.entries b.partitions.entries b.kept.entries c.args.self.now c.args.tab c.args.heading c.args.entries.now _ c.self.view_is c.is_bad_report.ensures ∙ c.if-is_bad_report.false in
     let missing = there_seen b.generation b.listed.entries b.seats.entries b.partitions.entries b.kept.entries c.args.self.now c.args.tab c.args.heading c.args.entries.now _ c.self.view_is c.is_there.ensures ∙ c.if-is_there.false in
     let taken = told_taken c.args.self.now c.args.tab c.args.partition (told c.args.heading c.args.entries.now) joined newcomer fitting missing in
-    if_ok_mapped c.join_if.result c.map_err.result _ _ c.map_err.ensures.cases (IfOk-weaker c.join_if.result _ _ (λ outs e. taken ∙ e) c.join_if.ensures.joined)
+    if_ok_mapped c.join_if.result c.map_err.result _ _ c.map_err.ensures.cases (IfOk-weaker c.join_if.result _ _ (λ all e. ap (copied c.args.copies) taken ∙ e) c.join_if.ensures.joined)
 
 pub returns-clause-memory : goal.returns-clause-memory
 returns-clause-memory g c =

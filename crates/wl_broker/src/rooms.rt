@@ -1,0 +1,163 @@
+//! Room for what a change makes the broker say. It is made before the change, when nobody knows yet how much that will be.
+
+ghost use Rattle.std.specs.Prelude.{◌≡◌, ◌≤◌, ◌<◌, ◌+◌, ◌++◌, [], IfOk, OnOk, length, map, replicate};
+ghost use Rattle.std.specs.List.{AllByRecursion};
+ghost use Rattle.std.specs.Vec.{vec_len, vec_capacity};
+ghost use Rattle.wl_broker.specs.Kept.{no_rooms, replied, grant_of};
+
+use crate::answers::{Reply, push_grants};
+use crate::broker::Outs;
+use crate::seat::Seat;
+use std::alloc::{AllocError, Global};
+use std::collections::BTreeMap;
+use std::marker::Model;
+use wl_draft::Grant;
+use wl_frames::{Addressed, Sequence};
+
+/// Empty lists, each with room for so many frames. What is said takes lists of its own that have room for just that, and
+/// one of these only where such a list is refused. So no change that was begun has to fail, and nobody who keeps what was
+/// said keeps more room than that.
+#[derive(Drop)]
+pub struct Rooms {
+    alloc: Global,
+    lists: Vec<Vec<Addressed>>,
+    frames: usize,
+}
+
+impl Model for Rooms {
+    ghost use Rattle.std.specs.Prelude.{◌≡◌, ◌≤◌, [], length};
+    ghost use Rattle.std.specs.List.{AllByRecursion};
+    ghost use Rattle.std.specs.Vec.{vec_len, vec_capacity};
+    ghost use Rattle.wl_broker.specs.Kept.{RoomsState};
+
+    ghost Value = { RoomsState };
+
+    ghost view = { λ r. record { lists = length r.lists.items; frames = r.frames } };
+
+    ghost invariant = { λ r. AllByRecursion (λ v. (v.items ≡ []) × (vec_len v ≡ 0) × (r.frames ≤ vec_capacity v)) r.lists.items };
+}
+
+/// So many empty lists, each with room for so many frames.
+fn empty_lists(
+    alloc: Global,
+    lists: usize,
+    frames: usize,
+) -> Result<Vec<Vec<Addressed>>, AllocError>
+    ensures len { IfOk result (λ all. length all.items ≡ lists) }
+    ensures room { IfOk result (λ all. AllByRecursion (λ v. (v.items ≡ []) × (vec_len v ≡ 0) × (frames ≤ vec_capacity v)) all.items) }
+{
+    let mut all = Vec::with_capacity(alloc, lists)?;
+    for _ in 0..lists {
+        all.push_reserved(Vec::with_capacity(alloc, frames)?);
+    }
+    Ok(all)
+}
+
+impl Rooms {
+    pub fn new(alloc: Global) -> Rooms
+        ensures { result ≡ no_rooms }
+    {
+        Rooms {
+            alloc,
+            lists: Vec::new(alloc),
+            frames: 0,
+        }
+    }
+
+    /// Makes room for so many lists of so many frames. It grows by doubling, so a queue that gets longer costs little.
+    fn reserve(&mut self, lists: usize, frames: usize) -> Result<(), AllocError>
+        ensures lists { OnOk result (lists ≤ self.new.lists) }
+        ensures frames { OnOk result (frames ≤ self.new.frames) }
+    {
+        if lists <= self.lists.len() && frames <= self.frames {
+            return Ok(());
+        }
+        let frames = if self.frames < frames {
+            frames.max(self.frames.saturating_mul(2))
+        } else {
+            self.frames
+        };
+        self.lists = empty_lists(self.alloc, lists, frames)?;
+        self.frames = frames;
+        Ok(())
+    }
+
+    /// Makes room for so many lists, each of so many answers and grants, and for the list of these lists.
+    pub fn prepare(
+        &mut self,
+        copies: usize,
+        answers: usize,
+        grants: usize,
+    ) -> Result<Vec<Outs>, AllocError>
+        ensures items { IfOk result (λ all. all.items ≡ []) }
+        ensures len { IfOk result (λ all. vec_len all ≡ 0) }
+        ensures capacity { IfOk result (λ all. copies ≤ vec_capacity all) }
+        ensures lists { OnOk result (copies ≤ self.new.lists) }
+        ensures frames { OnOk result (answers + grants ≤ self.new.frames) }
+    {
+        self.reserve(copies, answers.checked_add(grants).ok_or(AllocError)?)?;
+        Vec::with_capacity(self.alloc, copies)
+    }
+
+    /// An empty list with room for so many frames.
+    fn list(&mut self, frames: usize) -> Vec<Addressed>
+        requires lists { 0 < self.old.lists }
+        requires frames { frames ≤ self.old.frames }
+        ensures items { result.items ≡ [] }
+        ensures len { vec_len result ≡ 0 }
+        ensures capacity { frames ≤ vec_capacity result }
+        ensures lists { self.old.lists ≤ self.new.lists + 1 }
+        ensures frames { self.new.frames ≡ self.old.frames }
+    {
+        match Vec::with_capacity(self.alloc, frames) {
+            Ok(list) => list,
+            Err(_) => self.lists.pop().unwrap(),
+        }
+    }
+
+    /// One list of what is said: an answer, if there is one, and the grants. There is room for that.
+    fn said(
+        &mut self,
+        generation: u32,
+        seats: &BTreeMap<u16, Seat>,
+        own: Option<Reply>,
+        granted: &[Grant],
+    ) -> Outs
+        requires lists { 0 < self.old.lists }
+        requires frames { length (replied generation own) + length granted.now ≤ self.old.frames }
+        ensures said { result ≡ replied generation own ++ map (grant_of generation seats.now.entries) granted.now }
+        ensures lists { self.old.lists ≤ self.new.lists + 1 }
+        ensures frames { self.new.frames ≡ self.old.frames }
+    {
+        let answers = usize::from(own.is_some());
+        let mut outs = self.list(answers + granted.len());
+        if let Some(reply) = own {
+            outs.push_reserved(reply.to_frame(generation));
+        }
+        push_grants(&mut outs, generation, seats, granted);
+        Sequence::new(outs)
+    }
+
+    /// So many lists of what is said. There is room for that.
+    pub fn tell(
+        &mut self,
+        all: &mut Vec<Outs>,
+        copies: usize,
+        generation: u32,
+        seats: &BTreeMap<u16, Seat>,
+        own: Option<Reply>,
+        granted: &[Grant],
+    )
+        requires none { all.old.items ≡ [] }
+        requires len { vec_len all.old ≡ 0 }
+        requires capacity { copies ≤ vec_capacity all.old }
+        requires lists { copies ≤ self.old.lists }
+        requires frames { length (replied generation own) + length granted.now ≤ self.old.frames }
+        ensures { all.new.items ≡ replicate copies (replied generation own ++ map (grant_of generation seats.now.entries) granted.now) }
+    {
+        for _ in 0..copies {
+            let said = self.said(generation, seats, own, granted);
+            all.push_reserved(said);
+        }
+    }
+}
