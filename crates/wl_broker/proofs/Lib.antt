@@ -9,6 +9,7 @@ pub mod Counting
 pub mod Drops
 pub mod Fields
 pub mod GrantRoom
+pub mod Granting
 pub mod KeptParts
 pub mod Missing
 pub mod Others
