@@ -114,6 +114,72 @@ fn plays(
     Ok(())
 }
 
+// ---- copies
+
+/// How many copies are told.
+const COPIES: usize = 3;
+
+/// The copy at this place of what is told of a frame: nothing where it is dropped, for a cause other than memory.
+fn copy(
+    rt: &impl Abort,
+    alloc: Global,
+    broker: &mut TestedBroker,
+    frame: &Frame,
+    place: usize,
+) -> Outs {
+    let copies = match frame {
+        Frame::Stamped(stamped) => match broker.take_copies(stamped, COPIES) {
+            Err(Dropped::Memory) => broker.take_copies(stamped, COPIES).ok(),
+            answer => answer.ok(),
+        },
+        Frame::Dead(dead) => match broker.dead_copies(dead.tab, COPIES) {
+            Err(_) => broker.dead_copies(dead.tab, COPIES).ok(),
+            answer => answer.ok(),
+        },
+        _ => None,
+    };
+    match copies {
+        Some(mut copies) => {
+            assert_eq!(rt; copies.len(), COPIES);
+            copies.swap_remove(place)
+        }
+        None => nothing(alloc),
+    }
+}
+
+/// Gives a broker the row's frames, and compares each copy of what it tells.
+fn plays_in_copies(rt: &impl Abort, alloc: Global, row: &Row) -> Result<(), Fail> {
+    let output = bytes_of(alloc, row.output)?;
+    for place in 0..COPIES {
+        let (mut broker, hellos): (TestedBroker, Outs) = Broker::start(alloc, 1, &[])?;
+        let mut written = Vec::new(alloc);
+        write(rt, alloc, hellos, &mut written)?;
+        for frame in &frames(alloc, row)? {
+            let outs = copy(rt, alloc, &mut broker, frame, place);
+            write(rt, alloc, outs, &mut written)?;
+        }
+        assert!(rt; written.as_slice() == output.as_slice(), "{} at {place}", row.name);
+    }
+    Ok(())
+}
+
+#[test]
+fn commands_are_told_in_copies(rt: HostRuntime) -> Result<(), Fail> {
+    plays_in_copies(&rt, rt.alloc(), &HANDOVER)
+}
+
+#[test]
+fn snapshots_are_told_in_copies(rt: HostRuntime) -> Result<(), Fail> {
+    plays_in_copies(&rt, rt.alloc(), &SNAPSHOT)
+}
+
+#[test]
+fn deaths_are_told_in_copies(rt: HostRuntime) -> Result<(), Fail> {
+    plays_in_copies(&rt, rt.alloc(), &DEATH_HANDS_OVER)
+}
+
+// ---- calls that are made again
+
 #[test]
 fn commands_are_taken_again(rt: HostRuntime) -> Result<(), Fail> {
     let alloc = rt.alloc();
