@@ -1,4 +1,4 @@
-"""Times `wlb sim`, and the lock tables.
+"""Times `wlb sim`, `wlb desk` and the lock tables: `bench.py WLB TABLES`, or `bench.py WLB TABLES OLDER` to time an older `wlb` beside it.
 
 Handover: scripts of growing length, in which two tabs of one origin hand a lock over, again and again. Prints for each length
 the seconds and the time of a line, as a ratio to that of the shortest script. Where a line costs no more for the messages that
@@ -10,8 +10,19 @@ smallest count.
 
 Lock tables: `table_speed` plays the same random calls on the indexed table and on the plain one, and prints for each trace how
 many calls a second either makes and their ratio, and how much longer a call takes with 65,536 entries than with 64.
+
+Reports: a broker behind its bytes waits for many tabs of one partition, and each reports nothing. Prints for each count of tabs
+the processor's time of a report and its ratio to that of the smallest count.
+
+Waiting: in one partition one tab holds a lock for which so many requests wait, and another tab asks for a lock that nobody else
+wants and gives it up, again and again. Prints for each count of waiting requests the processor's time of a command, and its ratio
+to that of the smallest count.
+
+Where an older program is given, reports and waiting also print how many times the time of the newer one the older one took.
 """
 
+import resource
+import struct
 import subprocess
 import sys
 import time
@@ -20,6 +31,12 @@ LENGTHS = [1_000, 10_000, 100_000]
 
 TABS = 64
 REQUESTS = [16, 64, 256, 1_024]
+
+LISTED = [512, 1_024]
+WAITING = [64, 1_024, 32_768]
+COMMANDS = 20_000
+# The desk's runs, of which the fastest counts.
+RUNS = 7
 
 
 def handover(lines):
@@ -118,10 +135,108 @@ def recoveries(program):
         print(f"recovery: {TABS} tabs of {requests:5} requests {taken:8.3f} s  ratio of the time of a request {each / base:5.2f}")
 
 
+# ---- the broker behind its bytes
+
+
+def frame(body):
+    return struct.pack(">I", len(body)) + body
+
+
+def start(tabs):
+    """Generation 1 begins, and these tabs of partition 1 are waited for."""
+    places = b"".join(struct.pack(">HH", tab, 1) for tab in tabs)
+    return frame(b"\x01\x21" + struct.pack(">IH", 1, len(tabs)) + places)
+
+
+def stamped(tab, body):
+    return frame(b"\x01\x20" + struct.pack(">HH", tab, 1) + body)
+
+
+def report(tab):
+    return stamped(tab, b"\x01\x02" + struct.pack(">IIH", 1, 0, 0))
+
+
+def command(tab, number, operation):
+    return stamped(tab, b"\x01\x01" + struct.pack(">II", 1, number) + operation)
+
+
+def request(name):
+    """Of an exclusive lock, to be waited for."""
+    return b"\x01\x02\x00" + bytes([len(name)]) + name
+
+
+def release(number):
+    return b"\x02" + struct.pack(">I", number)
+
+
+def processor_seconds():
+    """Of all programs that were run so far."""
+    spent = resource.getrusage(resource.RUSAGE_CHILDREN)
+    return spent.ru_utime + spent.ru_stime
+
+
+def desk_seconds(program, frames, answers):
+    """The processor's time of the fastest run, in which the desk must answer so many frames."""
+    taken = []
+    for _ in range(RUNS):
+        before = processor_seconds()
+        done = subprocess.run([program, "desk"], input=frames, stdout=subprocess.PIPE, check=True)
+        taken.append(processor_seconds() - before)
+        assert count_frames(done.stdout) == answers, count_frames(done.stdout)
+    return min(taken)
+
+
+def count_frames(output):
+    count = at = 0
+    while at < len(output):
+        at += 4 + struct.unpack_from(">I", output, at)[0]
+        count += 1
+    return count
+
+
+def report_seconds(program, count):
+    """Of one report, where so many tabs are listed."""
+    tabs = range(1, count + 1)
+    listed = start(tabs)
+    idle = desk_seconds(program, listed, count)
+    whole = desk_seconds(program, listed + b"".join(report(tab) for tab in tabs), count)
+    return max(whole - idle, 1e-6) / count
+
+
+def command_seconds(program, waiting):
+    """Of one command of a tab that nobody disturbs, where so many requests of other tabs wait for a lock."""
+    waiters = -(-waiting // 63)
+    frames = [start([]), report(1), command(1, 0, request(b"a")), report(2)]
+    left = waiting
+    for tab in range(3, 3 + waiters):
+        frames.append(report(tab))
+        here = min(63, left)
+        left -= here
+        frames += [command(tab, number, request(b"a")) for number in range(here)]
+    before = b"".join(frames)
+    turns = [command(2, 2 * turn, request(b"b")) + command(2, 2 * turn + 1, release(2 * turn)) for turn in range(COMMANDS // 2)]
+    idle = desk_seconds(program, before, 1 + waiting)
+    whole = desk_seconds(program, before + b"".join(turns), 1 + waiting + COMMANDS)
+    return max(whole - idle, 1e-6) / COMMANDS
+
+
+def beside(what, counts, seconds, programs):
+    """Times the first program at each count, and the second beside it, if there is one."""
+    base = None
+    for count in counts:
+        taken = [seconds(program, count) for program in programs]
+        base = base or taken[0]
+        older = "".join(f"  the older program's is {other / taken[0]:7.2f} times that" for other in taken[1:])
+        print(f"{what}: {count:7} {taken[0] * 1e6:8.2f} us each  ratio {taken[0] / base:5.2f}{older}")
+
+
 def main():
-    program, tables = sys.argv[1:]
+    program, tables = sys.argv[1:3]
+    programs = [program, *sys.argv[3:4]]
     handovers(program)
     recoveries(program)
+    beside("reports, tabs listed ", LISTED, report_seconds, programs)
+    beside("commands, waiting for another lock", WAITING, command_seconds, programs)
     subprocess.run([tables, "time"], check=True)
 
 
