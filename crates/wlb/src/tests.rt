@@ -2,6 +2,7 @@
 //! so they stand here, at the top.
 
 mod agent;
+mod board;
 mod broadcast;
 mod broker;
 mod desk;
@@ -9,6 +10,8 @@ mod draft;
 mod frames;
 mod kernel;
 mod origin;
+mod outbox;
 mod random;
 mod script;
+mod tab_links;
 mod world;

@@ -1,0 +1,146 @@
+//! The outbox of a tab. A call that is refused for memory is made again: so these tests pass whichever allocation is
+//! refused.
+
+ghost use Rattle.std.specs.Prelude.{◌≡◌, ◌≤◌, [], true, false, All};
+ghost use Rattle.wl_outbox.specs.Passes.{IsOf, takes};
+
+use std::alloc::Global;
+use std::process::Abort;
+use std::sync::Wait;
+use std::thread;
+use wl_frames::{Frame, Hello, Memory};
+use wl_outbox::{CrossPartition, Full, Outbox, Parcel, Pass};
+
+/// One more of the new passes that put.
+fn next_pass(rt: &impl Abort, outbox: &Outbox, passes: &mut Vec<Pass>) -> Pass
+    requires { All (λ p. IsOf p outbox.now × (takes p ≡ false) × (p.view.parcels ≡ [])) passes.old.items }
+    ensures pass { IsOf result outbox.now × (takes result ≡ false) }
+    ensures others { All (λ p. IsOf p outbox.now × (takes p ≡ false) × (p.view.parcels ≡ [])) passes.new.items }
+{
+    passes.pop().expect(rt, "one more pass")
+}
+
+/// The outbox of tab 2 in partition 1, its taking pass and two putting ones.
+fn outbox_of_two(rt: &impl Abort, alloc: Global) -> (Outbox, Pass, Pass, Pass)
+    ensures tab { (result.0.partition ≡ 1) × (result.0.tab ≡ 2) }
+    ensures taker { IsOf result.1 result.0 × (takes result.1 ≡ true) }
+    ensures first { IsOf result.2 result.0 × (takes result.2 ≡ false) }
+    ensures second { IsOf result.3 result.0 × (takes result.3 ≡ false) }
+{
+    let (outbox, taker, mut putters) = match Outbox::new(alloc, 1, 2, 2) {
+        Ok(made) => made,
+        Err(Memory) => Outbox::new(alloc, 1, 2, 2).expect(rt, "memory is back"),
+    };
+    let first = next_pass(rt, &outbox, &mut putters);
+    let second = next_pass(rt, &outbox, &mut putters);
+    (outbox, taker, first, second)
+}
+
+/// A parcel for tab 2 in partition 1, which can be told by its generation.
+fn parcel(rt: &impl Abort, generation: u32) -> Parcel
+    ensures { (result.partition ≡ 1) × (result.tab ≡ 2) }
+{
+    Parcel::new(1, 1, 2, Frame::Hello(Hello { generation })).expect(rt, "of one partition")
+}
+
+/// What a parcel can be told by.
+fn generation_of(frame: &Frame) -> Option<u32> {
+    match frame {
+        Frame::Hello(hello) => Some(hello.generation),
+        _ => None,
+    }
+}
+
+/// Puts parcels of these generations. They find room.
+fn put_all<R: Wait + Abort>(rt: &R, outbox: &Outbox, pass: &mut Pass, from: u32, to: u32)
+    requires pass { IsOf pass.old outbox.now × (takes pass.old ≡ false) }
+    requires tab { (outbox.now.partition ≡ 1) × (outbox.now.tab ≡ 2) }
+    ensures { IsOf pass.new outbox.now × (takes pass.new ≡ false) }
+{
+    for generation in from..to {
+        assert!(rt; outbox.put(rt, pass, parcel(rt, generation)).is_ok());
+    }
+}
+
+/// Takes parcels, which are of these generations.
+fn take_all<R: Wait + Abort>(rt: &R, outbox: &Outbox, pass: &mut Pass, from: u32, to: u32)
+    requires { IsOf pass.old outbox.now × (takes pass.old ≡ true) }
+    ensures { IsOf pass.new outbox.now × (takes pass.new ≡ true) }
+{
+    for generation in from..to {
+        let next = outbox.take(rt, pass).expect(rt, "the next parcel");
+        assert_eq!(rt; generation_of(next.frame()), Some(generation));
+    }
+}
+
+#[test]
+fn a_full_outbox_gives_the_parcel_back(rt: HostRuntime) {
+    let (outbox, mut taker, mut putter, _other) = outbox_of_two(&rt, rt.alloc());
+    assert!(&rt; taker.takes());
+    assert!(&rt; !putter.takes());
+    put_all(&rt, &outbox, &mut putter, 0, 256);
+    let Err(Full(back)) = outbox.put(&rt, &mut putter, parcel(&rt, 256)) else {
+        panic!(&rt; "the outbox was full")
+    };
+    assert_eq!(&rt; generation_of(back.frame()), Some(256));
+    let first = outbox.take(&rt, &mut taker).expect(&rt, "the first parcel");
+    assert_eq!(&rt; first.partition(), outbox.partition());
+    assert_eq!(&rt; first.tab(), outbox.tab());
+    assert_eq!(&rt; generation_of(&first.into_frame()), Some(0));
+    assert!(&rt; outbox.put(&rt, &mut putter, back).is_ok());
+    take_all(&rt, &outbox, &mut taker, 1, 257);
+    assert!(&rt; outbox.take(&rt, &mut taker).is_none());
+}
+
+#[test]
+fn a_parcel_stays_in_its_partition(rt: HostRuntime) {
+    let refused = Parcel::new(1, 2, 2, Frame::Hello(Hello { generation: 1 }));
+    assert!(&rt; matches!(refused, Err(CrossPartition)));
+}
+
+/// Puts a hundred parcels.
+fn put_hundred<R: Wait + Abort>(rt: &R, outbox: &Outbox, mut pass: Pass, from: u32)
+    requires pass { IsOf pass outbox.now × (takes pass ≡ false) }
+    requires tab { (outbox.now.partition ≡ 1) × (outbox.now.tab ≡ 2) }
+    requires from { from ≤ 1000 }
+{
+    put_all(rt, outbox, &mut pass, from, from + 100);
+}
+
+/// Takes two hundred parcels: those below 500 come in order, and so do the others.
+fn take_both<R: Wait + Abort>(rt: &R, outbox: &Outbox, pass: &mut Pass)
+    requires { IsOf pass.old outbox.now × (takes pass.old ≡ true) }
+    ensures { IsOf pass.new outbox.now × (takes pass.new ≡ true) }
+{
+    let mut next = 0u32;
+    let mut next_other = 500u32;
+    for _ in 0..200 {
+        let parcel = outbox.take(rt, pass).expect(rt, "a parcel");
+        let generation = generation_of(parcel.frame()).expect(rt, "a hello");
+        if generation < 500 {
+            assert_eq!(rt; generation, next);
+            next = next.wrapping_add(1);
+        } else {
+            assert_eq!(rt; generation, next_other);
+            next_other = next_other.wrapping_add(1);
+        }
+    }
+}
+
+#[test]
+fn parcels_of_two_threads_come_in_order(rt: HostRuntime) {
+    let (outbox, mut taker, one, other) = outbox_of_two(&rt, rt.alloc());
+    let shared = &outbox;
+    let host = &rt;
+    thread::join(
+        &rt,
+        move ||
+            requires { IsOf one shared.now × (takes one ≡ false) × (shared.now.partition ≡ 1) × (shared.now.tab ≡ 2) }
+        { put_hundred(host, shared, one, 0) },
+        move ||
+            requires { IsOf other shared.now × (takes other ≡ false) × (shared.now.partition ≡ 1) × (shared.now.tab ≡ 2) }
+        { put_hundred(host, shared, other, 500) },
+    );
+    take_both(&rt, &outbox, &mut taker);
+    assert!(&rt; outbox.take(&rt, &mut taker).is_none());
+}
