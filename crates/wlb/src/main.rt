@@ -7,6 +7,7 @@ mod tests;
 mod words;
 
 use command::{Line, LineFault};
+use std::io::ErrorKind;
 use std::process::ExitCode;
 use wl_frames::device::{Sink, Source};
 use wl_script::sim::{SimFault, sim_run};
@@ -21,8 +22,12 @@ const DEVICE_OR_MEMORY: u8 = 3;
 
 fn main(rt: HostRuntime) -> ExitCode {
     let alloc = rt.alloc();
-    let Ok(arguments) = std::env::args(&rt) else {
-        return failed(&rt, "Memory", DEVICE_OR_MEMORY);
+    let arguments = match std::env::args(&rt) {
+        Ok(arguments) => arguments,
+        Err(error) if error.kind() == ErrorKind::InvalidData => {
+            return failed(&rt, "an argument is not UTF-8", USAGE);
+        }
+        Err(_) => return failed(&rt, "Memory", DEVICE_OR_MEMORY),
     };
     let Ok(words) = arguments.collect::<Vec<String>>(alloc) else {
         return failed(&rt, "Memory", DEVICE_OR_MEMORY);
