@@ -6,14 +6,17 @@ EXAMPLE ?= examples/handover.sim
 demo: crates/wlb/out/wlb
 	python3 tools/demo.py $(EXAMPLE) crates/wlb/out/wlb
 
-bench: crates/wlb/out/wlb crates/table_speed/out/table_speed
-	python3 tools/bench.py crates/wlb/out/wlb crates/table_speed/out/table_speed
+bench: crates/wlb/out/wlb crates/table_speed/out/table_speed crates/board_speed/out/board_speed
+	python3 tools/bench.py crates/wlb/out/wlb crates/table_speed/out/table_speed crates/board_speed/out/board_speed
 
 crates/wlb/out/wlb: crates.txt $(wildcard crates/*/src/*.rt crates/*/src/*/*.rt crates/*/specs/*.antt)
 	cd crates/wlb && rt run < stdin > /dev/null
 
 crates/table_speed/out/table_speed: crates.txt $(wildcard crates/table_speed/src/*.rt crates/wl_table/src/*.rt crates/wl_draft/src/*.rt)
 	cd crates/table_speed && rt run > /dev/null
+
+crates/board_speed/out/board_speed: crates.txt $(wildcard crates/wl_*/src/*.rt crates/wl_*/specs/*.antt crates/board_speed/src/*.rt)
+	cd crates/board_speed && rt run > /dev/null
 
 test:
 	rt ci

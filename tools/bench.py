@@ -1,4 +1,5 @@
-"""Times `wlb sim`, `wlb desk` and the lock tables: `bench.py WLB TABLES`, or `bench.py WLB TABLES OLDER` to time an older `wlb` beside it.
+"""Times `wlb sim`, `wlb desk`, the lock tables, and the board and the outbox that threads share: `bench.py WLB TABLES BOARD`, or
+`bench.py WLB TABLES BOARD OLDER` to time an older `wlb` beside it.
 
 Handover: scripts of growing length, in which two tabs of one origin hand a lock over, again and again. Prints for each length
 the seconds and the time of a line, as a ratio to that of the shortest script. Where a line costs no more for the messages that
@@ -18,10 +19,15 @@ Waiting: in one partition one tab holds a lock for which so many requests wait, 
 wants and gives it up, again and again. Prints for each count of waiting requests the processor's time of a command, and its ratio
 to that of the smallest count.
 
+Shared: several threads draw numbers from a board, look at a tab on it, or put parcels into an outbox that one more takes from.
+The same loops run over a `Mutex` in the same runs. Prints how many a second there were, the best of the runs, and the time as a
+ratio to that of the loop over the mutex, the middle one of the runs: below 1 is faster than the mutex.
+
 Where an older program is given, reports and waiting also print how many times the time of the newer one the older one took.
 """
 
 import resource
+import statistics
 import struct
 import subprocess
 import sys
@@ -230,14 +236,31 @@ def beside(what, counts, seconds, programs):
         print(f"{what}: {count:7} {taken[0] * 1e6:8.2f} us each  ratio {taken[0] / base:5.2f}{older}")
 
 
+# ---- what threads share
+
+
+def shared(program):
+    rates, ratios = {}, {}
+    for _ in range(RUNS):
+        done = subprocess.run([program, "time"], stdout=subprocess.PIPE, check=True)
+        for line in done.stdout.decode().splitlines():
+            what, threads, count, taken, taken_by_mutex = line.split()
+            rates.setdefault((what, threads), []).append(int(count) / int(taken) * 1e9)
+            ratios.setdefault((what, threads), []).append(int(taken) / int(taken_by_mutex))
+    for (what, threads), some in rates.items():
+        ratio = statistics.median(ratios[what, threads])
+        print(f"shared: {what:7} by {threads} {max(some) / 1e6:8.2f} million a second  ratio to a mutex {ratio:5.2f}")
+
+
 def main():
-    program, tables = sys.argv[1:3]
-    programs = [program, *sys.argv[3:4]]
+    program, tables, board = sys.argv[1:4]
+    programs = [program, *sys.argv[4:5]]
     handovers(program)
     recoveries(program)
     beside("reports, tabs listed ", LISTED, report_seconds, programs)
     beside("commands, waiting for another lock", WAITING, command_seconds, programs)
     subprocess.run([tables, "time"], check=True)
+    shared(board)
 
 
 if __name__ == "__main__":

@@ -1,0 +1,122 @@
+//! Numbers drawn from a board, and from a counter under a mutex.
+
+ghost use Rattle.std.specs.Prelude.{◌≤◌};
+ghost use Rattle.wl_board.specs.Calls.{IsOf};
+
+use crate::race::{Outcome, Part, Setting, run};
+use std::alloc::Global;
+use std::io;
+use std::sync::{Mutex, Wait};
+use std::thread::Threads;
+use std::time::Clock;
+use wl_board::{Board, Seat};
+
+/// A thread that draws from a board.
+#[derive(Drop)]
+struct Drawer<'a> {
+    board: &'a Board,
+    seat: Seat,
+    left: u16,
+    drawn: u32,
+    ghost of_board: { IsOf seat board.now },
+}
+
+impl<'a> Drawer<'a> {
+    fn draw(&mut self) {
+        if self.board.draw(&mut self.seat).is_ok() {
+            self.drawn = self.drawn.saturating_add(1);
+        }
+    }
+}
+
+impl<'a> Part for Drawer<'a> {
+    fn run<R: Wait>(&mut self, _rt: &R) {
+        for _ in 0..self.left {
+            self.draw();
+        }
+    }
+
+    fn done(&self) -> u32 {
+        self.drawn
+    }
+}
+
+/// A thread that draws from a counter.
+#[derive(Drop)]
+struct Counting<'a> {
+    counter: &'a Mutex<u16>,
+    tabs: u16,
+    left: u16,
+    drawn: u32,
+}
+
+impl<'a> Part for Counting<'a> {
+    fn run<R: Wait>(&mut self, rt: &R) {
+        for _ in 0..self.left {
+            let mut next = self.counter.lock(rt);
+            if *next < self.tabs {
+                *next += 1;
+                self.drawn = self.drawn.saturating_add(1);
+            }
+        }
+    }
+
+    fn done(&self) -> u32 {
+        self.drawn
+    }
+}
+
+/// Draws all numbers of each board.
+pub fn from_board<R: Threads + Wait + Clock + Sync>(
+    rt: &R,
+    alloc: Global,
+    threads: u16,
+    setting: &Setting,
+) -> io::Result<Outcome>
+    requires { (1 ≤ threads) × (threads ≤ 16) }
+{
+    let mut all = Outcome::nothing();
+    for _ in 0..setting.boards {
+        let Ok((board, seats)) = Board::new(alloc, setting.draws, threads) else {
+            return Err(io::Error::from(io::ErrorKind::OutOfMemory));
+        };
+        let shared = &board;
+        let mut parts = Vec::new(alloc);
+        for seat in seats {
+            parts.push(Drawer {
+                board: shared,
+                seat,
+                left: setting.draws / threads,
+                drawn: 0,
+            })?;
+        }
+        all = all.and(run(rt, parts.as_mut_slice())?);
+    }
+    Ok(all)
+}
+
+/// Draws all numbers of each counter.
+pub fn from_counter<R: Threads + Wait + Clock + Sync>(
+    rt: &R,
+    alloc: Global,
+    threads: u16,
+    setting: &Setting,
+) -> io::Result<Outcome>
+    requires { 1 ≤ threads }
+{
+    let mut all = Outcome::nothing();
+    for _ in 0..setting.boards {
+        let counter = Mutex::new(0u16);
+        let mut parts = Vec::new(alloc);
+        for _ in 0..threads {
+            parts.push(Counting {
+                counter: &counter,
+                tabs: setting.draws,
+                left: setting.draws / threads,
+                drawn: 0,
+            })?;
+        }
+        all = all.and(run(rt, parts.as_mut_slice())?);
+    }
+    Ok(all)
+}

@@ -1,0 +1,120 @@
+//! Looks at a tab on a board, and in words under a mutex.
+
+ghost use Rattle.std.specs.Prelude.{◌≡◌, ◌≤◌};
+ghost use Rattle.wl_board.specs.Calls.{IsOf};
+
+use crate::race::{Outcome, Part, Setting, run};
+use std::alloc::Global;
+use std::io;
+use std::sync::{Mutex, Wait};
+use std::thread::Threads;
+use std::time::Clock;
+use wl_board::{Board, Life, Seat};
+
+/// The tab that is looked at.
+const TAB: u16 = 2;
+
+/// How many tabs there are.
+const TABS: u16 = 3;
+
+/// A thread that looks at a board.
+#[derive(Drop)]
+struct Watcher<'a> {
+    board: &'a Board,
+    seat: Seat,
+    left: u32,
+    dead: u32,
+    ghost of_board: { IsOf seat board.now },
+    ghost tabs: { 2 ≤ board.now.tabs },
+}
+
+impl<'a> Watcher<'a> {
+    fn look(&mut self) {
+        if self.board.look(&mut self.seat, TAB) == Life::Dead {
+            self.dead = self.dead.saturating_add(1);
+        }
+    }
+}
+
+impl<'a> Part for Watcher<'a> {
+    fn run<R: Wait>(&mut self, _rt: &R) {
+        for _ in 0..self.left {
+            self.look();
+        }
+    }
+
+    fn done(&self) -> u32 {
+        self.dead
+    }
+}
+
+/// A thread that looks under a mutex.
+#[derive(Drop)]
+struct Locking<'a> {
+    lives: &'a Mutex<[Life; 3]>,
+    left: u32,
+    dead: u32,
+}
+
+impl<'a> Part for Locking<'a> {
+    fn run<R: Wait>(&mut self, rt: &R) {
+        for _ in 0..self.left {
+            if self.lives.lock(rt)[1] == Life::Dead {
+                self.dead = self.dead.saturating_add(1);
+            }
+        }
+    }
+
+    fn done(&self) -> u32 {
+        self.dead
+    }
+}
+
+/// Looks at a dead tab.
+pub fn at_board<R: Threads + Wait + Clock + Sync>(
+    rt: &R,
+    alloc: Global,
+    threads: u16,
+    setting: &Setting,
+) -> io::Result<Outcome>
+    requires { (1 ≤ threads) × (threads ≤ 15) }
+{
+    let Ok((board, mut seats)) = Board::new(alloc, TABS, threads + 1) else {
+        return Err(io::Error::from(io::ErrorKind::OutOfMemory));
+    };
+    if let Some(mut seat) = seats.pop() {
+        board.mark_dead(&mut seat, TAB);
+    }
+    let shared = &board;
+    let mut parts = Vec::new(alloc);
+    for seat in seats {
+        parts.push(Watcher {
+            board: shared,
+            seat,
+            left: setting.looks / u32::from(threads),
+            dead: 0,
+        })?;
+    }
+    run(rt, parts.as_mut_slice())
+}
+
+/// Looks at a dead tab under a mutex.
+pub fn at_words<R: Threads + Wait + Clock + Sync>(
+    rt: &R,
+    alloc: Global,
+    threads: u16,
+    setting: &Setting,
+) -> io::Result<Outcome>
+    requires { 1 ≤ threads }
+{
+    let lives = Mutex::new([Life::None, Life::Dead, Life::None]);
+    let mut parts = Vec::new(alloc);
+    for _ in 0..threads {
+        parts.push(Locking {
+            lives: &lives,
+            left: setting.looks / u32::from(threads),
+            dead: 0,
+        })?;
+    }
+    run(rt, parts.as_mut_slice())
+}
