@@ -158,7 +158,11 @@ fn plays_in_copies(rt: &impl Abort, alloc: Global, row: &Row) -> Result<(), Fail
             let outs = copy(rt, alloc, &mut broker, frame, place);
             write(rt, alloc, outs, &mut written)?;
         }
-        assert!(rt; written.as_slice() == output.as_slice(), "{} at {place}", row.name);
+        assert!(rt;
+            written.as_slice() == output.as_slice(),
+            "{} at {place}",
+            row.name
+        );
     }
     Ok(())
 }
