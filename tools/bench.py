@@ -41,7 +41,7 @@ REQUESTS = [16, 64, 256, 1_024]
 LISTED = [512, 1_024]
 WAITING = [64, 1_024, 32_768]
 COMMANDS = 20_000
-# The desk's runs, of which the fastest counts.
+# Of the desk the fastest run counts; of what threads share the best rate and the middle ratio.
 RUNS = 7
 
 
