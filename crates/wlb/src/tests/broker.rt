@@ -141,6 +141,7 @@ fn copy(
     match copies {
         Some(mut copies) => {
             assert_eq!(rt; copies.len(), COPIES);
+            assert!(rt; place < copies.len(), "there are {COPIES} copies");
             copies.swap_remove(place)
         }
         None => nothing(alloc),
