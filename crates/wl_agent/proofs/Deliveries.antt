@@ -20,7 +20,7 @@ use Rattle.wl_draft.specs.Tables.{Table, find, put, has_row}
 use Rattle.wl_agent.proofs.TabSteps.{step-becomes}
 use Rattle.wl_agent.specs.Parts.{PartsState, fits, with_part, is_whole}
 use Rattle.wl_agent.specs.Tab.{TabState, report_frames, enter, status_of, operation_of, is_issued, is_query, is_querying}
-use Rattle.wl_agent.specs.Delivery.{delivery, noted, becomes, of_other, told_by_answer, told_by_part, told_command, told_lock, told_asked, told_end, told_query, told_asked_query, told_unless, told_by_come, parts_refusal, asking_refusal, part_refusal, parts_of, with_part_come, after_answer, after_part, takes_memory, IsSendable}
+use Rattle.wl_agent.specs.Delivery.{delivery, noted, becomes, has_entered, of_other, told_by_answer, told_by_part, told_command, told_lock, told_asked, told_end, told_query, told_asked_query, told_unless, told_by_come, parts_refusal, asking_refusal, part_refusal, parts_of, with_part_come, after_answer, after_part, takes_memory, IsSendable}
 
 -- ---- hellos
 
@@ -37,38 +37,38 @@ greets-new x a new frames e new_is frames_are =
 
 -- ---- answers
 
-hearing : (x : Answer) (a : TabState) (b : Bool) → eqb x.generation a.entered ≡ b → cond b (noted x.upto (after_answer (told_by_answer x a) a), told_by_answer x a) (a, of_other x.generation a) ≡ delivery (frame.Answer x) a
+hearing : (x : Answer) (a : TabState) (b : Bool) → has_entered x.generation a ≡ b → cond b (noted x.upto (after_answer (told_by_answer x a) a), told_by_answer x a) (a, of_other x.generation a) ≡ delivery (frame.Answer x) a
 unfolding delivery
 hearing x a b e = rw (← e) refl
 
-pub hears-other : (x : Answer) (a : TabState) (d : Delivered) → x.generation ≢ a.entered → d ≡ of_other x.generation a → (a, d) ≡ delivery (frame.Answer x) a
-hears-other x a d other d_is = ap (λ (t : Delivered). (a, t)) d_is ∙ hearing x a false (ne_eqb x.generation a.entered other)
+pub hears-other : (x : Answer) (a : TabState) (d : Delivered) → has_entered x.generation a ≡ false → d ≡ of_other x.generation a → (a, d) ≡ delivery (frame.Answer x) a
+hears-other x a d other d_is = ap (λ (t : Delivered). (a, t)) d_is ∙ hearing x a false other
 
-pub hears : (x : Answer) (a mid new : TabState) (d : Delivered) → x.generation ≡ a.entered → d ≡ told_by_answer x a → mid ≡ after_answer d a → new ≡ noted x.upto mid → (new, d) ≡ delivery (frame.Answer x) a
+pub hears : (x : Answer) (a mid new : TabState) (d : Delivered) → has_entered x.generation a ≡ true → d ≡ told_by_answer x a → mid ≡ after_answer d a → new ≡ noted x.upto mid → (new, d) ≡ delivery (frame.Answer x) a
 hears x a mid new d same d_is mid_is new_is =
-    ap (λ (n : TabState). (n, d)) (new_is ∙ ap (noted x.upto) mid_is) ∙ ap (λ (t : Delivered). (noted x.upto (after_answer t a), t)) d_is ∙ hearing x a true (eq-eqb x.generation a.entered same)
+    ap (λ (n : TabState). (n, d)) (new_is ∙ ap (noted x.upto) mid_is) ∙ ap (λ (t : Delivered). (noted x.upto (after_answer t a), t)) d_is ∙ hearing x a true same
 
 -- ---- parts of snapshots
 
-collecting : (x : Part) (a : TabState) (b : Bool) → eqb x.generation a.entered ≡ b → cond b (noted (x.number + 1) (after_part x a), told_by_part x a) (a, of_other x.generation a) ≡ delivery (frame.Snapshot x) a
+collecting : (x : Part) (a : TabState) (b : Bool) → has_entered x.generation a ≡ b → cond b (noted (x.number + 1) (after_part x a), told_by_part x a) (a, of_other x.generation a) ≡ delivery (frame.Snapshot x) a
 unfolding delivery
 collecting x a b e = rw (← e) refl
 
-pub collects-other : (x : Part) (a : TabState) (d : Delivered) → x.generation ≢ a.entered → d ≡ of_other x.generation a → (a, d) ≡ delivery (frame.Snapshot x) a
-collects-other x a d other d_is = ap (λ (t : Delivered). (a, t)) d_is ∙ collecting x a false (ne_eqb x.generation a.entered other)
+pub collects-other : (x : Part) (a : TabState) (d : Delivered) → has_entered x.generation a ≡ false → d ≡ of_other x.generation a → (a, d) ≡ delivery (frame.Snapshot x) a
+collects-other x a d other d_is = ap (λ (t : Delivered). (a, t)) d_is ∙ collecting x a false other
 
-pub collects : (x : Part) (a mid new : TabState) (d : Delivered) → x.generation ≡ a.entered → d ≡ told_by_part x a → mid ≡ after_part x a → new ≡ noted (x.number + 1) mid → (new, d) ≡ delivery (frame.Snapshot x) a
+pub collects : (x : Part) (a mid new : TabState) (d : Delivered) → has_entered x.generation a ≡ true → d ≡ told_by_part x a → mid ≡ after_part x a → new ≡ noted (x.number + 1) mid → (new, d) ≡ delivery (frame.Snapshot x) a
 collects x a mid new d same d_is mid_is new_is =
-    ap (λ (n : TabState). (n, d)) (new_is ∙ ap (noted (x.number + 1)) mid_is) ∙ ap (λ (t : Delivered). (noted (x.number + 1) (after_part x a), t)) d_is ∙ collecting x a true (eq-eqb x.generation a.entered same)
+    ap (λ (n : TabState). (n, d)) (new_is ∙ ap (noted (x.number + 1)) mid_is) ∙ ap (λ (t : Delivered). (noted (x.number + 1) (after_part x a), t)) d_is ∙ collecting x a true same
 
 -- ---- what takes memory
 
 pub enters-by_memory : (x : Hello) (a : TabState) → ltb a.entered x.generation ≡ true → takes_memory (delivery (frame.Hello x) a).1 ≡ true
 enters-by_memory x a e = ap (λ (p : TabState × Delivered). takes_memory p.1) (sym (greeting x a true e))
 
-pub collects-by_memory : (x : Part) (a : TabState) → x.generation ≡ a.entered → takes_memory (told_by_part x a) ≡ true → takes_memory (delivery (frame.Snapshot x) a).1 ≡ true
+pub collects-by_memory : (x : Part) (a : TabState) → has_entered x.generation a ≡ true → takes_memory (told_by_part x a) ≡ true → takes_memory (delivery (frame.Snapshot x) a).1 ≡ true
 collects-by_memory x a same e =
-    ap (λ (p : TabState × Delivered). takes_memory p.1) (sym (collecting x a true (eq-eqb x.generation a.entered same))) ∙ e
+    ap (λ (p : TabState × Delivered). takes_memory p.1) (sym (collecting x a true same)) ∙ e
 
 -- no frame is dropped for want of memory by itself
 abbrev pub is_memory : Delivered → Bool
@@ -167,11 +167,11 @@ hello_never : (x : Hello) (a : TabState) (b : Bool) → ltb a.entered x.generati
 hello_never x a true e = ap (λ (p : TabState × Delivered). is_memory p.1) (sym (greeting x a true e))
 hello_never x a false e = ap (λ (p : TabState × Delivered). is_memory p.1) (sym (greeting x a false e))
 
-answer_never : (x : Answer) (a : TabState) (b : Bool) → eqb x.generation a.entered ≡ b → is_memory (delivery (frame.Answer x) a).1 ≡ false
+answer_never : (x : Answer) (a : TabState) (b : Bool) → has_entered x.generation a ≡ b → is_memory (delivery (frame.Answer x) a).1 ≡ false
 answer_never x a true e = ap (λ (p : TabState × Delivered). is_memory p.1) (sym (hearing x a true e)) ∙ not_memory _ (told_never x a)
 answer_never x a false e = ap (λ (p : TabState × Delivered). is_memory p.1) (sym (hearing x a false e)) ∙ not_memory _ (other_never x.generation a _ refl)
 
-snapshot_never : (x : Part) (a : TabState) (b : Bool) → eqb x.generation a.entered ≡ b → is_memory (delivery (frame.Snapshot x) a).1 ≡ false
+snapshot_never : (x : Part) (a : TabState) (b : Bool) → has_entered x.generation a ≡ b → is_memory (delivery (frame.Snapshot x) a).1 ≡ false
 snapshot_never x a true e = ap (λ (p : TabState × Delivered). is_memory p.1) (sym (collecting x a true e)) ∙ not_memory _ (part_never x a _ refl)
 snapshot_never x a false e = ap (λ (p : TabState × Delivered). is_memory p.1) (sym (collecting x a false e)) ∙ not_memory _ (other_never x.generation a _ refl)
 

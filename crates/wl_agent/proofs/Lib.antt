@@ -16,3 +16,5 @@ pub mod OverForGood
 pub mod HeldByGrants
 pub mod ReportEntries
 pub mod Limits
+pub mod PartsCollected
+pub mod WholeQueries

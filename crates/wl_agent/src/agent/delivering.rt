@@ -2,7 +2,7 @@
 
 ghost use Rattle.std.specs.Prelude.{◌≡◌, ◌≢◌, true, IfOk, OnOk, OnErr, None};
 ghost use Rattle.wl_agent.specs.Tab.{enter};
-ghost use Rattle.wl_agent.specs.Delivery.{delivery, takes_memory, noted, acknowledged_by, of_other, told_by_answer, told_by_part, after_answer, after_part, part_refusal, IsSendable};
+ghost use Rattle.wl_agent.specs.Delivery.{delivery, takes_memory, noted, acknowledged_by, has_entered, of_other, told_by_answer, told_by_part, after_answer, after_part, part_refusal, IsSendable};
 ghost use Rattle.wl_agent.specs.Kept.{CanFollow};
 ghost use Rattle.wl_frames.specs.declared.frame.Frame.TheVariants as frame;
 
@@ -59,7 +59,7 @@ impl Agent {
         ensures ok { (self.new, result) ≡ delivery (frame.Answer answer.now) self.old }
         ensures sendable { IsSendable result }
     {
-        if answer.generation != self.entered {
+        if !self.has_entered(answer.generation) {
             return self.of_other(answer.generation);
         }
         let delivered = self.told_by_answer(answer);
@@ -74,7 +74,7 @@ impl Agent {
         ensures memory { OnErr result (takes_memory (delivery (frame.Snapshot part.now) self.old).1 ≡ true) }
         ensures err { OnErr result (self.new ≡ self.old) }
     {
-        if part.generation != self.entered {
+        if !self.has_entered(part.generation) {
             return Ok(self.of_other(part.generation));
         }
         let delivered = self.take_part(part)?;
@@ -82,7 +82,14 @@ impl Agent {
         Ok(delivered)
     }
 
-    /// What a frame of a generation other than the entered one is.
+    /// Whether this is the generation that it has entered.
+    fn has_entered(&self, generation: u32) -> bool
+        ensures { result ≡ has_entered generation self.now }
+    {
+        generation == self.entered && self.entered != 0
+    }
+
+    /// What a frame of a generation is that it has not entered.
     fn of_other(&self, generation: u32) -> Delivered
         ensures { result ≡ of_other generation self.now }
     {

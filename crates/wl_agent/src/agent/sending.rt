@@ -1,6 +1,6 @@
 //! What the tab sends.
 
-ghost use Rattle.std.specs.Prelude.{◌≡◌, ◌≢◌, Some, None, Err, IfOk, OnOk, IfErr};
+ghost use Rattle.std.specs.Prelude.{◌≡◌, ◌≢◌, Some, None, Err, IfOk, OnOk, IfErr, OnErr};
 ghost use Rattle.std.specs.List.{AllByRecursion};
 ghost use Rattle.wl_frames.specs.Grammar.{IsWellFormed};
 ghost use Rattle.wl_agent.specs.Tab.{command_frame, report_frames, message_refusal, report_refusal, due, is_report_due};
@@ -60,6 +60,7 @@ impl Agent {
     pub fn resend(&self) -> Result<Resend, Memory>
         ensures report { IfOk result (λ r. r.report ≡ is_report_due self.now) }
         ensures numbers { IfOk result (λ r. r.numbers.items ≡ due self.now) }
+        ensures growth { OnErr result (self.now.entered ≢ 0) }
     {
         if self.entered == 0 {
             return Ok(Resend {

@@ -1,20 +1,18 @@
-use Rattle.std.proofs.Common.{refl, ap, sym, ◌∙◌, subst}
-use Rattle.wl_agent.specs.Tab.{TabState}
+use Rattle.std.proofs.Common.{refl, sym, ◌∙◌, subst}
 use Rattle.wl_agent.specs.declared.delivered.Delivered.{Delivered}
 use Rattle.wl_agent.specs.Delivery.{IsSendable}
 use Rattle.wl_agent.proofs.Deliveries.{hears-other, hears, sendable, other_never, told_never}
 use Rattle.wl_agent.proofs.agent.Agent.hear.Goals as goal
 
-pub returns-then-answer-self-clause-ok : goal.returns-then-answer-self-clause-ok
-returns-then-answer-self-clause-ok c =
-    hears-other c.args.answer.now c.args.self.now _ (λ same. c.if-answer-self.true (same ∙ ap (λ (a : TabState). a.entered) (sym c.self.view_is))) c.of_other.ensures
+pub returns-then-not-has_entered-clause-ok : goal.returns-then-not-has_entered-clause-ok
+returns-then-not-has_entered-clause-ok c = hears-other c.args.answer.now c.args.self.now _ (sym c.has_entered.ensures ∙ c.if-not-has_entered.true) c.of_other.ensures
 
 pub returns-clause-ok : goal.returns-clause-ok
 returns-clause-ok c =
-    hears c.args.answer.now c.args.self.now _ _ _ (c.if-answer-self.false ∙ ap (λ (a : TabState). a.entered) c.self.view_is) c.told_by_answer-delivered.ensures.value c.follow.ensures c.note.ensures
+    hears c.args.answer.now c.args.self.now _ _ _ (sym c.has_entered.ensures ∙ c.if-not-has_entered.false) c.told_by_answer-delivered.ensures.value c.follow.ensures c.note.ensures
 
-pub returns-then-answer-self-clause-sendable : goal.returns-then-answer-self-clause-sendable
-returns-then-answer-self-clause-sendable c =
+pub returns-then-not-has_entered-clause-sendable : goal.returns-then-not-has_entered-clause-sendable
+returns-then-not-has_entered-clause-sendable c =
     subst (λ (d : Delivered). IsSendable d) (sym c.of_other.ensures) (sendable _ (other_never c.args.answer.now.generation c.args.self.now _ refl))
 
 pub returns-clause-sendable : goal.returns-clause-sendable

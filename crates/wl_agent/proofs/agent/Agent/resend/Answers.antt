@@ -2,6 +2,7 @@ use Rattle.std.proofs.Common.{◌≡◌, ◌-◌, ◌≤◌, [], ◌∷◌, ◌+
 use Rattle.std.specs.List.{range_with_len}
 use Rattle.wl_agent.specs.Tab.{TabState}
 use Rattle.wl_agent.proofs.Walks.{none-due, due-is, range-more}
+use Rattle.wl_agent.proofs.Outcomes.{on_err}
 use Rattle.wl_agent.proofs.agent.Agent.resend.Goals as goal
 
 pub returns-then-self-eq0-clause-numbers : goal.returns-then-self-eq0-clause-numbers
@@ -23,3 +24,11 @@ returns-clause-numbers c =
     let within = ap (λ (x : TabState). length x.issued) c.self.view_is in
     let more : c.loop-number.number - a.acknowledged ≡ length a.issued - a.acknowledged = omega (arith, at, c.loop-number.auto.number-end, c.loop-number-test.false, c.count-number-end.ensures, within, c.self.invariant.0.acknowledged) in
     due-is _ a _ _ _ _ c.self.invariant.0 c.self.view_is c.if-self-eq0.false more c.in_ok-numbers.ensures c.loop-number.invariant
+
+pub returns-in_err-numbers-clause-growth : goal.returns-in_err-numbers-clause-growth
+returns-in_err-numbers-clause-growth c =
+    on_err c.from_residual.result _ (λ none. c.if-self-eq0.false (ap (λ (x : TabState). x.entered) c.self.view_is ∙ none))
+
+pub returns-in_err-push-clause-growth : goal.returns-in_err-push-clause-growth
+returns-in_err-push-clause-growth c =
+    on_err c.from_residual-in_err-push.result _ (λ none. c.if-self-eq0.false (ap (λ (x : TabState). x.entered) c.self.view_is ∙ none))
