@@ -1,0 +1,5 @@
+pub use Rattle.wl_broker.specs.Broker
+pub mod Stepping
+pub mod History
+pub mod Receipts
+pub mod Marks

@@ -1,0 +1,235 @@
+//! The book: a broker with all that it did.
+
+ghost use Rattle.std.specs.Prelude.{◌≡◌, ◌≢◌, ◌+◌, ◌<◌, ◌≤◌, ◌↔◌, ◌∷◌, ◌++◌, [], ℕ, length, IfOk, IsTrue, OnOk, OnErr};
+ghost use Rattle.wl_locked.specs.Stepping.{stepped};
+ghost use Rattle.wl_locked.specs.History.{replay, events, IsReplay};
+ghost use Rattle.wl_locked.specs.Receipts.{step_of, total, IsMadeOf, IsMismatch};
+
+use crate::answering::answer;
+use crate::event::{BookEvent, Reply};
+use crate::lane::{Generation, Lane, gather};
+use crate::marking::compare;
+use crate::receipt::{CloseFault, History, NotStepped, Receipt, Step};
+use std::alloc::{AllocError, Global};
+use std::marker::Model;
+use std::sync::ledger;
+use std::sync::ledger::Share;
+use wl_broker::{Broker, Dropped};
+use wl_table::IndexedTable;
+
+/// A broker with all that it did since it was opened, and the ledger in which its steps are counted. Contracts see it as
+/// its steps.
+#[derive(Drop)]
+pub struct Book<J: Generation> {
+    broker: Broker<IndexedTable>,
+    steps: Vec<Step>,
+    /// One for each step, which `close` sets where it finds the receipt.
+    marks: Vec<bool>,
+    limit: u32,
+    calls: ledger::Book<J>,
+    /// A share of no parts, into which `close` gathers the lanes'.
+    spare: Share<J>,
+    alloc: Global,
+}
+
+impl<J: Generation> Model for Book<J> {
+    ghost use Rattle.std.specs.Prelude.{◌≡◌, List};
+    ghost use Rattle.wl_locked.specs.declared.receipt.Step.{Step};
+    ghost use Rattle.wl_locked.specs.History.{IsKept};
+
+    ghost Value = { List Step };
+
+    ghost view = { λ b. b.steps.items };
+
+    ghost invariant = { λ b. IsKept J.opening b.broker b.steps.items b.marks.items b.limit b.calls.total × (b.limit ≡ J.limit) × (b.spare.parts ≡ 0) × (b.spare.amount ≡ 0) };
+}
+
+/// Two copies of an event, one for each receipt.
+pub(crate) fn copies(alloc: Global, event: &BookEvent) -> Result<(BookEvent, BookEvent), AllocError>
+    ensures first { IfOk result (λ c. c.0 ≡ event.now) }
+    ensures second { IfOk result (λ c. c.1 ≡ event.now) }
+{
+    Ok((event.copy(alloc)?, event.copy(alloc)?))
+}
+
+impl<J: Generation> Book<J> {
+    /// A book without steps.
+    pub(crate) fn open(
+        alloc: Global,
+        broker: Broker<IndexedTable>,
+        limit: u32,
+        calls: ledger::Book<J>,
+        spare: Share<J>,
+    ) -> Book<J>
+        requires opening { broker ≡ J.opening }
+        requires limit { limit ≡ J.limit }
+        requires calls { calls.total ≡ 0 }
+        requires spare { (spare.parts ≡ 0) × (spare.amount ≡ 0) }
+        ensures { result ≡ [] }
+    {
+        Book {
+            broker,
+            steps: Vec::new(alloc),
+            marks: Vec::new(alloc),
+            limit,
+            calls,
+            spare,
+            alloc,
+        }
+    }
+
+    /// Whether it has all the steps that it may have.
+    pub fn is_spent(&self) -> bool
+        ensures { IsTrue result ↔ (length self.now ≡ J.limit) }
+    {
+        self.steps.len() >= self.limit as usize
+    }
+
+    /// Steps the broker, stores the step, and answers two equal receipts of it. Whoever steps it has a share of the ledger,
+    /// in which the step is counted.
+    pub fn step(
+        &mut self,
+        share: &mut Share<J>,
+        event: BookEvent,
+    ) -> Result<(Receipt, Receipt), NotStepped>
+        requires { 0 < share.old.parts }
+        ensures equal { IfOk result (λ r. r.0 ≡ r.1) }
+        ensures event { IfOk result (λ r. r.0.event ≡ event) }
+        ensures place { IfOk result (λ r. r.0.place ≡ length self.old) }
+        ensures reply { IfOk result (λ r. r.0.reply ≡ (stepped (replay J.opening (events self.old)) event).1) }
+        ensures cause { IfOk result (λ r. r.0.reply ≢ Reply.Dropped Dropped.Memory) }
+        ensures stored { IfOk result (λ r. self.new ≡ self.old ++ step_of r.0 ∷ []) }
+        ensures counted { OnOk result (share.new.amount ≡ share.old.amount + 1) }
+        ensures parts { share.new.parts ≡ share.old.parts }
+        ensures behind { OnOk result (share.old.amount ≤ length self.old) }
+        ensures spent { (result ≡ Err NotStepped.GenerationSpent) ↔ (length self.old ≡ J.limit) }
+        ensures err { OnErr result ((self.new ≡ self.old) × (share.new.amount ≡ share.old.amount)) }
+    {
+        let copied = copies(self.alloc, &event);
+        self.store(share, event, copied)
+    }
+
+    /// Steps the broker for a lane, which keeps a receipt. Otherwise the lane and the book are as before.
+    pub fn take(&mut self, lane: &mut Lane<J>, event: BookEvent) -> Result<Receipt, NotStepped>
+        ensures event { IfOk result (λ r. r.event ≡ event) }
+        ensures place { IfOk result (λ r. r.place ≡ length self.old) }
+        ensures reply { IfOk result (λ r. r.reply ≡ (stepped (replay J.opening (events self.old)) event).1) }
+        ensures cause { IfOk result (λ r. r.reply ≢ Reply.Dropped Dropped.Memory) }
+        ensures stored { IfOk result (λ r. self.new ≡ self.old ++ step_of r ∷ []) }
+        ensures kept { IfOk result (λ r. lane.new ≡ lane.old ++ r ∷ []) }
+        ensures behind { OnOk result (length lane.old ≤ length self.old) }
+        ensures spent { (result ≡ Err NotStepped.GenerationSpent) ↔ (length self.old ≡ J.limit) }
+        ensures err { OnErr result ((self.new ≡ self.old) × (lane.new ≡ lane.old)) }
+    {
+        let copied = copies(self.alloc, &event);
+        self.take_copied(lane, event, copied)
+    }
+
+    /// The same, where the copies of the event were made before, or could not be made.
+    pub(crate) fn take_copied(
+        &mut self,
+        lane: &mut Lane<J>,
+        event: BookEvent,
+        copied: Result<(BookEvent, BookEvent), AllocError>,
+    ) -> Result<Receipt, NotStepped>
+        requires first { IfOk copied (λ c. c.0 ≡ event) }
+        requires second { IfOk copied (λ c. c.1 ≡ event) }
+        ensures event { IfOk result (λ r. r.event ≡ event) }
+        ensures place { IfOk result (λ r. r.place ≡ length self.old) }
+        ensures reply { IfOk result (λ r. r.reply ≡ (stepped (replay J.opening (events self.old)) event).1) }
+        ensures cause { IfOk result (λ r. r.reply ≢ Reply.Dropped Dropped.Memory) }
+        ensures stored { IfOk result (λ r. self.new ≡ self.old ++ step_of r ∷ []) }
+        ensures kept { IfOk result (λ r. lane.new ≡ lane.old ++ r ∷ []) }
+        ensures behind { OnOk result (length lane.old ≤ length self.old) }
+        ensures spent { (result ≡ Err NotStepped.GenerationSpent) ↔ (length self.old ≡ J.limit) }
+        ensures err { OnErr result ((self.new ≡ self.old) × (lane.new ≡ lane.old)) }
+    {
+        if self.is_spent() {
+            return Err(NotStepped::GenerationSpent);
+        }
+        lane.receipts.reserve(1)?;
+        let (receipt, kept) = self.store(&mut lane.share, event, copied)?;
+        lane.receipts.push(kept).unwrap();
+        Ok(receipt)
+    }
+
+    /// Steps the broker and stores the step. All growths come before the broker is stepped.
+    fn store(
+        &mut self,
+        share: &mut Share<J>,
+        event: BookEvent,
+        copied: Result<(BookEvent, BookEvent), AllocError>,
+    ) -> Result<(Receipt, Receipt), NotStepped>
+        requires share { 0 < share.old.parts }
+        requires first { IfOk copied (λ c. c.0 ≡ event) }
+        requires second { IfOk copied (λ c. c.1 ≡ event) }
+        ensures equal { IfOk result (λ r. r.0 ≡ r.1) }
+        ensures event { IfOk result (λ r. r.0.event ≡ event) }
+        ensures place { IfOk result (λ r. r.0.place ≡ length self.old) }
+        ensures reply { IfOk result (λ r. r.0.reply ≡ (stepped (replay J.opening (events self.old)) event).1) }
+        ensures cause { IfOk result (λ r. r.0.reply ≢ Reply.Dropped Dropped.Memory) }
+        ensures stored { IfOk result (λ r. self.new ≡ self.old ++ step_of r.0 ∷ []) }
+        ensures counted { OnOk result (share.new.amount ≡ share.old.amount + 1) }
+        ensures parts { share.new.parts ≡ share.old.parts }
+        ensures behind { OnOk result (share.old.amount ≤ length self.old) }
+        ensures spent { (result ≡ Err NotStepped.GenerationSpent) ↔ (length self.old ≡ J.limit) }
+        ensures err { OnErr result ((self.new ≡ self.old) × (share.new.amount ≡ share.old.amount)) }
+    {
+        if self.is_spent() {
+            return Err(NotStepped::GenerationSpent);
+        }
+        let (first, second) = copied?;
+        self.steps.reserve(1)?;
+        self.marks.reserve(1)?;
+        let (stored, reply, also) = answer(&mut self.broker, &event)?;
+        let place = self.steps.len() as u32;
+        self.calls.audit(share);
+        self.calls.add(share, 1);
+        self.steps.push_reserved(Step {
+            event,
+            reply: stored,
+        });
+        self.marks.push_reserved(false);
+        Ok((
+            Receipt {
+                place,
+                event: first,
+                reply,
+            },
+            Receipt {
+                place,
+                event: second,
+                reply: also,
+            },
+        ))
+    }
+
+    /// Compares the history with the lanes' receipts, by marking their places. It takes no memory.
+    pub fn close(self, lanes: Vec<Lane<J>>) -> Result<History, CloseFault>
+        ensures same { IfOk result (λ h. h ≡ self) }
+        ensures replays { IfOk result (λ h. IsReplay J.opening h) }
+        ensures within { IfOk result (λ h. length h ≤ J.limit) }
+        ensures made { IfOk result (λ h. IsMadeOf h lanes.items) }
+        ensures mismatch { (p : ℕ) → result ≡ Err (CloseFault.Mismatch p) → IsMismatch self lanes.items p }
+        ensures counted { length lanes.items ≡ J.parts → length self ≡ total lanes.items }
+        ensures count { result ≡ Err CloseFault.WrongCount → length lanes.items ≢ J.parts }
+    {
+        let Book {
+            broker: _,
+            steps,
+            mut marks,
+            limit: _,
+            mut calls,
+            spare,
+            alloc: _,
+        } = self;
+        let compared = compare(steps.as_slice(), marks.as_mut_slice(), lanes.as_slice());
+        let mut all = gather(spare, lanes);
+        calls.audit(&mut all);
+        match compared {
+            Err(place) => Err(CloseFault::Mismatch(place)),
+            Ok(false) => Err(CloseFault::WrongCount),
+            Ok(true) => Ok(History::new(steps)),
+        }
+    }
+}

@@ -1,0 +1,100 @@
+//! Lanes.
+
+ghost use Rattle.std.specs.Prelude.{◌≡◌, ◌+◌, [], length};
+ghost use Rattle.wl_locked.specs.Receipts.{total};
+
+use crate::receipt::Receipt;
+use std::alloc::{AllocError, Global};
+use std::marker::{Brand, Model};
+use std::sync::ledger::{Ledger, Share};
+
+/// One run of a broker: the ledger that its lanes count their steps in, the state in which the broker was opened, and how
+/// many steps it may take. Each call of a program picks one.
+pub trait Generation: Ledger {
+    ghost use Rattle.std.specs.Prelude.{ℕ};
+    ghost use Rattle.wl_broker.specs.Broker.{BrokerState};
+
+    ghost opening: { BrokerState };
+
+    ghost limit: { ℕ };
+}
+
+impl Generation for Brand {
+    ghost use Rattle.std.specs.Prelude.{[]};
+    ghost use Rattle.wl_broker.specs.Broker.{started};
+
+    ghost opening = { started 0 [] };
+
+    ghost limit = { 0 };
+}
+
+/// One of the lanes, each for one thread. Contracts see it as its receipts, in order.
+#[derive(Drop)]
+pub struct Lane<J: Generation> {
+    pub(crate) receipts: Vec<Receipt>,
+    pub(crate) share: Share<J>,
+}
+
+impl<J: Generation> Model for Lane<J> {
+    ghost use Rattle.std.specs.Prelude.{◌≡◌, List, length};
+    ghost use Rattle.wl_locked.specs.declared.receipt.Receipt.{Receipt};
+
+    ghost Value = { List Receipt };
+
+    ghost view = { λ l. l.receipts.items };
+
+    ghost invariant = { λ l. (l.share.parts ≡ 1) × (l.share.amount ≡ length l.receipts.items) };
+}
+
+impl<J: Generation> Lane<J> {
+    pub(crate) fn new(alloc: Global, share: Share<J>) -> Lane<J>
+        requires { (share.parts ≡ 1) × (share.amount ≡ 0) }
+        ensures { result ≡ [] }
+    {
+        Lane {
+            receipts: Vec::new(alloc),
+            share,
+        }
+    }
+
+    /// How many steps it has.
+    pub fn count(&self) -> usize
+        ensures { result ≡ length self.now }
+    {
+        self.receipts.len()
+    }
+
+    /// Its receipts, in order.
+    pub fn receipts(&self) -> &[Receipt]
+        ensures { result.now ≡ self.now }
+    {
+        self.receipts.as_slice()
+    }
+
+    /// Makes room for one receipt more.
+    pub(crate) fn grow(&mut self) -> Result<(), AllocError>
+        ensures { self.new ≡ self.old }
+    {
+        self.receipts.reserve(1)
+    }
+
+    pub(crate) fn into_share(self) -> Share<J>
+        ensures parts { result.parts ≡ 1 }
+        ensures amount { result.amount ≡ length self }
+    {
+        self.share
+    }
+}
+
+/// All shares of these lanes in one.
+pub(crate) fn gather<J: Generation>(spare: Share<J>, lanes: Vec<Lane<J>>) -> Share<J>
+    ensures parts { result.parts ≡ spare.parts + length lanes.items }
+    ensures amount { result.amount ≡ spare.amount + total lanes.items }
+{
+    let mut all = spare;
+    let mut lanes = lanes;
+    while let Some(lane) = lanes.pop() {
+        all.merge(lane.into_share());
+    }
+    all
+}

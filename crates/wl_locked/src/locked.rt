@@ -1,0 +1,93 @@
+//! The broker behind its lock.
+
+ghost use Rattle.std.specs.Prelude.{◌≡◌, ◌≢◌, ◌<◌, ◌≤◌, ◌∷◌, ◌++◌, [], ℕ, List, length, replicate, IfOk, OnErr};
+ghost use Rattle.wl_frames.specs.Grammar.{TabsRiseFrom};
+ghost use Rattle.wl_broker.specs.Broker.{started, hellos};
+ghost use Rattle.wl_locked.specs.declared.receipt.Step.{Step};
+ghost use Rattle.wl_locked.specs.History.{IsReplay, IsAnswer};
+ghost use Rattle.wl_locked.specs.Receipts.{total, IsMadeOf, IsMismatch};
+
+use crate::book::{Book, copies};
+use crate::event::{BookEvent, Reply};
+use crate::lane::{Generation, Lane};
+use crate::receipt::{CloseFault, History, NotStepped, Receipt};
+use std::alloc::{AllocError, Global};
+use std::sync::ledger::Blank;
+use std::sync::{Mutex, Wait};
+use wl_broker::{Broker, Dropped, Outs};
+
+/// The most lanes of a broker.
+pub const LANE_LIMIT: u16 = 16;
+
+/// A broker of one generation under a lock, which lanes of several threads share.
+#[derive(Drop)]
+pub struct LockedBroker<J: Generation> {
+    book: Mutex<Book<J>>,
+    alloc: Global,
+}
+
+impl<J: Generation> LockedBroker<J> {
+    /// Starts a generation, of at most so many steps, with its lanes, and greets each listed tab.
+    pub fn new(
+        alloc: Global,
+        blank: Blank,
+        generation: u32,
+        list: &[(u16, u16)],
+        limit: u32,
+        lanes: u16,
+    ) -> Result<(LockedBroker<J>, Vec<Lane<J>>, Outs), AllocError>
+        requires list { TabsRiseFrom 1 list.now }
+        requires name { blank.name ≡ J.name }
+        requires parts { blank.parts ≡ J.parts }
+        requires lanes { (J.parts ≡ lanes) × (0 < lanes) × (lanes ≤ LANE_LIMIT) }
+        requires opening { J.opening ≡ started generation list.now }
+        requires limit { J.limit ≡ limit }
+        ensures lanes { IfOk result (λ r. r.1.items ≡ replicate lanes []) }
+        ensures hellos { IfOk result (λ r. r.2 ≡ hellos generation list.now) }
+    {
+        let (calls, mut rest) = blank.open::<J>();
+        let mut made = Vec::with_capacity(alloc, lanes as usize)?;
+        for _i in 0..lanes {
+            made.push(Lane::new(alloc, rest.split_off(1, 0)))?;
+        }
+        let (broker, hellos) = Broker::start(alloc, generation, list)?;
+        let book = Book::open(alloc, broker, limit, calls, rest);
+        let locked = LockedBroker {
+            book: Mutex::new(book),
+            alloc,
+        };
+        Ok((locked, made, hellos))
+    }
+
+    /// Steps the broker once, and gives a receipt of that step, of which the lane keeps a copy. The event is copied, and the
+    /// lane's list grows, before the lock is taken.
+    pub fn take<R: Wait>(
+        &self,
+        rt: &R,
+        lane: &mut Lane<J>,
+        event: BookEvent,
+    ) -> Result<Receipt, NotStepped>
+        ensures event { IfOk result (λ r. r.event ≡ event) }
+        ensures reply { IfOk result (λ r. IsAnswer J.opening r.place event r.reply) }
+        ensures cause { IfOk result (λ r. r.reply ≢ Reply.Dropped Dropped.Memory) }
+        ensures place { IfOk result (λ r. length lane.old ≤ r.place) }
+        ensures kept { IfOk result (λ r. lane.new ≡ lane.old ++ r ∷ []) }
+        ensures err { OnErr result (lane.new ≡ lane.old) }
+    {
+        let copied = copies(self.alloc, &event);
+        // Where it is refused, it is so again under the lock, after all else that comes first.
+        let _grown = lane.grow();
+        self.book.lock(rt).take_copied(lane, event, copied)
+    }
+
+    /// The history, where it is made of the lanes' receipts. It takes no memory.
+    pub fn close(self, lanes: Vec<Lane<J>>) -> Result<History, CloseFault>
+        ensures replays { IfOk result (λ h. IsReplay J.opening h) }
+        ensures within { IfOk result (λ h. length h ≤ J.limit) }
+        ensures made { IfOk result (λ h. IsMadeOf h lanes.items) }
+        ensures mismatch { (p : ℕ) → result ≡ Err (CloseFault.Mismatch p) → (h : List Step) × IsReplay J.opening h × (length lanes.items ≡ J.parts → length h ≡ total lanes.items) × IsMismatch h lanes.items p }
+        ensures count { result ≡ Err CloseFault.WrongCount → length lanes.items ≢ J.parts }
+    {
+        self.book.into_inner().close(lanes)
+    }
+}

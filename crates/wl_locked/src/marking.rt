@@ -1,0 +1,93 @@
+//! The comparison of a history with the receipts of its lanes, by marking places.
+
+ghost use Rattle.std.specs.Prelude.{◌≡◌, ◌↔◌, ℕ, ◌<◌, true, false, IsTrue, length, slice_index_or, replicate, OnOk, IfOk, IfErr};
+ghost use Rattle.wl_locked.specs.Receipts.{IsMadeOf, IsMismatch, total};
+ghost use Rattle.wl_locked.specs.Marks.{IsFree, IsMarked, IsRefused, AreMarked, AreRefused};
+
+use crate::event::{BookEvent, Reply};
+use crate::lane::{Generation, Lane};
+use crate::receipt::{Receipt, Step};
+
+fn is_event(one: &BookEvent, other: &BookEvent) -> bool
+    ensures { IsTrue result ↔ (one.now ≡ other.now) }
+{
+    one == other
+}
+
+fn is_reply(one: &Reply, other: &Reply) -> bool
+    ensures { IsTrue result ↔ (one.now ≡ other.now) }
+{
+    one == other
+}
+
+/// Whether the receipt is the step at its place, which is not marked.
+fn fits(steps: &[Step], marks: &[bool], least: usize, receipt: &Receipt) -> bool
+    requires { length marks.now ≡ length steps.now }
+    ensures yes { result ≡ true → IsFree steps.now marks.now least receipt.now }
+    ensures no { result ≡ false → IsFree steps.now marks.now least receipt.now → ⊥ }
+{
+    let place = receipt.place as usize;
+    if place < least || place >= steps.len() || marks[place] {
+        return false;
+    }
+    let step = &steps[place];
+    is_event(&step.event, &receipt.event) && is_reply(&step.reply, &receipt.reply)
+}
+
+/// Marks the places of one lane's receipts, or answers the first that cannot be marked.
+fn mark_lane(steps: &[Step], marks: &mut [bool], receipts: &[Receipt]) -> Result<(), u32>
+    requires { length marks.old ≡ length steps.now }
+    ensures ok { OnOk result (IsMarked steps.now 0 receipts.now marks.old marks.new) }
+    ensures err { IfErr result (λ p. IsRefused steps.now 0 receipts.now marks.old p) }
+{
+    let mut least: usize = 0;
+    for receipt in receipts {
+        if !fits(steps, marks, least, receipt) {
+            return Err(receipt.place);
+        }
+        marks[receipt.place as usize] = true;
+        least = receipt.place as usize + 1;
+    }
+    Ok(())
+}
+
+/// Marks the places of all lanes' receipts, or answers the first that cannot be marked.
+fn mark_all<J: Generation>(steps: &[Step], marks: &mut [bool], lanes: &[Lane<J>]) -> Result<(), u32>
+    requires { length marks.old ≡ length steps.now }
+    ensures ok { OnOk result (AreMarked steps.now lanes.now marks.old marks.new) }
+    ensures err { IfErr result (λ p. AreRefused steps.now lanes.now marks.old p) }
+{
+    for lane in lanes {
+        mark_lane(steps, marks, lane.receipts())?;
+    }
+    Ok(())
+}
+
+/// Whether each place is marked.
+fn all_marked(marks: &[bool]) -> bool
+    ensures yes { result ≡ true → (p : ℕ) → p < length marks.now → slice_index_or marks.now p false ≡ true }
+    ensures no { result ≡ false → (p : ℕ) × (p < length marks.now) × (slice_index_or marks.now p false ≡ false) }
+{
+    for mark in marks {
+        if !*mark {
+            return false;
+        }
+    }
+    true
+}
+
+#[tactic(auto, using(crate::proofs::Runs::made, crate::proofs::Runs::fewer, crate::proofs::Runs::mismatch))]
+/// Whether the steps are made of the lanes' receipts, or the first receipt that is not that of a step.
+pub(crate) fn compare<J: Generation>(
+    steps: &[Step],
+    marks: &mut [bool],
+    lanes: &[Lane<J>],
+) -> Result<bool, u32>
+    requires { marks.old ≡ replicate (length steps.now) false }
+    ensures made { IfOk result (λ whole. whole ≡ true → IsMadeOf steps.now lanes.now) }
+    ensures fewer { IfOk result (λ whole. whole ≡ false → total lanes.now < length steps.now) }
+    ensures err { IfErr result (λ p. IsMismatch steps.now lanes.now p) }
+{
+    mark_all(steps, marks, lanes)?;
+    Ok(all_marked(marks))
+}
