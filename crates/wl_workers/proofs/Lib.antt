@@ -4,3 +4,4 @@ pub mod RunLemmas
 pub mod ToldLemmas
 pub mod ReaderLemmas
 pub mod WriterLemmas
+pub mod LaneLemmas

@@ -9,3 +9,5 @@ pub mod Told
 pub mod Looks
 pub mod TabReader
 pub mod TabWriter
+pub mod Lane
+pub mod Jobs

@@ -1,13 +1,17 @@
-//! Loops over readers and writers.
+//! Loops over readers and writers, and a broker's lanes on their threads.
 #![tactic(auto)]
 
 pub mod desk;
+pub mod jobs;
+pub mod lanes;
 pub mod lives;
 pub mod tab_reader;
 pub mod tab_writer;
 pub mod uplink;
 
 pub use desk::{DeskFault, desk_run, desk_run_on};
+pub use jobs::{Job, run_lanes};
+pub use lanes::{Cause, Desk, EVENT_LIMIT, Gate, Intake, LaneEnd, Outlet, OutletFault, lane};
 pub use lives::{BoardSeat, Lives, Rung, SharedSeat};
 pub use tab_reader::ReadEnd;
 pub use tab_writer::WriteEnd;

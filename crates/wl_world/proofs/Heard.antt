@@ -18,7 +18,7 @@ use Rattle.wl_agent.specs.declared.status.Status.{Status}
 use Rattle.wl_agent.specs.declared.status.Status.TheVariants.{Asked, Held, Querying, Whole, Lost}
 use Rattle.wl_agent.specs.Parts.{with_part, is_whole, snapshot_of}
 use Rattle.wl_agent.specs.Tab.{report_frames, TabState, status_of, is_probe, is_asked_probe, is_querying, enter, enter_first, enter_later, ended}
-use Rattle.wl_agent.specs.Delivery.{delivery, noted, becomes, of_other, told_by_answer, told_by_part, told_unless, after_answer, after_part, part_refusal, parts_of, with_part_come}
+use Rattle.wl_agent.specs.Delivery.{delivery, noted, becomes, has_entered, of_other, told_by_answer, told_by_part, told_unless, after_answer, after_part, part_refusal, parts_of, with_part_come}
 use Rattle.wl_agent.specs.Kept.{Rises, RowsFit, Stands}
 use Rattle.wl_agent.proofs.Rows.{Rises-filter, AllRows-filter}
 use Rattle.wl_agent.proofs.Cases.{either}
@@ -104,9 +104,9 @@ unfolding delivery noted
 entered-after (frame.Hello x) a =
     either (λ (p : TabState × Delivered). p.0.entered ≡ entered_by (frame.Hello x) p.1 a.entered) (ltb a.entered x.generation) (enter x.generation a, told_as.Entered (report_frames (enter x.generation a))) (a, told_as.Dropped unheard.OldGeneration) (λ e. enter_generation x.generation a) (λ e. refl)
 entered-after (frame.Answer x) a =
-    either (λ (p : TabState × Delivered). p.0.entered ≡ entered_by (frame.Answer x) p.1 a.entered) (eqb x.generation a.entered) (noted x.upto (after_answer (told_by_answer x a) a), told_by_answer x a) (a, of_other x.generation a) (λ e. kept_entered x a (told_by_answer x a) ∙ sym (no_entering x a (frame.Answer x) (told_by_answer x a) (null_fits x a))) (λ e. sym (other_tells a x.generation (frame.Answer x)))
+    either (λ (p : TabState × Delivered). p.0.entered ≡ entered_by (frame.Answer x) p.1 a.entered) (has_entered x.generation a) (noted x.upto (after_answer (told_by_answer x a) a), told_by_answer x a) (a, of_other x.generation a) (λ e. kept_entered x a (told_by_answer x a) ∙ sym (no_entering x a (frame.Answer x) (told_by_answer x a) (null_fits x a))) (λ e. sym (other_tells a x.generation (frame.Answer x)))
 entered-after (frame.Snapshot x) a =
-    either (λ (p : TabState × Delivered). p.0.entered ≡ entered_by (frame.Snapshot x) p.1 a.entered) (eqb x.generation a.entered) (noted (x.number + 1) (after_part x a), told_by_part x a) (a, of_other x.generation a) (λ e. part_entered x a ∙ sym (part_tells x a (frame.Snapshot x) (part_refusal x a) (is_whole (with_part x (parts_of (status_of a x.number)))))) (λ e. sym (other_tells a x.generation (frame.Snapshot x)))
+    either (λ (p : TabState × Delivered). p.0.entered ≡ entered_by (frame.Snapshot x) p.1 a.entered) (has_entered x.generation a) (noted (x.number + 1) (after_part x a), told_by_part x a) (a, of_other x.generation a) (λ e. part_entered x a ∙ sym (part_tells x a (frame.Snapshot x) (part_refusal x a) (is_whole (with_part x (parts_of (status_of a x.number)))))) (λ e. sym (other_tells a x.generation (frame.Snapshot x)))
 entered-after f a = refl
 
 -- ---- a snapshot that is whole
@@ -163,9 +163,9 @@ unfolding delivery
 whole-comes (frame.Hello x) a none =
     either WholeIf (ltb a.entered x.generation) (enter x.generation a, told_as.Entered (report_frames (enter x.generation a))) (a, told_as.Dropped unheard.OldGeneration) (λ e k is. let bad : ⊥ = cc in absurd bad) (λ e k is. let bad : ⊥ = cc in absurd bad)
 whole-comes (frame.Answer x) a none =
-    either WholeIf (eqb x.generation a.entered) (noted x.upto (after_answer (told_by_answer x a) a), told_by_answer x a) (a, of_other x.generation a) (λ e k is. absurd (subst (AnswerFits x a) is (null_fits x a))) (λ e. other_whole a x.generation)
+    either WholeIf (has_entered x.generation a) (noted x.upto (after_answer (told_by_answer x a) a), told_by_answer x a) (a, of_other x.generation a) (λ e k is. absurd (subst (AnswerFits x a) is (null_fits x a))) (λ e. other_whole a x.generation)
 whole-comes (frame.Snapshot x) a none =
-    either WholeIf (eqb x.generation a.entered) (noted (x.number + 1) (after_part x a), told_by_part x a) (a, of_other x.generation a) (λ e. part_whole x a (x.number + 1) (part_refusal x a) (is_whole (with_part x (parts_of (status_of a x.number)))) none refl refl) (λ e. other_whole a x.generation)
+    either WholeIf (has_entered x.generation a) (noted (x.number + 1) (after_part x a), told_by_part x a) (a, of_other x.generation a) (λ e. part_whole x a (x.number + 1) (part_refusal x a) (is_whole (with_part x (parts_of (status_of a x.number)))) none refl refl) (λ e. other_whole a x.generation)
 whole-comes f a none = λ k is. let bad : ⊥ = cc in absurd bad
 
 pub has-snapshot : (b : TabState) (d : Delivered) → WholeIf (b, d) → has_snapshot d (last_whole b.statuses None) ≡ true

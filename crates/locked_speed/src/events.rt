@@ -1,0 +1,54 @@
+//! What the lanes are given.
+
+use std::alloc::{AllocError, Global};
+use std::collections::VecDeque;
+use wl_frames::{Command, Mode, Name, Operation, Report, Sequence, Stamped, Upward};
+use wl_locked::BookEvent;
+
+pub type Events = VecDeque<BookEvent>;
+
+/// The names of locks, one for each tab.
+const NAMES: [&str; 4] = ["a", "b", "c", "d"];
+
+/// A tab's report, and then so often a request of a lock that no other tab wants, and the release of it.
+pub fn of_tab(alloc: Global, tab: u16, locks: u32) -> Result<Events, AllocError> {
+    let mut events = VecDeque::new(alloc);
+    events.push_back(said(tab, report(alloc)))?;
+    for lock in 0..locks {
+        let number = lock.wrapping_mul(2);
+        let name = NAMES[usize::from(tab) % NAMES.len()];
+        let asked = Operation::Request {
+            mode: Mode::Exclusive,
+            if_available: false,
+            name: Name::new(String::from_str(alloc, name)?),
+        };
+        events.push_back(said(tab, command(number, asked)))?;
+        let done = Operation::Release { number };
+        events.push_back(said(tab, command(number.wrapping_add(1), done)))?;
+    }
+    Ok(events)
+}
+
+fn said(tab: u16, inner: Upward) -> BookEvent {
+    BookEvent::Take(Stamped {
+        tab,
+        partition: 1,
+        inner,
+    })
+}
+
+fn report(alloc: Global) -> Upward {
+    Upward::Report(Report {
+        generation: 1,
+        base: 0,
+        entries: Sequence::new(Vec::new(alloc)),
+    })
+}
+
+fn command(number: u32, operation: Operation) -> Upward {
+    Upward::Command(Command {
+        generation: 1,
+        number,
+        operation,
+    })
+}

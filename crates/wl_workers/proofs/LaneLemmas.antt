@@ -1,0 +1,213 @@
+-- Lemmas on lanes: one event more, and how a lane ends.
+use Rattle.std.proofs.Common.{◌≡◌, ◌+◌, ◌≤◌, ℕ, List, [], ◌∷◌, ◌++◌, length, map, Option, None, Some, Result, Ok, Err, refl, sym, ap, ◌∙◌, subst, append_assoc, append-nil, inl, inr, arith}
+use Rattle.std.specs.List.{AllByRecursion, flat_map}
+use Rattle.std.proofs.lemmas.List.{length_push}
+use Rattle.wl_frames.specs.declared.frame.Addressed.{Addressed}
+use Rattle.wl_frames.specs.declared.frame.Frame.TheVariants as frame
+use Rattle.wl_locked.specs.declared.event.BookEvent.{BookEvent}
+use Rattle.wl_locked.specs.declared.receipt.Receipt.{Receipt}
+use Rattle.wl_locked.specs.declared.receipt.NotStepped.{NotStepped}
+use Rattle.wl_locked.specs.declared.receipt.NotStepped.TheVariants.{GenerationSpent, Memory}
+use Rattle.wl_workers.specs.declared.lanes.OutletFault.{OutletFault}
+use Rattle.wl_workers.specs.declared.lanes.Cause.{Cause}
+use Rattle.wl_workers.specs.declared.lanes.Cause.TheVariants as cause
+use Rattle.wl_workers.specs.declared.lanes.TheConstants.{EVENT_LIMIT}
+use Rattle.wl_workers.specs.Told.{Grows}
+use Rattle.wl_workers.specs.Lane.{Answered, PutOut, as_frames, frames_of, sent_by, receipt_in, all_put, step_of, steps_of, PutsUpTo, IsUnsent, IsUnspent, EndsWith, RunsLane, GoesOn}
+use Rattle.wl_workers.proofs.ToldLemmas.{Grows-nil, Grows-trans}
+
+map-push : {A B : Type 0} (f : A → B) (xs : List A) (x : A) → map f (xs ++ x ∷ []) ≡ map f xs ++ f x ∷ []
+map-push f [] x = refl
+map-push f (y ∷ xs) x = ap (λ l. f y ∷ l) (map-push f xs x)
+
+map-append : {A B : Type 0} (f : A → B) (xs ys : List A) → map f (xs ++ ys) ≡ map f xs ++ map f ys
+map-append f [] ys = refl
+map-append f (x ∷ xs) ys = ap (λ l. f x ∷ l) (map-append f xs ys)
+
+sent-push : (all : List Answered) (a : Answered) → flat_map sent_by (all ++ a ∷ []) ≡ flat_map sent_by all ++ sent_by a
+sent-push [] a = append-nil (sent_by a)
+sent-push (b ∷ all) a = ap (λ l. sent_by b ++ l) (sent-push all a) ∙ sym (append_assoc (sent_by b) (flat_map sent_by all) (sent_by a))
+
+kept-push : (all : List Answered) (a : Answered) → flat_map receipt_in (all ++ a ∷ []) ≡ flat_map receipt_in all ++ receipt_in a
+kept-push [] a = append-nil (receipt_in a)
+kept-push (b ∷ all) a = ap (λ l. receipt_in b ++ l) (kept-push all a) ∙ sym (append_assoc (receipt_in b) (flat_map receipt_in all) (receipt_in a))
+
+steps-push : (all : List Answered) (a : Answered) → steps_of (all ++ a ∷ []) ≡ steps_of all + step_of a
+steps-push [] a = omega arith
+steps-push (b ∷ all) a = omega (arith, steps-push all a)
+
+steps_at_most : (all : List Answered) → steps_of all ≤ length all
+steps_at_most [] = omega arith
+steps_at_most ((event, Ok r) ∷ all) = omega (arith, steps_at_most all)
+steps_at_most ((event, Err e) ∷ all) = omega (arith, steps_at_most all)
+
+unspent-push : (all : List Answered) (a : Answered) → AllByRecursion IsUnspent all → IsUnspent a → AllByRecursion IsUnspent (all ++ a ∷ [])
+unspent-push [] a h here = (here, tt)
+unspent-push (b ∷ all) a h here = (h.0, unspent-push all a h.1 here)
+
+kept_last : (k0 k1 k2 : Option (List Receipt)) {g0 g1 : Option (List (Option BookEvent))} {d0 d1 : Option (List Answered)} {o0 o1 : Option (List PutOut)} {seen steps : ℕ} (a : Answered) (h : GoesOn g0 g1 d0 d1 k0 k1 o0 o1 seen steps) → Grows k1 k2 (receipt_in a) → Grows k0 k2 (flat_map receipt_in (h.answers ++ a ∷ []))
+kept_last k0 k1 k2 {g0} {g1} {d0} {d1} {o0} {o1} {seen} {steps} a h kept =
+    subst (Grows k0 k2) (sym (kept-push h.answers a)) (Grows-trans k0 k1 k2 _ _ h.kept kept)
+
+-- at first nothing was given
+pub lane_begins : {g0 : Option (List (Option BookEvent))} {d0 : Option (List Answered)} {k0 : Option (List Receipt)} {o0 : Option (List PutOut)} → GoesOn g0 g0 d0 d0 k0 k0 o0 o0 0 0
+lane_begins {g0} {d0} {k0} {o0} =
+    record {
+      answers = [];
+      unspent = tt;
+      given = Grows-nil g0;
+      answered = Grows-nil d0;
+      kept = Grows-nil k0;
+      put_out = Grows-nil o0;
+      counts = refl;
+      length_is = refl;
+    }
+
+-- an event whose answer's frames were all put out
+pub lane_goes_on : {g0 g1 g2 : Option (List (Option BookEvent))} {d0 d1 d2 : Option (List Answered)} {k0 k1 k2 : Option (List Receipt)} {o0 o1 o2 : Option (List PutOut)} {seen steps : ℕ} (a : Answered) → GoesOn g0 g1 d0 d1 k0 k1 o0 o1 seen steps → IsUnspent a → Grows g1 g2 (Some a.0 ∷ []) → Grows d1 d2 (a ∷ []) → Grows k1 k2 (receipt_in a) → Grows o1 o2 (all_put (sent_by a))
+    → GoesOn g0 g2 d0 d2 k0 k2 o0 o2 (seen + 1) (steps + step_of a)
+lane_goes_on {g0} {g1} {g2} {d0} {d1} {d2} {k0} {k1} {k2} {o0} {o1} {o2} {seen} {steps} a h unspent given answered kept put =
+    record {
+      answers = h.answers ++ a ∷ [];
+      unspent = unspent-push h.answers a h.unspent unspent;
+      given = subst (Grows g0 g2) (sym (map-push (λ (b : Answered). Some b.0) h.answers a)) (Grows-trans g0 g1 g2 _ _ h.given given);
+      answered = Grows-trans d0 d1 d2 _ _ h.answered answered;
+      kept = kept_last k0 k1 k2 a h kept;
+      put_out = subst (Grows o0 o2) (sym (ap all_put (sent-push h.answers a) ∙ map-append _ (flat_map sent_by h.answers) (sent_by a))) (Grows-trans o0 o1 o2 _ _ h.put_out put);
+      counts = ap (λ n. n + step_of a) h.counts ∙ sym (steps-push h.answers a);
+      length_is = length_push h.answers a ∙ ap (λ n. n + 1) h.length_is;
+    }
+
+-- the intake has no more
+pub lane_ended : {g0 g1 g2 : Option (List (Option BookEvent))} {d0 d1 : Option (List Answered)} {k0 k1 : Option (List Receipt)} {o0 o1 : Option (List PutOut)} {seen steps : ℕ} → GoesOn g0 g1 d0 d1 k0 k1 o0 o1 seen steps → Grows g1 g2 (None ∷ []) → RunsLane g0 g2 d0 d1 k0 k1 o0 o1 (record { steps = steps; why = cause.Ended })
+lane_ended {g0} {g1} {g2} {d0} {d1} {k0} {k1} {o0} {o1} {seen} {steps} h given =
+    record {
+      answers = h.answers;
+      put = all_put (flat_map sent_by h.answers);
+      given = Grows-trans g0 g1 g2 _ _ h.given given;
+      answered = h.answered;
+      kept = h.kept;
+      put_out = h.put_out;
+      steps = h.counts;
+      ends = (h.unspent, refl);
+    }
+
+-- the lane had as many events as it may
+pub lane_at_limit : {g0 g1 : Option (List (Option BookEvent))} {d0 d1 : Option (List Answered)} {k0 k1 : Option (List Receipt)} {o0 o1 : Option (List PutOut)} {seen steps : ℕ} → GoesOn g0 g1 d0 d1 k0 k1 o0 o1 seen steps → seen ≡ EVENT_LIMIT → RunsLane g0 g1 d0 d1 k0 k1 o0 o1 (record { steps = steps; why = cause.Spent })
+lane_at_limit {g0} {g1} {d0} {d1} {k0} {k1} {o0} {o1} {seen} {steps} h limit =
+    record {
+      answers = h.answers;
+      put = all_put (flat_map sent_by h.answers);
+      given = subst (Grows g0 g1) (sym (append-nil (map (λ (b : Answered). Some b.0) h.answers))) h.given;
+      answered = h.answered;
+      kept = h.kept;
+      put_out = h.put_out;
+      steps = h.counts;
+      ends = (refl, inr (h.unspent, h.length_is ∙ limit));
+    }
+
+given_last : (g0 g1 g2 : Option (List (Option BookEvent))) {d0 d1 : Option (List Answered)} {k0 k1 : Option (List Receipt)} {o0 o1 : Option (List PutOut)} {seen steps : ℕ} (a : Answered) (h : GoesOn g0 g1 d0 d1 k0 k1 o0 o1 seen steps) → Grows g1 g2 (Some a.0 ∷ []) → Grows g0 g2 (map (λ (b : Answered). Some b.0) (h.answers ++ a ∷ []) ++ [])
+given_last g0 g1 g2 {d0} {d1} {k0} {k1} {o0} {o1} {seen} {steps} a h given =
+    subst (Grows g0 g2) (sym (append-nil (map (λ (b : Answered). Some b.0) (h.answers ++ a ∷ [])) ∙ map-push (λ (b : Answered). Some b.0) h.answers a)) (Grows-trans g0 g1 g2 _ _ h.given given)
+
+ends_with : {g0 g1 : Option (List (Option BookEvent))} {d0 d1 : Option (List Answered)} {k0 k1 : Option (List Receipt)} {o0 o1 : Option (List PutOut)} {seen steps : ℕ} (a : Answered) (h : GoesOn g0 g1 d0 d1 k0 k1 o0 o1 seen steps) → EndsWith (h.answers ++ a ∷ []) h.answers a
+ends_with {g0} {g1} {d0} {d1} {k0} {k1} {o0} {o1} {seen} {steps} a h = record { are = refl; unspent = h.unspent }
+
+-- the generation is spent
+pub lane_spent : {g0 g1 g2 : Option (List (Option BookEvent))} {d0 d1 d2 : Option (List Answered)} {k0 k1 k2 : Option (List Receipt)} {o0 o1 : Option (List PutOut)} {seen steps : ℕ} (event : BookEvent) → GoesOn g0 g1 d0 d1 k0 k1 o0 o1 seen steps → Grows g1 g2 (Some event ∷ []) → Grows d1 d2 ((event, Err GenerationSpent) ∷ []) → Grows k1 k2 []
+    → RunsLane g0 g2 d0 d2 k0 k2 o0 o1 (record { steps = steps; why = cause.Spent })
+lane_spent {g0} {g1} {g2} {d0} {d1} {d2} {k0} {k1} {k2} {o0} {o1} {seen} {steps} event h given answered kept =
+    let a : Answered = (event, Err GenerationSpent) in
+    record {
+      answers = h.answers ++ a ∷ [];
+      put = all_put (flat_map sent_by h.answers);
+      given = given_last g0 g1 g2 a h given;
+      answered = Grows-trans d0 d1 d2 _ _ h.answered answered;
+      kept = kept_last k0 k1 k2 a h kept;
+      put_out = h.put_out;
+      steps = h.counts ∙ sym (steps-push h.answers a ∙ omega arith);
+      ends = (ap all_put (sym (sent-push h.answers a ∙ append-nil (flat_map sent_by h.answers))), inl (h.answers, event, ends_with a h));
+    }
+
+-- the gate is shut
+lane_shut : {g0 g1 g2 : Option (List (Option BookEvent))} {d0 d1 d2 : Option (List Answered)} {k0 k1 k2 : Option (List Receipt)} {o0 o1 : Option (List PutOut)} {seen steps : ℕ} (event : BookEvent) (receipt : Receipt) → GoesOn g0 g1 d0 d1 k0 k1 o0 o1 seen steps → Grows g1 g2 (Some event ∷ []) → Grows d1 d2 ((event, Ok receipt) ∷ []) → Grows k1 k2 (receipt ∷ [])
+    → RunsLane g0 g2 d0 d2 k0 k2 o0 o1 (record { steps = steps + 1; why = cause.Shut })
+lane_shut {g0} {g1} {g2} {d0} {d1} {d2} {k0} {k1} {k2} {o0} {o1} {seen} {steps} event receipt h given answered kept =
+    let a : Answered = (event, Ok receipt) in
+    record {
+      answers = h.answers ++ a ∷ [];
+      put = all_put (flat_map sent_by h.answers);
+      given = given_last g0 g1 g2 a h given;
+      answered = Grows-trans d0 d1 d2 _ _ h.answered answered;
+      kept = kept_last k0 k1 k2 a h kept;
+      put_out = h.put_out;
+      steps = ap (λ n. n + 1) h.counts ∙ sym (steps-push h.answers a);
+      ends = (h.answers, event, receipt, ends_with a h, refl);
+    }
+
+-- the outlet refused a frame
+lane_refused : {g0 g1 g2 : Option (List (Option BookEvent))} {d0 d1 d2 : Option (List Answered)} {k0 k1 k2 : Option (List Receipt)} {o0 o1 o2 : Option (List PutOut)} {seen steps : ℕ} (event : BookEvent) (receipt : Receipt) (fault : OutletFault) → GoesOn g0 g1 d0 d1 k0 k1 o0 o1 seen steps → Grows g1 g2 (Some event ∷ []) → Grows d1 d2 ((event, Ok receipt) ∷ []) → Grows k1 k2 (receipt ∷ [])
+    → PutsUpTo o1 o2 (frames_of receipt.reply) fault → RunsLane g0 g2 d0 d2 k0 k2 o0 o2 (record { steps = steps + 1; why = cause.Outlet })
+lane_refused {g0} {g1} {g2} {d0} {d1} {d2} {k0} {k1} {k2} {o0} {o1} {o2} {seen} {steps} event receipt fault h given answered kept p =
+    let a : Answered = (event, Ok receipt) in
+    record {
+      answers = h.answers ++ a ∷ [];
+      put = all_put (flat_map sent_by h.answers) ++ (all_put p.front ++ (p.refused, Err fault) ∷ []);
+      given = given_last g0 g1 g2 a h given;
+      answered = Grows-trans d0 d1 d2 _ _ h.answered answered;
+      kept = kept_last k0 k1 k2 a h kept;
+      put_out = Grows-trans o0 o1 o2 _ _ h.put_out p.put;
+      steps = ap (λ n. n + 1) h.counts ∙ sym (steps-push h.answers a);
+      ends = (h.answers, event, receipt, ends_with a h, (fault, p.front, p.refused, p.rest, p.are, refl));
+    }
+
+-- the last step is not sent, or not all of it
+pub lane_unsent : {g0 g1 g2 : Option (List (Option BookEvent))} {d0 d1 d2 : Option (List Answered)} {k0 k1 k2 : Option (List Receipt)} {o0 o1 o2 : Option (List PutOut)} {seen steps : ℕ} (event : BookEvent) (receipt : Receipt) (why : Cause) → GoesOn g0 g1 d0 d1 k0 k1 o0 o1 seen steps → Grows g1 g2 (Some event ∷ []) → Grows d1 d2 ((event, Ok receipt) ∷ []) → Grows k1 k2 (receipt ∷ [])
+    → IsUnsent why o1 o2 receipt.reply → RunsLane g0 g2 d0 d2 k0 k2 o0 o2 (record { steps = steps + 1; why = why })
+lane_unsent {g0} {g1} {g2} {d0} {d1} {d2} {k0} {k1} {k2} {o0} {o1} {o2} {seen} {steps} event receipt cause.Ended h given answered kept unsent = absurd unsent
+lane_unsent {g0} {g1} {g2} {d0} {d1} {d2} {k0} {k1} {k2} {o0} {o1} {o2} {seen} {steps} event receipt cause.Spent h given answered kept unsent = absurd unsent
+lane_unsent {g0} {g1} {g2} {d0} {d1} {d2} {k0} {k1} {k2} {o0} {o1} {o2} {seen} {steps} event receipt cause.Shut h given answered kept unsent = subst (λ o. RunsLane g0 g2 d0 d2 k0 k2 o0 o (record { steps = steps + 1; why = cause.Shut })) (sym unsent) (lane_shut event receipt h given answered kept)
+lane_unsent {g0} {g1} {g2} {d0} {d1} {d2} {k0} {k1} {k2} {o0} {o1} {o2} {seen} {steps} event receipt cause.Outlet h given answered kept unsent = lane_refused event receipt unsent.0 h given answered kept unsent.1
+
+-- there are no more steps than events
+pub steps_within : {g0 g1 : Option (List (Option BookEvent))} {d0 d1 : Option (List Answered)} {k0 k1 : Option (List Receipt)} {o0 o1 : Option (List PutOut)} {seen steps : ℕ} → GoesOn g0 g1 d0 d1 k0 k1 o0 o1 seen steps → steps ≤ seen
+steps_within {g0} {g1} {d0} {d1} {k0} {k1} {o0} {o1} {seen} {steps} h = omega (arith, h.counts, h.length_is, steps_at_most h.answers)
+
+-- a step, and an event that was lost, do not say that the generation is spent
+pub step_unspent : (event : BookEvent) (receipt : Receipt) → IsUnspent (event, Ok receipt)
+step_unspent event receipt e =
+    let step : Result Receipt NotStepped = Ok receipt in
+    let spent : Result Receipt NotStepped = Err GenerationSpent in
+    let k : step ≡ spent = e in cc
+
+pub lost_unspent : (event : BookEvent) → IsUnspent (event, Err Memory)
+lost_unspent event e =
+    let lost : Result Receipt NotStepped = Err Memory in
+    let spent : Result Receipt NotStepped = Err GenerationSpent in
+    let k : lost ≡ spent = e in cc
+
+-- ---- frames that are put out
+
+-- one more
+pub put_one : (a b c : Option (List PutOut)) (done : List Addressed) (out : Addressed) (r : Result (Unit {0}) OutletFault) → Grows a b (all_put (as_frames done))
+    → Grows b c ((frame.Addressed out, r) ∷ []) → r ≡ Ok tt → Grows a c (all_put (as_frames (done ++ out ∷ [])))
+put_one a b c done out r before one ok =
+    let same : all_put (as_frames (done ++ out ∷ [])) ≡ all_put (as_frames done) ++ (frame.Addressed out, Ok tt) ∷ [] = ap all_put (map-push _ done out) ∙ map-push _ (as_frames done) (frame.Addressed out) in
+    subst (Grows a c) (sym same) (Grows-trans a b c _ _ before (subst (λ s. Grows b c ((frame.Addressed out, s) ∷ [])) ok one))
+
+-- all
+pub put_whole : (a b : Option (List PutOut)) (outs done rest : List Addressed) → outs ≡ done ++ rest → rest ≡ [] → Grows a b (all_put (as_frames done)) → Grows a b (all_put (as_frames outs))
+put_whole a b outs done rest split none h =
+    subst (λ l. Grows a b (all_put (as_frames l))) (sym (split ∙ ap (λ l. done ++ l) none ∙ append-nil done)) h
+
+-- the next is refused
+pub put_refused : (a b c : Option (List PutOut)) (outs done rest : List Addressed) (out : Addressed) (r : Result (Unit {0}) OutletFault) (fault : OutletFault) → outs ≡ done ++ out ∷ rest
+    → Grows a b (all_put (as_frames done)) → Grows b c ((frame.Addressed out, r) ∷ []) → r ≡ Err fault → PutsUpTo a c (as_frames outs) fault
+put_refused a b c outs done rest out r fault split before one refused =
+    record {
+      front = as_frames done;
+      refused = frame.Addressed out;
+      rest = as_frames rest;
+      are = ap as_frames split ∙ map-append _ done (out ∷ rest);
+      put = Grows-trans a b c _ _ before (subst (λ s. Grows b c ((frame.Addressed out, s) ∷ [])) refused one);
+    }

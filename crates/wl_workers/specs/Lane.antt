@@ -1,0 +1,127 @@
+-- A lane: what it is given, what its desk answers and what it puts out belong together, up to its end.
+use Rattle.std.specs.Prelude.{◌≡◌, ◌≢◌, ◌⊎◌, ◌+◌, ℕ, List, [], ◌∷◌, ◌++◌, length, map, Option, None, Some, Result, Ok, Err}
+use Rattle.std.specs.List.{AllByRecursion, flat_map}
+use Rattle.wl_frames.specs.declared.frame.Addressed.{Addressed}
+use Rattle.wl_frames.specs.declared.frame.Frame.{Frame}
+use Rattle.wl_frames.specs.declared.frame.Frame.TheVariants as frame
+use Rattle.wl_locked.specs.declared.event.BookEvent.{BookEvent}
+use Rattle.wl_locked.specs.declared.event.Reply.{Reply}
+use Rattle.wl_locked.specs.declared.event.Reply.TheVariants.{Outs, Dropped}
+use Rattle.wl_locked.specs.declared.receipt.Receipt.{Receipt}
+use Rattle.wl_locked.specs.declared.receipt.NotStepped.{NotStepped}
+use Rattle.wl_locked.specs.declared.receipt.NotStepped.TheVariants.{GenerationSpent}
+use Rattle.wl_workers.specs.declared.lanes.OutletFault.{OutletFault}
+use Rattle.wl_workers.specs.declared.lanes.Cause.{Cause}
+use Rattle.wl_workers.specs.declared.lanes.Cause.TheVariants as cause
+use Rattle.wl_workers.specs.declared.lanes.LaneEnd.{LaneEnd}
+use Rattle.wl_workers.specs.declared.lanes.TheConstants.{EVENT_LIMIT}
+use Rattle.wl_workers.specs.Told.{Grows}
+
+-- an event with what the desk answered to it
+abbrev pub Answered : Type 0
+Answered = BookEvent × Result Receipt NotStepped
+
+-- a frame with whether it was put out
+abbrev pub PutOut : Type 0
+PutOut = Frame × Result (Unit {0}) OutletFault
+
+abbrev pub as_frames : List Addressed → List Frame
+as_frames outs = map (λ out. frame.Addressed out) outs
+
+-- the frames that a reply sends
+abbrev pub frames_of : Reply → List Frame
+frames_of (Outs outs) = as_frames outs
+frames_of (Dropped reason) = []
+
+-- the frames that an answer sends; an event that was no step sends none
+abbrev pub sent_by : Answered → List Frame
+sent_by (event, Ok receipt) = frames_of receipt.reply
+sent_by (event, Err e) = []
+
+abbrev pub all_put : List Frame → List PutOut
+all_put frames = map (λ f. (f, Ok tt)) frames
+
+-- the receipt that an answer gives; an event that was no step has none
+abbrev pub receipt_in : Answered → List Receipt
+receipt_in (event, Ok receipt) = receipt ∷ []
+receipt_in (event, Err e) = []
+
+-- 1 where the event was a step
+abbrev pub step_of : Answered → ℕ
+step_of (event, Ok receipt) = 1
+step_of (event, Err e) = 0
+
+abbrev pub steps_of : List Answered → ℕ
+steps_of [] = 0
+steps_of (a ∷ all) = step_of a + steps_of all
+
+-- a front of these frames was put out, and the next one was refused
+pub record PutsUpTo (before after : Option (List PutOut)) (frames : List Frame) (fault : OutletFault) : Type 0 where
+  pub front : List Frame
+  pub refused : Frame
+  pub rest : List Frame
+  pub are : frames ≡ front ++ refused ∷ rest
+  pub put : Grows before after (all_put front ++ (refused, Err fault) ∷ [])
+
+-- what a step sends was not put out, or not all of it, for this cause
+abbrev pub IsUnsent : Cause → Option (List PutOut) → Option (List PutOut) → Reply → Type 0
+IsUnsent cause.Ended before after reply = ⊥
+IsUnsent cause.Spent before after reply = ⊥
+IsUnsent cause.Shut before after reply = after ≡ before
+IsUnsent cause.Outlet before after reply = (fault : OutletFault) × PutsUpTo before after (frames_of reply) fault
+
+abbrev pub IsUnspent : Answered → Type 0
+IsUnspent (event, r) = r ≢ Err GenerationSpent
+
+-- what the intake gave behind the events
+abbrev pub last_given : Cause → List (Option BookEvent)
+last_given cause.Ended = None ∷ []
+last_given cause.Spent = []
+last_given cause.Shut = []
+last_given cause.Outlet = []
+
+-- these are the answers before the last one, none of which was that the generation is spent
+pub record EndsWith (answers front : List Answered) (last : Answered) : Type 0 where
+  pub are : answers ≡ front ++ last ∷ []
+  pub unspent : AllByRecursion IsUnspent front
+
+-- what was put out at the end that is named
+abbrev pub EndsBy : Cause → List Answered → List PutOut → Type 0
+-- all that the steps send, and there is no more to be taken
+EndsBy cause.Ended answers put = AllByRecursion IsUnspent answers × (put ≡ all_put (flat_map sent_by answers))
+-- the same, and the last event met a spent generation, or the lane had as many as it may
+EndsBy cause.Spent answers put =
+    (put ≡ all_put (flat_map sent_by answers))
+    × (((front : List Answered) × (event : BookEvent) × EndsWith answers front (event, Err GenerationSpent))
+    ⊎ (AllByRecursion IsUnspent answers × (length answers ≡ EVENT_LIMIT)))
+-- the last step was not let pass
+EndsBy cause.Shut answers put =
+    (front : List Answered) × (event : BookEvent) × (receipt : Receipt) × EndsWith answers front (event, Ok receipt) × (put ≡ all_put (flat_map sent_by front))
+-- a frame of the last step was refused
+EndsBy cause.Outlet answers put =
+    (front : List Answered) × (event : BookEvent) × (receipt : Receipt) × EndsWith answers front (event, Ok receipt)
+    × ((fault : OutletFault) × (some : List Frame) × (refused : Frame) × (rest : List Frame) × (frames_of receipt.reply ≡ some ++ refused ∷ rest)
+    × (put ≡ all_put (flat_map sent_by front) ++ (all_put some ++ (refused, Err fault) ∷ [])))
+
+-- the desk took the events that the intake gave, in order, each once, and kept the receipts that it answered, and what its
+-- steps send was put out, in order, up to the end that is named
+pub record RunsLane (given_before given_after : Option (List (Option BookEvent))) (answered_before answered_after : Option (List Answered)) (kept_before kept_after : Option (List Receipt)) (put_before put_after : Option (List PutOut)) (end : LaneEnd) : Type 0 where
+  pub answers : List Answered
+  pub put : List PutOut
+  pub given : Grows given_before given_after (map (λ a. Some a.0) answers ++ last_given end.why)
+  pub answered : Grows answered_before answered_after answers
+  pub kept : Grows kept_before kept_after (flat_map receipt_in answers)
+  pub put_out : Grows put_before put_after put
+  pub steps : end.steps ≡ steps_of answers
+  pub ends : EndsBy end.why answers put
+
+-- Only a helper: a lane that goes on
+pub record GoesOn (given_before given_now : Option (List (Option BookEvent))) (answered_before answered_now : Option (List Answered)) (kept_before kept_now : Option (List Receipt)) (put_before put_now : Option (List PutOut)) (seen steps : ℕ) : Type 0 where
+  pub answers : List Answered
+  pub unspent : AllByRecursion IsUnspent answers
+  pub given : Grows given_before given_now (map (λ a. Some a.0) answers)
+  pub answered : Grows answered_before answered_now answers
+  pub kept : Grows kept_before kept_now (flat_map receipt_in answers)
+  pub put_out : Grows put_before put_now (all_put (flat_map sent_by answers))
+  pub counts : steps ≡ steps_of answers
+  pub length_is : length answers ≡ seen
