@@ -15,8 +15,8 @@ use Rattle.wl_frames.specs.Bodies.{inner_kind_at, frame_at, all_of}
 use Rattle.wl_frames.proofs.Forms.{IsBytes, bind_some, guard_some, some_is}
 use Rattle.wl_frames.proofs.Frames.{code_of, version_of, kind_of, fields, body_is, kind_at-code, begins, begun}
 use Rattle.wl_frames.proofs.OneFault.{no_fault}
-use Rattle.wl_script.specs.Words.{Fails, unread_of}
-use Rattle.wl_script.specs.Forgeries.{body_at, ReadsBodies}
+use Rattle.wl_words.specs.Words.{Fails}
+use Rattle.wl_script.specs.Forgeries.{body_at, unread_of, ReadsBodies}
 
 -- a body has a version and a kind
 pub body_at-short : (bytes : List ℕ) → length bytes < 2 → body_at bytes ≡ None

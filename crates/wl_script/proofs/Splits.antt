@@ -4,6 +4,7 @@ use Rattle.std.specs.Prelude.{◌==◌, nat_lt}
 use Rattle.std.specs.List.{onto_first}
 use Rattle.std.proofs.lemmas.Bool.Decides.{nat_tests}
 use Rattle.std.proofs.lemmas.List.Splits.{length-slice_split}
+use Rattle.wl_words.specs.Reading.{line_words_at}
 use Rattle.wl_script.specs.Lines.{line_at}
 use Rattle.wl_script.specs.Sim.{lines_of, whole_lines}
 use Rattle.wl_script.specs.SimSteps.{first_after, lines_after}
@@ -94,7 +95,7 @@ lines_go_on front b more other = begun front b more (lines_of more) (lines_byte_
 -- ---- long lines
 
 too_long : (text : List ℕ) → nat_lt 65536 (length text) ≡ true → line_at text ≡ None
-unfolding line_at
+unfolding line_at line_words_at
 too_long text e = rw e refl
 
 longer : (front : List ℕ) (b : ℕ) (text : List ℕ) → 65536 ≤ length front → 65536 < length (front ++ b ∷ text)

@@ -1,22 +1,12 @@
 -- Reading words and lines.
 use Rattle.std.proofs.Common.{◌≡◌, ℕ, ◌+◌, ◌≤◌, ◌<◌, true, false, List, [], ◌∷◌, ◌++◌, length, drop, get_or, Option, Some, None, refl, sym, ap, ◌∙◌, append_assoc}
-use Rattle.std.specs.Prelude.{bytes_eq, if◌then◌else◌}
 use Rattle.std.specs.Borrow.{Bor}
-use Rattle.std.specs.Str.{IsUtf8, is_utf8}
-use Rattle.std.proofs.lemmas.Bool.{false_from_ne_true}
 use Rattle.std.proofs.lemmas.List.{at_drop_more, at_drop_all, append-nil}
-use Rattle.std.proofs.lemmas.Str.{IsUtf8-from_is_utf8, is_utf8-from_IsUtf8}
-use Rattle.wl_script.specs.declared.unread.Unread.{Unread}
-use Rattle.wl_script.specs.declared.unread.Unread.TheVariants as unread
-use Rattle.wl_script.specs.declared.verb.Verb.{Verb}
-use Rattle.wl_script.specs.Words.{Fails}
-use Rattle.wl_script.specs.Lines.{◌>>=◌, text_of, tab_at, tabs_at, texts, value_of, shown}
-
-pub text_of-utf8 : (text : List ℕ) → IsUtf8 text → text_of text ≡ Some text
-text_of-utf8 text h = rw (is_utf8-from_IsUtf8 text h) refl
-
-pub text_of-not_utf8 : (text : List ℕ) → (IsUtf8 text → ⊥) → text_of text ≡ None
-text_of-not_utf8 text h = rw (false_from_ne_true (is_utf8 text) (λ e. h (IsUtf8-from_is_utf8 text e))) refl
+use Rattle.wl_words.specs.declared.unread.Unread.{Unread}
+use Rattle.wl_words.specs.declared.unread.Unread.TheVariants as unread
+use Rattle.wl_words.specs.Words.{Fails}
+use Rattle.wl_words.specs.Reading.{◌>>=◌, tab_at, texts}
+use Rattle.wl_script.specs.Lines.{tabs_at}
 
 -- ---- tabs, one after another
 
@@ -53,27 +43,3 @@ pub tabs_are : (front : List ℕ) (words : List (Bor (List ℕ))) (i : ℕ) → 
 unfolding tabs_at
 tabs_are front words i le so_far =
     sym so_far ∙ at_drop_all (λ ws. with_front front (tabs_at (texts ws))) words i le ∙ ap (λ (xs : List ℕ). Some xs) (append-nil front)
-
--- ---- a word in a table
-
-table_step : (rows : List (Bor (List ℕ) × Verb)) (word : List ℕ) (i : ℕ) (d : Bor (List ℕ) × Verb) → i < length rows
-    → value_of (shown (drop i rows)) word ≡ (if bytes_eq (get_or rows i d).0.now word then Some (get_or rows i d).1 else value_of (shown (drop (i + 1) rows)) word)
-table_step rows word i d lt = at_drop_more (λ rs. value_of (shown rs) word) rows i d lt
-
-pub found : (rows : List (Bor (List ℕ) × Verb)) (word : List ℕ) (i : ℕ) (d : Bor (List ℕ) × Verb) → i < length rows
-    → bytes_eq (get_or rows i d).0.now word ≡ true → value_of (shown (drop i rows)) word ≡ value_of (shown rows) word
-    → value_of (shown rows) word ≡ Some (get_or rows i d).1
-found rows word i d lt e so_far =
-    sym so_far ∙ table_step rows word i d lt
-    ∙ ap (λ b. if b then Some (get_or rows i d).1 else value_of (shown (drop (i + 1) rows)) word) e
-
-pub not_here : (rows : List (Bor (List ℕ) × Verb)) (word : List ℕ) (i : ℕ) (d : Bor (List ℕ) × Verb) → i < length rows
-    → bytes_eq (get_or rows i d).0.now word ≡ false → value_of (shown (drop i rows)) word ≡ value_of (shown rows) word
-    → value_of (shown (drop (i + 1) rows)) word ≡ value_of (shown rows) word
-not_here rows word i d lt e so_far =
-    ap (λ b. if b then Some (get_or rows i d).1 else value_of (shown (drop (i + 1) rows)) word) (sym e)
-    ∙ sym (table_step rows word i d lt) ∙ so_far
-
-pub nowhere : (rows : List (Bor (List ℕ) × Verb)) (word : List ℕ) (i : ℕ) → length rows ≤ i
-    → value_of (shown (drop i rows)) word ≡ value_of (shown rows) word → value_of (shown rows) word ≡ None
-nowhere rows word i le so_far = sym so_far ∙ at_drop_all (λ rs. value_of (shown rs) word) rows i le

@@ -4,12 +4,16 @@ use Rattle.std.specs.List.{list_any}
 use Rattle.std.specs.Char.{is_ascii_lowercase}
 use Rattle.hex.specs.Hex.{decode_of}
 use Rattle.hex.specs.declared.error.FromHexError.{FromHexError}
+use Rattle.wl_frames.specs.declared.fault.FrameFault.{FrameFault}
+use Rattle.wl_frames.specs.declared.fault.FrameFault.TheVariants as fault
 use Rattle.wl_frames.specs.declared.frame.Frame.{Frame}
 use Rattle.wl_frames.specs.declared.frame.Frame.TheVariants as frame
 use Rattle.wl_frames.specs.declared.frame.Upward.TheVariants as up
 use Rattle.wl_frames.specs.Grammar.{IsBody}
 use Rattle.wl_frames.specs.Reading.{◌>>=◌}
 use Rattle.wl_frames.specs.Bodies.{inner_kind_at, frame_at, all_of}
+use Rattle.wl_words.specs.declared.unread.Unread.{Unread}
+use Rattle.wl_words.specs.declared.unread.Unread.TheVariants as unread
 use Rattle.wl_world.specs.declared.event.Forged.{Forged}
 use Rattle.wl_world.specs.declared.event.Forged.TheVariants as forged
 
@@ -28,6 +32,11 @@ body_at bytes = do
   fields ← frame_at kind.0 kind.1
   whole ← all_of fields
   Some whole.0
+
+-- why a word is unread where the frame in it has a fault
+abbrev pub unread_of : FrameFault → Unread
+unread_of fault.Memory = unread.Memory
+unread_of _ = unread.Form
 
 -- a tab sends commands, reports, parts of reports and posts
 abbrev pub tab_says : Frame → Option Forged

@@ -1,5 +1,4 @@
 pub use Rattle.wl_frames.specs.Grammar
-pub mod Words
 pub mod Forgeries
 pub mod Lines
 pub mod Texts

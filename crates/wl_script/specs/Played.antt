@@ -17,7 +17,7 @@ use Rattle.wl_script.specs.declared.line.Line.{Line}
 use Rattle.wl_script.specs.declared.line.Line.TheVariants as line
 use Rattle.wl_script.specs.Texts.{lock_text}
 use Rattle.wl_script.specs.ReplyTexts.{reply_text}
-use Rattle.wl_script.specs.ReplyTexts.{line as text_line}
+use Rattle.wl_words.specs.Printing.{line as text_line}
 
 pub record Played : Type 0 where
   pub world : WorldState

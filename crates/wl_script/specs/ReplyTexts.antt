@@ -24,12 +24,9 @@ use Rattle.wl_world.specs.declared.reply.Refusal.{Refusal}
 use Rattle.wl_world.specs.declared.reply.Refusal.TheVariants as refusal
 use Rattle.wl_world.specs.declared.reply.Reason.{Reason}
 use Rattle.wl_world.specs.declared.reply.Reason.TheVariants as reason
-use Rattle.wl_script.specs.Words.{word_of}
+use Rattle.wl_words.specs.Words.{word_of}
+use Rattle.wl_words.specs.Printing.{line, numbered}
 use Rattle.wl_script.specs.Texts.{mode_text, upward_text, downward_text, post_text, part_text}
-
--- a line
-abbrev pub line : List ℕ → List ℕ
-line text = text ++ codes "\n"
 
 -- ---- messages
 
@@ -121,10 +118,6 @@ unfoldable pub json_text : Snapshot → List ℕ
 json_text s = compact_text (snapshot_data s)
 
 -- ---- what was said
-
--- a word and a number
-abbrev pub numbered : List ℕ → ℕ → List ℕ
-numbered word number = line (word ++ codes " " ++ decimal number)
 
 unfoldable pub ended_text : Ended → List ℕ
 ended_text (ended.Null number) = numbered (codes "null") number

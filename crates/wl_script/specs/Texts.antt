@@ -20,7 +20,7 @@ use Rattle.wl_frames.specs.declared.frame.Upward.{Upward}
 use Rattle.wl_frames.specs.declared.frame.Upward.TheVariants as up
 use Rattle.wl_frames.specs.declared.frame.Downward.{Downward}
 use Rattle.wl_frames.specs.declared.frame.Downward.TheVariants as down
-use Rattle.wl_script.specs.Words.{word_of}
+use Rattle.wl_words.specs.Words.{word_of}
 
 -- ---- parts
 

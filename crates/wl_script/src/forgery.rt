@@ -3,14 +3,14 @@
 ghost use Rattle.std.specs.Prelude.{◌≡◌};
 ghost use Rattle.std.specs.Char.{is_ascii_lowercase};
 ghost use Rattle.std.specs.List.{list_any};
-ghost use Rattle.wl_script.specs.Forgeries.{hex_at, body_at, tab_says, forged_at};
-ghost use Rattle.wl_script.specs.Words.{Gives};
+ghost use Rattle.wl_script.specs.Forgeries.{hex_at, body_at, unread_of as unread_for, tab_says, forged_at};
+ghost use Rattle.wl_words.specs.Words.{Gives};
 
-use crate::unread::Unread;
 use hex::FromHexError;
 use std::alloc::Global;
 use wl_frames::reading::decode;
-use wl_frames::{Frame, Upward};
+use wl_frames::{Frame, FrameFault, Upward};
+use wl_words::Unread;
 use wl_world::event::Forged;
 
 /// The least length of a body: its version and its kind.
@@ -54,7 +54,20 @@ fn frame_of(alloc: Global, body: &[u8]) -> Result<Frame, Unread>
     if body.len() < MIN_BODY_LEN {
         return Err(Unread::Form);
     }
-    Ok(decode(alloc, body)?)
+    match decode(alloc, body) {
+        Ok(frame) => Ok(frame),
+        Err(fault) => Err(unread_of(fault)),
+    }
+}
+
+/// Why a word is unread where the frame in it has a fault.
+fn unread_of(fault: FrameFault) -> Unread
+    ensures { result ≡ unread_for fault }
+{
+    match fault {
+        FrameFault::Memory => Unread::Memory,
+        _ => Unread::Form,
+    }
 }
 
 /// A tab sends commands, reports, parts of reports and posts.

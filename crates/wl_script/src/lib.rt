@@ -1,4 +1,4 @@
-//! The script of the sim: its words and lines, and the text of messages and replies.
+//! The script of the sim: its lines, and the text of messages and replies.
 #![tactic(auto)]
 
 mod forgery;
@@ -10,11 +10,9 @@ pub mod reading;
 pub mod replies;
 pub mod sim;
 mod snapshots;
-pub mod unread;
 pub mod verb;
-pub mod words;
 
 pub use line::Line;
 pub use reading::read_line;
 pub use sim::{SimFault, sim_run};
-pub use unread::Unread;
+pub use wl_words::Unread;

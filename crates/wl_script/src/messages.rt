@@ -4,29 +4,15 @@ ghost use Rattle.std.specs.Prelude.{◌≡◌, ◌++◌, OnOk, decimal};
 ghost use Rattle.std.specs.List.{flat_map};
 ghost use Rattle.wl_script.specs.Texts.{mode_text, held_text, outcome_text, lock_text, command_number, operation_text, command_text, entry_text, report_text, report_part_text, upward_text, hello_text, answer_text, row_text, part_text, snapshot_text, downward_text, post_text};
 
-use crate::words::put_word;
-use itoa::Buffer;
 use std::alloc::AllocError;
 use wl_frames::{
     Answer, Command, Downward, Entry, Heard, Hello, Mode, Name, Operation, Outcome, Report,
     ReportPart, Snapshot, SnapshotEntry, Upward,
 };
+use wl_words::printing::{put, put_number};
+use wl_words::put_word;
 
 // ---- parts
-
-pub(crate) fn put(out: &mut Vec<u8>, text: &str) -> Result<(), AllocError>
-    ensures { OnOk result (out.new.items ≡ out.old.items ++ text.now) }
-{
-    out.extend_from_slice(text.as_bytes())
-}
-
-/// A number in decimal.
-pub(crate) fn put_number(out: &mut Vec<u8>, number: u64) -> Result<(), AllocError>
-    ensures { OnOk result (out.new.items ≡ out.old.items ++ decimal number) }
-{
-    let mut buffer = Buffer::new();
-    out.extend_from_slice(buffer.format(number).as_bytes())
-}
 
 #[tactic(auto, unfolding(crate::specs::Texts::mode_text))]
 pub(crate) fn mode_word(mode: Mode) -> &'static str

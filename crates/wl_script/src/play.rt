@@ -10,11 +10,12 @@ ghost use Rattle.wl_script.specs.Played.{plays, says, fault_text, opening, opens
 ghost use Rattle.wl_script.specs.SimSteps.{Becomes, is_opened};
 
 use crate::line::Line;
-use crate::messages::{put, put_lock, put_number};
+use crate::messages::put_lock;
 use crate::replies::put_reply;
 use std::alloc::{AllocError, Global};
 use wl_frames::Sequence;
 use wl_origin::{OriginFault, Partition, partition, partition_pair};
+use wl_words::printing::{put, put_number};
 use wl_world::event::Event;
 use wl_world::holding::Holding;
 use wl_world::message::Message;

@@ -1,45 +1,29 @@
 //! Reading a line of a script.
 
-ghost use Rattle.std.specs.Prelude.{◌≡◌, ℕ, ◌+◌, ◌^◌, ◌<◌, length, IfOk};
-ghost use Rattle.wl_script.specs.Lines.{has_leading_zero as leading_zero, number_at, tab_at, message_name_at, mode_at, name_at, text_of, url_at, none, one, two, three, tab_alone, tab_and_url, tab_and_urls, tab_mode_name, tab_and_name, tab_and_number, tab_channel_data, tab_and_forged, tabs_at, start_at, said_by, said_in, line_at, words_of, texts, most_command, most_name};
-ghost use Rattle.wl_script.specs.Words.{Gives, unescaped};
+ghost use Rattle.wl_words.specs.Reading.{most_command, most_number, texts};
+ghost use Rattle.wl_words.specs.Words.{Gives};
+ghost use Rattle.wl_script.specs.Lines.{message_name_at, tab_alone, tab_and_url, tab_and_urls, tab_mode_name, tab_and_name, tab_and_number, tab_channel_data, tab_and_forged, tabs_at, start_at, said_by, said_in, line_at};
 
 use crate::forgery::forged_of;
 use crate::line::Line;
-use crate::unread::Unread;
 use crate::verb::{Verb, verb_of};
-use crate::words::unescape;
 use bytes::Bytes;
-use std::alloc::{AllocError, Global};
-use std::str;
+use std::alloc::Global;
 use wl_frames::{Mode, Name, Sequence};
+use wl_words::Unread;
+use wl_words::reading::{
+    command_of, data_of, line_words, mode_of, name_of, nothing, number_of, one, tab_of, three, two,
+    url_of,
+};
 use wl_world::event::Forged;
-
-/// How many bytes a line may have.
-pub const LINE_LIMIT: usize = 65_536;
 
 /// What a line says, without its line feed.
 #[tactic(auto, unfolding(crate::specs::Lines::line_at))]
 pub fn read_line(alloc: Global, text: &[u8]) -> Result<Line, Unread>
     ensures { Gives (λ line. line) result (line_at text.now) }
 {
-    if text.len() > LINE_LIMIT {
-        return Err(Unread::Form);
-    }
-    match text {
-        [] | [b'#', ..] => Ok(Line::Blank),
-        _ => {
-            let words = words_of(alloc, text)?;
-            read_words(alloc, words.as_slice())
-        }
-    }
-}
-
-/// What stands between single spaces.
-fn words_of(alloc: Global, text: &[u8]) -> Result<Vec<&[u8]>, AllocError>
-    ensures { IfOk result (λ words. texts words.items ≡ words_of text.now) }
-{
-    text.split(|byte| *byte == b' ').collect(alloc)
+    let words = line_words(alloc, text)?;
+    read_words(alloc, words.as_slice())
 }
 
 #[tactic(auto, unfolding(crate::specs::Lines::said_in))]
@@ -47,7 +31,7 @@ fn read_words(alloc: Global, words: &[&[u8]]) -> Result<Line, Unread>
     ensures { Gives (λ line. line) result (said_in (texts words.now)) }
 {
     match words {
-        [] => Err(Unread::Form),
+        [] => Ok(Line::Blank),
         [verb, rest @ ..] => said(alloc, verb_of(verb)?, rest),
     }
 }
@@ -140,42 +124,6 @@ fn said(alloc: Global, verb: Verb, words: &[&[u8]]) -> Result<Line, Unread>
 
 // ---- the words after the verb
 
-fn nothing(words: &[&[u8]]) -> Result<(), Unread>
-    ensures { Gives (λ _. 0) result (none (texts words.now)) }
-{
-    match words {
-        [] => Ok(()),
-        _ => Err(Unread::Form),
-    }
-}
-
-fn one<'a>(words: &[&'a [u8]]) -> Result<&'a [u8], Unread>
-    ensures { Gives (λ x. x.now) result (one (texts words.now)) }
-{
-    match words {
-        [first] => Ok(first),
-        _ => Err(Unread::Form),
-    }
-}
-
-fn two<'a>(words: &[&'a [u8]]) -> Result<(&'a [u8], &'a [u8]), Unread>
-    ensures { Gives (λ x. (x.0.now, x.1.now)) result (two (texts words.now)) }
-{
-    match words {
-        [first, second] => Ok((first, second)),
-        _ => Err(Unread::Form),
-    }
-}
-
-fn three<'a>(words: &[&'a [u8]]) -> Result<(&'a [u8], &'a [u8], &'a [u8]), Unread>
-    ensures { Gives (λ x. (x.0.now, x.1.now, x.2.now)) result (three (texts words.now)) }
-{
-    match words {
-        [first, second, third] => Ok((first, second, third)),
-        _ => Err(Unread::Form),
-    }
-}
-
 #[tactic(auto, unfolding(crate::specs::Lines::tab_alone))]
 fn tab_alone(words: &[&[u8]]) -> Result<u16, Unread>
     ensures { Gives (λ tab. tab) result (tab_alone (texts words.now)) }
@@ -225,7 +173,7 @@ fn tab_and_command(words: &[&[u8]]) -> Result<(u16, u32), Unread>
 
 #[tactic(auto, unfolding(crate::specs::Lines::tab_and_number))]
 fn tab_and_channel(words: &[&[u8]]) -> Result<(u16, usize), Unread>
-    ensures { Gives (λ x. x) result (tab_and_number most_name (texts words.now)) }
+    ensures { Gives (λ x. x) result (tab_and_number most_number (texts words.now)) }
 {
     let (tab, channel) = two(words)?;
     Ok((tab_of(tab)?, number_of(channel)? as usize))
@@ -273,54 +221,7 @@ fn tabs_of(alloc: Global, words: &[&[u8]]) -> Result<Sequence<u16>, Unread>
     Ok(Sequence::new(tabs))
 }
 
-// ---- words
-
-fn has_leading_zero(word: &[u8]) -> bool
-    ensures { result ≡ leading_zero word.now }
-{
-    word.len() > 1 && word[0] == b'0'
-}
-
-/// A number; one above the greatest `u64` is read as that.
-fn number_of(word: &[u8]) -> Result<u64, Unread>
-    ensures { Gives (λ n. n) result (number_at most_name word.now) }
-{
-    if word.is_empty() {
-        return Err(Unread::Form);
-    }
-    if has_leading_zero(word) {
-        return Err(Unread::Form);
-    }
-    let mut number: u64 = 0;
-    for digit in word {
-        if !digit.is_ascii_digit() {
-            return Err(Unread::Form);
-        }
-        number = number
-            .saturating_mul(10)
-            .saturating_add(u64::from(*digit - b'0'));
-    }
-    Ok(number)
-}
-
-/// The number of a command; one above the greatest `u32` is read as that.
-fn command_of(word: &[u8]) -> Result<u32, Unread>
-    ensures { Gives (λ n. n) result (number_at most_command word.now) }
-{
-    let number = number_of(word)?;
-    Ok(number.min(u64::from(u32::MAX)) as u32)
-}
-
-#[tactic(auto, unfolding(crate::specs::Lines::tab_at))]
-fn tab_of(word: &[u8]) -> Result<u16, Unread>
-    ensures { Gives (λ n. n) result (tab_at word.now) }
-{
-    let number = number_of(word)?;
-    if number < 1 || number > 65_535 {
-        return Err(Unread::Form);
-    }
-    Ok(number as u16)
-}
+// ---- the names of messages
 
 #[tactic(auto, unfolding(crate::specs::Lines::message_name_at))]
 fn message_name(word: &[u8]) -> Result<u64, Unread>
@@ -330,49 +231,4 @@ fn message_name(word: &[u8]) -> Result<u64, Unread>
         [b'm', number @ ..] => number_of(number),
         _ => Err(Unread::Form),
     }
-}
-
-#[tactic(auto, unfolding(crate::specs::Lines::mode_at))]
-fn mode_of(word: &[u8]) -> Result<Mode, Unread>
-    ensures { Gives (λ mode. mode) result (mode_at word.now) }
-{
-    if word == b"shared".as_slice() {
-        return Ok(Mode::Shared);
-    }
-    if word == b"exclusive".as_slice() {
-        return Ok(Mode::Exclusive);
-    }
-    Err(Unread::Form)
-}
-
-fn text_of(alloc: Global, text: &[u8]) -> Result<Name, Unread>
-    ensures { Gives (λ name. name) result (text_of text.now) }
-{
-    let text = str::from_utf8(text)?;
-    Ok(Name::new(String::from_str(alloc, text)?))
-}
-
-#[tactic(auto, unfolding(crate::specs::Lines::name_at))]
-fn name_of(alloc: Global, word: &[u8]) -> Result<Name, Unread>
-    ensures { Gives (λ name. name) result (name_at word.now) }
-{
-    let bytes = unescape(alloc, word)?;
-    text_of(alloc, bytes.as_slice())
-}
-
-#[tactic(auto, unfolding(crate::specs::Lines::url_at))]
-fn url_of(alloc: Global, word: &[u8]) -> Result<Name, Unread>
-    ensures { Gives (λ url. url) result (url_at word.now) }
-{
-    if word.is_empty() {
-        return Err(Unread::Form);
-    }
-    text_of(alloc, word)
-}
-
-fn data_of(alloc: Global, word: &[u8]) -> Result<Bytes, Unread>
-    ensures { Gives (λ bytes. bytes) result (unescaped word.now) }
-{
-    let bytes = unescape(alloc, word)?;
-    Ok(Bytes::copy_from_slice(alloc, bytes.as_slice())?)
 }

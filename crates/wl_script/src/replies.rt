@@ -3,17 +3,18 @@
 ghost use Rattle.std.specs.Prelude.{◌≡◌, ◌++◌, OnOk, IfOk};
 ghost use Rattle.std.specs.List.{flat_map};
 ghost use Rattle.wl_origin.specs.Partition.{origin_text};
-ghost use Rattle.wl_script.specs.ReplyTexts.{sender_text, message_text, name_text, sent_text, refusal_text, reason_text, numbered, ended_text, letter_text, reached_text, heard_text, said_text, reply_text};
+ghost use Rattle.wl_script.specs.ReplyTexts.{sender_text, message_text, name_text, sent_text, refusal_text, reason_text, ended_text, letter_text, reached_text, heard_text, said_text, reply_text};
 
-use crate::messages::{put, put_downward, put_number, put_part, put_post, put_upward};
+use crate::messages::{put_downward, put_part, put_post, put_upward};
 use crate::snapshots::snapshot_json;
-use crate::words::put_word;
 use bytes::Bytes;
 use itoa::Buffer;
 use std::alloc::{AllocError, Global};
 use wl_agent::Snapshot;
 use wl_broadcast::Letter;
 use wl_origin::Partition;
+use wl_words::printing::{put, put_number, put_numbered};
+use wl_words::put_word;
 use wl_world::message::{Message, Sender};
 use wl_world::reply::{Ended, Reached, Reason, Refusal, Reply, Said, Sent};
 
@@ -160,16 +161,6 @@ fn reason_words(reason: Reason) -> &'static str
 }
 
 // ---- what was said
-
-/// A line of a word and a number.
-fn put_numbered(out: &mut Vec<u8>, word: &str, number: u64) -> Result<(), AllocError>
-    ensures { OnOk result (out.new.items ≡ out.old.items ++ numbered word.now number) }
-{
-    put(out, word)?;
-    put(out, " ")?;
-    put_number(out, number)?;
-    put(out, "\n")
-}
 
 #[tactic(auto, unfolding(crate::specs::ReplyTexts::ended_text))]
 fn put_ended(out: &mut Vec<u8>, ended: Ended) -> Result<(), AllocError>

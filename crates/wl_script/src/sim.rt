@@ -7,13 +7,14 @@ ghost use Rattle.wl_script.specs.Sim.{Runs};
 ghost use Rattle.wl_script.specs.SimSteps.{of_read, at_first, PlaysLine, Takes, Closes};
 
 use crate::play::play;
-use crate::reading::{LINE_LIMIT, read_line};
-use crate::unread::Unread;
+use crate::reading::read_line;
 use std::alloc::{AllocError, AllocFailed, Global};
 use std::io::{Read, Write};
 use std::marker::Model;
 use thiserror::Error;
 use wl_frames::device::{READ_LIMIT, ReadFault, Sink, Source, WriteFault};
+use wl_words::Unread;
+use wl_words::reading::LINE_LIMIT;
 use wl_world::world::World;
 
 /// How many bytes are read at once, at most.

@@ -1,9 +1,10 @@
 //! The first word of a line.
 
-ghost use Rattle.wl_script.specs.Lines.{value_of, verb_at, shown};
-ghost use Rattle.wl_script.specs.Words.{Gives};
+ghost use Rattle.wl_script.specs.Lines.{verb_at};
+ghost use Rattle.wl_words.specs.Words.{Gives};
 
-use crate::unread::Unread;
+use wl_words::Unread;
+use wl_words::table::value_of;
 
 /// What a line asks for.
 #[derive(Clone, Copy, Debug, PartialEq, Eq)]
@@ -61,17 +62,5 @@ const VERBS: [(&'static str, Verb); 21] = [
 pub(crate) fn verb_of(word: &[u8]) -> Result<Verb, Unread>
     ensures { Gives (λ verb. verb) result (verb_at word.now) }
 {
-    find(&VERBS, word)
-}
-
-/// The verb of a word, in a table.
-fn find(rows: &[(&'static str, Verb)], word: &[u8]) -> Result<Verb, Unread>
-    ensures { Gives (λ verb. verb) result (value_of (shown rows.now) word.now) }
-{
-    for (text, verb) in rows {
-        if text.as_bytes() == word {
-            return Ok(*verb);
-        }
-    }
-    Err(Unread::Form)
+    value_of(&VERBS, word)
 }

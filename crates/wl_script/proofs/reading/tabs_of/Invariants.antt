@@ -1,5 +1,6 @@
 use Rattle.std.proofs.Common.{◌≡◌, drop}
-use Rattle.wl_script.specs.Lines.{tabs_at, texts}
+use Rattle.wl_words.specs.Reading.{texts}
+use Rattle.wl_script.specs.Lines.{tabs_at}
 use Rattle.wl_script.proofs.Texts.{with_front}
 use Rattle.wl_script.proofs.reading.tabs_of.Given as goal
 

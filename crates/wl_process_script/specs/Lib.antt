@@ -1,0 +1,4 @@
+pub mod KernelLines
+pub mod TabLines
+pub mod KernelReplies
+pub mod Counts

@@ -1,0 +1,32 @@
+//! Texts and numbers as they are printed. Each function appends to what was written before.
+
+ghost use Rattle.std.specs.Prelude.{◌≡◌, ◌++◌, OnOk, decimal};
+ghost use Rattle.wl_words.specs.Printing.{numbered};
+
+use itoa::Buffer;
+use std::alloc::AllocError;
+
+/// A text as it stands.
+pub fn put(out: &mut Vec<u8>, text: &str) -> Result<(), AllocError>
+    ensures { OnOk result (out.new.items ≡ out.old.items ++ text.now) }
+{
+    out.extend_from_slice(text.as_bytes())
+}
+
+/// A number in decimal.
+pub fn put_number(out: &mut Vec<u8>, number: u64) -> Result<(), AllocError>
+    ensures { OnOk result (out.new.items ≡ out.old.items ++ decimal number) }
+{
+    let mut buffer = Buffer::new();
+    out.extend_from_slice(buffer.format(number).as_bytes())
+}
+
+/// A line of a word and a number.
+pub fn put_numbered(out: &mut Vec<u8>, word: &str, number: u64) -> Result<(), AllocError>
+    ensures { OnOk result (out.new.items ≡ out.old.items ++ numbered word.now number) }
+{
+    put(out, word)?;
+    put(out, " ")?;
+    put_number(out, number)?;
+    put(out, "\n")
+}

@@ -1,0 +1,190 @@
+//! Reading the words of a line.
+
+ghost use Rattle.std.specs.Prelude.{◌≡◌, IfOk};
+ghost use Rattle.wl_words.specs.Reading.{has_leading_zero as leading_zero, number_at, tab_at, mode_at, name_at, text_of as text_at, url_at, none, one, two, three, line_words_at, words_of, texts, most_command, most_number};
+ghost use Rattle.wl_words.specs.Words.{Gives, unescaped};
+
+use crate::unread::Unread;
+use crate::words::unescape;
+use bytes::Bytes;
+use std::alloc::{AllocError, Global};
+use std::str;
+use wl_draft::{Mode, Name};
+
+/// How many bytes a line may have, its line feed not counted.
+pub const LINE_LIMIT: usize = 65_536;
+
+// ---- lines
+
+/// The words of a line without its line feed. An empty line and a comment have none; a line over the limit is of another
+/// form.
+#[tactic(auto, unfolding(crate::specs::Reading::line_words_at))]
+pub fn line_words(alloc: Global, text: &[u8]) -> Result<Vec<&[u8]>, Unread>
+    ensures { Gives (λ words. texts words.items) result (line_words_at text.now) }
+{
+    if text.len() > LINE_LIMIT {
+        return Err(Unread::Form);
+    }
+    match text {
+        [] | [b'#', ..] => Ok(Vec::new(alloc)),
+        _ => Ok(words_of(alloc, text)?),
+    }
+}
+
+/// What stands between single spaces.
+fn words_of(alloc: Global, text: &[u8]) -> Result<Vec<&[u8]>, AllocError>
+    ensures { IfOk result (λ words. texts words.items ≡ words_of text.now) }
+{
+    text.split(|byte| *byte == b' ').collect(alloc)
+}
+
+// ---- just so many words
+
+/// There is no word.
+pub fn nothing(words: &[&[u8]]) -> Result<(), Unread>
+    ensures { Gives (λ _. 0) result (none (texts words.now)) }
+{
+    match words {
+        [] => Ok(()),
+        _ => Err(Unread::Form),
+    }
+}
+
+/// The one word that there is.
+pub fn one<'a>(words: &[&'a [u8]]) -> Result<&'a [u8], Unread>
+    ensures { Gives (λ x. x.now) result (one (texts words.now)) }
+{
+    match words {
+        [first] => Ok(first),
+        _ => Err(Unread::Form),
+    }
+}
+
+/// The two words that there are.
+pub fn two<'a>(words: &[&'a [u8]]) -> Result<(&'a [u8], &'a [u8]), Unread>
+    ensures { Gives (λ x. (x.0.now, x.1.now)) result (two (texts words.now)) }
+{
+    match words {
+        [first, second] => Ok((first, second)),
+        _ => Err(Unread::Form),
+    }
+}
+
+/// The three words that there are.
+pub fn three<'a>(words: &[&'a [u8]]) -> Result<(&'a [u8], &'a [u8], &'a [u8]), Unread>
+    ensures { Gives (λ x. (x.0.now, x.1.now, x.2.now)) result (three (texts words.now)) }
+{
+    match words {
+        [first, second, third] => Ok((first, second, third)),
+        _ => Err(Unread::Form),
+    }
+}
+
+// ---- numbers
+
+fn has_leading_zero(word: &[u8]) -> bool
+    ensures { result ≡ leading_zero word.now }
+{
+    word.len() > 1 && word[0] == b'0'
+}
+
+/// What decimal digits without a leading zero write; a number above the greatest `u64` is read as that.
+pub fn decimal_of(word: &[u8]) -> Option<u64>
+    ensures { result ≡ number_at most_number word.now }
+{
+    if word.is_empty() {
+        return None;
+    }
+    if has_leading_zero(word) {
+        return None;
+    }
+    let mut number: u64 = 0;
+    for digit in word {
+        if !digit.is_ascii_digit() {
+            return None;
+        }
+        number = number
+            .saturating_mul(10)
+            .saturating_add(u64::from(*digit - b'0'));
+    }
+    Some(number)
+}
+
+/// A number; one above the greatest `u64` is read as that.
+pub fn number_of(word: &[u8]) -> Result<u64, Unread>
+    ensures { Gives (λ n. n) result (number_at most_number word.now) }
+{
+    decimal_of(word).ok_or(Unread::Form)
+}
+
+/// The number of a command; one above the greatest `u32` is read as that.
+pub fn command_of(word: &[u8]) -> Result<u32, Unread>
+    ensures { Gives (λ n. n) result (number_at most_command word.now) }
+{
+    let number = number_of(word)?;
+    Ok(number.min(u64::from(u32::MAX)) as u32)
+}
+
+/// The number of a tab, 1 to 65,535.
+#[tactic(auto, unfolding(crate::specs::Reading::tab_at))]
+pub fn tab_of(word: &[u8]) -> Result<u16, Unread>
+    ensures { Gives (λ n. n) result (tab_at word.now) }
+{
+    let number = number_of(word)?;
+    if number < 1 || number > 65_535 {
+        return Err(Unread::Form);
+    }
+    Ok(number as u16)
+}
+
+// ---- other words
+
+/// `shared` or `exclusive`.
+#[tactic(auto, unfolding(crate::specs::Reading::mode_at))]
+pub fn mode_of(word: &[u8]) -> Result<Mode, Unread>
+    ensures { Gives (λ mode. mode) result (mode_at word.now) }
+{
+    if word == b"shared".as_slice() {
+        return Ok(Mode::Shared);
+    }
+    if word == b"exclusive".as_slice() {
+        return Ok(Mode::Exclusive);
+    }
+    Err(Unread::Form)
+}
+
+/// Bytes as text; those that are not UTF-8 are of another form.
+fn text_of(alloc: Global, text: &[u8]) -> Result<Name, Unread>
+    ensures { Gives (λ name. name) result (text_at text.now) }
+{
+    let text = str::from_utf8(text)?;
+    Ok(Name::new(String::from_str(alloc, text)?))
+}
+
+/// The name of a lock or a channel, whose word this is.
+#[tactic(auto, unfolding(crate::specs::Reading::name_at))]
+pub fn name_of(alloc: Global, word: &[u8]) -> Result<Name, Unread>
+    ensures { Gives (λ name. name) result (name_at word.now) }
+{
+    let bytes = unescape(alloc, word)?;
+    text_of(alloc, bytes.as_slice())
+}
+
+/// A URL or the path of a file: it stands as it is, and is not empty.
+#[tactic(auto, unfolding(crate::specs::Reading::url_at))]
+pub fn url_of(alloc: Global, word: &[u8]) -> Result<Name, Unread>
+    ensures { Gives (λ url. url) result (url_at word.now) }
+{
+    if word.is_empty() {
+        return Err(Unread::Form);
+    }
+    text_of(alloc, word)
+}
+
+/// The data of a post, whose word this is.
+pub fn data_of(alloc: Global, word: &[u8]) -> Result<Bytes, Unread>
+    ensures { Gives (λ bytes. bytes) result (unescaped word.now) }
+{
+    let bytes = unescape(alloc, word)?;
+    Ok(Bytes::copy_from_slice(alloc, bytes.as_slice())?)
+}
