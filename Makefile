@@ -6,8 +6,10 @@ EXAMPLE ?= examples/handover.sim
 demo: crates/wlb/out/wlb
 	python3 tools/demo.py $(EXAMPLE) crates/wlb/out/wlb
 
-bench: crates/wlb/out/wlb crates/table_speed/out/table_speed crates/board_speed/out/board_speed
-	python3 tools/bench.py crates/wlb/out/wlb crates/table_speed/out/table_speed crates/board_speed/out/board_speed
+SPEEDS = crates/table_speed/out/table_speed crates/board_speed/out/board_speed crates/locked_speed/out/locked_speed
+
+bench: crates/wlb/out/wlb $(SPEEDS)
+	python3 tools/bench.py crates/wlb/out/wlb $(SPEEDS)
 
 crates/wlb/out/wlb: crates.txt $(wildcard crates/*/src/*.rt crates/*/src/*/*.rt crates/*/specs/*.antt)
 	cd crates/wlb && rt run < stdin > /dev/null
@@ -17,6 +19,9 @@ crates/table_speed/out/table_speed: crates.txt $(wildcard crates/table_speed/src
 
 crates/board_speed/out/board_speed: crates.txt $(wildcard crates/wl_*/src/*.rt crates/wl_*/specs/*.antt crates/board_speed/src/*.rt)
 	cd crates/board_speed && rt run > /dev/null
+
+crates/locked_speed/out/locked_speed: crates.txt $(wildcard crates/wl_*/src/*.rt crates/wl_*/specs/*.antt crates/locked_speed/src/*.rt)
+	cd crates/locked_speed && rt run > /dev/null
 
 test:
 	rt ci

@@ -1,5 +1,5 @@
-"""Times `wlb sim`, `wlb desk`, the lock tables, and the board and the outbox that threads share: `bench.py WLB TABLES BOARD`, or
-`bench.py WLB TABLES BOARD OLDER` to time an older `wlb` beside it.
+"""Times `wlb sim`, `wlb desk`, the lock tables, the board and the outbox that threads share, and a broker behind its lock:
+`bench.py WLB TABLES BOARD LOCKED`, or `bench.py WLB TABLES BOARD LOCKED OLDER` to time an older `wlb` beside it.
 
 Handover: scripts of growing length, in which two tabs of one origin hand a lock over, again and again. Prints for each length
 the seconds and the time of a line, as a ratio to that of the shortest script. Where a line costs no more for the messages that
@@ -22,6 +22,11 @@ to that of the smallest count.
 Shared: several threads draw numbers from a board, look at a tab on it, or put parcels into an outbox that one more takes from.
 The same loops run over a `Mutex` in the same runs. Prints how many a second there were, the best of the runs, and the time as a
 ratio to that of the loop over the mutex, the middle one of the runs: below 1 is faster than the mutex.
+
+Lanes: 1, 2 and 4 lanes, each on a thread of its own, step one broker behind its lock, each with requests and releases of a lock
+that nobody else wants. A broker that no other thread has takes the events of one lane. Prints how many steps a second there
+were, of all lanes together, the best of the runs, and that rate as a ratio to the rate of one lane, the middle one of the runs.
+Where the broker alone has a ratio of 2, a step of a lane takes twice as long as one without lock, history and receipts.
 
 Where an older program is given, reports and waiting also print how many times the time of the newer one the older one took.
 """
@@ -252,15 +257,35 @@ def shared(program):
         print(f"shared: {what:7} by {threads} {max(some) / 1e6:8.2f} million a second  ratio to a mutex {ratio:5.2f}")
 
 
+# ---- a broker behind its lock
+
+
+def locked(program):
+    rates, ratios = {}, {}
+    for _ in range(RUNS):
+        done = subprocess.run([program, "time"], stdout=subprocess.PIPE, check=True)
+        run = {}
+        for line in done.stdout.decode().splitlines():
+            what, lanes, steps, taken = line.split()
+            run[what, lanes] = int(steps) / int(taken) * 1e9
+        for key, rate in run.items():
+            rates.setdefault(key, []).append(rate)
+            ratios.setdefault(key, []).append(rate / run["lanes", "1"])
+    for key, some in rates.items():
+        what, lanes = key
+        print(f"locked: {what} {lanes} {max(some) / 1e6:8.3f} million a second  ratio to one lane {statistics.median(ratios[key]):5.2f}")
+
+
 def main():
-    program, tables, board = sys.argv[1:4]
-    programs = [program, *sys.argv[4:5]]
+    program, tables, board, lanes = sys.argv[1:5]
+    programs = [program, *sys.argv[5:6]]
     handovers(program)
     recoveries(program)
     beside("reports, tabs listed ", LISTED, report_seconds, programs)
     beside("commands, waiting for another lock", WAITING, command_seconds, programs)
     subprocess.run([tables, "time"], check=True)
     shared(board)
+    locked(lanes)
 
 
 if __name__ == "__main__":

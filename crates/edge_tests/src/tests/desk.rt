@@ -1,12 +1,11 @@
 mod devices;
-pub mod fakes;
 pub mod rows;
 
-use fakes::{SlowReader, SlowWriter};
 use rows::{FIRST_GRANT, Row};
 use std::alloc::{AllocError, Global};
 use std::process::Abort;
 use std::test::Fail;
+use wl_fakes::devices::{SlowReader, SlowWriter};
 use wl_frames::FrameFault;
 use wl_workers::{DeskFault, Sink, Source, desk_run};
 

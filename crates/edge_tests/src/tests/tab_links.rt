@@ -5,7 +5,6 @@ ghost use Rattle.std.specs.Prelude.{◌≡◌, ◌≤◌, true, false, IfOk};
 ghost use Rattle.wl_board.specs.Calls.{IsOf as IsSeatOf};
 ghost use Rattle.wl_outbox.specs.Passes.{IsOf, takes};
 
-use crate::tests::desk::fakes::{SlowReader, SlowWriter};
 use std::alloc::{AllocError, Global};
 use std::io::{Read, Write};
 use std::process::Abort;
@@ -14,6 +13,7 @@ use std::sync::{Arc, Mutex, Wait};
 use std::thread;
 use std::thread::{Parker, Threads};
 use wl_board::{Board, Life, Seat};
+use wl_fakes::devices::{SlowReader, SlowWriter};
 use wl_frames::device::{Sink, Source};
 use wl_frames::{Frame, FrameFault, Hello};
 use wl_kernel::RouteFault;

@@ -8,6 +8,7 @@ use std::alloc::{AllocError, Global};
 use std::process::Abort;
 use std::test::Fail;
 use wl_draft::{Entry, Mode, Name};
+use wl_fakes::dice::Dice;
 use wl_frames::{Command, Operation, Post, Report, ReportPart, Sequence, Upward};
 use wl_origin::partition;
 use wl_world::event::{Event, Forged};
@@ -17,20 +18,22 @@ use wl_world::world::World;
 
 const STEPS: u64 = 6_000;
 
-/// A sequence of numbers that look random: the high bits of a linear congruence.
+/// What a random run chooses next.
 #[derive(Drop)]
-struct Dice {
-    state: u64,
+struct Choices {
+    dice: Dice,
 }
 
-impl Dice {
+impl Choices {
+    fn new(seed: u64) -> Choices {
+        Choices {
+            dice: Dice::new(seed),
+        }
+    }
+
     /// A number below this many.
     fn below(&mut self, sides: u64) -> u64 {
-        self.state = self
-            .state
-            .wrapping_mul(6_364_136_223_846_793_005)
-            .wrapping_add(1_442_695_040_888_963_407);
-        (self.state >> 33).checked_rem(sides).unwrap_or(0)
+        self.dice.below(sides)
     }
 
     fn name(&mut self, alloc: Global) -> Result<Name, AllocError> {
@@ -102,12 +105,12 @@ fn open(alloc: Global, tab: u16) -> Result<Event, AllocError> {
 }
 
 /// A delivery: most often of one of the latest messages, else of any.
-fn delivery(dice: &mut Dice, alloc: Global, play: &Play) -> Result<Event, AllocError> {
+fn delivery(choices: &mut Choices, alloc: Global, play: &Play) -> Result<Event, AllocError> {
     let sent = play.sent as u64;
-    let age = if dice.below(4) == 0 {
-        dice.below(sent)
+    let age = if choices.below(4) == 0 {
+        choices.below(sent)
     } else {
-        dice.below(sent.min(12))
+        choices.below(sent.min(12))
     };
     let place = sent.saturating_sub(age).saturating_sub(1) as usize;
     match play.world.message(place) {
@@ -117,17 +120,17 @@ fn delivery(dice: &mut Dice, alloc: Global, play: &Play) -> Result<Event, AllocE
 }
 
 /// The release of one of the locks that are held, or of any number.
-fn release(dice: &mut Dice, play: &Play, tab: u16) -> Result<Event, AllocError> {
+fn release(choices: &mut Choices, play: &Play, tab: u16) -> Result<Event, AllocError> {
     let holdings = play.world.holdings()?;
     let held = holdings.as_slice();
-    match held.get(dice.below(held.len() as u64) as usize) {
+    match held.get(choices.below(held.len() as u64) as usize) {
         Some(holding) => Ok(Event::Release {
             tab: holding.tab,
             number: holding.number,
         }),
         None => Ok(Event::Release {
             tab,
-            number: dice.number(),
+            number: choices.number(),
         }),
     }
 }
@@ -136,10 +139,10 @@ fn start(alloc: Global, play: &Play) -> Result<Event, AllocError> {
     Ok(Event::Start(Sequence::new(play.world.living().to_vec(alloc)?)))
 }
 
-fn ask(dice: &mut Dice, alloc: Global, tab: u16) -> Result<Event, AllocError> {
-    let mode = dice.mode();
-    let name = dice.name(alloc)?;
-    if dice.below(4) == 0 {
+fn ask(choices: &mut Choices, alloc: Global, tab: u16) -> Result<Event, AllocError> {
+    let mode = choices.mode();
+    let name = choices.name(alloc)?;
+    if choices.below(4) == 0 {
         Ok(Event::Probe { tab, mode, name })
     } else {
         Ok(Event::Ask { tab, mode, name })
@@ -147,8 +150,8 @@ fn ask(dice: &mut Dice, alloc: Global, tab: u16) -> Result<Event, AllocError> {
 }
 
 /// An event of a tab or of the kernel.
-fn other(dice: &mut Dice, alloc: Global, play: &Play, tab: u16) -> Result<Event, AllocError> {
-    match dice.below(40) {
+fn other(choices: &mut Choices, alloc: Global, play: &Play, tab: u16) -> Result<Event, AllocError> {
+    match choices.below(40) {
         0 => Ok(Event::Kill { tab }),
         1 | 2 => Ok(Event::Tell { tab }),
         3 => Ok(Event::Stop),
@@ -159,10 +162,10 @@ fn other(dice: &mut Dice, alloc: Global, play: &Play, tab: u16) -> Result<Event,
         20 => Ok(Event::Query { tab }),
         21..=23 => Ok(Event::Abort {
             tab,
-            number: dice.number(),
+            number: choices.number(),
         }),
-        24..=29 => release(dice, play, tab),
-        _ => ask(dice, alloc, tab),
+        24..=29 => release(choices, play, tab),
+        _ => ask(choices, alloc, tab),
     }
 }
 
@@ -173,92 +176,102 @@ fn is_hostile(tab: u16) -> bool {
     tab % 5 == 0
 }
 
-fn entries(dice: &mut Dice, alloc: Global) -> Result<Sequence<Entry>, AllocError> {
+fn entries(choices: &mut Choices, alloc: Global) -> Result<Sequence<Entry>, AllocError> {
     let mut entries = Vec::new(alloc);
     for number in 0..2_u32 {
-        if dice.below(2) == 0 {
+        if choices.below(2) == 0 {
             entries.push(Entry {
                 number,
-                held: dice.below(2) == 0,
-                mode: dice.mode(),
-                name: dice.name(alloc)?,
+                held: choices.below(2) == 0,
+                mode: choices.mode(),
+                name: choices.name(alloc)?,
             })?;
         }
     }
     Ok(Sequence::new(entries))
 }
 
-fn operation(dice: &mut Dice, alloc: Global) -> Result<Operation, AllocError> {
-    let number = dice.number();
-    Ok(match dice.below(4) {
+fn operation(choices: &mut Choices, alloc: Global) -> Result<Operation, AllocError> {
+    let number = choices.number();
+    Ok(match choices.below(4) {
         0 => Operation::Release { number },
         1 => Operation::Abort { number },
         2 => Operation::Query,
         _ => Operation::Request {
-            mode: dice.mode(),
-            if_available: dice.below(2) == 0,
-            name: dice.name(alloc)?,
+            mode: choices.mode(),
+            if_available: choices.below(2) == 0,
+            name: choices.name(alloc)?,
         },
     })
 }
 
 /// What a tab that is taken over says, most often of the generation that runs.
-fn forged(dice: &mut Dice, alloc: Global, play: &Play) -> Result<Forged, AllocError> {
-    let generation = match dice.below(4) {
+fn forged(choices: &mut Choices, alloc: Global, play: &Play) -> Result<Forged, AllocError> {
+    let generation = match choices.below(4) {
         0 => play.generation.saturating_add(1),
         _ => play.generation.max(1),
     };
-    let number = dice.number();
-    Ok(match dice.below(5) {
+    let number = choices.number();
+    Ok(match choices.below(5) {
         0 => Forged::Post(Post {
             number,
-            channel: dice.name(alloc)?,
+            channel: choices.name(alloc)?,
             bytes: Bytes::new(),
         }),
         1 => Forged::Upward(Upward::Report(Report {
             generation,
             base: number,
-            entries: entries(dice, alloc)?,
+            entries: entries(choices, alloc)?,
         })),
         2 => Forged::Upward(Upward::ReportPart(ReportPart {
             generation,
             base: number,
-            part: u16::from(dice.below(2) == 0),
+            part: u16::from(choices.below(2) == 0),
             parts: 2,
-            entries: entries(dice, alloc)?,
+            entries: entries(choices, alloc)?,
         })),
         _ => Forged::Upward(Upward::Command(Command {
             generation,
             number,
-            operation: operation(dice, alloc)?,
+            operation: operation(choices, alloc)?,
         })),
     })
 }
 
 /// A hostile tab is taken over, or forges; now and then another one tries it in vain.
-fn hostile(dice: &mut Dice, alloc: Global, play: &Play, tab: u16) -> Result<Event, AllocError> {
+fn hostile(
+    choices: &mut Choices,
+    alloc: Global,
+    play: &Play,
+    tab: u16,
+) -> Result<Event, AllocError> {
     let hostile = tab.saturating_add(4) / 5 * 5;
-    Ok(match dice.below(5) {
+    Ok(match choices.below(5) {
         0 => Event::Corrupt { tab: hostile },
         1 => Event::Forge {
             tab,
-            forged: forged(dice, alloc, play)?,
+            forged: forged(choices, alloc, play)?,
         },
         _ => Event::Forge {
             tab: hostile,
-            forged: forged(dice, alloc, play)?,
+            forged: forged(choices, alloc, play)?,
         },
     })
 }
 
 // ---- runs
 
-fn event(dice: &mut Dice, alloc: Global, play: &Play, step: u64) -> Result<Event, AllocError> {
-    let tab = dice.tab(step);
-    if dice.below(2) == 0 {
-        delivery(dice, alloc, play)
+fn event(
+    choices: &mut Choices,
+    alloc: Global,
+    play: &Play,
+    step: u64,
+) -> Result<Event, AllocError> {
+    let tab = choices.tab(step);
+    if choices.below(2) == 0 {
+        delivery(choices, alloc, play)
     } else {
-        other(dice, alloc, play, tab)
+        other(choices, alloc, play, tab)
     }
 }
 
@@ -313,12 +326,12 @@ fn any_conflict(holdings: &[Holding], honest_alone: bool) -> bool {
 #[test]
 fn no_two_locks_that_are_held_conflict(rt: HostRuntime) -> Result<(), Fail> {
     let alloc = rt.alloc();
-    let mut dice = Dice { state: 20_261_122 };
+    let mut choices = Choices::new(20_261_122);
     let mut play = Play::new(alloc);
     let mut most: usize = 0;
     let mut held: usize = 0;
     for step in 0..STEPS {
-        let event = event(&mut dice, alloc, &play, step)?;
+        let event = event(&mut choices, alloc, &play, step)?;
         play = then(play, event)?;
         let holdings = play.world.holdings()?;
         assert!(rt; !any_conflict(holdings.as_slice(), false));
@@ -335,15 +348,15 @@ fn no_two_locks_that_are_held_conflict(rt: HostRuntime) -> Result<(), Fail> {
 #[test]
 fn no_two_locks_of_honest_tabs_conflict(rt: HostRuntime) -> Result<(), Fail> {
     let alloc = rt.alloc();
-    let mut dice = Dice { state: 20_261_123 };
+    let mut choices = Choices::new(20_261_123);
     let mut play = Play::new(alloc);
     let mut held: usize = 0;
     for step in 0..STEPS {
-        let tab = dice.tab(step);
-        let event = if dice.below(20) == 0 {
-            hostile(&mut dice, alloc, &play, tab)?
+        let tab = choices.tab(step);
+        let event = if choices.below(20) == 0 {
+            hostile(&mut choices, alloc, &play, tab)?
         } else {
-            event(&mut dice, alloc, &play, step)?
+            event(&mut choices, alloc, &play, step)?
         };
         play = then(play, event)?;
         let holdings = play.world.holdings()?;

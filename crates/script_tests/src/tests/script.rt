@@ -4,11 +4,11 @@ mod parts;
 mod rows;
 mod texts;
 
-use crate::tests::desk::fakes::{SlowReader, SlowWriter};
 use rows::{JOINED_1, Row, Step};
 use std::alloc::{AllocError, Global};
 use std::process::Abort;
 use std::test::Fail;
+use wl_fakes::devices::{SlowReader, SlowWriter};
 use wl_frames::device::{Sink, Source};
 use wl_script::sim::{SimFault, sim_run};
 

@@ -1,4 +1,4 @@
-use super::fakes::{FullWriter, SlowReader, SlowWriter};
+use wl_fakes::devices::{FullWriter, SlowReader, SlowWriter};
 use wl_workers::{READ_LIMIT, ReadFault, Sink, Source, WriteFault};
 
 #[test]

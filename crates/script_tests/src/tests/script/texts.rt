@@ -9,8 +9,7 @@ use wl_frames::{
 use wl_script::line::Line;
 use wl_script::reading::read_line;
 use wl_script::replies::put_message;
-use wl_script::unread::Unread;
-use wl_script::words::{put_word, unescape};
+use wl_words::{Unread, put_word, unescape};
 use wl_world::message::{Message, Sender};
 
 #[test]

@@ -1,0 +1,9 @@
+//! One file a crate. A crate with tests is proved a second time with them, so they stand apart from what they test.
+
+mod agent;
+mod broadcast;
+mod draft;
+mod frames;
+mod kernel;
+mod origin;
+mod table;

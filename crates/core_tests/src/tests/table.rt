@@ -1,0 +1,658 @@
+//! Both lock tables side by side: whatever is called, they answer the same, and their snapshots agree. A call that is refused
+//! for memory is made again, once the indexed table was seen to be as before.
+
+use std::alloc::{AllocError, Global};
+use std::process::Abort;
+use std::test::Fail;
+use wl_fakes::dice::Dice;
+use wl_table::{Entry, Grant, IndexedTable, LockTable, Mode, Name, PlainTable, Row, Standing};
+
+/// How many random calls are made.
+const CALLS: u64 = 10_000;
+
+/// After how many of them the snapshots are compared.
+const ROUND: u64 = 100;
+
+/// How many clients take part at most, and how many numbers each of them uses.
+const CLIENTS: u64 = 40;
+
+const NUMBERS: u64 = 12;
+
+const NAMES: [&str; 8] = ["", "a", "b", "c", "d", "e", "f", "g"];
+
+// ---- one call on both tables
+
+/// An entry of a report: its number, whether it is held, its mode and its name.
+type Reported = (u32, bool, Mode, &'static str);
+
+/// A call that changes a table.
+#[derive(Clone, Copy)]
+enum Call<'a> {
+    Request(Mode, &'static str),
+    Probe(Mode, &'static str),
+    Release,
+    Abort,
+    End {
+        settle: bool,
+    },
+    Restore {
+        report: &'a [Reported],
+        settle: bool,
+    },
+}
+
+fn name_of(alloc: Global, text: &str) -> Result<Name, AllocError> {
+    Ok(Name::from(String::from_str(alloc, text)?))
+}
+
+fn entries_of(alloc: Global, report: &[Reported]) -> Result<Vec<Entry>, AllocError> {
+    let mut entries = Vec::new(alloc);
+    for (number, held, mode, name) in report {
+        let name = name_of(alloc, name)?;
+        entries.push(Entry {
+            number: *number,
+            held: *held,
+            mode: *mode,
+            name,
+        })?;
+    }
+    Ok(entries)
+}
+
+/// Asks for a pair, or gives it back if it is there.
+fn request<T: LockTable>(
+    table: &mut T,
+    client: u16,
+    number: u32,
+    name: &Name,
+    mode: Mode,
+) -> Result<Vec<Grant>, AllocError> {
+    if table.state(client, number) == Standing::Absent {
+        table.request(client, number, name, mode)
+    } else {
+        table.release(client, number)
+    }
+}
+
+/// Probes a pair, or gives it back if it is there.
+fn probe<T: LockTable>(
+    table: &mut T,
+    client: u16,
+    number: u32,
+    name: &Name,
+    mode: Mode,
+) -> Result<Vec<Grant>, AllocError> {
+    if table.state(client, number) == Standing::Absent {
+        table.probe(client, number, name, mode)
+    } else {
+        table.release(client, number)
+    }
+}
+
+fn make<T: LockTable>(
+    alloc: Global,
+    table: &mut T,
+    client: u16,
+    number: u32,
+    call: Call<'_>,
+) -> Result<Vec<Grant>, AllocError> {
+    match call {
+        Call::Request(mode, name) => request(table, client, number, &name_of(alloc, name)?, mode),
+        Call::Probe(mode, name) => probe(table, client, number, &name_of(alloc, name)?, mode),
+        Call::Release => table.release(client, number),
+        Call::Abort => table.abort(client, number),
+        Call::End { settle } => table.end_client(client, settle),
+        Call::Restore { report, settle } => {
+            table.restore(client, entries_of(alloc, report)?.as_slice(), settle)
+        }
+    }
+}
+
+/// What a table answers of a pair, of its client, and of how many wait: where the pair stands, whether it can be granted, how many
+/// entries the client has, how many requests there are.
+type Seen = (Standing, bool, usize, usize);
+
+fn seen<T: LockTable>(table: &T, client: u16, number: u32) -> Seen {
+    (
+        table.state(client, number),
+        table.grantable(client, number),
+        table.live(client),
+        table.waiting(),
+    )
+}
+
+/// The snapshot, asked for again where memory was refused.
+fn rows_of<T: LockTable>(table: &T) -> Result<(Vec<Row>, Vec<Row>), AllocError> {
+    match table.snapshot() {
+        Err(_) => table.snapshot(),
+        answer => answer,
+    }
+}
+
+/// A plain table and an indexed one, which get the same calls.
+#[derive(Drop)]
+struct Both {
+    alloc: Global,
+    plain: PlainTable,
+    indexed: IndexedTable,
+}
+
+impl Both {
+    fn new(alloc: Global) -> Both {
+        Both {
+            alloc,
+            plain: PlainTable::new(alloc),
+            indexed: IndexedTable::new(alloc),
+        }
+    }
+
+    /// Makes a call on the indexed table. The plain one has not had it yet, so it says how a table is that refused it.
+    fn make_indexed(
+        &mut self,
+        rt: &impl Abort,
+        client: u16,
+        number: u32,
+        call: Call<'_>,
+    ) -> Result<Vec<Grant>, AllocError> {
+        match make(self.alloc, &mut self.indexed, client, number, call) {
+            Err(_) => {
+                self.compare(rt)?;
+                make(self.alloc, &mut self.indexed, client, number, call)
+            }
+            answer => answer,
+        }
+    }
+
+    fn make_plain(
+        &mut self,
+        client: u16,
+        number: u32,
+        call: Call<'_>,
+    ) -> Result<Vec<Grant>, AllocError> {
+        match make(self.alloc, &mut self.plain, client, number, call) {
+            Err(_) => make(self.alloc, &mut self.plain, client, number, call),
+            answer => answer,
+        }
+    }
+
+    /// Makes a call on both, and answers what they granted.
+    fn make(
+        &mut self,
+        rt: &impl Abort,
+        client: u16,
+        number: u32,
+        call: Call<'_>,
+    ) -> Result<Vec<Grant>, AllocError> {
+        let indexed = self.make_indexed(rt, client, number, call)?;
+        let plain = self.make_plain(client, number, call)?;
+        assert_eq!(rt; plain.as_slice(), indexed.as_slice());
+        Ok(indexed)
+    }
+
+    /// What both answer of a pair and of its client.
+    fn look(&self, rt: &impl Abort, client: u16, number: u32) -> Seen {
+        let indexed = seen(&self.indexed, client, number);
+        assert_eq!(rt; seen(&self.plain, client, number), indexed);
+        indexed
+    }
+
+    /// Compares the snapshots, and answers how many are held and how many wait.
+    fn compare(&self, rt: &impl Abort) -> Result<(usize, usize), AllocError> {
+        let (plain_held, plain_waiting) = rows_of(&self.plain)?;
+        let (held, waiting) = rows_of(&self.indexed)?;
+        assert_eq!(rt; plain_held.as_slice(), held.as_slice());
+        assert_eq!(rt; plain_waiting.as_slice(), waiting.as_slice());
+        Ok((held.len(), waiting.len()))
+    }
+
+    /// Takes a step, and looks at its pair afterwards.
+    fn step(&mut self, rt: &impl Abort, step: Step<'_>) -> Result<(), AllocError> {
+        match step {
+            Step::Make(client, number, call, pairs) => {
+                let granted = self.make(rt, client, number, call)?;
+                assert!(rt; are(granted.as_slice(), pairs), "{client} {number}");
+                self.look(rt, client, number);
+            }
+            Step::Stands(client, number, standing) => {
+                assert_eq!(rt; self.look(rt, client, number).0, standing);
+            }
+            Step::Grantable(client, number) => {
+                assert!(rt; self.look(rt, client, number).1, "{client} {number}");
+            }
+            Step::Lists(held, waiting) => {
+                assert_eq!(rt; self.compare(rt)?, (held, waiting));
+            }
+        }
+        Ok(())
+    }
+
+    fn play(&mut self, rt: &impl Abort, row: &[Step<'_>]) -> Result<(), AllocError> {
+        for step in row {
+            self.step(rt, *step)?;
+        }
+        Ok(())
+    }
+}
+
+fn are(granted: &[Grant], pairs: &[(u16, u32)]) -> bool {
+    granted.len() == pairs.len()
+        && granted.iter().zip(pairs).all(|(grant, pair)| grant.client == pair.0
+            && grant.number == pair.1)
+}
+
+// ---- worked rows
+
+/// A step of a worked row.
+#[derive(Clone, Copy)]
+enum Step<'a> {
+    /// A client's call under a number, and the pairs that it grants.
+    Make(u16, u32, Call<'a>, &'a [(u16, u32)]),
+    /// Where a pair stands.
+    Stands(u16, u32, Standing),
+    /// A pair can be granted.
+    Grantable(u16, u32),
+    /// How many are held and how many wait; the snapshots agree.
+    Lists(usize, usize),
+}
+
+/// Plays rows one after another on two new tables.
+fn play(rt: &impl Abort, alloc: Global, rows: &[&[Step<'_>]]) -> Result<(), AllocError> {
+    let mut both = Both::new(alloc);
+    for row in rows {
+        both.play(rt, row)?;
+    }
+    Ok(())
+}
+
+/// A shared lock is held, an exclusive one waits for it, and another shared one waits behind.
+const SHARED_THEN_EXCLUSIVE: [Step<'static>; 3] = [
+    Step::Make(1, 0, Call::Request(Mode::Shared, "a"), &[(1, 0)]),
+    Step::Make(2, 0, Call::Request(Mode::Exclusive, "a"), &[]),
+    Step::Make(3, 0, Call::Request(Mode::Shared, "a"), &[]),
+];
+
+const PROBED: [Step<'static>; 3] = [
+    Step::Make(4, 0, Call::Probe(Mode::Shared, "a"), &[]),
+    Step::Stands(4, 0, Standing::Absent),
+    Step::Lists(1, 2),
+];
+
+const ABORTED_THEN_RELEASED: [Step<'static>; 6] = [
+    Step::Make(2, 0, Call::Abort, &[(3, 0)]),
+    Step::Make(2, 2, Call::Request(Mode::Exclusive, "a"), &[]),
+    Step::Make(1, 0, Call::Release, &[]),
+    Step::Make(3, 0, Call::Release, &[(2, 2)]),
+    Step::Stands(2, 2, Standing::Held),
+    Step::Lists(1, 0),
+];
+
+#[test]
+fn a_probe_behind_the_queue_gets_nothing(rt: HostRuntime) -> Result<(), Fail> {
+    play(&rt, rt.alloc(), &[&SHARED_THEN_EXCLUSIVE, &PROBED])?;
+    Ok(())
+}
+
+#[test]
+fn an_abort_lets_those_behind_it_pass(rt: HostRuntime) -> Result<(), Fail> {
+    play(
+        &rt,
+        rt.alloc(),
+        &[&SHARED_THEN_EXCLUSIVE, &PROBED, &ABORTED_THEN_RELEASED],
+    )?;
+    Ok(())
+}
+
+/// An exclusive lock is held, and another one waits for it.
+const TWO_EXCLUSIVE: [Step<'static>; 3] = [
+    Step::Make(1, 0, Call::Request(Mode::Exclusive, "a"), &[(1, 0)]),
+    Step::Make(2, 0, Call::Request(Mode::Exclusive, "a"), &[]),
+    Step::Lists(1, 1),
+];
+
+const HELD_ABORTED: [Step<'static>; 2] = [
+    Step::Make(1, 0, Call::Abort, &[(2, 0)]),
+    Step::Stands(1, 0, Standing::Absent),
+];
+
+#[test]
+fn an_abort_of_a_held_lock_releases_it(rt: HostRuntime) -> Result<(), Fail> {
+    play(&rt, rt.alloc(), &[&TWO_EXCLUSIVE, &HELD_ABORTED])?;
+    Ok(())
+}
+
+const RELEASED_TWICE: [Step<'static>; 5] = [
+    Step::Make(1, 0, Call::Request(Mode::Shared, "a"), &[(1, 0)]),
+    Step::Stands(1, 0, Standing::Held),
+    Step::Make(1, 0, Call::Release, &[]),
+    Step::Stands(1, 0, Standing::Absent),
+    Step::Make(1, 0, Call::Release, &[]),
+];
+
+#[test]
+fn a_lock_is_over_once_it_is_released(rt: HostRuntime) -> Result<(), Fail> {
+    play(&rt, rt.alloc(), &[&RELEASED_TWICE])?;
+    Ok(())
+}
+
+/// A report of one exclusive entry of the name `a`, under number 0, which is held or waits.
+const HELD: [Reported; 1] = [(0, true, Mode::Exclusive, "a")];
+
+const WAITS: [Reported; 1] = [(0, false, Mode::Exclusive, "a")];
+
+/// Client 2 has reported, and the other one has not.
+const FIRST_REPORT: [Step<'static>; 2] = [
+    Step::Make(
+        2,
+        0,
+        Call::Restore {
+            report: &WAITS,
+            settle: false,
+        },
+        &[],
+    ),
+    Step::Stands(2, 0, Standing::Waiting),
+];
+
+const LAST_REPORT: [Step<'static>; 2] = [
+    Step::Make(
+        1,
+        0,
+        Call::Restore {
+            report: &WAITS,
+            settle: true,
+        },
+        &[(2, 0)],
+    ),
+    Step::Lists(1, 1),
+];
+
+const LAST_REPORT_HOLDS: [Step<'static>; 2] = [
+    Step::Make(
+        1,
+        0,
+        Call::Restore {
+            report: &HELD,
+            settle: true,
+        },
+        &[],
+    ),
+    Step::Lists(1, 1),
+];
+
+#[test]
+fn the_last_report_settles(rt: HostRuntime) -> Result<(), Fail> {
+    play(&rt, rt.alloc(), &[&FIRST_REPORT, &LAST_REPORT])?;
+    Ok(())
+}
+
+#[test]
+fn a_reported_lock_stays_held(rt: HostRuntime) -> Result<(), Fail> {
+    play(&rt, rt.alloc(), &[&FIRST_REPORT, &LAST_REPORT_HOLDS])?;
+    Ok(())
+}
+
+const DEATH: [Step<'static>; 2] = [
+    Step::Make(1, 0, Call::End { settle: true }, &[(2, 0)]),
+    Step::Lists(1, 0),
+];
+
+#[test]
+fn a_death_hands_over(rt: HostRuntime) -> Result<(), Fail> {
+    play(&rt, rt.alloc(), &[&TWO_EXCLUSIVE, &DEATH])?;
+    Ok(())
+}
+
+/// What is left is grantable, and is granted by the next call that settles, whatever its name.
+const SETTLED_LATER: [Step<'static>; 5] = [
+    Step::Make(1, 0, Call::End { settle: false }, &[]),
+    Step::Stands(2, 0, Standing::Waiting),
+    Step::Grantable(2, 0),
+    Step::Make(3, 0, Call::Probe(Mode::Shared, "b"), &[(3, 0)]),
+    Step::Make(3, 0, Call::Release, &[(2, 0)]),
+];
+
+#[test]
+fn what_was_not_settled_is_settled_later(rt: HostRuntime) -> Result<(), Fail> {
+    play(&rt, rt.alloc(), &[&TWO_EXCLUSIVE, &SETTLED_LATER])?;
+    Ok(())
+}
+
+const OTHER_PARTITION: [Step<'static>; 1] = [Step::Make(
+    3,
+    0,
+    Call::Restore {
+        report: &WAITS,
+        settle: true,
+    },
+    &[(3, 0)],
+)];
+
+#[test]
+fn one_partition_does_not_wait_for_another(rt: HostRuntime) -> Result<(), Fail> {
+    play(&rt, rt.alloc(), &[&TWO_EXCLUSIVE])?;
+    play(&rt, rt.alloc(), &[&OTHER_PARTITION])?;
+    Ok(())
+}
+
+const LONGEST: &str =
+    "nnnnnnnnnnnnnnnnnnnnnnnnnnnnnnnnnnnnnnnnnnnnnnnnnnnnnnnnnnnnnnnnnnnnnnnnnnnnnnnnnnnnnnnnnnnnnnnnnnnn\
+    nnnnnnnnnnnnnnnnnnnnnnnnnnnnnnnnnnnnnnnnnnnnnnnnnnnnnnnnnnnnnnnnnnnnnnnnnnnnnnnnnnnnnnnnnnnnnnnnnnnn\
+    nnnnnnnnnnnnnnnnnnnnnnnnnnnnnnnnnnnnnnnnnnnnnnnnnnnnnnn";
+
+/// A lock of the empty name, and one of the longest.
+const FIRST_TWO: [Step<'static>; 2] = [
+    Step::Make(1, 0, Call::Request(Mode::Exclusive, ""), &[(1, 0)]),
+    Step::Make(1, 1, Call::Request(Mode::Exclusive, LONGEST), &[(1, 1)]),
+];
+
+/// Client 1 takes all others up to the 64th, of one name.
+fn take_shared(rt: &impl Abort, both: &mut Both) -> Result<(), AllocError> {
+    for number in 2..64 {
+        both.step(
+            rt,
+            Step::Make(1, number, Call::Request(Mode::Shared, "b"), &[(1, number)]),
+        )?;
+    }
+    Ok(())
+}
+
+const GIVEN_BACK: [Step<'static>; 6] = [
+    Step::Lists(64, 0),
+    Step::Make(1, 0, Call::Abort, &[]),
+    Step::Make(1, 65, Call::Request(Mode::Shared, "b"), &[(1, 65)]),
+    Step::Lists(64, 0),
+    Step::Make(1, 0, Call::End { settle: true }, &[]),
+    Step::Lists(0, 0),
+];
+
+/// All 64 are taken, one of them is replaced, and all end.
+fn take_many(rt: &impl Abort, alloc: Global) -> Result<(), AllocError> {
+    let mut both = Both::new(alloc);
+    both.play(rt, &FIRST_TWO)?;
+    take_shared(rt, &mut both)?;
+    both.play(rt, &GIVEN_BACK)
+}
+
+#[test]
+fn a_client_has_many_locks(rt: HostRuntime) -> Result<(), Fail> {
+    assert_eq!(rt; LONGEST.len(), 255);
+    take_many(&rt, rt.alloc())?;
+    Ok(())
+}
+
+/// The snapshot of an indexed table in which one exclusive lock is held and another one waits.
+fn rows_of_two(rt: &impl Abort, alloc: Global) -> Result<(Vec<Row>, Vec<Row>), AllocError> {
+    let mut both = Both::new(alloc);
+    both.play(rt, &TWO_EXCLUSIVE)?;
+    rows_of(&both.indexed)
+}
+
+#[test]
+fn a_snapshot_has_both_lists(rt: HostRuntime) -> Result<(), Fail> {
+    let (held, waiting) = rows_of_two(&rt, rt.alloc())?;
+    assert!(rt; is_row_of(held.as_slice(), 1));
+    assert!(rt; is_row_of(waiting.as_slice(), 2));
+    Ok(())
+}
+
+/// Whether the one row is that of this client's exclusive lock.
+fn is_row_of(rows: &[Row], client: u16) -> bool {
+    rows.len() == 1
+        && rows.iter().all(|row| row.client == client
+            && row.number == 0
+            && row.mode == Mode::Exclusive
+            && row.name.as_str() == "a")
+}
+
+// ---- random calls
+
+/// What a random run chooses next.
+#[derive(Drop)]
+struct Choices {
+    dice: Dice,
+}
+
+impl Choices {
+    fn new(seed: u64) -> Choices {
+        Choices {
+            dice: Dice::new(seed),
+        }
+    }
+
+    /// A number below this many.
+    fn below(&mut self, sides: u64) -> u64 {
+        self.dice.below(sides)
+    }
+
+    fn is_true(&mut self) -> bool {
+        self.below(2) == 0
+    }
+
+    fn mode(&mut self) -> Mode {
+        if self.is_true() {
+            Mode::Shared
+        } else {
+            Mode::Exclusive
+        }
+    }
+
+    fn client(&mut self, clients: u64) -> u16 {
+        u16::try_from(self.below(clients)).unwrap_or(0)
+    }
+
+    fn number(&mut self) -> u32 {
+        u32::try_from(self.below(NUMBERS)).unwrap_or(0)
+    }
+
+    fn name(&mut self, names: u64) -> &'static str {
+        let place = self.below(names) as usize;
+        NAMES.get(place).copied().unwrap_or("")
+    }
+
+    /// A report of at most three entries. A pair may stand in it twice.
+    fn report(&mut self, alloc: Global, names: u64) -> Result<Vec<Reported>, AllocError> {
+        let mut report = Vec::new(alloc);
+        for _ in 0..self.below(4) {
+            report.push((self.number(), self.is_true(), self.mode(), self.name(names)))?;
+        }
+        Ok(report)
+    }
+
+    /// Some call, more often one that takes a lock or gives it back. Where it is one that restores, it restores this report.
+    fn call<'a>(&mut self, report: &'a [Reported], names: u64) -> Call<'a> {
+        match self.below(40) {
+            0 | 1 => Call::End {
+                settle: self.is_true(),
+            },
+            2 => Call::Restore {
+                report,
+                settle: self.is_true(),
+            },
+            3..=7 => Call::Abort,
+            8..=17 => Call::Release,
+            18..=21 => Call::Probe(self.mode(), self.name(names)),
+            _ => Call::Request(self.mode(), self.name(names)),
+        }
+    }
+}
+
+/// Random calls on both tables.
+#[derive(Drop)]
+struct Game {
+    choices: Choices,
+    both: Both,
+    // Who was granted a lock, and was not named since.
+    holders: Vec<Grant>,
+    granted: usize,
+}
+
+impl Game {
+    fn new(alloc: Global) -> Game {
+        Game {
+            choices: Choices::new(20_261_123),
+            both: Both::new(alloc),
+            holders: Vec::new(alloc),
+            granted: 0,
+        }
+    }
+
+    /// The pair of the next call: one in three times the last one that was granted a lock.
+    fn pair(&mut self, clients: u64) -> Grant {
+        let client = self.choices.client(clients);
+        let number = self.choices.number();
+        let other = Grant { client, number };
+        if self.choices.below(3) == 0 {
+            self.holders.pop().unwrap_or(other)
+        } else {
+            other
+        }
+    }
+
+    /// One call of one of these clients under one of these names. Both tables are looked at before it and after it.
+    fn turn(&mut self, rt: &impl Abort, clients: u64, names: u64) -> Result<(), AllocError> {
+        let Grant { client, number } = self.pair(clients);
+        let report = self.choices.report(self.both.alloc, names)?;
+        let call = self.choices.call(report.as_slice(), names);
+        self.both.look(rt, client, number);
+        let granted = self.both.make(rt, client, number, call)?;
+        self.both.look(rt, client, number);
+        self.granted = self.granted.saturating_add(granted.len());
+        self.holders.extend_from_slice(granted.as_slice())
+    }
+
+    /// Many calls, and how many entries there are then.
+    fn round(&mut self, rt: &impl Abort) -> Result<usize, AllocError> {
+        let clients = self.choices.below(CLIENTS).saturating_add(1);
+        let names = self.choices.below(8).saturating_add(1);
+        for _ in 0..ROUND {
+            self.turn(rt, clients, names)?;
+        }
+        let (held, waiting) = self.both.compare(rt)?;
+        Ok(held.saturating_add(waiting))
+    }
+
+    /// All calls, and how many entries there were at most after a round.
+    fn play(&mut self, rt: &impl Abort) -> Result<usize, AllocError> {
+        let mut most: usize = 0;
+        for _ in 0..CALLS / ROUND {
+            most = most.max(self.round(rt)?);
+        }
+        Ok(most)
+    }
+}
+
+/// How many locks random calls were granted, and how many entries there were at most after a round.
+fn play_random(rt: &impl Abort, alloc: Global) -> Result<(usize, usize), AllocError> {
+    let mut game = Game::new(alloc);
+    let most = game.play(rt)?;
+    Ok((game.granted, most))
+}
+
+#[test]
+fn both_tables_agree_on_random_calls(rt: HostRuntime) -> Result<(), Fail> {
+    let (granted, most) = play_random(&rt, rt.alloc())?;
+    // The calls were worth comparing.
+    assert!(rt; granted > 1_000, "granted {granted}");
+    assert!(rt; most > 100, "entries {most}");
+    Ok(())
+}

@@ -1,0 +1,6 @@
+//! One file a part.
+
+mod process_script;
+mod random;
+mod script;
+mod world;

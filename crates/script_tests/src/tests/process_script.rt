@@ -1,0 +1,285 @@
+//! The lines of the scripts of kernel and tab, what the kernel prints, and the files that tabs count in.
+
+use std::alloc::{AllocError, Global};
+use std::test::Fail;
+use wl_frames::{Mode, Name};
+use wl_process_script::{
+    KernelLine, KernelReply, TabLine, count_of, put_count, read_kernel_line, read_tab_line,
+};
+use wl_words::Unread;
+
+fn name(alloc: Global, text: &str) -> Result<Name, AllocError> {
+    Ok(Name::new(String::from_str(alloc, text)?))
+}
+
+/// Whether a line is of another form, unless memory was refused.
+fn is_refused<L: Drop>(read: Result<L, Unread>) -> Result<bool, Unread> {
+    match read {
+        Ok(_) => Ok(false),
+        Err(Unread::Form) => Ok(true),
+        Err(Unread::Memory) => Err(Unread::Memory),
+    }
+}
+
+fn is_kernel_line(rt: &HostRuntime, text: &str, line: KernelLine) -> Result<(), Fail> {
+    let read = read_kernel_line(rt.alloc(), text.as_bytes())?;
+    assert_eq!(rt; read, line, "of {text}");
+    Ok(())
+}
+
+fn opens(rt: &HostRuntime, text: &str, url: &str, file: &str) -> Result<(), Fail> {
+    let url = name(rt.alloc(), url)?;
+    let file = name(rt.alloc(), file)?;
+    is_kernel_line(rt, text, KernelLine::Open { url, file })
+}
+
+fn opens_two(rt: &HostRuntime, text: &str, top: &str, url: &str, file: &str) -> Result<(), Fail> {
+    let top = name(rt.alloc(), top)?;
+    let url = name(rt.alloc(), url)?;
+    let file = name(rt.alloc(), file)?;
+    is_kernel_line(rt, text, KernelLine::OpenTwo { top, url, file })
+}
+
+#[test]
+fn kernel_lines(rt: HostRuntime) -> Result<(), Fail> {
+    is_kernel_line(&rt, "", KernelLine::Blank)?;
+    is_kernel_line(&rt, "# start", KernelLine::Blank)?;
+    is_kernel_line(&rt, "start", KernelLine::Start)?;
+    is_kernel_line(&rt, "stop", KernelLine::Stop)?;
+    is_kernel_line(&rt, "kill 1", KernelLine::Kill { tab: 1 })?;
+    is_kernel_line(&rt, "kill 65535", KernelLine::Kill { tab: 65_535 })?;
+    for (text, milliseconds) in [("pause 0", 0), ("pause 50", 50), ("pause 10000", 10_000)] {
+        is_kernel_line(&rt, text, KernelLine::Pause { milliseconds })?;
+    }
+    is_kernel_line(&rt, "join", KernelLine::Join)
+}
+
+#[test]
+fn kernel_lines_that_open_tabs(rt: HostRuntime) -> Result<(), Fail> {
+    opens(&rt, "open https://a.test/ TAB", "https://a.test/", "TAB")?;
+    // Neither a URL nor a path has escapes.
+    opens(&rt, "open data:,%20 a%20b/é", "data:,%20", "a%20b/é")?;
+    let text = "open2 https://t.test/ https://a.test/ TAB";
+    opens_two(&rt, text, "https://t.test/", "https://a.test/", "TAB")
+}
+
+#[test]
+fn other_kernel_lines(rt: HostRuntime) -> Result<(), Fail> {
+    let cases = [
+        " ",
+        "\r",
+        " start",
+        "start ",
+        "start 1",
+        "start\r",
+        "Start",
+        "starts",
+        "open https://a.test/",
+        "open https://a.test/ ",
+        "open  https://a.test/ TAB",
+        "open https://a.test/  TAB",
+        "open https://a.test/ TAB TAB",
+        "open2 https://t.test/ https://a.test/",
+        "open2 https://t.test/ https://a.test/ ",
+        "open2 https://t.test/  https://a.test/ TAB",
+        "open2 https://t.test/ https://a.test/ TAB TAB",
+        "stop 1",
+        "stop\r",
+        "kill",
+        "kill 0",
+        "kill 01",
+        "kill 65536",
+        "kill  1",
+        "kill 1 2",
+        "kill 1\r",
+        "pause",
+        "pause 10001",
+        "pause 18446744073709551666",
+        "pause 050",
+        "pause +50",
+        "pause 50ms",
+        "pause 50\r",
+        "join 1",
+        "join\r",
+        "tell 1",
+        "wait 0",
+    ];
+    for text in cases {
+        let read = read_kernel_line(rt.alloc(), text.as_bytes());
+        assert!(rt; is_refused(read)?, "of {text}");
+    }
+    let not_utf8 = [b"open \xff TAB".as_slice(), b"open a \xff".as_slice()];
+    for text in not_utf8 {
+        assert!(rt; is_refused(read_kernel_line(rt.alloc(), text))?);
+    }
+    Ok(())
+}
+
+fn is_tab_line(rt: &HostRuntime, text: &str, line: TabLine) -> Result<(), Fail> {
+    let read = read_tab_line(rt.alloc(), text.as_bytes())?;
+    assert_eq!(rt; read, line, "of {text}");
+    Ok(())
+}
+
+#[test]
+fn tab_lines(rt: HostRuntime) -> Result<(), Fail> {
+    is_tab_line(&rt, "", TabLine::Blank)?;
+    is_tab_line(&rt, "#ask exclusive f", TabLine::Blank)?;
+    for (text, number) in [("wait 0", 0), ("wait 4294967295", u32::MAX)] {
+        is_tab_line(&rt, text, TabLine::Wait { number })?;
+    }
+    is_tab_line(&rt, "release 18", TabLine::Release { number: 18 })?;
+    is_tab_line(&rt, "abort 2", TabLine::Abort { number: 2 })?;
+    is_tab_line(&rt, "query", TabLine::Query)
+}
+
+#[test]
+fn tab_lines_with_names(rt: HostRuntime) -> Result<(), Fail> {
+    let alloc = rt.alloc();
+    for (text, mode, spelled) in [
+        ("ask exclusive f", Mode::Exclusive, "f"),
+        ("ask shared %", Mode::Shared, ""),
+    ] {
+        let name = name(alloc, spelled)?;
+        is_tab_line(&rt, text, TabLine::Ask { mode, name })?;
+    }
+    let mode = Mode::Exclusive;
+    let name_asked = name(alloc, "a b")?;
+    is_tab_line(
+        &rt,
+        "probe exclusive a%20b",
+        TabLine::Probe {
+            mode,
+            name: name_asked,
+        },
+    )?;
+    let file = name(alloc, "COUNTER")?;
+    is_tab_line(&rt, "add COUNTER", TabLine::Add { file })
+}
+
+#[test]
+fn other_tab_lines(rt: HostRuntime) -> Result<(), Fail> {
+    let cases = [
+        " ",
+        "ask",
+        "ask exclusive",
+        "ask exclusive ",
+        "ask  exclusive f",
+        "ask exclusive  f",
+        "ask exclusive f ",
+        "ask exclusive f g",
+        "ask exclusive f\r",
+        "ask both f",
+        "ask Exclusive f",
+        "ask exclusive %66",
+        "ask exclusive %FF",
+        "ask 1 exclusive f",
+        "Ask exclusive f",
+        "probe f",
+        "wait",
+        "wait 00",
+        "wait 01",
+        "wait  1",
+        "wait 1 2",
+        "wait x",
+        "wait -1",
+        "wait 1\r",
+        "release",
+        "release 1 2",
+        "abort 1 2",
+        "query 1",
+        "query\r",
+        "add",
+        "add ",
+        "add  COUNTER",
+        "add COUNTER 1",
+        "start",
+        "post 0 x",
+    ];
+    for text in cases {
+        let read = read_tab_line(rt.alloc(), text.as_bytes());
+        assert!(rt; is_refused(read)?, "of {text}");
+    }
+    assert!(rt; is_refused(read_tab_line(rt.alloc(), b"add \xff"))?);
+    Ok(())
+}
+
+#[test]
+fn what_the_kernel_prints(rt: HostRuntime) -> Result<(), Fail> {
+    let cases = [
+        (KernelReply::Up(1), "up 1\n"),
+        (KernelReply::AlreadyUp, "already up\n"),
+        (
+            KernelReply::Opened {
+                tab: 1,
+                origin: "https://a.test",
+            },
+            "opened 1 https://a.test\n",
+        ),
+        (
+            KernelReply::OpenedTwo {
+                tab: 1,
+                top: "https://t.test",
+                origin: "https://a.test",
+            },
+            "opened 1 https://t.test https://a.test\n",
+        ),
+        (KernelReply::BadUrl, "BadUrl\n"),
+        (KernelReply::SecurityError, "SecurityError\n"),
+        (KernelReply::NumberTaken, "NumberTaken\n"),
+        (KernelReply::TooManyLiving, "TooManyLiving\n"),
+        (KernelReply::PartitionFull, "PartitionFull\n"),
+        (KernelReply::TabsUsedUp, "TabsUsedUp\n"),
+        (KernelReply::Stopped(1), "stopped 1\n"),
+        (KernelReply::AlreadyDown, "already down\n"),
+        (KernelReply::GenerationsUsedUp, "GenerationsUsedUp\n"),
+        (KernelReply::Killed(2), "killed 2\n"),
+        (KernelReply::NoTab, "no tab\n"),
+        (KernelReply::Ended { tab: 4, status: 0 }, "ended 4 0\n"),
+        (
+            KernelReply::Ended {
+                tab: 65_535,
+                status: 255,
+            },
+            "ended 65535 255\n",
+        ),
+    ];
+    for (reply, text) in cases {
+        let mut out = Vec::new(rt.alloc());
+        reply.put(&mut out)?;
+        assert_eq!(rt; out.as_slice(), text.as_bytes(), "of {text}");
+    }
+    Ok(())
+}
+
+#[test]
+fn counts(rt: HostRuntime) -> Result<(), Fail> {
+    for (text, count) in [("0\n", 0), ("40\n", 40), ("999999\n", 999_999)] {
+        assert_eq!(rt; count_of(text.as_bytes()), Some(count), "of {text}");
+    }
+    let others = [
+        "",
+        "\n",
+        "40",
+        "40\r\n",
+        "40\n\n",
+        "\n40\n",
+        "040\n",
+        "00\n",
+        " 40\n",
+        "+40\n",
+        "-1\n",
+        "4 0\n",
+        "1000000\n",
+        "18446744073709551616\n",
+    ];
+    for text in others {
+        assert!(rt; count_of(text.as_bytes()).is_none(), "of {text}");
+    }
+    for (count, text) in [(0, "0\n"), (10, "10\n"), (1_000_000, "1000000\n")] {
+        let mut out = Vec::new(rt.alloc());
+        put_count(&mut out, count)?;
+        assert_eq!(rt; out.as_slice(), text.as_bytes(), "of {count}");
+    }
+    Ok(())
+}
