@@ -1,6 +1,7 @@
 //! The lines of the scripts of kernel and tab, what the kernel prints, and the files that tabs count in.
 
 use std::alloc::{AllocError, Global};
+use std::process::Abort;
 use std::test::Fail;
 use wl_frames::{Mode, Name};
 use wl_process_script::{
@@ -21,46 +22,82 @@ fn is_refused<L: Drop>(read: Result<L, Unread>) -> Result<bool, Unread> {
     }
 }
 
-fn is_kernel_line(rt: &HostRuntime, text: &str, line: KernelLine) -> Result<(), Fail> {
-    let read = read_kernel_line(rt.alloc(), text.as_bytes())?;
+fn is_kernel_line(
+    rt: &impl Abort,
+    alloc: Global,
+    text: &str,
+    line: KernelLine,
+) -> Result<(), Fail> {
+    let read = read_kernel_line(alloc, text.as_bytes())?;
     assert_eq!(rt; read, line, "of {text}");
     Ok(())
 }
 
-fn opens(rt: &HostRuntime, text: &str, url: &str, file: &str) -> Result<(), Fail> {
-    let url = name(rt.alloc(), url)?;
-    let file = name(rt.alloc(), file)?;
-    is_kernel_line(rt, text, KernelLine::Open { url, file })
+fn opens(rt: &impl Abort, alloc: Global, text: &str, url: &str, file: &str) -> Result<(), Fail> {
+    let url = name(alloc, url)?;
+    let file = name(alloc, file)?;
+    is_kernel_line(rt, alloc, text, KernelLine::Open { url, file })
 }
 
-fn opens_two(rt: &HostRuntime, text: &str, top: &str, url: &str, file: &str) -> Result<(), Fail> {
-    let top = name(rt.alloc(), top)?;
-    let url = name(rt.alloc(), url)?;
-    let file = name(rt.alloc(), file)?;
-    is_kernel_line(rt, text, KernelLine::OpenTwo { top, url, file })
+fn opens_two(
+    rt: &impl Abort,
+    alloc: Global,
+    text: &str,
+    top: &str,
+    url: &str,
+    file: &str,
+) -> Result<(), Fail> {
+    let top = name(alloc, top)?;
+    let url = name(alloc, url)?;
+    let file = name(alloc, file)?;
+    is_kernel_line(rt, alloc, text, KernelLine::OpenTwo { top, url, file })
 }
 
 #[test]
 fn kernel_lines(rt: HostRuntime) -> Result<(), Fail> {
-    is_kernel_line(&rt, "", KernelLine::Blank)?;
-    is_kernel_line(&rt, "# start", KernelLine::Blank)?;
-    is_kernel_line(&rt, "start", KernelLine::Start)?;
-    is_kernel_line(&rt, "stop", KernelLine::Stop)?;
-    is_kernel_line(&rt, "kill 1", KernelLine::Kill { tab: 1 })?;
-    is_kernel_line(&rt, "kill 65535", KernelLine::Kill { tab: 65_535 })?;
+    is_kernel_line(&rt, rt.alloc(), "", KernelLine::Blank)?;
+    is_kernel_line(&rt, rt.alloc(), "# start", KernelLine::Blank)?;
+    is_kernel_line(&rt, rt.alloc(), "start", KernelLine::Start)?;
+    is_kernel_line(&rt, rt.alloc(), "stop", KernelLine::Stop)?;
+    is_kernel_line(&rt, rt.alloc(), "kill 1", KernelLine::Kill { tab: 1 })?;
+    is_kernel_line(
+        &rt,
+        rt.alloc(),
+        "kill 65535",
+        KernelLine::Kill { tab: 65_535 },
+    )?;
     for (text, milliseconds) in [("pause 0", 0), ("pause 50", 50), ("pause 10000", 10_000)] {
-        is_kernel_line(&rt, text, KernelLine::Pause { milliseconds })?;
+        is_kernel_line(&rt, rt.alloc(), text, KernelLine::Pause { milliseconds })?;
     }
-    is_kernel_line(&rt, "join", KernelLine::Join)
+    is_kernel_line(&rt, rt.alloc(), "join", KernelLine::Join)
 }
 
 #[test]
 fn kernel_lines_that_open_tabs(rt: HostRuntime) -> Result<(), Fail> {
-    opens(&rt, "open https://a.test/ TAB", "https://a.test/", "TAB")?;
+    opens(
+        &rt,
+        rt.alloc(),
+        "open https://a.test/ TAB",
+        "https://a.test/",
+        "TAB",
+    )?;
     // Neither a URL nor a path has escapes.
-    opens(&rt, "open data:,%20 a%20b/é", "data:,%20", "a%20b/é")?;
+    opens(
+        &rt,
+        rt.alloc(),
+        "open data:,%20 a%20b/é",
+        "data:,%20",
+        "a%20b/é",
+    )?;
     let text = "open2 https://t.test/ https://a.test/ TAB";
-    opens_two(&rt, text, "https://t.test/", "https://a.test/", "TAB")
+    opens_two(
+        &rt,
+        rt.alloc(),
+        text,
+        "https://t.test/",
+        "https://a.test/",
+        "TAB",
+    )
 }
 
 #[test]
@@ -115,22 +152,27 @@ fn other_kernel_lines(rt: HostRuntime) -> Result<(), Fail> {
     Ok(())
 }
 
-fn is_tab_line(rt: &HostRuntime, text: &str, line: TabLine) -> Result<(), Fail> {
-    let read = read_tab_line(rt.alloc(), text.as_bytes())?;
+fn is_tab_line(rt: &impl Abort, alloc: Global, text: &str, line: TabLine) -> Result<(), Fail> {
+    let read = read_tab_line(alloc, text.as_bytes())?;
     assert_eq!(rt; read, line, "of {text}");
     Ok(())
 }
 
 #[test]
 fn tab_lines(rt: HostRuntime) -> Result<(), Fail> {
-    is_tab_line(&rt, "", TabLine::Blank)?;
-    is_tab_line(&rt, "#ask exclusive f", TabLine::Blank)?;
+    is_tab_line(&rt, rt.alloc(), "", TabLine::Blank)?;
+    is_tab_line(&rt, rt.alloc(), "#ask exclusive f", TabLine::Blank)?;
     for (text, number) in [("wait 0", 0), ("wait 4294967295", u32::MAX)] {
-        is_tab_line(&rt, text, TabLine::Wait { number })?;
+        is_tab_line(&rt, rt.alloc(), text, TabLine::Wait { number })?;
     }
-    is_tab_line(&rt, "release 18", TabLine::Release { number: 18 })?;
-    is_tab_line(&rt, "abort 2", TabLine::Abort { number: 2 })?;
-    is_tab_line(&rt, "query", TabLine::Query)
+    is_tab_line(
+        &rt,
+        rt.alloc(),
+        "release 18",
+        TabLine::Release { number: 18 },
+    )?;
+    is_tab_line(&rt, rt.alloc(), "abort 2", TabLine::Abort { number: 2 })?;
+    is_tab_line(&rt, rt.alloc(), "query", TabLine::Query)
 }
 
 #[test]
@@ -141,12 +183,13 @@ fn tab_lines_with_names(rt: HostRuntime) -> Result<(), Fail> {
         ("ask shared %", Mode::Shared, ""),
     ] {
         let name = name(alloc, spelled)?;
-        is_tab_line(&rt, text, TabLine::Ask { mode, name })?;
+        is_tab_line(&rt, rt.alloc(), text, TabLine::Ask { mode, name })?;
     }
     let mode = Mode::Exclusive;
     let name_asked = name(alloc, "a b")?;
     is_tab_line(
         &rt,
+        alloc,
         "probe exclusive a%20b",
         TabLine::Probe {
             mode,
@@ -154,7 +197,7 @@ fn tab_lines_with_names(rt: HostRuntime) -> Result<(), Fail> {
         },
     )?;
     let file = name(alloc, "COUNTER")?;
-    is_tab_line(&rt, "add COUNTER", TabLine::Add { file })
+    is_tab_line(&rt, rt.alloc(), "add COUNTER", TabLine::Add { file })
 }
 
 #[test]
