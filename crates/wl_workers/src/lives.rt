@@ -1,16 +1,17 @@
 //! Who tells whether a tab lives.
 
-ghost use Rattle.std.specs.Prelude.{◌≡◌, ◌+◌, ◌≤◌};
+ghost use Rattle.std.specs.Prelude.{◌≡◌, ◌+◌, ◌≤◌, IfOk};
 ghost use Rattle.std.specs.Arc.{arc_value};
 ghost use Rattle.wl_board.specs.Calls.{IsOf, IsSameSeat, tab_seen, word_of};
-ghost use Rattle.wl_board.specs.Steps.{sees};
+ghost use Rattle.wl_board.specs.Rule.{Has};
+ghost use Rattle.wl_board.specs.Steps.{sees, marks, draws_number, bears};
 ghost use Rattle.wl_workers.specs.Looks.{IsOnBoard, FindsDead};
 
 use std::marker::Model;
 use std::rt::Clock;
 use std::sync::{Arc, Mutex, Wait};
 use std::thread::Parker;
-use wl_board::{Board, Life, Seat};
+use wl_board::{Birth, Board, DrawFault, Life, Seat, Ticket};
 
 /// Looks whether tabs live. A look may wait, as for a bell.
 pub trait Lives {
@@ -50,6 +51,39 @@ impl BoardSeat {
         ensures { result ≡ record { board = arc_value board; seat = seat } }
     {
         BoardSeat { board, seat }
+    }
+
+    /// Draws the next number. A seat that found the numbers used up says so from then on, without a step.
+    pub fn draw(&mut self) -> Result<Ticket, DrawFault>
+        ensures same { (self.new.board ≡ self.old.board) × IsSameSeat self.old.seat self.new.seat }
+        ensures range { IfOk result (λ t. IsOnBoard t self.old.board) }
+        ensures drawn { IfOk result (λ t. self.new.seat.view ≡ draws_number self.old.seat.view t) }
+        ensures ticket { IfOk result (λ t. Has t self.new.seat.view.drawn × (¬ Has t self.new.seat.view.born)) }
+    {
+        self.board.draw(&mut self.seat)
+    }
+
+    /// Brings the tab of a ticket to life, unless it was marked dead before.
+    pub fn birth(&mut self, ticket: Ticket) -> Birth
+        requires drawn { Has ticket self.old.seat.view.drawn }
+        requires unborn { ¬ Has ticket self.old.seat.view.born }
+        ensures same { (self.new.board ≡ self.old.board) × IsSameSeat self.old.seat self.new.seat }
+        ensures born { result ≡ Birth.Born → self.new.seat.view ≡ bears self.old.seat.view ticket }
+        ensures dead { result ≡ Birth.WasDead → self.new.seat.view ≡ sees self.old.seat.view (ticket + 1) 2 }
+    {
+        self.board.birth(&mut self.seat, ticket)
+    }
+
+    /// Marks a tab dead, whether it ever lived or not. A number that the board does not have is of no tab.
+    pub fn mark_dead(&mut self, tab: u16)
+        ensures same { (self.new.board ≡ self.old.board) × IsSameSeat self.old.seat self.new.seat }
+        ensures marked { IsOnBoard tab self.old.board → self.new.seat.view ≡ marks self.old.seat.view tab }
+        ensures unknown { (¬ IsOnBoard tab self.old.board) → self.new ≡ self.old }
+    {
+        if tab == 0 || tab > self.board.tabs() {
+            return;
+        }
+        self.board.mark_dead(&mut self.seat, tab);
     }
 }
 

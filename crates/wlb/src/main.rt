@@ -5,10 +5,15 @@ mod command;
 mod words;
 
 use command::{Line, LineFault};
+use std::alloc::{AllocError, Global};
 use std::io::ErrorKind;
 use std::process::ExitCode;
+use wl_broker_process::run_broker;
 use wl_frames::device::{Sink, Source};
+use wl_kernel_process::{KernelWords, run_kernel};
+use wl_process::ProcessFault;
 use wl_script::sim::{SimFault, sim_run};
+use wl_tab_process::run_tab;
 use wl_workers::{DeskFault, desk_run};
 
 /// What is wrong with the input; the command line; a device or memory.
@@ -47,11 +52,61 @@ fn main(rt: HostRuntime) -> ExitCode {
                 Err(fault) => failed(&rt, fault, sim_status(fault)),
             }
         }
+        Ok(
+            Line::Kernel {
+                directory,
+                lanes,
+                shards,
+                limit,
+                script,
+            },
+        ) => {
+            let Ok(program) = program_of(alloc, words.as_slice()) else {
+                return failed(&rt, "Memory", DEVICE_OR_MEMORY);
+            };
+            let kernel = KernelWords {
+                directory,
+                lanes,
+                shards,
+                limit,
+                script,
+                program,
+            };
+            ended(&rt, run_kernel(rt, alloc, kernel))
+        }
+        Ok(
+            Line::Broker {
+                socket,
+                lanes,
+                shards,
+                limit,
+            },
+        ) => ended(
+            &rt,
+            run_broker(rt, alloc, socket.as_str(), lanes, shards, limit),
+        ),
+        Ok(Line::Tab { socket, script }) => {
+            ended(&rt, run_tab(rt, alloc, socket.as_str(), script.as_str()))
+        }
         Err(LineFault::Usage(text)) => {
             let _ = eprint!(rt; "{text}");
             ExitCode::from(USAGE)
         }
         Err(LineFault::Memory) => failed(&rt, "Memory", DEVICE_OR_MEMORY),
+    }
+}
+
+/// The program that the first word names, which the kernel's children run too.
+fn program_of(alloc: Global, words: &[String]) -> Result<String, AllocError> {
+    let program = words.first().map_or("", |word| word.as_str());
+    String::from_str(alloc, program)
+}
+
+/// The status of a process.
+fn ended(rt: &impl Eprint, end: Result<(), ProcessFault>) -> ExitCode {
+    match end {
+        Ok(()) => ExitCode::SUCCESS,
+        Err(fault) => failed(rt, fault, fault.status()),
     }
 }
 

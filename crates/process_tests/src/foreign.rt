@@ -1,0 +1,59 @@
+//! Clients of a kernel that know nothing but the bytes.
+
+use std::io::{Read, Write};
+use std::os::unix::net::UnixStream;
+use std::test::Fail;
+use wl_process::Host;
+
+/// A welcome of tab 1 with the origin `https://a.test`.
+const WELCOME: [u8; 24] = [
+    0, 0, 0, 20, 1, 20, 0, 1, 0, 14, b'h', b't', b't', b'p', b's', b':', b'/', b'/', b'a', b'.',
+    b't', b'e', b's', b't',
+];
+
+/// A hello of generation 1.
+const HELLO: [u8; 10] = [0, 0, 0, 6, 1, 16, 0, 0, 0, 1];
+
+/// An empty report, and a request of an exclusive lock with the name `a`.
+const REPORT_AND_REQUEST: [u8; 35] = [
+    0, 0, 0, 12, 1, 2, 0, 0, 0, 1, 0, 0, 0, 0, 0, 0, 0, 0, 0, 15, 1, 1, 0, 0, 0, 1, 0, 0, 0, 0, 1,
+    2, 0, 1, b'a',
+];
+
+/// That the request is granted, of one command that was taken.
+const GRANTED: [u8; 19] = [0, 0, 0, 15, 1, 17, 0, 0, 0, 1, 0, 0, 0, 1, 0, 0, 0, 0, 2];
+
+fn expect(link: &UnixStream, bytes: &[u8]) -> Result<(), Fail> {
+    let mut from = link;
+    let mut piece = [0u8; 64];
+    let Some(wanted) = piece.get_mut(..bytes.len()) else {
+        return Err(Fail::new("too many bytes"));
+    };
+    from.read_exact(wanted)?;
+    if *wanted != *bytes {
+        return Err(Fail::new("other bytes"));
+    }
+    Ok(())
+}
+
+/// A tab that asks for a lock, is granted it, and goes.
+pub(crate) fn speak<R: Host>(rt: &R, socket: &str) -> Result<(), Fail> {
+    let link = rt.connect(socket)?;
+    expect(&link, &WELCOME)?;
+    let mut out = &link;
+    expect(&link, &HELLO)?;
+    out.write_all(&REPORT_AND_REQUEST)?;
+    // The kernel's hello and the broker's may both come; the second is that of a tab that is listed.
+    expect(&link, &GRANTED)
+}
+
+/// A tab that sends half a frame and goes.
+pub(crate) fn break_off<R: Host>(rt: &R, socket: &str) -> Result<(), Fail> {
+    let link = rt.connect(socket)?;
+    let mut out = &link;
+    let Some(half) = REPORT_AND_REQUEST.get(..8) else {
+        return Err(Fail::new("too few bytes"));
+    };
+    out.write_all(half)?;
+    Ok(())
+}

@@ -1,0 +1,351 @@
+//! The broker's process: one thread reads the link, and lanes take turns at the book and write what it sends.
+
+ghost use Rattle.std.specs.Prelude.{◌≡◌, ◌<◌, ◌≤◌, IfOk};
+ghost use Rattle.wl_frames.specs.Grammar.{TabsRiseFrom};
+ghost use Rattle.wl_broker.specs.Broker.{started};
+ghost use Rattle.wl_locked.specs.declared.locked.TheConstants.{LANE_LIMIT};
+
+use crate::mailbox::Mailbox;
+use std::alloc::Global;
+use std::io::Write;
+use std::marker::Brand;
+use std::net::Shutdown;
+use std::os::unix::net::UnixStream;
+use std::rt::Clock;
+use std::sync::ledger::Blank;
+use std::sync::{Arc, Mutex, Wait};
+use std::thread;
+use wl_frames::device::READ_LIMIT;
+use wl_frames::{Frame, Start};
+use wl_locked::{BookEvent, Generation, Lane, LockedBroker, NotStepped, Outs, Receipt};
+use wl_process::{BUNDLE_LEN, Host, Incoming, ProcessFault, append};
+use wl_workers::{Cause, Desk, Gate, Intake, LaneEnd, Outlet, OutletFault, lane};
+
+/// What a lane sends, gathered until it has nothing more to take. The lock is the lane's own and never waited for; the link
+/// is shared by all lanes.
+#[derive(Drop)]
+struct Outbound {
+    alloc: Global,
+    link: Arc<Mutex<UnixStream>>,
+    gathered: Mutex<Vec<u8>>,
+    fault: Mutex<Option<ProcessFault>>,
+}
+
+impl Outbound {
+    fn flush<R: Wait>(&self, rt: &R) -> Result<(), OutletFault> {
+        let mut gathered = self.gathered.lock(rt);
+        if gathered.is_empty() {
+            return Ok(());
+        }
+        let written = self.link.lock(rt).write_all(gathered.as_slice());
+        gathered.clear();
+        if written.is_err() {
+            *self.fault.lock(rt) = Some(ProcessFault::Write);
+            return Err(OutletFault::Write);
+        }
+        Ok(())
+    }
+
+    fn gather<R: Wait>(&self, rt: &R, frame: &Frame) -> Result<(), OutletFault> {
+        let mut gathered = self.gathered.lock(rt);
+        if append(self.alloc, &mut gathered, frame).is_err() {
+            *self.fault.lock(rt) = Some(ProcessFault::Memory);
+            return Err(OutletFault::Memory);
+        }
+        let is_full = gathered.len() >= BUNDLE_LEN;
+        drop(gathered);
+        if is_full {
+            return self.flush(rt);
+        }
+        Ok(())
+    }
+}
+
+/// A lane's intake. What the lane has gathered is written before it sleeps.
+#[derive(Drop)]
+struct LaneIntake {
+    mailbox: Arc<Mailbox>,
+    outbound: Arc<Outbound>,
+}
+
+impl Intake for LaneIntake {
+    fn next<R: Wait + Clock>(&mut self, rt: &R) -> Option<BookEvent> {
+        if let Some(event) = self.mailbox.take_now(rt) {
+            return Some(event);
+        }
+        if self.outbound.flush(rt).is_err() {
+            return None;
+        }
+        self.mailbox.take(rt)
+    }
+}
+
+#[derive(Drop)]
+struct LaneOutlet {
+    outbound: Arc<Outbound>,
+}
+
+impl Outlet for LaneOutlet {
+    fn put<R: Wait + Clock>(&mut self, rt: &R, frame: &Frame) -> Result<(), OutletFault> {
+        self.outbound.gather(rt, frame)
+    }
+}
+
+/// A gate that is always open.
+struct Open;
+
+impl Gate for Open {
+    fn pass<R: Wait + Clock>(&self, _rt: &R, _lane: u16) -> bool {
+        true
+    }
+
+    fn answered<R: Wait + Clock>(&self, _rt: &R, _lane: u16) {}
+}
+
+/// The desk of a lane: the locked broker, which steps for it.
+#[derive(Drop)]
+struct LaneDesk<'a, J: Generation> {
+    broker: &'a LockedBroker<J>,
+    lane: &'a mut Lane<J>,
+}
+
+impl<'a, J: Generation> Desk for LaneDesk<'a, J> {
+    ghost use Rattle.std.specs.Prelude.{Some};
+
+    ghost kept = { λ d. Some d.lane.now };
+
+    ghost borrowed = { λ d. d.lane.ghost_name };
+
+    fn take_one<R: Wait + Clock>(
+        &mut self,
+        rt: &R,
+        event: BookEvent,
+    ) -> Result<Receipt, NotStepped> {
+        self.broker.take(rt, self.lane, event)
+    }
+}
+
+/// What a lane works with, and how it ended.
+#[derive(Drop)]
+struct Job<J: Generation> {
+    number: u16,
+    lane: Lane<J>,
+    intake: LaneIntake,
+    outlet: LaneOutlet,
+    end: Option<LaneEnd>,
+}
+
+/// Runs one lane to its end. A lane that ends before its events do ends the reading of the link.
+fn run_lane<R: Host, J: Generation>(
+    rt: &R,
+    broker: &LockedBroker<J>,
+    job: &mut Job<J>,
+    link: &UnixStream,
+) {
+    let mut desk = LaneDesk {
+        broker,
+        lane: &mut job.lane,
+    };
+    let end = lane(
+        rt,
+        job.number,
+        &mut job.intake,
+        &mut desk,
+        &Open,
+        &mut job.outlet,
+    );
+    let _ = job.outlet.outbound.flush(rt);
+    if end.why != Cause::Ended || job.outlet.outbound.fault.lock(rt).is_some() {
+        let _ = link.shutdown(Shutdown::Both);
+    }
+    job.end = Some(end);
+}
+
+/// The Start frame that this frame has to be.
+fn start_of(frame: Frame) -> Result<Start, ProcessFault>
+    ensures { IfOk result (λ start. TabsRiseFrom 1 start.list) }
+{
+    let is_well_formed = frame.is_well_formed();
+    match (is_well_formed, frame) {
+        (true, Frame::Start(start)) => Ok(start),
+        (_, _other) => Err(ProcessFault::Unexpected),
+    }
+}
+
+/// Reads the Start frame, which has to come first, and gives the frames behind it that have come with it.
+fn read_start(incoming: &mut Incoming<'_>) -> Result<(Start, Vec<Frame>), ProcessFault>
+    ensures { IfOk result (λ r. TabsRiseFrom 1 r.0.list) }
+{
+    for _reads in 0..READ_LIMIT {
+        let Some(frames) = incoming.next()? else {
+            return Err(ProcessFault::Unexpected);
+        };
+        let mut frames = frames.into_iter();
+        if let Some(first) = frames.next() {
+            let start = start_of(first)?;
+            return Ok((start, frames.collect::<Vec<Frame>>(incoming.alloc())?));
+        }
+    }
+    Err(ProcessFault::TooManyReads)
+}
+
+/// Gives each event of these frames to the lane of its tab.
+fn deal<R: Host>(
+    rt: &R,
+    mailboxes: &[Arc<Mailbox>],
+    frames: Vec<Frame>,
+) -> Result<(), ProcessFault> {
+    for frame in frames {
+        let (tab, event) = match frame {
+            Frame::Stamped(stamped) => (stamped.tab, BookEvent::Take(stamped)),
+            Frame::Dead(dead) => (dead.tab, BookEvent::Dead(dead.tab)),
+            _ => return Err(ProcessFault::Unexpected),
+        };
+        let lanes = mailboxes.len().max(1);
+        if let Some(mailbox) = mailboxes.get(usize::from(tab) % lanes) {
+            mailbox.put(rt, event);
+        }
+    }
+    Ok(())
+}
+
+/// Deals all that comes, to the end of the input or the first fault.
+fn deal_all<R: Host>(
+    rt: &R,
+    mailboxes: &[Arc<Mailbox>],
+    incoming: &mut Incoming<'_>,
+) -> Result<(), ProcessFault> {
+    for _reads in 0..READ_LIMIT {
+        let Some(frames) = incoming.next()? else {
+            return Ok(());
+        };
+        deal(rt, mailboxes, frames)?;
+    }
+    Err(ProcessFault::TooManyReads)
+}
+
+/// Runs the broker of one generation, which the kernel's Start frame begins, over a socket, to the end of the input or of the
+/// generation.
+pub fn run_broker<R: Host>(
+    rt: R,
+    alloc: Global,
+    socket: &str,
+    lanes: u16,
+    _shards: u16,
+    limit: u32,
+) -> Result<(), ProcessFault>
+    requires { (1 ≤ lanes) × (lanes ≤ LANE_LIMIT) }
+{
+    let link = rt.connect(socket).map_err(ProcessFault::of_device)?;
+    let mut incoming = Incoming::new(alloc, &link);
+    let (start, rest) = read_start(&mut incoming)?;
+    let blank = Blank::new(u64::from(lanes));
+    let served = serve::<R, Brand>(&rt, alloc, blank, start, lanes, limit, rest, &mut incoming);
+    let _ = link.shutdown(Shutdown::Both);
+    served
+}
+
+/// Serves a generation.
+fn serve<R: Host, J: Generation + Send + Sync>(
+    rt: &R,
+    alloc: Global,
+    blank: Blank,
+    start: Start,
+    lanes: u16,
+    limit: u32,
+    rest: Vec<Frame>,
+    incoming: &mut Incoming<'_>,
+) -> Result<(), ProcessFault>
+    requires list { TabsRiseFrom 1 start.list }
+    requires name { blank.name ≡ J.name }
+    requires parts { blank.parts ≡ J.parts }
+    requires lanes { (J.parts ≡ lanes) × (0 < lanes) × (lanes ≤ LANE_LIMIT) }
+    requires opening { J.opening ≡ started start.generation start.list }
+    requires limit { J.limit ≡ limit }
+{
+    let link = incoming.link();
+    let (broker, places, hellos) = LockedBroker::<J>::new(
+        alloc,
+        blank,
+        start.generation,
+        start.list.as_slice(),
+        limit,
+        lanes,
+    )?;
+    let writing = link.try_clone().map_err(ProcessFault::of_device)?;
+    greet(alloc, &writing, hellos)?;
+    let writing = Arc::new(alloc, Mutex::new(writing))?;
+    let mut mailboxes = Vec::new(alloc);
+    let mut jobs = Vec::new(alloc);
+    let mut number = 0u16;
+    for lane in places {
+        let mailbox = Arc::new(alloc, Mailbox::new(alloc))?;
+        let outbound = Arc::new(
+            alloc,
+            Outbound {
+                alloc,
+                link: Arc::try_clone(&writing)?,
+                gathered: Mutex::new(Vec::new(alloc)),
+                fault: Mutex::new(None),
+            },
+        )?;
+        jobs.push(Job {
+            number,
+            lane,
+            intake: LaneIntake {
+                mailbox: Arc::try_clone(&mailbox)?,
+                outbound: Arc::try_clone(&outbound)?,
+            },
+            outlet: LaneOutlet { outbound },
+            end: None,
+        })?;
+        mailboxes.push(mailbox)?;
+        number = number.saturating_add(1);
+    }
+    // What came with the Start frame waits for the lanes.
+    deal(rt, mailboxes.as_slice(), rest)?;
+    let mut dealt = Ok(());
+    thread::join_mut(
+        rt,
+        &mut || {
+            dealt = deal_all(rt, mailboxes.as_slice(), incoming);
+            for mailbox in mailboxes.iter() {
+                mailbox.close(rt);
+            }
+        },
+        &mut || {
+            let threads = jobs.len().max(1);
+            thread::for_each_mut(
+                rt,
+                jobs.as_mut_slice(),
+                threads,
+                &|_place, job| { run_lane(rt, &broker, job, link) },
+            );
+        },
+    );
+    let is_spent = jobs.iter().any(|job| match &job.end {
+        Some(end) => end.why == Cause::Spent,
+        None => false,
+    });
+    if is_spent {
+        return Ok(());
+    }
+    for job in jobs.iter() {
+        if let Some(fault) = *job.outlet.outbound.fault.lock(rt) {
+            return Err(fault);
+        }
+    }
+    dealt
+}
+
+/// Greets the listed tabs, in one write.
+fn greet(alloc: Global, link: &UnixStream, hellos: Outs) -> Result<(), ProcessFault> {
+    let mut bytes = Vec::new(alloc);
+    for hello in hellos.into_vec() {
+        append(alloc, &mut bytes, &Frame::Addressed(hello))?;
+    }
+    let mut writer = link;
+    writer
+        .write_all(bytes.as_slice())
+        .map_err(|_| ProcessFault::Write)
+}

@@ -1,0 +1,8 @@
+//! The broker's process: threads and locks round the broker that the crates below prove. It is proved safe; what it does is
+//! tested.
+#![tactic(auto)]
+
+pub mod broker;
+mod mailbox;
+
+pub use broker::run_broker;

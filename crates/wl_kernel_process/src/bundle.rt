@@ -1,0 +1,103 @@
+//! Bytes that are gathered and written in one go, before the thread that gathers them sleeps.
+
+use std::alloc::Global;
+use std::cell::RefCell;
+use std::io;
+use std::io::{ErrorKind, Write};
+use std::os::unix::net::UnixStream;
+use std::rt::Clock;
+use std::sync::Wait;
+use wl_board::Life;
+use wl_process::BUNDLE_LEN;
+use wl_workers::Lives;
+
+#[derive(Drop)]
+struct Gathered {
+    bytes: Vec<u8>,
+    has_failed: bool,
+}
+
+/// What is gathered for a link.
+#[derive(Drop)]
+pub(crate) struct Bundle<'a> {
+    link: &'a UnixStream,
+    gathered: RefCell<Gathered>,
+}
+
+impl<'a> Bundle<'a> {
+    pub(crate) fn new(alloc: Global, link: &'a UnixStream) -> Bundle<'a> {
+        Bundle {
+            link,
+            gathered: RefCell::new(Gathered {
+                bytes: Vec::new(alloc),
+                has_failed: false,
+            }),
+        }
+    }
+
+    fn gather(&self, bytes: &[u8]) -> io::Result<()> {
+        let Ok(mut gathered) = self.gathered.try_borrow_mut() else {
+            return Err(io::Error::from(ErrorKind::ResourceBusy));
+        };
+        if gathered.has_failed {
+            return Err(io::Error::from(ErrorKind::BrokenPipe));
+        }
+        gathered.bytes.extend_from_slice(bytes)?;
+        if gathered.bytes.len() >= BUNDLE_LEN {
+            self.empty(&mut gathered);
+        }
+        Ok(())
+    }
+
+    fn empty(&self, gathered: &mut Gathered) {
+        if gathered.bytes.is_empty() {
+            return;
+        }
+        let mut writer = self.link;
+        if writer.write_all(gathered.bytes.as_slice()).is_err() {
+            gathered.has_failed = true;
+        }
+        gathered.bytes.clear();
+    }
+
+    /// Writes what is gathered.
+    pub(crate) fn flush(&self) {
+        if let Ok(mut gathered) = self.gathered.try_borrow_mut() {
+            self.empty(&mut gathered);
+        }
+    }
+}
+
+/// The writer that gathers.
+#[derive(Drop)]
+pub(crate) struct Gathering<'a> {
+    pub(crate) bundle: &'a Bundle<'a>,
+}
+
+impl Write for Gathering<'_> {
+    fn write(&mut self, bytes: &[u8]) -> io::Result<usize> {
+        self.bundle.gather(bytes)?;
+        Ok(bytes.len())
+    }
+
+    fn flush(&mut self) -> io::Result<()> {
+        self.bundle.flush();
+        Ok(())
+    }
+}
+
+/// Looks before which what is gathered is written.
+#[derive(Drop)]
+pub(crate) struct Flushed<'a, L> {
+    pub(crate) bundle: &'a Bundle<'a>,
+    pub(crate) lives: L,
+}
+
+impl<L: Lives> Lives for Flushed<'_, L> {
+    ghost answered = { λ f. L.answered f.lives };
+
+    fn look<R: Wait + Clock>(&mut self, rt: &R, tab: u16) -> Life {
+        self.bundle.flush();
+        self.lives.look(rt, tab)
+    }
+}

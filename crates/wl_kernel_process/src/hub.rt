@@ -1,0 +1,372 @@
+//! What the kernel's threads share. Locks are taken in the order in which they stand here, and none but the links' is held
+//! while a device is called; the Start frame, which a fresh socket takes, is the one exception.
+
+mod orders;
+
+use crate::ends::Ends;
+use crate::hub::orders::Orders;
+pub(crate) use crate::hub::orders::Stop;
+use crate::post::{Post, Taking};
+use crate::supervisor::Supervisor;
+use std::alloc::{AllocError, AllocFailed, Global};
+use std::collections::BTreeMap;
+use std::io::Write;
+use std::net::Shutdown;
+use std::os::unix::net::UnixStream;
+use std::process::Child;
+use std::sync::{Arc, Condvar, Mutex, Wait};
+use wl_board::{Birth, Board};
+use wl_frames::{Dead, Frame, Hello, Origin, PairWelcome, Upward, Welcome, encode};
+use wl_kernel::{OpenFault, Routed};
+use wl_origin::Partition;
+use wl_process::{Host, ProcessFault, append};
+use wl_workers::BoardSeat;
+
+/// How many tabs the board has, and how many seats.
+const TABS: u16 = 65_535;
+
+const SEATS: u16 = 16;
+
+/// The last generation of the broker.
+const LAST_GENERATION: u32 = 65_535;
+
+/// The current broker's link, for writing.
+#[derive(Drop)]
+struct Link {
+    generation: u32,
+    stream: UnixStream,
+}
+
+/// The current broker's process, with its link, for the end of both.
+#[derive(Drop)]
+pub(crate) struct BrokerProcess {
+    child: Child,
+    link: UnixStream,
+}
+
+impl BrokerProcess {
+    pub(crate) fn new(child: Child, link: UnixStream) -> BrokerProcess {
+        BrokerProcess { child, link }
+    }
+
+    /// Kills the process and ends the link, whoever waits for it.
+    fn stop(&mut self) {
+        let _ = self.child.kill();
+        let _ = self.link.shutdown(Shutdown::Both);
+    }
+
+    /// Stops the process, and waits for its end.
+    pub(crate) fn end(mut self) {
+        self.stop();
+        let _ = self.child.wait();
+    }
+}
+
+/// Why a tab was not opened.
+pub(crate) enum Unopened {
+    TabsUsedUp,
+    Refused(OpenFault),
+    Failed(ProcessFault),
+}
+
+impl From<AllocError> for Unopened {
+    fn from(_refused: AllocError) -> Unopened {
+        Unopened::Failed(ProcessFault::Memory)
+    }
+}
+
+impl<T: Drop> From<AllocFailed<T>> for Unopened {
+    fn from(_refused: AllocFailed<T>) -> Unopened {
+        Unopened::Failed(ProcessFault::Memory)
+    }
+}
+
+/// A tab that was opened, and not started yet.
+#[derive(Drop)]
+pub(crate) struct Opened {
+    pub(crate) tab: u16,
+    pub(crate) post: Arc<Post>,
+    pub(crate) taking: Taking,
+}
+
+#[derive(Drop)]
+pub(crate) struct Hub {
+    alloc: Global,
+    orders: Mutex<Orders>,
+    ordered: Condvar,
+    supervisor: Mutex<Supervisor>,
+    posts: Mutex<BTreeMap<u16, Arc<Post>>>,
+    link: Mutex<Option<Link>>,
+    broker: Mutex<Option<BrokerProcess>>,
+    seats: Vec<Arc<Mutex<BoardSeat>>>,
+    ends: Mutex<Ends>,
+    ended: Condvar,
+}
+
+impl Hub {
+    pub(crate) fn new(alloc: Global) -> Result<Hub, AllocError> {
+        let Ok((board, places)) = Board::new(alloc, TABS, SEATS) else {
+            return Err(AllocError);
+        };
+        let board = Arc::new(alloc, board)?;
+        let mut seats = Vec::new(alloc);
+        for seat in places {
+            let seat = BoardSeat::new(Arc::try_clone(&board)?, seat);
+            seats.push(Arc::new(alloc, Mutex::new(seat))?)?;
+        }
+        Ok(Hub {
+            alloc,
+            orders: Mutex::new(Orders::new()),
+            ordered: Condvar::new(),
+            supervisor: Mutex::new(Supervisor::new(alloc, LAST_GENERATION)),
+            posts: Mutex::new(BTreeMap::new(alloc)),
+            link: Mutex::new(None),
+            broker: Mutex::new(None),
+            seats,
+            ends: Mutex::new(Ends::new(alloc)),
+            ended: Condvar::new(),
+        })
+    }
+
+    /// The seat that threads take turns at who look at this tab.
+    pub(crate) fn seat_of(&self, tab: u16) -> Result<Arc<Mutex<BoardSeat>>, AllocError> {
+        match self.seats.get(usize::from(tab % SEATS)) {
+            Some(seat) => Arc::try_clone(seat),
+            None => Err(AllocError),
+        }
+    }
+
+    // ---- tabs
+
+    /// Draws a number and opens a tab with it, welcomes the tab, and greets it where a broker is up.
+    pub(crate) fn open<R: Host>(
+        &self,
+        rt: &R,
+        partition: Partition,
+        is_pair: bool,
+    ) -> Result<Opened, Unopened> {
+        let alloc = self.alloc;
+        let top = Origin::new(String::from_str(alloc, partition.top_text())?);
+        let own = Origin::new(String::from_str(alloc, partition.text())?);
+        let mut supervisor = self.supervisor.lock(rt);
+        let (tab, number) = self.enter(rt, &mut supervisor, partition)?;
+        let (post, taking) = Post::new(alloc, number, tab)?;
+        let post = Arc::new(alloc, post)?;
+        self.ends.lock(rt).begin(tab)?;
+        self.posts.lock(rt).insert(tab, Arc::try_clone(&post)?)?;
+        let welcome = if is_pair {
+            Frame::PairWelcome(PairWelcome { tab, top, own })
+        } else {
+            Frame::Welcome(Welcome { tab, origin: own })
+        };
+        post.put(rt, number, welcome);
+        if let Some(generation) = supervisor.current() {
+            post.put(rt, number, Frame::Hello(Hello { generation }));
+        }
+        drop(supervisor);
+        Ok(Opened { tab, post, taking })
+    }
+
+    /// Draws a number, enters the tab in the table, and brings it to life on the board.
+    fn enter<R: Host>(
+        &self,
+        rt: &R,
+        supervisor: &mut Supervisor,
+        partition: Partition,
+    ) -> Result<(u16, u16), Unopened> {
+        let Some(drawing) = self.seats.first() else {
+            return Err(Unopened::TabsUsedUp);
+        };
+        let mut guard = drawing.lock(rt);
+        let seat = &mut *guard;
+        let Ok(ticket) = seat.draw() else {
+            return Err(Unopened::TabsUsedUp);
+        };
+        let tab = ticket.tab();
+        let number = match supervisor.open(tab, partition) {
+            Ok(number) => number,
+            Err(OpenFault::Memory) => return Err(Unopened::Failed(ProcessFault::Memory)),
+            Err(fault) => return Err(Unopened::Refused(fault)),
+        };
+        match seat.birth(ticket) {
+            Birth::Born | Birth::WasDead => {}
+        }
+        Ok((tab, number))
+    }
+
+    fn post_of<R: Wait>(&self, rt: &R, tab: u16) -> Option<Arc<Post>> {
+        match self.posts.lock(rt).get(&tab) {
+            Some(post) => Arc::try_clone(post).ok(),
+            None => None,
+        }
+    }
+
+    /// Puts a frame that comes from the partition of this number into a tab's outbox.
+    fn put<R: Wait>(&self, rt: &R, tab: u16, partition: u16, frame: Frame) {
+        if let Some(post) = self.post_of(rt, tab) {
+            post.put(rt, partition, frame);
+        }
+    }
+
+    /// What a tab sends goes on its way: a stamped frame is appended to those that go to the broker.
+    pub(crate) fn up<R: Wait>(
+        &self,
+        rt: &R,
+        tab: u16,
+        frame: Frame,
+        bytes: &mut Vec<u8>,
+    ) -> Result<(), wl_kernel::RouteFault> {
+        let supervisor = self.supervisor.lock(rt);
+        let routed = supervisor.route_up(tab, frame)?;
+        let Some(partition) = supervisor.partition_number(tab) else {
+            return Err(wl_kernel::RouteFault::NoTab);
+        };
+        let current = supervisor.current();
+        drop(supervisor);
+        match routed {
+            Routed::Broker(frame) => {
+                if let (Some(sent), Some(generation)) = (generation_of(&frame), current) {
+                    if sent < generation {
+                        self.put(rt, tab, partition, Frame::Hello(Hello { generation }));
+                    }
+                }
+                append(self.alloc, bytes, &frame)?;
+            }
+            Routed::Tabs(heard) => {
+                for (target, frame) in heard.into_vec() {
+                    self.put(rt, target, partition, frame);
+                }
+            }
+        }
+        Ok(())
+    }
+
+    /// What the broker of this generation sends goes into its tab's outbox. A frame that is refused is lost.
+    pub(crate) fn down<R: Wait>(&self, rt: &R, generation: u32, frame: Frame) {
+        let supervisor = self.supervisor.lock(rt);
+        let Ok((tab, frame)) = supervisor.route_down(generation, frame) else {
+            return;
+        };
+        let partition = supervisor.partition_number(tab);
+        drop(supervisor);
+        if let Some(partition) = partition {
+            self.put(rt, tab, partition, frame);
+        }
+    }
+
+    /// A tab is dead: on the board, in the table, and for the broker. Its end is noted.
+    pub(crate) fn bury<R: Host>(&self, rt: &R, tab: u16, status: u8) {
+        if let Ok(seat) = self.seat_of(tab) {
+            seat.lock(rt).mark_dead(tab);
+        }
+        self.supervisor.lock(rt).kill(tab);
+        let mut bytes = Vec::new(self.alloc);
+        if append(self.alloc, &mut bytes, &Frame::Dead(Dead { tab })).is_ok() {
+            self.write(rt, bytes.as_slice());
+        }
+        let buried = self.posts.lock(rt).remove(&tab);
+        if let Some(post) = buried {
+            post.bell.unpark();
+        }
+        self.ends.lock(rt).end(tab, status);
+        self.ended.notify_all();
+    }
+
+    /// Waits until the tab has been buried.
+    pub(crate) fn wait_for_end<R: Host>(&self, rt: &R, tab: u16) {
+        let _ends = self
+            .ended
+            .wait_while(rt, self.ends.lock(rt), |ends| ends.is_running(tab));
+    }
+
+    /// Waits until all tabs have been buried, and gives those whose ends are not told yet.
+    pub(crate) fn wait_for_all<R: Host>(&self, rt: &R) -> Result<Vec<(u16, u8)>, AllocError> {
+        let mut ends = self
+            .ended
+            .wait_while(rt, self.ends.lock(rt), |ends| ends.is_any_running());
+        ends.tell(self.alloc)
+    }
+
+    pub(crate) fn forget_end<R: Host>(&self, rt: &R, tab: u16) {
+        self.ends.lock(rt).forget(tab);
+    }
+
+    pub(crate) fn is_running<R: Host>(&self, rt: &R, tab: u16) -> bool {
+        self.ends.lock(rt).is_running(tab)
+    }
+
+    // ---- the broker's link
+
+    /// Writes to the current broker, if there is one. A link that takes no more is found ended by who reads it.
+    pub(crate) fn write<R: Wait>(&self, rt: &R, bytes: &[u8]) {
+        let mut link = self.link.lock(rt);
+        if let Some(link) = &mut *link {
+            let _ = link.stream.write_all(bytes);
+        }
+    }
+
+    /// The generation of the broker that runs, or of the next one.
+    pub(crate) fn generation<R: Wait>(&self, rt: &R) -> u32 {
+        self.supervisor.lock(rt).generation()
+    }
+
+    /// Starts the next generation over this link. Nothing is sent over it before its Start frame.
+    pub(crate) fn install<R: Host>(&self, rt: &R, stream: UnixStream) -> Result<u32, ProcessFault> {
+        let mut supervisor = self.supervisor.lock(rt);
+        let Ok(Some((generation, frame))) = supervisor.start() else {
+            return Err(ProcessFault::Memory);
+        };
+        let mut bytes = Vec::new(self.alloc);
+        let appended = append(self.alloc, &mut bytes, &frame);
+        let mut link = self.link.lock(rt);
+        *link = Some(Link { generation, stream });
+        if let Some(link) = &mut *link {
+            let _ = link.stream.write_all(bytes.as_slice());
+        }
+        drop(link);
+        drop(supervisor);
+        appended?;
+        Ok(generation)
+    }
+
+    /// The broker of this generation has no link any more.
+    pub(crate) fn uninstall<R: Host>(&self, rt: &R, generation: u32) {
+        let mut link = self.link.lock(rt);
+        let is_installed = match &*link {
+            Some(link) => link.generation == generation,
+            None => false,
+        };
+        if is_installed {
+            *link = None;
+        }
+    }
+
+    /// This is the current broker's process from now on.
+    pub(crate) fn hold<R: Host>(&self, rt: &R, process: BrokerProcess) {
+        *self.broker.lock(rt) = Some(process);
+    }
+
+    /// There is no current broker's process from now on.
+    pub(crate) fn let_go<R: Host>(&self, rt: &R) -> Option<BrokerProcess> {
+        self.broker.lock(rt).take()
+    }
+
+    /// Kills the current broker's process and ends its link, also where a write to it waits.
+    fn hang_up<R: Host>(&self, rt: &R) {
+        if let Some(process) = &mut *self.broker.lock(rt) {
+            process.stop();
+        }
+    }
+}
+
+/// The generation of a tab's frame.
+fn generation_of(frame: &Frame) -> Option<u32> {
+    match frame {
+        Frame::Stamped(stamped) => Some(match &stamped.inner {
+            Upward::Command(command) => command.generation,
+            Upward::Report(report) => report.generation,
+            Upward::ReportPart(part) => part.generation,
+        }),
+        _ => None,
+    }
+}

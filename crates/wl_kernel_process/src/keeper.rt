@@ -1,0 +1,144 @@
+//! The keeper of the broker: one thread that starts each generation's process, and reads its link to its end.
+
+use crate::hub::{BrokerProcess, Hub};
+use crate::listening::{Started, start_child};
+use std::alloc::Global;
+use std::net::Shutdown;
+use std::os::unix::net::UnixStream;
+use std::process::Child;
+use wl_frames::device::READ_LIMIT;
+use wl_process::{Host, Incoming, ProcessFault};
+
+/// How often a broker's process that ends before it connects is started again.
+const TRIES: u32 = 16;
+
+/// How a broker's process is started.
+#[derive(Drop)]
+pub(crate) struct BrokerWords {
+    pub(crate) program: String,
+    pub(crate) directory: String,
+    pub(crate) lanes: u16,
+    pub(crate) shards: u16,
+    pub(crate) limit: u32,
+}
+
+impl BrokerWords {
+    /// Starts the process of a generation.
+    fn start<R: Host>(&self, rt: &R, generation: u32) -> Result<Started, ProcessFault> {
+        let alloc = rt.alloc();
+        let directory = self.directory.as_str();
+        let path = format!(in alloc; "{directory}/broker{generation}.sock")?;
+        let lanes = format!(in alloc; "{}", self.lanes)?;
+        let shards = format!(in alloc; "{}", self.shards)?;
+        let limit = format!(in alloc; "{}", self.limit)?;
+        start_child(
+            rt,
+            self.program.as_str(),
+            path.as_str(),
+            &[
+                "broker",
+                "--socket",
+                path.as_str(),
+                "--lanes",
+                lanes.as_str(),
+                "--shards",
+                shards.as_str(),
+                "--limit",
+                limit.as_str(),
+            ],
+        )
+    }
+
+    /// Starts the process of the next generation. One that ends before it connects is started again; None where the kernel ends.
+    fn start_next<R: Host>(
+        &self,
+        rt: &R,
+        hub: &Hub,
+    ) -> Result<Option<(Child, UnixStream)>, ProcessFault> {
+        for _try in 0..TRIES {
+            let mut started = self.start(rt, hub.generation(rt))?;
+            if let Some(link) = started.link {
+                return Ok(Some((started.child, link)));
+            }
+            end(&mut started.child);
+            if hub.is_ending(rt) {
+                return Ok(None);
+            }
+        }
+        Err(ProcessFault::Device)
+    }
+}
+
+/// Kills a process, unless it has ended, and waits for it.
+fn end(child: &mut Child) {
+    let _ = child.kill();
+    let _ = child.wait();
+}
+
+/// Keeps a broker as long as one is wanted.
+pub(crate) fn keep<R: Host>(rt: &R, alloc: Global, hub: &Hub, words: &BrokerWords) {
+    for _generation in rt.forever() {
+        if !hub.wait_for_order(rt) {
+            return;
+        }
+        if let Err(fault) = run_generation(rt, alloc, hub, words) {
+            hub.note_failure(rt, fault);
+        }
+    }
+}
+
+/// Runs one generation to its end.
+fn run_generation<R: Host>(
+    rt: &R,
+    alloc: Global,
+    hub: &Hub,
+    words: &BrokerWords,
+) -> Result<(), ProcessFault> {
+    let Some((mut child, link)) = words.start_next(rt, hub)? else {
+        return Ok(());
+    };
+    let Ok(ending) = link.try_clone() else {
+        end(&mut child);
+        return Err(ProcessFault::Device);
+    };
+    hub.hold(rt, BrokerProcess::new(child, ending));
+    let served = serve(rt, alloc, hub, &link);
+    if let Some(process) = hub.let_go(rt) {
+        process.end();
+    }
+    hub.note_end_of_broker(rt);
+    served
+}
+
+/// Starts the generation of a link, and passes on what comes over it, to its end.
+fn serve<R: Host>(rt: &R, alloc: Global, hub: &Hub, link: &UnixStream) -> Result<(), ProcessFault> {
+    let writing = link.try_clone().map_err(ProcessFault::of_device)?;
+    let generation = hub.install(rt, writing)?;
+    hub.note_up(rt, generation);
+    let _end = read_broker(rt, alloc, hub, generation, link);
+    // Whoever waits to write to it waits no longer.
+    let _ = link.shutdown(Shutdown::Both);
+    hub.note_end_of_link(rt, generation);
+    hub.uninstall(rt, generation);
+    Ok(())
+}
+
+/// Reads the link of the broker of a generation to its end or its first fault.
+fn read_broker<R: Host>(
+    rt: &R,
+    alloc: Global,
+    hub: &Hub,
+    generation: u32,
+    link: &UnixStream,
+) -> Result<(), ProcessFault> {
+    let mut incoming = Incoming::new(alloc, link);
+    for _reads in 0..READ_LIMIT {
+        let Some(frames) = incoming.next()? else {
+            return Ok(());
+        };
+        for frame in frames {
+            hub.down(rt, generation, frame);
+        }
+    }
+    Err(ProcessFault::TooManyReads)
+}

@@ -1,0 +1,294 @@
+//! The kernel's process: it runs a script that starts and stops the broker and its tabs, and serves their links.
+
+use crate::hub::{Hub, Opened, Stop, Unopened};
+use crate::keeper::{BrokerWords, keep};
+use crate::listening::start_child;
+use crate::tab_link::{TabHandle, TabProcess};
+use std::alloc::Global;
+use std::io::Write;
+use std::sync::{Arc, Mutex};
+use std::time::Duration;
+use std::{io, thread};
+use wl_kernel::OpenFault;
+use wl_origin::{OriginFault, Partition, partition, partition_pair};
+use wl_process::{Host, ProcessFault, line_number, read_script};
+use wl_process_script::{KernelLine, KernelReply, read_kernel_line};
+use wl_words::Unread;
+
+/// How a kernel is to be run.
+#[derive(Drop)]
+pub struct KernelWords {
+    /// Where the sockets are made.
+    pub directory: String,
+    /// 1 to 16.
+    pub lanes: u16,
+    /// 1 to 16.
+    pub shards: u16,
+    /// How many steps a generation has in a shard at most: 1 to 65,536.
+    pub limit: u32,
+    /// The file of the script.
+    pub script: String,
+    /// The program that the broker and the tabs are.
+    pub program: String,
+}
+
+/// The kernel at work.
+#[derive(Drop)]
+struct Kernel {
+    alloc: Global,
+    hub: Arc<Hub>,
+    words: Arc<BrokerWords>,
+    tabs: Vec<TabHandle>,
+}
+
+/// Runs a kernel's script to its end, and ends the broker and all tabs that run then.
+pub fn run_kernel<R: Host>(rt: R, alloc: Global, words: KernelWords) -> Result<(), ProcessFault> {
+    let KernelWords {
+        directory,
+        lanes,
+        shards,
+        limit,
+        script,
+        program,
+    } = words;
+    let text = read_script(&rt, script.as_str())?;
+    let hub = Arc::new(alloc, Hub::new(alloc)?)?;
+    let words = Arc::new(
+        alloc,
+        BrokerWords {
+            program,
+            directory,
+            lanes,
+            shards,
+            limit,
+        },
+    )?;
+    let keeper = {
+        let (hub, words) = (Arc::try_clone(&hub)?, Arc::try_clone(&words)?);
+        thread::spawn(&rt, move || keep(&rt, alloc, &hub, &words)).map_err(
+            |_| ProcessFault::Device,
+        )?
+    };
+    let mut kernel = Kernel {
+        alloc,
+        hub,
+        words,
+        tabs: Vec::new(alloc),
+    };
+    let ran = kernel.run(rt, text.as_slice());
+    let hub = kernel.end(&rt);
+    keeper.join(&rt);
+    ran?;
+    match hub.failure(&rt) {
+        Some(fault) => Err(fault),
+        None => Ok(()),
+    }
+}
+
+impl Kernel {
+    /// Runs the lines of a script.
+    fn run<R: Host>(&mut self, rt: R, script: &[u8]) -> Result<(), ProcessFault> {
+        let mut out = Vec::new(self.alloc);
+        for (index, text) in script.split(|byte| *byte == b'\n').enumerate() {
+            let number = line_number(index, text)?;
+            let line = match read_kernel_line(self.alloc, text) {
+                Ok(line) => line,
+                Err(Unread::Form) => return Err(ProcessFault::Line(number)),
+                Err(Unread::Memory) => return Err(ProcessFault::Memory),
+            };
+            out.clear();
+            self.obey(rt, line, &mut out)?;
+            if !out.is_empty() {
+                let mut writer = io::writer(&rt);
+                if writer.write_all(out.as_slice()).is_err() {
+                    return Err(ProcessFault::Write);
+                }
+            }
+            if let Some(fault) = self.hub.failure(&rt) {
+                return Err(fault);
+            }
+        }
+        Ok(())
+    }
+
+    /// Does what a line says, and appends what is to be printed.
+    fn obey<R: Host>(
+        &mut self,
+        rt: R,
+        line: KernelLine,
+        out: &mut Vec<u8>,
+    ) -> Result<(), ProcessFault> {
+        match line {
+            KernelLine::Blank => {}
+            KernelLine::Start => {
+                let reply = match self.hub.order_start(&rt)? {
+                    Some(generation) => KernelReply::Up(generation),
+                    None => KernelReply::AlreadyUp,
+                };
+                reply.put(out)?;
+            }
+            KernelLine::Stop => {
+                let reply = match self.hub.order_stop(&rt)? {
+                    Stop::Stopped(generation) => KernelReply::Stopped(generation),
+                    Stop::AlreadyDown => KernelReply::AlreadyDown,
+                    Stop::GenerationsUsedUp => KernelReply::GenerationsUsedUp,
+                };
+                reply.put(out)?;
+            }
+            KernelLine::Open { url, file } => {
+                let read = partition(self.alloc, url.as_str());
+                self.open(rt, read, false, file.as_str(), out)?;
+            }
+            KernelLine::OpenTwo { top, url, file } => {
+                let read = partition_pair(self.alloc, top.as_str(), url.as_str());
+                self.open(rt, read, true, file.as_str(), out)?;
+            }
+            KernelLine::Kill { tab } => self.kill(&rt, tab).put(out)?,
+            KernelLine::Pause { milliseconds } => {
+                thread::sleep(&rt, Duration::from_millis(u64::from(milliseconds)));
+            }
+            KernelLine::Join => {
+                for (tab, status) in self.hub.wait_for_all(&rt)? {
+                    KernelReply::Ended { tab, status }.put(out)?;
+                }
+            }
+        }
+        Ok(())
+    }
+
+    /// Opens a tab of a page whose partition was read, starts its process with a script, and appends what is to be printed.
+    fn open<R: Host>(
+        &mut self,
+        rt: R,
+        read: Result<Partition, OriginFault>,
+        is_pair: bool,
+        file: &str,
+        out: &mut Vec<u8>,
+    ) -> Result<(), ProcessFault> {
+        let partition = match read {
+            Ok(partition) => partition,
+            Err(fault) => {
+                unread_reply(fault)?.put(out)?;
+                return Ok(());
+            }
+        };
+        self.let_go_of_the_dead(&rt);
+        let top = String::from_str(self.alloc, partition.top_text())?;
+        let origin = String::from_str(self.alloc, partition.text())?;
+        let opened = match self.hub.open(&rt, partition, is_pair) {
+            Ok(opened) => opened,
+            Err(fault) => {
+                unopened_reply(fault)?.put(out)?;
+                return Ok(());
+            }
+        };
+        let tab = opened.tab;
+        self.start(rt, opened, file)?;
+        let (top, origin) = (top.as_str(), origin.as_str());
+        let reply = if is_pair {
+            KernelReply::OpenedTwo { tab, top, origin }
+        } else {
+            KernelReply::Opened { tab, origin }
+        };
+        reply.put(out)?;
+        Ok(())
+    }
+
+    /// Lets go of the tabs that were buried: their threads and their links.
+    fn let_go_of_the_dead<R: Host>(&mut self, rt: &R) {
+        let mut place = 0;
+        for _tab in 0..self.tabs.len() {
+            let Some(handle) = self.tabs.get(place) else {
+                return;
+            };
+            if self.hub.is_running(rt, handle.process.tab) {
+                place += 1;
+            } else {
+                self.tabs.swap_remove(place).join(rt);
+            }
+        }
+    }
+
+    /// Starts the process of a tab, and the threads of its link.
+    fn start<R: Host>(&mut self, rt: R, opened: Opened, file: &str) -> Result<(), ProcessFault> {
+        self.tabs.reserve(1)?;
+        let Opened { tab, post, taking } = opened;
+        let directory = self.words.directory.as_str();
+        let path = format!(in self.alloc; "{directory}/tab{tab}.sock")?;
+        // A path that begins like an option is spelled in another way.
+        let here = if file.starts_with('-') { "./" } else { "" };
+        let script = format!(in self.alloc; "{here}{file}")?;
+        let started = start_child(
+            &rt,
+            self.words.program.as_str(),
+            path.as_str(),
+            &["tab", "--socket", path.as_str(), script.as_str()],
+        )?;
+        let process = TabProcess {
+            tab,
+            child: Mutex::new(started.child),
+            link: started.link,
+        };
+        let handle = TabHandle::new(rt, self.alloc, &self.hub, process, &post, taking)?;
+        let is_served = handle.is_served();
+        self.tabs.push_reserved(handle);
+        if !is_served {
+            return Err(ProcessFault::Device);
+        }
+        Ok(())
+    }
+
+    /// Kills the process of a tab, and waits until the tab is buried.
+    fn kill<R: Host>(&self, rt: &R, tab: u16) -> KernelReply {
+        if !self.hub.is_running(rt, tab) {
+            return KernelReply::NoTab;
+        }
+        for handle in self.tabs.iter() {
+            if handle.process.tab == tab {
+                handle.process.kill(rt);
+            }
+        }
+        self.hub.wait_for_end(rt, tab);
+        self.hub.forget_end(rt, tab);
+        KernelReply::Killed(tab)
+    }
+
+    /// Ends the broker and all tabs, and waits for the threads of the tabs.
+    fn end<R: Host>(self, rt: &R) -> Arc<Hub> {
+        let Kernel {
+            alloc: _,
+            hub,
+            words: _,
+            tabs,
+        } = self;
+        hub.order_end(rt);
+        for handle in tabs.iter() {
+            handle.process.kill(rt);
+        }
+        for handle in tabs {
+            handle.join(rt);
+        }
+        hub
+    }
+}
+
+/// What is printed for a page that has no partition.
+fn unread_reply(fault: OriginFault) -> Result<KernelReply<'static>, ProcessFault> {
+    match fault {
+        OriginFault::BadUrl => Ok(KernelReply::BadUrl),
+        OriginFault::Security => Ok(KernelReply::SecurityError),
+        OriginFault::Memory => Err(ProcessFault::Memory),
+    }
+}
+
+/// What is printed for a tab that was not opened.
+fn unopened_reply(fault: Unopened) -> Result<KernelReply<'static>, ProcessFault> {
+    match fault {
+        Unopened::TabsUsedUp => Ok(KernelReply::TabsUsedUp),
+        Unopened::Refused(OpenFault::NumberTaken) => Ok(KernelReply::NumberTaken),
+        Unopened::Refused(OpenFault::TooManyLiving) => Ok(KernelReply::TooManyLiving),
+        Unopened::Refused(OpenFault::PartitionFull) => Ok(KernelReply::PartitionFull),
+        Unopened::Refused(OpenFault::Memory) => Err(ProcessFault::Memory),
+        Unopened::Failed(fault) => Err(fault),
+    }
+}

@@ -1,0 +1,16 @@
+//! The kernel's process: threads, sockets, children and locks round what the crates below prove. It is proved safe; what it
+//! does is tested.
+#![tactic(auto)]
+
+mod bundle;
+pub mod ends;
+mod hub;
+mod keeper;
+pub mod kernel;
+pub mod link_end;
+mod listening;
+mod post;
+mod supervisor;
+mod tab_link;
+
+pub use kernel::{KernelWords, run_kernel};

@@ -1,0 +1,87 @@
+//! Children that connect to a socket of their own.
+
+use std::io::ErrorKind;
+use std::os::unix::net::{UnixListener, UnixStream};
+use std::process::{Child, Command};
+use std::time::Duration;
+use std::{io, thread};
+use wl_process::{Host, ProcessFault};
+
+/// How many turns of a millisecond a child has to connect.
+const TURNS: u32 = 10_000;
+
+/// A child that was started, and its link, if it connected.
+#[derive(Drop)]
+pub(crate) struct Started {
+    pub(crate) child: Child,
+    pub(crate) link: Option<UnixStream>,
+}
+
+/// Starts the program with these words and a socket that it is to connect to, and accepts its link. The socket's file is
+/// removed then.
+pub(crate) fn start_child<R: Host>(
+    rt: &R,
+    program: &str,
+    path: &str,
+    words: &[&str],
+) -> Result<Started, ProcessFault> {
+    let listener = rt.listen(path).map_err(ProcessFault::of_device)?;
+    let started = start_listened(rt, &listener, program, words).map_err(ProcessFault::of_device);
+    let removed = rt.remove_file(path).map_err(ProcessFault::of_device);
+    let mut started = started?;
+    if let Err(fault) = removed {
+        let _ = started.child.kill();
+        let _ = started.child.wait();
+        return Err(fault);
+    }
+    Ok(started)
+}
+
+fn start_listened<R: Host>(
+    rt: &R,
+    listener: &UnixListener,
+    program: &str,
+    words: &[&str],
+) -> io::Result<Started> {
+    listener.set_nonblocking(true)?;
+    let mut command = Command::new(rt.alloc(), program)?;
+    for word in words {
+        command.arg(*word)?;
+    }
+    let mut child = rt.start(&mut command)?;
+    match accept(rt, listener, &mut child) {
+        Ok(link) => {
+            if link.is_none() {
+                let _ = child.kill();
+            }
+            Ok(Started { child, link })
+        }
+        Err(error) => {
+            let _ = child.kill();
+            let _ = child.wait();
+            Err(error)
+        }
+    }
+}
+
+/// Accepts the link of a child. None where the child ended first, or did not connect in time.
+fn accept<R: Host>(
+    rt: &R,
+    listener: &UnixListener,
+    child: &mut Child,
+) -> io::Result<Option<UnixStream>> {
+    for _turn in 0..TURNS {
+        match listener.accept() {
+            Ok((link, _address)) => return Ok(Some(link)),
+            Err(error) if error.kind() == ErrorKind::WouldBlock => {}
+            Err(error) => return Err(error),
+        }
+        match child.try_wait() {
+            Ok(None) => {}
+            // It may have connected and ended since.
+            _ => return Ok(listener.accept().ok().map(|(link, _address)| link)),
+        }
+        thread::sleep(rt, Duration::from_millis(1));
+    }
+    Ok(None)
+}

@@ -1,0 +1,260 @@
+//! A tab's link and process in the kernel: the thread that reads, the thread that writes, and the end of both.
+
+use crate::bundle::{Bundle, Flushed, Gathering};
+use crate::hub::Hub;
+use crate::link_end::{Mercy, mercy_at, status_of};
+use crate::post::{Post, Taking};
+use std::alloc::{AllocError, Global};
+use std::cell::RefCell;
+use std::io::Read;
+use std::net::Shutdown;
+use std::os::unix::net::UnixStream;
+use std::os::unix::process::ExitStatusExt;
+use std::process::Child;
+use std::rt::Clock;
+use std::sync::{Arc, Mutex, Wait};
+use std::thread::JoinHandle;
+use std::time::Duration;
+use std::{io, thread};
+use wl_frames::Frame;
+use wl_frames::device::{Sink, Source};
+use wl_kernel::RouteFault;
+use wl_process::{Host, ProcessFault};
+use wl_workers::tab_reader::tab_reader;
+use wl_workers::tab_writer::tab_writer;
+use wl_workers::{ReadEnd, Rung, SharedSeat, Uplink};
+
+/// How many milliseconds a process has to end by itself when its link has merely ended.
+const GRACE: u32 = 1_000;
+
+/// A tab's process.
+#[derive(Drop)]
+pub(crate) struct TabProcess {
+    pub(crate) tab: u16,
+    pub(crate) child: Mutex<Child>,
+    pub(crate) link: Option<UnixStream>,
+}
+
+impl TabProcess {
+    /// Kills the process, unless it has ended, and ends the link, which a child of its own may have inherited.
+    pub(crate) fn kill<R: Host>(&self, rt: &R) {
+        let _ = self.child.lock(rt).kill();
+        self.hang_up();
+    }
+
+    fn hang_up(&self) {
+        if let Some(link) = &self.link {
+            let _ = link.shutdown(Shutdown::Both);
+        }
+    }
+
+    /// Ends what is left of the process, and gives its status.
+    pub(crate) fn end<R: Host>(&self, rt: &R, mercy: Mercy) -> u8 {
+        self.hang_up();
+        if mercy == Mercy::Grace {
+            self.wait_a_while(rt);
+        }
+        let mut child = self.child.lock(rt);
+        let _ = child.kill();
+        match child.wait() {
+            Ok(status) => status_of(status.code(), status.signal()),
+            Err(_) => status_of(None, None),
+        }
+    }
+
+    /// Waits until the process has ended, but no longer than the grace.
+    fn wait_a_while<R: Host>(&self, rt: &R) {
+        for _turn in 0..GRACE {
+            match self.child.lock(rt).try_wait() {
+                Ok(None) => {}
+                _ => return,
+            }
+            thread::sleep(rt, Duration::from_millis(1));
+        }
+    }
+}
+
+/// Where a tab's frames are handed up: what goes to the broker is gathered until the tab's reader reads again.
+#[derive(Drop)]
+struct KernelLink<'a> {
+    hub: &'a Hub,
+    gathered: &'a RefCell<Vec<u8>>,
+}
+
+impl Uplink for KernelLink<'_> {
+    fn up<R: Wait + Clock>(&mut self, rt: &R, tab: u16, frame: Frame) -> Result<(), RouteFault> {
+        match self.gathered.try_borrow_mut() {
+            Ok(mut bytes) => self.hub.up(rt, tab, frame, &mut bytes),
+            Err(_) => Err(RouteFault::Memory),
+        }
+    }
+}
+
+/// A tab's link, before each read of which what was gathered goes to the broker.
+#[derive(Drop)]
+struct TabLink<'a, R> {
+    rt: R,
+    hub: &'a Hub,
+    gathered: &'a RefCell<Vec<u8>>,
+    link: &'a UnixStream,
+}
+
+impl<R: Wait> TabLink<'_, R> {
+    fn hand_on(&self) {
+        if let Ok(mut bytes) = self.gathered.try_borrow_mut() {
+            if !bytes.is_empty() {
+                self.hub.write(&self.rt, bytes.as_slice());
+                bytes.clear();
+            }
+        }
+    }
+}
+
+impl<R: Wait> Read for TabLink<'_, R> {
+    fn read(&mut self, buffer: &mut [u8]) -> io::Result<usize> {
+        self.hand_on();
+        let mut link = self.link;
+        link.read(buffer)
+    }
+}
+
+/// Reads a tab's link to its end.
+fn read_link<R: Host>(
+    rt: &R,
+    alloc: Global,
+    hub: &Hub,
+    tab: u16,
+    link: &UnixStream,
+) -> Result<ReadEnd, AllocError> {
+    let gathered = RefCell::new(Vec::new(alloc));
+    let mut lives = SharedSeat::new(hub.seat_of(tab)?);
+    let mut uplink = KernelLink {
+        hub,
+        gathered: &gathered,
+    };
+    let mut source = Source::new(TabLink {
+        rt: *rt,
+        hub,
+        gathered: &gathered,
+        link,
+    });
+    let end = tab_reader(rt, alloc, tab, &mut source, &mut lives, &mut uplink);
+    if let Ok(bytes) = gathered.try_borrow() {
+        hub.write(rt, bytes.as_slice());
+    }
+    Ok(end)
+}
+
+/// Reads a tab's link to its end, and buries the tab.
+fn read_and_bury<R: Host>(rt: &R, alloc: Global, hub: &Hub, process: &TabProcess) {
+    let end = match &process.link {
+        Some(link) => read_link(rt, alloc, hub, process.tab, link),
+        None => Ok(ReadEnd::End),
+    };
+    let mercy = match end {
+        Ok(end) => mercy_at(end),
+        Err(_) => Mercy::None,
+    };
+    let status = process.end(rt, mercy);
+    hub.bury(rt, process.tab, status);
+}
+
+/// Writes what is put for a tab, until it is dead or its link takes no more.
+fn write_link<R: Host>(
+    rt: &R,
+    alloc: Global,
+    hub: &Hub,
+    process: &TabProcess,
+    post: &Post,
+    taking: Taking,
+) -> Result<(), AllocError> {
+    let Some(link) = &process.link else {
+        return Ok(());
+    };
+    let Taking { outbox, mut pass } = taking;
+    let bundle = Bundle::new(alloc, link);
+    let seat = SharedSeat::new(hub.seat_of(process.tab)?);
+    let mut lives = Flushed {
+        bundle: &bundle,
+        lives: Rung::new(Arc::try_clone(&post.bell)?, seat),
+    };
+    let mut sink = Sink::new(Gathering { bundle: &bundle });
+    let _end = tab_writer(
+        rt,
+        alloc,
+        process.tab,
+        &outbox,
+        &mut pass,
+        &mut lives,
+        &mut sink,
+    );
+    bundle.flush();
+    Ok(())
+}
+
+/// A tab as the script has it: its process, and the threads of its link.
+#[derive(Drop)]
+pub(crate) struct TabHandle {
+    pub(crate) process: Arc<TabProcess>,
+    reader: Option<JoinHandle<()>>,
+    writer: Option<JoinHandle<()>>,
+}
+
+impl TabHandle {
+    /// Starts the threads of a tab's link. Where one can't be made the process is killed and the tab buried.
+    pub(crate) fn new<R: Host>(
+        rt: R,
+        alloc: Global,
+        hub: &Arc<Hub>,
+        process: TabProcess,
+        post: &Arc<Post>,
+        taking: Taking,
+    ) -> Result<TabHandle, ProcessFault> {
+        let process = Arc::new(alloc, process)?;
+        let reader = {
+            let (hub, process) = (Arc::try_clone(hub)?, Arc::try_clone(&process)?);
+            thread::spawn(&rt, move || read_and_bury(&rt, alloc, &hub, &process)).ok()
+        };
+        let writer = {
+            let (hub, process) = (Arc::try_clone(hub)?, Arc::try_clone(&process)?);
+            let post = Arc::try_clone(post)?;
+            thread::spawn(&rt, move || {
+                let _ = write_link(&rt, alloc, &hub, &process, &post, taking);
+            })
+            .ok()
+        };
+        let has_failed = reader.is_none() || writer.is_none();
+        if has_failed {
+            process.kill(&rt);
+        }
+        if reader.is_none() {
+            let status = process.end(&rt, Mercy::None);
+            hub.bury(&rt, process.tab, status);
+        }
+        Ok(TabHandle {
+            process,
+            reader,
+            writer,
+        })
+    }
+
+    /// Whether its threads could be made.
+    pub(crate) fn is_served(&self) -> bool {
+        self.reader.is_some() && self.writer.is_some()
+    }
+
+    /// Waits for the threads. The process has to end first.
+    pub(crate) fn join<R: Host>(self, rt: &R) {
+        let TabHandle {
+            process: _,
+            reader,
+            writer,
+        } = self;
+        if let Some(reader) = reader {
+            reader.join(rt);
+        }
+        if let Some(writer) = writer {
+            writer.join(rt);
+        }
+    }
+}

@@ -1,0 +1,74 @@
+//! What the processes need of the system.
+
+use std::fs::OpenOptions;
+use std::io::Write;
+use std::net::Net;
+use std::os::unix::net::{UnixListener, UnixStream};
+use std::process::{Child, Command, Processes, SystemProcess};
+use std::rt::{Clock, Files};
+use std::sync::Wait;
+use std::thread::Threads;
+use std::{fs, io};
+
+/// Memory, standard output, the clock, threads and locks; and, as calls, files, sockets and children: a handle that leaves the
+/// type of its files or streams open is none that a thread may be given.
+pub trait Host: AllocGlobal + Print + Clock + Threads + Wait + Copy + Send + Sync + 'static {
+    /// The bytes of a file.
+    fn read_file(&self, path: &str) -> io::Result<Vec<u8>>;
+
+    /// Writes these bytes over the first ones of a file that is there.
+    fn write_over(&self, path: &str, bytes: &[u8]) -> io::Result<()>;
+
+    /// Removes a file.
+    fn remove_file(&self, path: &str) -> io::Result<()>;
+
+    /// Listens on a Unix socket, whose file it makes.
+    fn listen(&self, path: &str) -> io::Result<UnixListener>;
+
+    /// Connects to a Unix socket.
+    fn connect(&self, path: &str) -> io::Result<UnixStream>;
+
+    /// Starts a program.
+    fn start(&self, command: &mut Command) -> io::Result<Child>;
+}
+
+impl<R> Host for R
+where
+    R: Net
+        + Files
+        + Processes<Started = SystemProcess>
+        + AllocGlobal
+        + Print
+        + Clock
+        + Threads
+        + Wait
+        + Copy
+        + Send
+        + Sync
+        + 'static,
+{
+    fn read_file(&self, path: &str) -> io::Result<Vec<u8>> {
+        fs::read(self, path)
+    }
+
+    fn write_over(&self, path: &str, bytes: &[u8]) -> io::Result<()> {
+        let mut file = OpenOptions::new().write(true).open(self, path)?;
+        file.write_all(bytes)
+    }
+
+    fn remove_file(&self, path: &str) -> io::Result<()> {
+        fs::remove_file(self, path)
+    }
+
+    fn listen(&self, path: &str) -> io::Result<UnixListener> {
+        UnixListener::bind(self, path)
+    }
+
+    fn connect(&self, path: &str) -> io::Result<UnixStream> {
+        UnixStream::connect(self, path)
+    }
+
+    fn start(&self, command: &mut Command) -> io::Result<Child> {
+        command.spawn(self)
+    }
+}

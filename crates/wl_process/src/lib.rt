@@ -1,0 +1,14 @@
+//! What the processes share: the system as they use it, their faults, the frames of a link as they come, and scripts as files.
+#![tactic(auto)]
+
+pub mod fault;
+pub mod host;
+pub mod incoming;
+pub mod script;
+pub mod sending;
+
+pub use fault::ProcessFault;
+pub use host::Host;
+pub use incoming::Incoming;
+pub use script::{line_number, read_script};
+pub use sending::{BUNDLE_LEN, append};

@@ -1,0 +1,10 @@
+//! A tab's process: two threads round the agent that the crates below prove. It is proved safe; what it does is tested.
+#![tactic(auto)]
+
+mod locks;
+mod page;
+pub mod patience;
+mod snapshots;
+pub mod tab;
+
+pub use tab::run_tab;

@@ -1,0 +1,355 @@
+//! What the two threads of a tab's process share: its locks and its link, under one lock.
+
+use crate::locks::{Fate, Locks};
+use crate::patience::{Next, Patience};
+use std::alloc::Global;
+use std::io::Write;
+use std::os::unix::net::UnixStream;
+use std::sync::{Condvar, CondvarTimeouts, Mutex, MutexGuard};
+use std::time::Duration;
+use wl_agent::{AgentFault, Delivered, MessageFault, Snapshot};
+use wl_frames::{Frame, Mode, Name};
+use wl_process::{Host, ProcessFault, append};
+
+/// How many milliseconds a waiting tab hears nothing before it sends its commands again.
+const QUIET: u64 = 20;
+
+/// Why a tab's command was not done.
+#[derive(Clone, Copy, Debug, PartialEq, Eq)]
+pub(crate) enum Undone {
+    /// The agent refuses it.
+    Refused,
+    /// It was waited for too long, or a file failed.
+    Failed,
+    /// The tab ends.
+    Fault(ProcessFault),
+}
+
+impl From<ProcessFault> for Undone {
+    fn from(fault: ProcessFault) -> Undone {
+        Undone::Fault(fault)
+    }
+}
+
+impl From<AgentFault> for Undone {
+    fn from(fault: AgentFault) -> Undone {
+        match fault {
+            AgentFault::Memory => Undone::Fault(ProcessFault::Memory),
+            _ => Undone::Refused,
+        }
+    }
+}
+
+/// A tab's locks and its link. What is sent goes out under the lock, so in the order in which the agent said it.
+#[derive(Drop)]
+pub(crate) struct Page {
+    alloc: Global,
+    link: UnixStream,
+    /// None until the welcome has come.
+    locks: Option<Locks>,
+    /// What is written next.
+    bytes: Vec<u8>,
+    /// The number that the script waits for.
+    awaited: Option<u32>,
+    /// Whether something has come that may end its waiting.
+    has_come: bool,
+    /// How the link has ended.
+    end: Option<ProcessFault>,
+}
+
+impl Page {
+    /// Appends the message of a command, where a generation is entered.
+    fn say(&mut self, number: u32) -> Result<(), ProcessFault> {
+        let Some(locks) = &self.locks else {
+            return Ok(());
+        };
+        match locks.message(number) {
+            Ok(frame) => {
+                append(self.alloc, &mut self.bytes, &frame)?;
+                Ok(())
+            }
+            Err(MessageFault::Memory) => Err(ProcessFault::Memory),
+            Err(_) => Ok(()),
+        }
+    }
+
+    /// Appends all that may not have come to the broker: the report, if it is due, and commands.
+    fn say_again(&mut self) -> Result<(), ProcessFault> {
+        let Some(locks) = &self.locks else {
+            return Ok(());
+        };
+        let due = locks.resend()?;
+        if due.report {
+            match locks.report_frames() {
+                Ok(frames) => self.append_all(frames.as_slice())?,
+                Err(MessageFault::Memory) => return Err(ProcessFault::Memory),
+                Err(_) => {}
+            }
+        }
+        self.say_from(0, due.numbers.as_slice())
+    }
+
+    /// Appends the commands of these numbers that are not below the base of a report, which tells of those below.
+    fn say_from(&mut self, base: u32, numbers: &[u32]) -> Result<(), ProcessFault> {
+        for number in numbers {
+            if *number >= base {
+                self.say(*number)?;
+            }
+        }
+        Ok(())
+    }
+
+    fn append_all(&mut self, frames: &[Frame]) -> Result<(), ProcessFault> {
+        for frame in frames {
+            append(self.alloc, &mut self.bytes, frame)?;
+        }
+        Ok(())
+    }
+
+    /// Writes what was said.
+    fn send(&mut self) -> Result<(), ProcessFault> {
+        if self.bytes.is_empty() {
+            return Ok(());
+        }
+        let mut writer = &self.link;
+        let written = writer.write_all(self.bytes.as_slice());
+        self.bytes.clear();
+        written.map_err(|_| ProcessFault::Write)
+    }
+
+    /// Takes in a frame that has come. The first one has to be a welcome.
+    fn take(&mut self, frame: Frame) -> Result<(), ProcessFault> {
+        let Some(locks) = &mut self.locks else {
+            self.locks = Some(welcomed(self.alloc, &frame)?);
+            self.has_come = true;
+            return Ok(());
+        };
+        let delivered = locks.deliver(&frame);
+        if let Delivered::Entered(frames) = &delivered {
+            return self.enter(frames.as_slice());
+        }
+        let settled = settled_by(&delivered);
+        if settled.is_some() && settled == self.awaited {
+            self.has_come = true;
+        }
+        Ok(())
+    }
+
+    /// A generation is entered: its report is said, and what the report does not tell of.
+    fn enter(&mut self, report: &[Frame]) -> Result<(), ProcessFault> {
+        self.has_come = true;
+        self.append_all(report)?;
+        let Some(locks) = &self.locks else {
+            return Ok(());
+        };
+        let due = locks.resend()?;
+        self.say_from(base_of(report), due.numbers.as_slice())
+    }
+
+    fn take_all(&mut self, frames: Vec<Frame>) -> Result<(), ProcessFault> {
+        for frame in frames {
+            self.take(frame)?;
+        }
+        self.send()
+    }
+}
+
+/// The base of a report.
+fn base_of(report: &[Frame]) -> u32 {
+    match report.first() {
+        Some(Frame::Report(report)) => report.base,
+        Some(Frame::ReportPart(part)) => part.base,
+        _ => 0,
+    }
+}
+
+/// The number that is not asked any more after this delivery.
+fn settled_by(delivered: &Delivered) -> Option<u32> {
+    match delivered {
+        Delivered::Granted(number)
+        | Delivered::Null(number)
+        | Delivered::Lost(number)
+        | Delivered::Whole(number) => Some(*number),
+        _ => None,
+    }
+}
+
+/// A page that two threads share.
+#[derive(Drop)]
+pub(crate) struct SharedPage {
+    page: Mutex<Page>,
+    came: Condvar,
+}
+
+impl SharedPage {
+    pub(crate) fn new(alloc: Global, link: UnixStream) -> SharedPage {
+        SharedPage {
+            page: Mutex::new(Page {
+                alloc,
+                link,
+                locks: None,
+                bytes: Vec::new(alloc),
+                awaited: None,
+                has_come: false,
+                end: None,
+            }),
+            came: Condvar::new(),
+        }
+    }
+
+    // ---- the thread that reads the link
+
+    /// Takes in frames that have come, and wakes the script where they may end its waiting.
+    pub(crate) fn take<R: Host>(&self, rt: &R, frames: Vec<Frame>) -> Result<(), ProcessFault> {
+        let mut page = self.page.lock(rt);
+        let taken = page.take_all(frames);
+        let has_come = page.has_come;
+        drop(page);
+        if has_come {
+            self.came.notify_one();
+        }
+        taken
+    }
+
+    /// The link has ended.
+    pub(crate) fn end<R: Host>(&self, rt: &R, fault: ProcessFault) {
+        let mut page = self.page.lock(rt);
+        page.end = Some(fault);
+        drop(page);
+        self.came.notify_one();
+    }
+
+    // ---- the thread that runs the script
+
+    /// Waits until the tab has been welcomed.
+    pub(crate) fn wait_for_welcome<R: Host>(&self, rt: &R) -> Result<(), ProcessFault> {
+        let page = self.came.wait_while(rt, self.page.lock(rt), |page| {
+            page.locks.is_none() && page.end.is_none()
+        });
+        match page.end {
+            Some(fault) => Err(fault),
+            None => Ok(()),
+        }
+    }
+
+    /// Whether the link has ended.
+    pub(crate) fn check<R: Host>(&self, rt: &R) -> Result<(), ProcessFault> {
+        match self.page.lock(rt).end {
+            Some(fault) => Err(fault),
+            None => Ok(()),
+        }
+    }
+
+    pub(crate) fn ask<R: Host>(&self, rt: &R, mode: Mode, name: &Name) -> Result<(), Undone> {
+        let mut guard = self.page.lock(rt);
+        let page = &mut *guard;
+        if let Some(locks) = &mut page.locks {
+            let number = locks.request(name, mode)?;
+            page.say(number)?;
+            page.send()?;
+        }
+        Ok(())
+    }
+
+    pub(crate) fn probe<R: Host>(&self, rt: &R, mode: Mode, name: &Name) -> Result<(), Undone> {
+        let mut guard = self.page.lock(rt);
+        let page = &mut *guard;
+        if let Some(locks) = &mut page.locks {
+            let number = locks.probe(name, mode)?;
+            page.say(number)?;
+            page.send()?;
+        }
+        Ok(())
+    }
+
+    pub(crate) fn release<R: Host>(&self, rt: &R, number: u32) -> Result<(), ProcessFault> {
+        let mut guard = self.page.lock(rt);
+        let page = &mut *guard;
+        if let Some(locks) = &mut page.locks {
+            if let Some(next) = locks.release(number) {
+                page.say(next)?;
+                page.send()?;
+            }
+        }
+        Ok(())
+    }
+
+    pub(crate) fn abort<R: Host>(&self, rt: &R, number: u32) -> Result<(), ProcessFault> {
+        let mut guard = self.page.lock(rt);
+        let page = &mut *guard;
+        if let Some(locks) = &mut page.locks {
+            if let Some(next) = locks.abort(number) {
+                page.say(next)?;
+                page.send()?;
+            }
+        }
+        Ok(())
+    }
+
+    /// Issues a query, waits for it, and gives its answer; None where it is lost.
+    pub(crate) fn query<R: Host>(&self, rt: &R) -> Result<Option<Snapshot>, Undone> {
+        let mut guard = self.page.lock(rt);
+        let page = &mut *guard;
+        let Some(locks) = &mut page.locks else {
+            return Ok(None);
+        };
+        let number = locks.query()?;
+        page.say(number)?;
+        page.send()?;
+        drop(guard);
+        self.wait(rt, number)
+    }
+
+    /// Waits until a number is not asked any more, and gives the answer of a query that is whole. It is woken by the delivery
+    /// that ends the waiting; while there is none for a while, it sends again what may not have come.
+    pub(crate) fn wait<R: Host>(&self, rt: &R, number: u32) -> Result<Option<Snapshot>, Undone> {
+        let mut patience = Patience::new();
+        let mut page = self.page.lock(rt);
+        for _ in rt.forever() {
+            if let Some(fault) = page.end {
+                return Err(Undone::Fault(fault));
+            }
+            if let Some(told) = settle(&mut page, number) {
+                return Ok(told);
+            }
+            page.awaited = Some(number);
+            page.has_come = false;
+            let quiet = Duration::from_millis(QUIET);
+            let (woken, result) = self.came.wait_timeout_while(rt, page, quiet, |page| {
+                !page.has_come && page.end.is_none()
+            });
+            page = woken;
+            if result.timed_out() {
+                match patience.quiet() {
+                    Next::Resend => {
+                        page.say_again()?;
+                        page.send()?;
+                    }
+                    Next::GiveUp => return Err(Undone::Failed),
+                }
+            }
+        }
+        unreachable!()
+    }
+}
+
+/// The locks of a tab, of which its welcome tells. The first frame has to be one.
+fn welcomed(alloc: Global, frame: &Frame) -> Result<Locks, ProcessFault> {
+    match frame {
+        Frame::Welcome(welcome) => Ok(Locks::new(alloc, welcome.tab)),
+        Frame::PairWelcome(welcome) => Ok(Locks::new_two(alloc, welcome.tab)),
+        _ => Err(ProcessFault::Unexpected),
+    }
+}
+
+/// What became of a number that is not asked any more; None of one that is.
+fn settle(page: &mut MutexGuard<'_, Page>, number: u32) -> Option<Option<Snapshot>> {
+    let Some(locks) = &mut page.locks else {
+        return Some(None);
+    };
+    match locks.settle(number) {
+        Fate::Asked => None,
+        Fate::Settled => Some(None),
+        Fate::Whole(snapshot) => Some(Some(snapshot)),
+    }
+}

@@ -1,0 +1,6 @@
+pub mod FaultFree
+pub mod Forms
+pub mod Given
+pub mod Grammar
+pub mod Lists
+pub mod Numbers
