@@ -1,10 +1,16 @@
-# `make demo` builds the program and shows it at work; `make bench` times it; `make test` is the gate.
-.PHONY: bench demo test
+# `make demo` builds the program and shows it at work, `make demo-processes` as processes; `make bench` times it; `make test` is
+# the gate.
+.PHONY: bench demo demo-processes test
 
 EXAMPLE ?= examples/handover.sim
 
 demo: crates/wlb/out/wlb
 	python3 tools/demo.py $(EXAMPLE) crates/wlb/out/wlb
+
+PROCESSES ?= examples/processes/counter
+
+demo-processes: crates/wlb/out/wlb
+	python3 tools/demo_processes.py $(PROCESSES) crates/wlb/out/wlb
 
 SPEEDS = crates/table_speed/out/table_speed crates/board_speed/out/board_speed crates/locked_speed/out/locked_speed
 

@@ -1,5 +1,5 @@
-"""Times `wlb sim`, `wlb desk`, the lock tables, the board and the outbox that threads share, and a broker behind its lock:
-`bench.py WLB TABLES BOARD LOCKED`, or `bench.py WLB TABLES BOARD LOCKED OLDER` to time an older `wlb` beside it.
+"""Times `wlb sim`, `wlb desk`, the lock tables, the board and the outbox that threads share, a broker behind its lock, and the
+processes: `bench.py WLB TABLES BOARD LOCKED`, or `bench.py WLB TABLES BOARD LOCKED OLDER` to time an older `wlb` beside it.
 
 Handover: scripts of growing length, in which two tabs of one origin hand a lock over, again and again. Prints for each length
 the seconds and the time of a line, as a ratio to that of the shortest script. Where a line costs no more for the messages that
@@ -28,14 +28,32 @@ that nobody else wants. A broker that no other thread has takes the events of on
 were, of all lanes together, the best of the runs, and that rate as a ratio to the rate of one lane, the middle one of the runs.
 Where the broker alone has a ratio of 2, a step of a lane takes twice as long as one without lock, history and receipts.
 
+Processes: a kernel, its broker with two lanes, and tabs, each of which asks for an exclusive lock, waits for it and gives it up,
+2,000 times: one tab; four tabs of one origin with a name each, and with one name for all; sixteen tabs of four origins with a
+name each. The tabs are opened and ask while no broker is up, so that they begin together: the time is that from the line of the
+broker's start to that of the tabs' ends. What a tab sends in a round is two frames: the request, for whose answer it waits, and
+the release, for whose answer it does not. Prints how many locks a second were granted, to all tabs together, the best of the
+runs. Beside it in each run stands `relay.c`, a program in C with the same hops and threads, in which as many tabs each send a
+frame and wait for it as often; it is timed in the same way. Prints its round trips a second, the best of the runs, and the ratio
+of the first rate to the second, the middle one of the runs. Where there is no `cc` there is neither.
+
+Idle: 64 tabs of one origin wait for a lock that one of them holds, that one too, by a second request behind the others'. Each
+sends its request again whenever it has heard nothing for 20 milliseconds. Prints the processor's time of kernel, broker and tabs
+together over five seconds, as a share of one processor, and the same of a kernel and a broker without tabs. It needs `/proc`.
+
 Where an older program is given, reports and waiting also print how many times the time of the newer one the older one took.
 """
 
+import contextlib
+import os
 import resource
+import shutil
+import signal
 import statistics
 import struct
 import subprocess
 import sys
+import tempfile
 import time
 
 LENGTHS = [1_000, 10_000, 100_000]
@@ -48,6 +66,15 @@ WAITING = [64, 1_024, 32_768]
 COMMANDS = 20_000
 # Of the desk the fastest run counts; of what threads share the best rate and the middle ratio.
 RUNS = 7
+
+# Of the processes: how the tabs are spread, and which ratio to the relay is the goal. A name for all tabs of an origin, or each.
+ROUNDS = 2_000
+TURNOUTS = [("1 tab", 1, 1, True, 0.6), ("4 tabs, a name each", 1, 4, True, 0.6), ("4 tabs, one name", 1, 4, False, 0.3)]
+TURNOUTS += [("16 tabs of 4 origins, a name each", 4, 4, True, None)]
+IDLE_GOAL = 0.25
+IDLE_SECONDS = 5
+# No run of processes takes longer.
+SECONDS = 120
 
 
 def handover(lines):
@@ -276,6 +303,154 @@ def locked(program):
         print(f"locked: {what} {lanes} {max(some) / 1e6:8.3f} million a second  ratio to one lane {statistics.median(ratios[key]):5.2f}")
 
 
+# ---- the processes
+
+
+def rounds_of(name, rounds):
+    """A tab's script. A release takes a number too."""
+    return "".join(f"ask exclusive {name}\nwait {2 * turn}\nrelease {2 * turn}\n" for turn in range(rounds))
+
+
+def members(session):
+    """The processes of a session, with the clock ticks that each has used."""
+    ticks = {}
+    for name in os.listdir("/proc"):
+        if name.isdigit():
+            with contextlib.suppress(FileNotFoundError, ProcessLookupError):
+                with open(f"/proc/{name}/stat", encoding="utf-8") as file:
+                    fields = file.read().rpartition(")")[2].split()
+                if int(fields[3]) == session:
+                    ticks[int(name)] = int(fields[11]) + int(fields[12])
+    return ticks
+
+
+def end(process):
+    """Kills a program that leads a session, and what is left of the session, one process after another."""
+    process.kill()
+    for child in members(process.pid):
+        with contextlib.suppress(ProcessLookupError):
+            os.kill(child, signal.SIGKILL)
+
+
+@contextlib.contextmanager
+def started(words, place):
+    """A program with its children, in a session of their own. It has to end with status 0, and is ended where its time is up."""
+    process = subprocess.Popen(words, cwd=place, stdin=subprocess.DEVNULL, stdout=subprocess.PIPE, start_new_session=True)
+    alarm = signal.signal(signal.SIGALRM, lambda *_: end(process))
+    signal.alarm(SECONDS)
+    try:
+        yield process
+        process.stdout.read()
+        assert process.wait() == 0, f"{words[0]} ended with status {process.returncode}"
+    finally:
+        signal.alarm(0)
+        signal.signal(signal.SIGALRM, alarm)
+        end(process)
+        process.wait()
+        process.stdout.close()
+
+
+def seconds_between(words, place, first, last, count):
+    """From the first line that begins so to the last of so many that begin otherwise."""
+    begin = end = None
+    with started(words, place) as process:
+        for line in process.stdout:
+            if line.startswith(first) and begin is None:
+                begin = time.monotonic()
+            if line.startswith(last):
+                end, count = time.monotonic(), count - 1
+    assert begin is not None and count == 0, f"{words[0]} did not say all that it has to"
+    return end - begin
+
+
+def write(place, name, lines):
+    with open(os.path.join(place, name), "w", encoding="utf-8") as file:
+        file.write(lines)
+
+
+def kernel_words(program):
+    return [program, "kernel", "--dir", ".", "--lanes", "2", "--shards", "1", "--limit", "65536", "KERNEL"]
+
+
+def granting_seconds(program, origins, tabs, has_names, rounds):
+    """Of all rounds of so many tabs of so many origins."""
+    with tempfile.TemporaryDirectory(prefix="wlb-") as place:
+        script = ""
+        for origin in range(origins):
+            for tab in range(tabs):
+                write(place, f"TAB{tab}", rounds_of(f"n{tab}" if has_names else "f", rounds))
+                script += f"open https://o{origin}.test/ TAB{tab}\n"
+        # The pause is for the last tabs, which have to read their scripts.
+        write(place, "KERNEL", script + "pause 500\nstart\njoin\n")
+        return seconds_between(kernel_words(program), place, b"up ", b"ended ", origins * tabs)
+
+
+def relaying_seconds(relay, tabs, rounds):
+    with tempfile.TemporaryDirectory(prefix="wlb-") as place:
+        return seconds_between([relay, "kernel", ".", str(tabs), str(rounds)], place, b"up", b"ended", 1)
+
+
+def build_relay(place):
+    """The relay in C, or None where there is no compiler."""
+    if not shutil.which("cc"):
+        print("processes: there is no cc, so the relay and the ratios to it are left out")
+        return None
+    relay = os.path.join(place, "relay")
+    source = os.path.join(os.path.dirname(os.path.abspath(__file__)), "relay.c")
+    subprocess.run(["cc", "-O2", "-pthread", "-o", relay, source], check=True)
+    return relay
+
+
+def granting(program, rounds=ROUNDS, runs=RUNS):
+    program = os.path.abspath(program)
+    with tempfile.TemporaryDirectory(prefix="wlb-") as place:
+        relay = build_relay(place)
+        for what, origins, tabs, has_names, goal in TURNOUTS:
+            rates, relayed, count = [], [], origins * tabs * rounds
+            for _ in range(runs):
+                if relay:
+                    relayed.append(count / relaying_seconds(relay, origins * tabs, rounds))
+                rates.append(count / granting_seconds(program, origins, tabs, has_names, rounds))
+            line = f"processes: {what:33} {max(rates):8.0f} locks a second"
+            if relay:
+                ratio = statistics.median(rate / other for rate, other in zip(rates, relayed))
+                line += f"  the relay {max(relayed):8.0f} trips  ratio {ratio:5.2f}"
+                line += f"  goal {goal}" if goal else ""
+            print(line)
+
+
+def share_of(session, seconds):
+    """The share of one processor that a session has used meanwhile."""
+    before, begin = members(session), time.monotonic()
+    time.sleep(seconds)
+    after, taken = members(session), time.monotonic() - begin
+    assert before.keys() == after.keys(), "a process began or ended meanwhile"
+    return (sum(after.values()) - sum(before.values())) / os.sysconf("SC_CLK_TCK") / taken
+
+
+def idle_share(program, tabs, seconds):
+    """Of a kernel, its broker and so many tabs that wait."""
+    with tempfile.TemporaryDirectory(prefix="wlb-") as place:
+        write(place, "TAB", "ask exclusive f\nwait 0\nask exclusive f\nwait 1\n")
+        # The kernel ends all when its script ends.
+        script = "start\n" + "open https://a.test/ TAB\n" * tabs + f"pause {1000 * seconds + 3000}\n"
+        write(place, "KERNEL", script)
+        with started(kernel_words(program), place) as process:
+            for _ in range(1 + tabs):
+                line = process.stdout.readline()
+                assert line.startswith((b"up ", b"opened ")), line
+            time.sleep(1)
+            assert len(members(process.pid)) == 2 + tabs
+            return share_of(process.pid, seconds)
+
+
+def idle(program, seconds=IDLE_SECONDS):
+    program = os.path.abspath(program)
+    waiting, alone = idle_share(program, 64, seconds), idle_share(program, 0, seconds)
+    print(f"idle: 64 tabs that wait {waiting:6.3f} of a processor  goal below {IDLE_GOAL}")
+    print(f"idle: no tabs           {alone:6.3f} of a processor  goal 0")
+
+
 def main():
     program, tables, board, lanes = sys.argv[1:5]
     programs = [program, *sys.argv[5:6]]
@@ -286,6 +461,8 @@ def main():
     subprocess.run([tables, "time"], check=True)
     shared(board)
     locked(lanes)
+    granting(program)
+    idle(program)
 
 
 if __name__ == "__main__":
