@@ -1,6 +1,6 @@
 # `make demo` builds the program and shows it at work, `make demo-processes` as processes; `make bench` times it; `make test` is
-# the gate.
-.PHONY: bench demo demo-processes test
+# the gate, and `make more-edits` tries the must-fail edits that the gate leaves out.
+.PHONY: bench demo demo-processes more-edits test
 
 EXAMPLE ?= examples/handover.sim
 
@@ -31,3 +31,6 @@ crates/locked_speed/out/locked_speed: crates.txt $(wildcard crates/wl_*/src/*.rt
 
 test:
 	rt ci
+
+more-edits:
+	python3 tools/more_edits.py $(CRATES)
