@@ -1,6 +1,6 @@
 # `make demo` builds the program and shows it at work, `make demo-processes` as processes; `make bench` times it; `make test` is
 # the gate, and `make more-edits` tries the must-fail edits that the gate leaves out.
-.PHONY: bench demo demo-processes more-edits test
+.PHONY: bench demo demo-processes fuzz more-edits soak test
 
 EXAMPLE ?= examples/handover.sim
 
@@ -34,3 +34,14 @@ test:
 
 more-edits:
 	python3 tools/more_edits.py $(CRATES)
+
+MINUTES ?= 10
+MEGABYTES ?= 100
+SEED ?= 1
+
+soak: crates/wlb/out/wlb
+	python3 tools/soak.py $(MINUTES) $(SEED) crates/wlb/out/wlb
+	python3 tools/hostile.py $(SEED) crates/wlb/out/wlb
+
+fuzz: crates/wlb/out/wlb
+	python3 tools/fuzz.py $(MEGABYTES) $(SEED) crates/wlb/out/wlb

@@ -3,4 +3,5 @@
 mod process_script;
 mod random;
 mod script;
+mod stops;
 mod world;

@@ -1,7 +1,7 @@
 // Scripts through the sim.
 mod hostile;
 mod parts;
-mod rows;
+pub mod rows;
 mod texts;
 
 use rows::{JOINED_1, Row, Step};
@@ -14,9 +14,9 @@ use wl_script::sim::{SimFault, sim_run};
 
 /// A script, and what is due for it.
 #[derive(Drop)]
-struct Play {
-    script: Vec<u8>,
-    output: Vec<u8>,
+pub struct Play {
+    pub script: Vec<u8>,
+    pub output: Vec<u8>,
 }
 
 impl Play {
@@ -67,12 +67,17 @@ fn expect(
     assert_eq!(rt; written.as_slice(), output, "{name}");
 }
 
-fn expect_row(rt: &impl Abort, alloc: Global, row: &Row) -> Result<(), Fail> {
+/// The lines of a row, and what is due for them.
+pub fn play_of(alloc: Global, row: &Row) -> Result<Play, AllocError> {
     let mut play = Play::new(alloc);
     for part in row.parts {
         play.steps(part)?;
     }
-    play.expect(rt, alloc, row.name);
+    Ok(play)
+}
+
+fn expect_row(rt: &impl Abort, alloc: Global, row: &Row) -> Result<(), Fail> {
+    play_of(alloc, row)?.expect(rt, alloc, row.name);
     Ok(())
 }
 
@@ -232,9 +237,8 @@ fn letters(alloc: Global, count: usize) -> Result<String, AllocError> {
     Ok(text)
 }
 
-#[test]
-fn refusals(rt: HostRuntime) -> Result<(), Fail> {
-    let alloc = rt.alloc();
+/// Requests that are refused, and as many as a tab may have.
+pub fn play_of_refusals(alloc: Global) -> Result<Play, AllocError> {
     let mut play = Play::new(alloc);
     play.steps(JOINED_1)?;
     play.line("ask 1 exclusive -x", &["NotSupportedError"])?;
@@ -256,7 +260,13 @@ fn refusals(rt: HostRuntime) -> Result<(), Fail> {
     play.line("abort 1 0", &["1#64", "m67 1>b gen 1 #64 abort 0"])?;
     let asked = ["1#65", "m68 1>b gen 1 #65 request shared b"];
     play.line("ask 1 shared b", &asked)?;
-    play.expect(&rt, alloc, "refusals");
+    Ok(play)
+}
+
+#[test]
+fn refusals(rt: HostRuntime) -> Result<(), Fail> {
+    let alloc = rt.alloc();
+    play_of_refusals(alloc)?.expect(&rt, alloc, "refusals");
     Ok(())
 }
 
