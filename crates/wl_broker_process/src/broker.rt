@@ -302,13 +302,14 @@ fn serve<R: Host, J: Generation + Send + Sync>(
         mailboxes.push(mailbox)?;
         number = number.saturating_add(1);
     }
-    // What came with the Start frame waits for the lanes.
-    deal(rt, mailboxes.as_slice(), rest)?;
-    let mut dealt = Ok(());
+    // What came with the Start frame waits for the lanes, which answer it also where a fault stands behind it.
+    let mut dealt = deal(rt, mailboxes.as_slice(), rest);
     thread::join_mut(
         rt,
         &mut || {
-            dealt = deal_all(rt, mailboxes.as_slice(), incoming);
+            if dealt.is_ok() {
+                dealt = deal_all(rt, mailboxes.as_slice(), incoming);
+            }
             for mailbox in mailboxes.iter() {
                 mailbox.close(rt);
             }
