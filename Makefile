@@ -1,11 +1,16 @@
-# `make demo` builds the program and shows it at work, `make demo-processes` as processes; `make bench` times it; `make test` is
-# the gate, and `make more-edits` tries the must-fail edits that the gate leaves out.
-.PHONY: bench demo demo-processes fuzz more-edits soak test
+# `make demo` builds the program and shows it at work, `make demo-processes` as processes, and `make try` with nothing proved;
+# `make bench` times it, `make soak` and `make fuzz` run it hard; `make test` is the gate, and `make more-edits` tries the
+# must-fail edits that the gate leaves out.
+.PHONY: bench demo demo-processes fuzz more-edits soak test try
 
 EXAMPLE ?= examples/handover.sim
 
 demo: crates/wlb/out/wlb
 	python3 tools/demo.py $(EXAMPLE) crates/wlb/out/wlb
+
+# With nothing proved, and nothing kept: `rt try` says so in its last line.
+try:
+	cd crates/wlb && rt try -- sim < $(abspath $(EXAMPLE))
 
 PROCESSES ?= examples/processes/counter
 

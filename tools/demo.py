@@ -5,10 +5,14 @@ usage: demo.py EXAMPLE PROGRAM
 A script (NAME.sim) is played line by line: each line behind `>`, and under it what `wlb sim` prints for it. Any other example
 has the frames for `wlb desk` as hexadecimal digits, and what stands behind `#` is a comment: it prints what goes in and what
 comes out, a frame a line, with what each means.
+
+A script is played up to its first line that is refused, and then it says what is expected there, as `explain.py` does.
 """
 
 import subprocess
 import sys
+
+from explain import explanation, number_in
 
 MODES = {1: "shared", 2: "exclusive"}
 STANDINGS = {1: "held", 2: "waiting"}
@@ -110,15 +114,22 @@ def show(title, stream):
 
 def play(example, program):
     """Each line with what it adds to the output: a script is answered line by line, so a front of it prints a front."""
-    with open(example, "rb") as script:
-        lines = script.read().splitlines(keepends=True)
+    with open(example, "rb") as file:
+        script = file.read()
+    lines = script.split(b"\n")
+    # What stands behind the last line feed is a line of its own only where there is something.
+    lines = lines if lines[-1] else lines[:-1]
     printed, done = b"", None
-    for count, line in enumerate(lines, 1):
-        done = subprocess.run([program, "sim"], input=b"".join(lines[:count]), capture_output=True, check=False)
-        text = line.decode().rstrip("\n")
+    for count, line in enumerate(lines or [b""], 1):
+        front = b"\n".join(lines[:count])
+        done = subprocess.run([program, "sim"], input=front, capture_output=True, check=False)
+        text = line.decode(errors="replace")
         print(f"> {text}" if text and not text.startswith("#") else text)
         print(done.stdout[len(printed) :].decode(), end="")
         printed = done.stdout
+        if number_in(done.stderr):
+            break
+    print(explanation(script, done.stderr) or "", end="")
     return done
 
 
