@@ -29,7 +29,6 @@ import os
 import random
 import re
 import select
-import signal
 import socket
 import statistics
 import struct
@@ -293,14 +292,11 @@ def show_wrong(seed, program):
     *_rest, wrong = play(program, None, seed, "hasty")
     for what in wrong:
         print(f"Wrong: {what}")
-    is_seen = any(what.startswith("the counter") for what in wrong)
-    print("the checks see it" if is_seen else "the checks do not see it")
-    return 0 if is_seen else 1
+    return soak.verdict(any(what.startswith("the counter") for what in wrong))
 
 
 def main():
-    signal.signal(signal.SIGTERM, lambda *_: sys.exit(1))
-    words = sys.argv[1:]
+    words = soak.words_given()
     if "tab" in words[:2]:
         be_hostile(words[-2], words[-1])
         return 0

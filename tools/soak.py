@@ -736,21 +736,29 @@ def soak(minutes, seed, program):
     return 1 if wrong or not number else 0
 
 
+def verdict(is_seen):
+    """Says whether the checks saw what was made wrong, and gives the status for it."""
+    print("the checks see it" if is_seen else "the checks do not see it")
+    return 0 if is_seen else 1
+
+
+def words_given():
+    """The words of the command line. What was started is ended as well where this program is told to end."""
+    signal.signal(signal.SIGTERM, lambda *_: sys.exit(1))
+    return sys.argv[1:]
+
+
 def show_wrong(what, seed, program):
     """The checks that should fail: of counters where all tabs are hasty, of witnesses' files in both."""
     plan, outcome = play_one(seed, what, program, 10_000, 8, what)
     tell(what, plan, outcome)
     has_overlap = any("entered" in line for line in outcome.wrong)
     has_lost = any(line.startswith("COUNTER") for line in outcome.wrong)
-    is_seen = has_overlap and (has_lost or what != "hasty")
-    print("the checks see it" if is_seen else "the checks do not see it")
-    return 0 if is_seen else 1
+    return verdict(has_overlap and (has_lost or what != "hasty"))
 
 
 def main():
-    # What was started is ended as well where this program is told to end.
-    signal.signal(signal.SIGTERM, lambda *_: sys.exit(1))
-    words = sys.argv[1:]
+    words = words_given()
     if "tab" in words[:2]:
         be_witness(words[-2], words[-1], words[0] == "--hasty", words[0] == "--forgetful")
         return 0
