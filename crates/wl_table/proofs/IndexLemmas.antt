@@ -152,6 +152,9 @@ probed-stuck held waiting r e = rw e refl
 pub grantable-index : (held waiting : Table Row) (s : LineState) (r : Row) → s ≡ line_of r.name held waiting → is_grantable (values_in held) (values_in waiting) r ≡ (length s.queue == 0 && lets_in s r.mode)
 grantable-index held waiting s r e = rw e (grantable-line held waiting r)
 
+pub grantable-known : (held waiting : Table Row) (s : LineState) (r : Row) (b known : Bool) → s ≡ line_of r.name held waiting → b ≡ (length s.queue == 0 && lets_in s r.mode) → b ≡ known → is_grantable (values_in held) (values_in waiting) r ≡ known
+grantable-known held waiting s r b known e next k = grantable-index held waiting s r e ∙ sym next ∙ k
+
 -- ---- one more request
 
 line-queued_step : (b : Bool) (s e : ℕ) (queue : List ℕ) (p : ℕ × Row) → cond b (with_waiter (record { shared = s; exclusive = e; queue = queue }) p.0) (record { shared = s; exclusive = e; queue = queue }) ≡ record { shared = s; exclusive = e; queue = queue ++ orders_in (cond b (p ∷ []) []) }

@@ -3,7 +3,7 @@
 use Rattle.std.proofs.Common.{◌≡◌, true, false, List, [], ◌∷◌, ◌++◌, refl, sym, ap, ◌∙◌, append_assoc, append-nil, arith}
 use Rattle.std.proofs.lemmas.List.Folds.{list_all-append}
 use Rattle.wl_draft.specs.declared.row.Row.{Row}
-use Rattle.wl_draft.specs.Locks.{Locks, is_grantable, granted, left_waiting, newly, settle}
+use Rattle.wl_draft.specs.Locks.{Locks, is_grantable, granted, left_waiting, newly, settle, queued, probed}
 use Rattle.wl_table.proofs.Stuck.{AreStuck}
 
 -- more locks free nobody
@@ -63,3 +63,16 @@ pub settle-first : (held front back : List Row) (r : Row) → AreStuck held [] f
 unfolding settle newly
 settle-first held front back r s e =
     rw (granted-first held front back r s e, left-first held front back r s e, append_assoc held (r ∷ [])) refl
+
+-- where nothing else can be granted, a request that can be is granted alone
+pub newly-alone : (m : Locks) (r : Row) → AreStuck m.held [] m.waiting → is_grantable m.held m.waiting r ≡ true → newly (queued r m) ≡ r ∷ []
+unfolding queued
+newly-alone m r s e =
+    let more : AreStuck (m.held ++ r ∷ []) [] (m.waiting ++ []) = rw append-nil (stuck-later m.held (r ∷ []) [] m.waiting s) in
+    newly-first m.held m.waiting [] r s e ∙ ap (λ rs. r ∷ rs) (newly-stuck (after_grant m.held m.waiting [] r) more)
+
+pub settle-alone : (m : Locks) (r : Row) → AreStuck m.held [] m.waiting → is_grantable m.held m.waiting r ≡ true → settle (queued r m) ≡ probed r m
+unfolding queued probed
+settle-alone m r s e =
+    let more : AreStuck (m.held ++ r ∷ []) [] (m.waiting ++ []) = rw append-nil (stuck-later m.held (r ∷ []) [] m.waiting s) in
+    rw e (settle-first m.held m.waiting [] r s e ∙ settle-stuck (after_grant m.held m.waiting [] r) more ∙ ap (λ ws. record { held = m.held ++ r ∷ []; waiting = ws }) (append-nil m.waiting))

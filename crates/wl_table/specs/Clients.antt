@@ -1,9 +1,12 @@
 -- What a table keeps of each client.
-use Rattle.std.specs.Prelude.{ℕ, [], ◌∷◌, ◌++◌, nat_eq}
+use Rattle.std.specs.Prelude.{ℕ, [], ◌∷◌, ◌++◌, nat_eq, if◌then◌else◌}
 use Rattle.std.specs.Option.{option_map_or}
 use Rattle.std.specs.HashMap.{get}
+use Rattle.wl_draft.specs.declared.row.Standing.{Standing}
+use Rattle.wl_draft.specs.declared.row.Standing.TheVariants.{Held, Waiting, Absent}
 use Rattle.wl_draft.specs.Tables.{Table}
 use Rattle.wl_table.specs.Orders.{without_order}
+use Rattle.wl_table.specs.Places.{has_number}
 use Rattle.wl_table.specs.declared.holdings.Holdings.{Holdings}
 use Rattle.wl_table.specs.declared.clients.Clients.{Clients}
 
@@ -21,6 +24,10 @@ places_seen h = record { held = h.held.items; waiting = h.waiting.items }
 -- what is kept of a client
 abbrev pub places_at : Clients → ℕ → Places
 places_at cs client = option_map_or places_seen (get nat_eq cs.clients client) no_places
+
+-- where the lock of a number stands
+abbrev pub standing_in : Places → ℕ → Standing
+standing_in s number = if has_number number s.held then Held else if has_number number s.waiting then Waiting else Absent
 
 -- how many more locks fit with no allocation
 abbrev pub held_room : Holdings → ℕ

@@ -37,6 +37,12 @@ impl Candidates {
         }
     }
 
+    pub fn is_empty(&self) -> bool
+        ensures { result ≡ true → self.now.items ≡ [] }
+    {
+        self.orders.is_empty()
+    }
+
     /// Makes room for so many more numbers.
     pub fn reserve(&mut self, count: usize) -> Result<(), AllocError>
         ensures items { self.new.items ≡ self.old.items }

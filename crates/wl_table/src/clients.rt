@@ -2,12 +2,13 @@
 
 ghost use Rattle.std.specs.Prelude.{true, ◌≡◌, ◌+◌, ◌<◌, ◌≤◌, ◌==◌, ℕ, length, OnOk, IfSome, IfNone, Some, None, if◌then◌else◌};
 ghost use Rattle.wl_table.specs.Orders.{is_below};
-ghost use Rattle.wl_table.specs.Places.{first_place, has_number, IsPlace};
-ghost use Rattle.wl_table.specs.Clients.{no_places, places_at, held_room_at, with_held, waiting_room_at, with_waiting, without_held, without_waiting};
+ghost use Rattle.wl_table.specs.Places.{first_place, IsPlace};
+ghost use Rattle.wl_table.specs.Clients.{no_places, places_at, standing_in, held_room_at, with_held, waiting_room_at, with_waiting, without_held, without_waiting};
 
 use crate::holdings::Holdings;
 use indexmap::IndexMap;
 use std::alloc::{AllocError, Global};
+use wl_draft::Standing;
 
 /// For each client what it holds and waits for.
 #[derive(Drop)]
@@ -26,23 +27,13 @@ impl Clients {
         }
     }
 
-    /// Whether the client holds a lock of this number.
-    pub fn holds(&self, client: u16, number: u32) -> bool
-        ensures { result ≡ has_number number (places_at self.now client).held }
+    /// Where the client's lock of this number stands.
+    pub fn standing(&self, client: u16, number: u32) -> Standing
+        ensures { result ≡ standing_in (places_at self.now client) number }
     {
         match self.clients.get(&client) {
-            Some(holdings) => holdings.held.contains(number),
-            None => false,
-        }
-    }
-
-    /// Whether the client waits for a lock of this number.
-    pub fn waits(&self, client: u16, number: u32) -> bool
-        ensures { result ≡ has_number number (places_at self.now client).waiting }
-    {
-        match self.clients.get(&client) {
-            Some(holdings) => holdings.waiting.contains(number),
-            None => false,
+            Some(holdings) => holdings.standing(number),
+            None => Standing::Absent,
         }
     }
 
@@ -85,6 +76,21 @@ impl Clients {
         match self.clients.get(&client) {
             Some(holdings) => holdings.waiting.first(number),
             None => None,
+        }
+    }
+
+    /// Makes room for one more lock of the client, beside those that it waits for.
+    pub fn reserve_lock(&mut self, client: u16) -> Result<(), AllocError>
+        ensures places { (c : ℕ) → places_at self.new c ≡ places_at self.old c }
+        ensures held { OnOk result (length (places_at self.new client).waiting < held_room_at self.new client) }
+        ensures kept { (c : ℕ) → held_room_at self.old c ≤ held_room_at self.new c }
+    {
+        if !self.clients.contains_key(&client) {
+            self.clients.insert(client, Holdings::new(self.alloc))?;
+        }
+        match self.clients.get_mut(&client) {
+            Some(holdings) => holdings.reserve_lock(),
+            None => Err(AllocError),
         }
     }
 

@@ -143,11 +143,51 @@ impl Index {
         self.held.reserve(waiting + 1)?;
         self.clients.reserve(client, 1)?;
         self.lines.reserve(name, 1)?;
-        Ok(Row {
-            client,
-            number,
-            name: name.copy(alloc)?,
-            mode,
-        })
+        new_row(alloc, client, number, name, mode)
     }
+
+    /// Makes room for one more lock of the client under this name, which need not wait, and its row.
+    pub fn ready_lock(
+        &mut self,
+        alloc: Global,
+        client: u16,
+        number: u32,
+        name: &Name,
+        mode: Mode,
+    ) -> Result<Row, AllocError>
+        requires { IsIndexed self.old }
+        ensures indexed { IsIndexed self.new }
+        ensures held { self.new.held.items ≡ self.old.held.items }
+        ensures waiting { self.new.waiting.items ≡ self.old.waiting.items }
+        ensures next { self.new.next ≡ self.old.next }
+        ensures row { IfOk result (λ r. r ≡ row_of client number name.now mode) }
+        ensures holdable { OnOk result (IsHoldable self.new client name.now) }
+        ensures small { OnOk result (self.new.next + 1 < 2 ^ 64) }
+    {
+        let waiting = self.waiting.len();
+        if self.next == u64::MAX {
+            return Err(AllocError);
+        }
+        self.held.reserve(waiting + 1)?;
+        self.clients.reserve_lock(client)?;
+        self.lines.open(name)?;
+        new_row(alloc, client, number, name, mode)
+    }
+}
+
+fn new_row(
+    alloc: Global,
+    client: u16,
+    number: u32,
+    name: &Name,
+    mode: Mode,
+) -> Result<Row, AllocError>
+    ensures { IfOk result (λ r. r ≡ row_of client number name.now mode) }
+{
+    Ok(Row {
+        client,
+        number,
+        name: name.copy(alloc)?,
+        mode,
+    })
 }

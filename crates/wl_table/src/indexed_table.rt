@@ -1,4 +1,5 @@
-ghost use Rattle.std.specs.Prelude.{◌≡◌, []};
+ghost use Rattle.std.specs.Prelude.{◌≡◌, [], ◌∷◌, true, IfOk, OnOk, OnErr};
+ghost use Rattle.wl_draft.specs.Locks.{is_grantable, row_of, grants, probed};
 
 use crate::candidates::Candidates;
 use crate::index::Index;
@@ -53,6 +54,10 @@ impl LockTable for IndexedTable {
         name: &Name,
         mode: Mode,
     ) -> Result<Vec<Grant>, AllocError> {
+        // Where nothing else can be granted, it is granted alone or waits.
+        if self.candidates.is_empty() && self.index.lines.is_next(name, mode) {
+            return self.grant_at_once(client, number, name, mode);
+        }
         self.index.room_to_settle(&mut self.granted, 1)?;
         let row = self.index.ready(self.alloc, client, number, name, mode)?;
         self.candidates.reserve(1)?;
@@ -72,11 +77,7 @@ impl LockTable for IndexedTable {
         if !self.index.lines.is_next(name, mode) {
             return Ok(Vec::new(self.alloc));
         }
-        let row = self.index.ready(self.alloc, client, number, name, mode)?;
-        let mut granted = Vec::with_capacity(self.alloc, 1)?;
-        granted.push(Grant::from(&row)).unwrap();
-        self.index.hold(row);
-        Ok(granted)
+        self.grant_at_once(client, number, name, mode)
     }
 
     fn release(&mut self, client: u16, number: u32) -> Result<Vec<Grant>, AllocError> {
@@ -141,13 +142,7 @@ impl LockTable for IndexedTable {
     }
 
     fn state(&self, client: u16, number: u32) -> Standing {
-        if self.index.clients.holds(client, number) {
-            Standing::Held
-        } else if self.index.clients.waits(client, number) {
-            Standing::Waiting
-        } else {
-            Standing::Absent
-        }
+        self.index.clients.standing(client, number)
     }
 
     fn live(&self, client: u16) -> usize {
@@ -162,6 +157,30 @@ impl LockTable for IndexedTable {
         let held = self.index.held.copies(self.alloc)?;
         let waiting = self.index.waiting.copies(self.alloc)?;
         Ok((held, waiting))
+    }
+}
+
+impl IndexedTable {
+    // Holds a lock that can be granted now.
+    fn grant_at_once(
+        &mut self,
+        client: u16,
+        number: u32,
+        name: &Name,
+        mode: Mode,
+    ) -> Result<Vec<Grant>, AllocError>
+        requires { is_grantable self.old.held self.old.waiting (row_of client number name.now mode) ≡ true }
+        ensures grants { IfOk result (λ g. g.items ≡ grants (row_of client number name.now mode ∷ [])) }
+        ensures ok { OnOk result (self.new ≡ probed (row_of client number name.now mode) self.old) }
+        ensures err { OnErr result (self.new ≡ self.old) }
+    {
+        let row = self
+            .index
+            .ready_lock(self.alloc, client, number, name, mode)?;
+        let mut granted = Vec::with_capacity(self.alloc, 1)?;
+        granted.push(Grant::from(&row)).unwrap();
+        self.index.hold(row);
+        Ok(granted)
     }
 }
 

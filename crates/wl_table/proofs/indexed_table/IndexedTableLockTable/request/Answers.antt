@@ -1,10 +1,35 @@
-use Rattle.std.proofs.Common.{◌≡◌, ◌∙◌, ◌++◌, [], ◌∷◌, ap, refl}
-use Rattle.wl_draft.specs.Locks.{grants, newly, settle, queued, row_of}
+use Rattle.std.proofs.Common.{◌≡◌, ◌∙◌, ◌++◌, [], ◌∷◌, true, ap, refl}
+use Rattle.wl_draft.specs.Locks.{is_grantable, grants, newly, settle, queued, row_of}
+use Rattle.wl_table.specs.Orders.{values_in}
 use Rattle.wl_table.specs.Index.{locks_in}
-use Rattle.wl_table.specs.Nexts.{is_among}
-use Rattle.wl_table.proofs.IndexLemmas.{queued-in}
-use Rattle.wl_table.proofs.CandidateLemmas.{candidates-queued, pushed-here, pushed-kept}
+use Rattle.wl_table.specs.Lines.{line_at}
+use Rattle.wl_table.specs.Nexts.{is_among, AreCandidates}
+use Rattle.wl_table.proofs.IndexLemmas.{queued-in, grantable-known}
+use Rattle.wl_table.proofs.Stuck.{AreStuck}
+use Rattle.wl_table.proofs.SettleLemmas.{newly-alone, settle-alone}
+use Rattle.wl_table.proofs.CandidateLemmas.{no-candidates, candidates-queued, pushed-here, pushed-kept}
 use Rattle.wl_table.proofs.indexed_table.IndexedTableLockTable.request.Goals as goal
+
+pub grant_at_once-requires : goal.grant_at_once-requires
+grant_at_once-requires c =
+    let e : is_grantable (values_in c.self.inside.index.held.items) (values_in c.self.inside.index.waiting.items) (row_of c.args.client c.args.number c.args.name.now c.args.mode) ≡ true = grantable-known c.self.inside.index.held.items c.self.inside.index.waiting.items (line_at c.self.inside.index.lines c.args.name.now) (row_of c.args.client c.args.number c.args.name.now c.args.mode) c.is_next.result true (c.self.invariant.index.lines c.args.name.now) c.is_next.ensures c.if-is_next.true in
+    rw (← c.self.view_is) e
+
+pub returns-then-is_next-clause-grants : goal.returns-then-is_next-clause-grants
+returns-then-is_next-clause-grants c =
+    let e : is_grantable (values_in c.self.inside.index.held.items) (values_in c.self.inside.index.waiting.items) (row_of c.args.client c.args.number c.args.name.now c.args.mode) ≡ true = grantable-known c.self.inside.index.held.items c.self.inside.index.waiting.items (line_at c.self.inside.index.lines c.args.name.now) (row_of c.args.client c.args.number c.args.name.now c.args.mode) c.is_next.result true (c.self.invariant.index.lines c.args.name.now) c.is_next.ensures c.if-is_next.true in
+    let known : is_grantable c.args.self.now.held c.args.self.now.waiting (row_of c.args.client c.args.number c.args.name.now c.args.mode) ≡ true = rw (← c.self.view_is) e in
+    let none : AreCandidates [] c.self.inside.index.held.items c.self.inside.index.waiting.items = rw (c.is_empty.ensures c.if-is_empty.true) at c.self.invariant.candidates in
+    let stuck : AreStuck c.args.self.now.held [] c.args.self.now.waiting = rw (← c.self.view_is) (no-candidates c.self.inside.index.held.items c.self.inside.index.waiting.items none) in
+    rw (newly-alone c.args.self.now (row_of c.args.client c.args.number c.args.name.now c.args.mode) stuck known) c.grant_at_once.ensures.grants
+
+pub returns-then-is_next-clause-ok : goal.returns-then-is_next-clause-ok
+returns-then-is_next-clause-ok c =
+    let e : is_grantable (values_in c.self.inside.index.held.items) (values_in c.self.inside.index.waiting.items) (row_of c.args.client c.args.number c.args.name.now c.args.mode) ≡ true = grantable-known c.self.inside.index.held.items c.self.inside.index.waiting.items (line_at c.self.inside.index.lines c.args.name.now) (row_of c.args.client c.args.number c.args.name.now c.args.mode) c.is_next.result true (c.self.invariant.index.lines c.args.name.now) c.is_next.ensures c.if-is_next.true in
+    let known : is_grantable c.args.self.now.held c.args.self.now.waiting (row_of c.args.client c.args.number c.args.name.now c.args.mode) ≡ true = rw (← c.self.view_is) e in
+    let none : AreCandidates [] c.self.inside.index.held.items c.self.inside.index.waiting.items = rw (c.is_empty.ensures c.if-is_empty.true) at c.self.invariant.candidates in
+    let stuck : AreStuck c.args.self.now.held [] c.args.self.now.waiting = rw (← c.self.view_is) (no-candidates c.self.inside.index.held.items c.self.inside.index.waiting.items none) in
+    rw (settle-alone c.args.self.now (row_of c.args.client c.args.number c.args.name.now c.args.mode) stuck known) c.grant_at_once.ensures.ok
 
 pub settle-requires-clause-candidates : goal.settle-requires-clause-candidates
 settle-requires-clause-candidates c =
