@@ -55,9 +55,5 @@ fn part_count(entries: &[Entry]) -> u16
 fn copies(alloc: Global, entries: &[Entry]) -> Result<Sequence<Entry>, AllocError>
     ensures { IfOk result (λ copies. copies ≡ entries.now) }
 {
-    let mut copies = Vec::with_capacity(alloc, entries.len())?;
-    for entry in entries {
-        copies.push(entry.copy(alloc)?)?;
-    }
-    Ok(Sequence::new(copies))
+    Ok(Sequence::new(entries.to_vec(alloc)?))
 }

@@ -5,7 +5,7 @@ use std::alloc::AllocError;
 use wl_frames::{Frame, Sequence};
 
 /// A post as a channel object took it.
-#[derive(Debug, Drop)]
+#[derive(Clone, Debug, Drop)]
 pub struct Letter {
     /// The tab that posted it.
     pub source: u16,
@@ -19,11 +19,7 @@ impl Letter {
     pub(crate) fn copy(&self) -> Result<Letter, AllocError>
         ensures { IfOk result (λ copy. copy ≡ self.now) }
     {
-        Ok(Letter {
-            source: self.source,
-            number: self.number,
-            bytes: self.bytes.clone()?,
-        })
+        self.clone()
     }
 }
 

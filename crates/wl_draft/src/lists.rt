@@ -136,9 +136,5 @@ pub(crate) fn rows_of(
 pub(crate) fn copy_rows(alloc: Global, rows: &[Row]) -> Result<Vec<Row>, AllocError>
     ensures { IfOk result (λ copy. copy.items ≡ rows.now) }
 {
-    let mut copy = Vec::with_capacity(alloc, rows.len())?;
-    for row in rows {
-        copy.push(row.copy(alloc)?)?;
-    }
-    Ok(copy)
+    rows.to_vec(alloc)
 }

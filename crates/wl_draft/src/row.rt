@@ -6,7 +6,7 @@ use crate::name::Name;
 use std::alloc::{AllocError, Global};
 
 /// A lock of the manager: held, or waited for.
-#[derive(Debug, Drop, PartialEq, Eq)]
+#[derive(Clone, Debug, Drop, PartialEq, Eq)]
 pub struct Row {
     /// Whose it is.
     pub client: u16,
@@ -25,20 +25,15 @@ impl Row {
     }
 
     /// An equal row, in memory of its own.
-    pub fn copy(&self, alloc: Global) -> Result<Row, AllocError>
+    pub fn copy(&self, _alloc: Global) -> Result<Row, AllocError>
         ensures { IfOk result (λ copy. copy ≡ self.now) }
     {
-        Ok(Row {
-            client: self.client,
-            number: self.number,
-            name: self.name.copy(alloc)?,
-            mode: self.mode,
-        })
+        self.clone()
     }
 }
 
 /// A lock of one client as it reports it.
-#[derive(Debug, Drop, PartialEq, Eq)]
+#[derive(Clone, Debug, Drop, PartialEq, Eq)]
 pub struct Entry {
     pub number: u32,
     /// Whether it is held; else it is waited for.
@@ -49,15 +44,10 @@ pub struct Entry {
 
 impl Entry {
     /// An equal entry, in memory of its own.
-    pub fn copy(&self, alloc: Global) -> Result<Entry, AllocError>
+    pub fn copy(&self, _alloc: Global) -> Result<Entry, AllocError>
         ensures { IfOk result (λ copy. copy ≡ self.now) }
     {
-        Ok(Entry {
-            number: self.number,
-            held: self.held,
-            mode: self.mode,
-            name: self.name.copy(alloc)?,
-        })
+        self.clone()
     }
 }
 

@@ -18,3 +18,7 @@ append-IsFrontOf before front bytes h = (h.0, ap (λ l. before ++ l) h.1 ∙ sym
 -- all of the bytes are a front of them and more
 pub IsFrontOf-same : (bytes more : List ℕ) → IsFrontOf bytes (bytes ++ more)
 IsFrontOf-same bytes more = (more, refl)
+
+-- a front of a front
+pub IsFrontOf-trans : (a b c : List ℕ) → IsFrontOf a b → IsFrontOf b c → IsFrontOf a c
+IsFrontOf-trans a b c h k = (h.0 ++ k.0, k.1 ∙ ap (λ l. l ++ k.0) h.1 ∙ append_assoc a h.0 k.0)

@@ -6,21 +6,25 @@ ghost use Rattle.wl_frames.specs.Device.{fresh_reader, fresh_writer, WritesFront
 
 use std::io::{Read, Write};
 use std::marker::Model;
+use thiserror::Error;
 
 /// How many times a reader is read at most.
 pub const READ_LIMIT: u32 = 1_000_000;
 
 /// Why nothing was read.
-#[derive(Clone, Copy, Debug, PartialEq, Eq)]
+#[derive(Clone, Copy, Debug, PartialEq, Eq, Error)]
 pub enum ReadFault {
     /// The reader failed; an interrupted read is a failure too.
+    #[error("Read")]
     Failed,
     /// It was read as often as it may be.
+    #[error("TooManyReads")]
     TooManyReads,
 }
 
 /// Why not all was written.
-#[derive(Clone, Copy, Debug, PartialEq, Eq)]
+#[derive(Clone, Copy, Debug, PartialEq, Eq, Error)]
+#[error("Write")]
 pub struct WriteFault;
 
 /// A reader, how often it was read, and whether it has failed.

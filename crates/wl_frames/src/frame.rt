@@ -6,7 +6,7 @@ use bytes::Bytes;
 use wl_draft::{Entry, Mode, Name};
 
 /// What a command of a tab asks the lock manager for.
-#[derive(Drop, PartialEq, Eq)]
+#[derive(Clone, Drop, PartialEq, Eq)]
 pub enum Operation {
     /// A lock, to be waited for, or under `if_available` to be had at once or not at all.
     Request {
@@ -27,7 +27,7 @@ pub enum Operation {
 }
 
 /// One numbered command of a tab.
-#[derive(Drop, PartialEq, Eq)]
+#[derive(Clone, Drop, PartialEq, Eq)]
 pub struct Command {
     pub generation: u32,
     pub number: u32,
@@ -35,7 +35,7 @@ pub struct Command {
 }
 
 /// What a tab says on entering a generation: how many commands it has issued, and its live locks.
-#[derive(Drop, PartialEq, Eq)]
+#[derive(Clone, Drop, PartialEq, Eq)]
 pub struct Report {
     pub generation: u32,
     pub base: u32,
@@ -47,7 +47,7 @@ pub struct Report {
 pub(crate) const MOST_REPORT_PARTS: u16 = 16;
 
 /// A part of what a tab says on entering a generation: how many commands it has issued, and some of its live locks.
-#[derive(Drop, PartialEq, Eq)]
+#[derive(Clone, Drop, PartialEq, Eq)]
 pub struct ReportPart {
     pub generation: u32,
     pub base: u32,
@@ -59,7 +59,7 @@ pub struct ReportPart {
 }
 
 /// A broadcast message of a tab.
-#[derive(Drop)]
+#[derive(Clone, Drop)]
 pub struct Post {
     pub number: u32,
     pub channel: Name,
@@ -67,7 +67,7 @@ pub struct Post {
 }
 
 /// Tells a tab that a generation has begun.
-#[derive(Drop, PartialEq, Eq)]
+#[derive(Clone, Drop, PartialEq, Eq)]
 pub struct Hello {
     pub generation: u32,
 }
@@ -86,7 +86,7 @@ pub enum Outcome {
 }
 
 /// The broker's answer to the command of a number.
-#[derive(Drop, PartialEq, Eq)]
+#[derive(Clone, Drop, PartialEq, Eq)]
 pub struct Answer {
     pub generation: u32,
     /// How many commands of the tab the broker has taken.
@@ -96,7 +96,7 @@ pub struct Answer {
 }
 
 /// A lock of a snapshot.
-#[derive(Drop, PartialEq, Eq)]
+#[derive(Clone, Drop, PartialEq, Eq)]
 pub struct SnapshotEntry {
     /// Whether it is held; else it is waited for.
     pub held: bool,
@@ -107,7 +107,7 @@ pub struct SnapshotEntry {
 
 /// One part of the answer to a query: the held locks in the order of granting, then the waiting requests in the order
 /// of queueing.
-#[derive(Drop, PartialEq, Eq)]
+#[derive(Clone, Drop, PartialEq, Eq)]
 pub struct Snapshot {
     pub generation: u32,
     pub number: u32,
@@ -118,7 +118,7 @@ pub struct Snapshot {
 }
 
 /// A post on its way to a tab.
-#[derive(Drop)]
+#[derive(Clone, Drop)]
 pub struct Heard {
     /// The tab that posted it.
     pub source: u16,
@@ -128,14 +128,14 @@ pub struct Heard {
 }
 
 /// Tells a tab process who it is.
-#[derive(Drop)]
+#[derive(Clone, Drop)]
 pub struct Welcome {
     pub tab: u16,
     pub origin: Origin,
 }
 
 /// Tells a tab process who it is, and what stands at the top of its page.
-#[derive(Drop)]
+#[derive(Clone, Drop)]
 pub struct PairWelcome {
     pub tab: u16,
     pub top: Origin,
@@ -143,7 +143,7 @@ pub struct PairWelcome {
 }
 
 /// What a tab sends to the broker.
-#[derive(Drop, PartialEq, Eq)]
+#[derive(Clone, Drop, PartialEq, Eq)]
 pub enum Upward {
     Command(Command),
     Report(Report),
@@ -151,7 +151,7 @@ pub enum Upward {
 }
 
 /// What the broker sends to a tab.
-#[derive(Drop, PartialEq, Eq)]
+#[derive(Clone, Drop, PartialEq, Eq)]
 pub enum Downward {
     Hello(Hello),
     Answer(Answer),
@@ -159,7 +159,7 @@ pub enum Downward {
 }
 
 /// A frame of a tab, with the tab and the partition that the kernel set for it.
-#[derive(Drop, PartialEq, Eq)]
+#[derive(Clone, Drop, PartialEq, Eq)]
 pub struct Stamped {
     pub tab: u16,
     pub partition: u16,
@@ -167,7 +167,7 @@ pub struct Stamped {
 }
 
 /// Starts a broker.
-#[derive(Drop)]
+#[derive(Clone, Drop)]
 pub struct Start {
     pub generation: u32,
     /// The listed tabs, by strictly rising number, each with its partition.
@@ -175,20 +175,20 @@ pub struct Start {
 }
 
 /// A frame of the broker, with the tab that it is for.
-#[derive(Drop, PartialEq, Eq)]
+#[derive(Clone, Drop, PartialEq, Eq)]
 pub struct Addressed {
     pub tab: u16,
     pub inner: Downward,
 }
 
 /// Tells the broker that a tab is dead.
-#[derive(Drop)]
+#[derive(Clone, Drop)]
 pub struct Dead {
     pub tab: u16,
 }
 
 /// Any frame of the protocol.
-#[derive(Drop)]
+#[derive(Clone, Drop)]
 pub enum Frame {
     Command(Command),
     Report(Report),

@@ -24,4 +24,4 @@ pub use frame::{
 pub use origin::Origin;
 pub use sequence::Sequence;
 pub use wl_draft::{Entry, Memory, Mode, Name};
-pub use writing::encode;
+pub use writing::{encode, encode_into};

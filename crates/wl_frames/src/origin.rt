@@ -6,7 +6,7 @@ use std::alloc::{AllocError, Global};
 use std::marker::Model;
 
 /// The text of an origin as it stands in a frame. Contracts see it as its bytes.
-#[derive(Drop)]
+#[derive(Clone, Drop)]
 pub struct Origin {
     text: String,
 }
@@ -42,9 +42,9 @@ impl Origin {
     }
 
     /// An equal text, in memory of its own.
-    pub fn copy(&self, alloc: Global) -> Result<Origin, AllocError>
+    pub fn copy(&self, _alloc: Global) -> Result<Origin, AllocError>
         ensures { IfOk result (λ copy. copy ≡ self.now) }
     {
-        Ok(Origin::new(String::from_str(alloc, self.as_str())?))
+        self.clone()
     }
 }

@@ -3,7 +3,7 @@ ghost use Rattle.std.specs.Prelude.{◌≡◌, IfOk, OnErr};
 use std::marker::Model;
 
 /// A list of values. Contracts see it as the list alone, whatever room it has.
-#[derive(Debug, Drop)]
+#[derive(Clone, Debug, Drop)]
 pub struct Sequence<T> {
     items: Vec<T>,
 }

@@ -1,7 +1,8 @@
 //! Spelling frames.
 
-ghost use Rattle.std.specs.Prelude.{◌≡◌, ◌≤◌, ◌<◌, ◌^◌, ◌++◌, ◌∷◌, [], length, drop, IfOk, OnOk};
+ghost use Rattle.std.specs.Prelude.{◌≡◌, ◌≤◌, ◌<◌, ◌+◌, ◌^◌, ◌++◌, ◌∷◌, [], length, take, drop, IfOk, OnOk, OnErr};
 ghost use Rattle.std.specs.List.{flat_map, AllByRecursion};
+ghost use Rattle.wl_frames.specs.Device.{IsFrontOf};
 ghost use Rattle.wl_frames.specs.Grammar.{u16, u32, IsWellFormed, IsCommand, IsReport, IsReportPart, IsPost, IsSnapshot, IsHeard, IsWelcome, IsPairWelcome, IsStamped, IsStart, IsAddressed, IsUpward, IsDownward, IsOperation, IsLockName, IsEntry, IsSnapshotEntry, spelled_mode, spelled_flag, spelled_held, spelled_outcome, short_text, long_text, operation, entry, snapshot_entry, place, command, report, report_part, post, hello, answer, snapshot, heard, welcome, pair_welcome, upward, downward, stamped, start, addressed, dead, body, spelling};
 
 use crate::frame::{
@@ -13,32 +14,58 @@ use std::alloc::{AllocError, Global};
 use wl_draft::{Entry, Mode};
 
 /// The one spelling of a frame: the length of its body and the body.
-#[tactic(auto, using(crate::proofs::BodyLength::body_length), unfolding(crate::specs::Grammar::spelling))]
 pub fn encode(alloc: Global, frame: &Frame) -> Result<Vec<u8>, AllocError>
     requires { IsWellFormed frame.now }
     ensures { IfOk result (λ bytes. bytes.items ≡ spelling frame.now) }
 {
-    let mut out = Vec::new(alloc);
-    // The length is known once the body stands behind it.
-    out.extend_from_slice(&[0; 4])?;
-    put_body(&mut out, frame)?;
-    let length = (out.len() - 4) as u32;
-    set_length(&mut out, length);
-    Ok(out)
+    let mut bytes = Vec::new(alloc);
+    encode_into(&mut bytes, frame)?;
+    Ok(bytes)
 }
 
-/// Writes the length over the first four bytes.
-fn set_length(bytes: &mut [u8], count: u32)
-    requires { 4 ≤ length bytes.old }
-    ensures { bytes.new ≡ u32 count ++ drop 4 bytes.old }
+/// Appends the one spelling of a frame. Where memory is refused, the bytes are as they were.
+pub fn encode_into(out: &mut Vec<u8>, frame: &Frame) -> Result<(), AllocError>
+    requires { IsWellFormed frame.now }
+    ensures spelled { OnOk result (out.new.items ≡ out.old.items ++ spelling frame.now) }
+    ensures refused { OnErr result (out.new.items ≡ out.old.items) }
 {
-    bytes[..4].copy_from_slice(&count.to_be_bytes());
+    let start = out.len();
+    let put = put_frame(out, frame);
+    if put.is_err() {
+        out.truncate(start);
+    }
+    put
+}
+
+/// Appends the spelling of a frame, or some of it.
+#[tactic(auto, using(crate::proofs::Framing::length_set), unfolding(crate::specs::Grammar::spelling))]
+fn put_frame(out: &mut Vec<u8>, frame: &Frame) -> Result<(), AllocError>
+    requires { IsWellFormed frame.now }
+    ensures spelled { OnOk result (out.new.items ≡ out.old.items ++ spelling frame.now) }
+    ensures kept { IsFrontOf out.old.items out.new.items }
+{
+    let start = out.len();
+    // The length is known once the body stands behind it.
+    out.extend_from_slice(&[0; 4])?;
+    put_body(out, frame)?;
+    let length = (out.len() - start - 4) as u32;
+    set_length(out, start, length);
+    Ok(())
+}
+
+/// Writes the length over the four bytes from this place on.
+fn set_length(bytes: &mut [u8], start: usize, count: u32)
+    requires { start + 4 ≤ length bytes.old }
+    ensures { bytes.new ≡ take start bytes.old ++ u32 count ++ drop (start + 4) bytes.old }
+{
+    bytes[start..start + 4].copy_from_slice(&count.to_be_bytes());
 }
 
 #[tactic(auto, unfolding(crate::specs::Grammar::body))]
 fn put_body(out: &mut Vec<u8>, frame: &Frame) -> Result<(), AllocError>
     requires { IsWellFormed frame.now }
-    ensures { OnOk result (out.new.items ≡ out.old.items ++ body frame.now) }
+    ensures spelled { OnOk result (out.new.items ≡ out.old.items ++ body frame.now) }
+    ensures kept { IsFrontOf out.old.items out.new.items }
 {
     match frame {
         Frame::Command(c) => put_command(out, c),
@@ -61,26 +88,30 @@ fn put_body(out: &mut Vec<u8>, frame: &Frame) -> Result<(), AllocError>
 // ---- fields
 
 fn put_u16(out: &mut Vec<u8>, number: u16) -> Result<(), AllocError>
-    ensures { OnOk result (out.new.items ≡ out.old.items ++ u16 number) }
+    ensures spelled { OnOk result (out.new.items ≡ out.old.items ++ u16 number) }
+    ensures kept { IsFrontOf out.old.items out.new.items }
 {
     out.extend_from_slice(&number.to_be_bytes())
 }
 
 fn put_u32(out: &mut Vec<u8>, number: u32) -> Result<(), AllocError>
-    ensures { OnOk result (out.new.items ≡ out.old.items ++ u32 number) }
+    ensures spelled { OnOk result (out.new.items ≡ out.old.items ++ u32 number) }
+    ensures kept { IsFrontOf out.old.items out.new.items }
 {
     out.extend_from_slice(&number.to_be_bytes())
 }
 
 /// The version and the kind of a body.
 fn put_kind(out: &mut Vec<u8>, version: u8, kind: u8) -> Result<(), AllocError>
-    ensures { OnOk result (out.new.items ≡ out.old.items ++ (version ∷ kind ∷ [])) }
+    ensures spelled { OnOk result (out.new.items ≡ out.old.items ++ (version ∷ kind ∷ [])) }
+    ensures kept { IsFrontOf out.old.items out.new.items }
 {
     out.extend_from_slice(&[version, kind])
 }
 
 fn put_mode(out: &mut Vec<u8>, mode: Mode) -> Result<(), AllocError>
-    ensures { OnOk result (out.new.items ≡ out.old.items ++ spelled_mode mode) }
+    ensures spelled { OnOk result (out.new.items ≡ out.old.items ++ spelled_mode mode) }
+    ensures kept { IsFrontOf out.old.items out.new.items }
 {
     let byte = match mode {
         Mode::Shared => 1,
@@ -91,7 +122,8 @@ fn put_mode(out: &mut Vec<u8>, mode: Mode) -> Result<(), AllocError>
 }
 
 fn put_flag(out: &mut Vec<u8>, flag: bool) -> Result<(), AllocError>
-    ensures { OnOk result (out.new.items ≡ out.old.items ++ spelled_flag flag) }
+    ensures spelled { OnOk result (out.new.items ≡ out.old.items ++ spelled_flag flag) }
+    ensures kept { IsFrontOf out.old.items out.new.items }
 {
     let byte = if flag { 1 } else { 0 };
     out.push(byte)?;
@@ -99,7 +131,8 @@ fn put_flag(out: &mut Vec<u8>, flag: bool) -> Result<(), AllocError>
 }
 
 fn put_held(out: &mut Vec<u8>, held: bool) -> Result<(), AllocError>
-    ensures { OnOk result (out.new.items ≡ out.old.items ++ spelled_held held) }
+    ensures spelled { OnOk result (out.new.items ≡ out.old.items ++ spelled_held held) }
+    ensures kept { IsFrontOf out.old.items out.new.items }
 {
     let byte = if held { 1 } else { 2 };
     out.push(byte)?;
@@ -107,7 +140,8 @@ fn put_held(out: &mut Vec<u8>, held: bool) -> Result<(), AllocError>
 }
 
 fn put_outcome(out: &mut Vec<u8>, outcome: Outcome) -> Result<(), AllocError>
-    ensures { OnOk result (out.new.items ≡ out.old.items ++ spelled_outcome outcome) }
+    ensures spelled { OnOk result (out.new.items ≡ out.old.items ++ spelled_outcome outcome) }
+    ensures kept { IsFrontOf out.old.items out.new.items }
 {
     let byte = match outcome {
         Outcome::Waiting => 1,
@@ -122,7 +156,8 @@ fn put_outcome(out: &mut Vec<u8>, outcome: Outcome) -> Result<(), AllocError>
 /// Text behind one byte of length.
 fn put_short_text(out: &mut Vec<u8>, text: &str) -> Result<(), AllocError>
     requires { length text.now ≤ 255 }
-    ensures { OnOk result (out.new.items ≡ out.old.items ++ short_text text.now) }
+    ensures spelled { OnOk result (out.new.items ≡ out.old.items ++ short_text text.now) }
+    ensures kept { IsFrontOf out.old.items out.new.items }
 {
     out.push(text.len() as u8)?;
     out.extend_from_slice(text.as_bytes())
@@ -131,7 +166,8 @@ fn put_short_text(out: &mut Vec<u8>, text: &str) -> Result<(), AllocError>
 /// Text or data behind two bytes of length.
 fn put_long_text(out: &mut Vec<u8>, bytes: &[u8]) -> Result<(), AllocError>
     requires { length bytes.now < 2 ^ 16 }
-    ensures { OnOk result (out.new.items ≡ out.old.items ++ long_text bytes.now) }
+    ensures spelled { OnOk result (out.new.items ≡ out.old.items ++ long_text bytes.now) }
+    ensures kept { IsFrontOf out.old.items out.new.items }
 {
     put_u16(out, bytes.len() as u16)?;
     out.extend_from_slice(bytes)
@@ -141,7 +177,8 @@ fn put_long_text(out: &mut Vec<u8>, bytes: &[u8]) -> Result<(), AllocError>
 
 fn put_operation(out: &mut Vec<u8>, asked: &Operation) -> Result<(), AllocError>
     requires { IsOperation asked.now }
-    ensures { OnOk result (out.new.items ≡ out.old.items ++ operation asked.now) }
+    ensures spelled { OnOk result (out.new.items ≡ out.old.items ++ operation asked.now) }
+    ensures kept { IsFrontOf out.old.items out.new.items }
 {
     match asked {
         Operation::Request {
@@ -171,7 +208,8 @@ fn put_operation(out: &mut Vec<u8>, asked: &Operation) -> Result<(), AllocError>
 
 fn put_entry(out: &mut Vec<u8>, e: &Entry) -> Result<(), AllocError>
     requires { IsLockName e.now.name }
-    ensures { OnOk result (out.new.items ≡ out.old.items ++ entry e.now) }
+    ensures spelled { OnOk result (out.new.items ≡ out.old.items ++ entry e.now) }
+    ensures kept { IsFrontOf out.old.items out.new.items }
 {
     put_u32(out, e.number)?;
     put_held(out, e.held)?;
@@ -181,7 +219,8 @@ fn put_entry(out: &mut Vec<u8>, e: &Entry) -> Result<(), AllocError>
 
 fn put_snapshot_entry(out: &mut Vec<u8>, e: &SnapshotEntry) -> Result<(), AllocError>
     requires { IsLockName e.now.name }
-    ensures { OnOk result (out.new.items ≡ out.old.items ++ snapshot_entry e.now) }
+    ensures spelled { OnOk result (out.new.items ≡ out.old.items ++ snapshot_entry e.now) }
+    ensures kept { IsFrontOf out.old.items out.new.items }
 {
     put_held(out, e.held)?;
     put_u16(out, e.tab)?;
@@ -192,8 +231,9 @@ fn put_snapshot_entry(out: &mut Vec<u8>, e: &SnapshotEntry) -> Result<(), AllocE
 fn put_entries(out: &mut Vec<u8>, entries: &[Entry]) -> Result<(), AllocError>
     requires count { length entries.now ≤ 64 }
     requires each { AllByRecursion IsEntry entries.now }
-    ensures { OnOk result (out.new.items
+    ensures spelled { OnOk result (out.new.items
         ≡ out.old.items ++ (u16 (length entries.now) ++ flat_map entry entries.now)) }
+    ensures kept { IsFrontOf out.old.items out.new.items }
 {
     put_u16(out, entries.len() as u16)?;
     for e in entries {
@@ -205,8 +245,9 @@ fn put_entries(out: &mut Vec<u8>, entries: &[Entry]) -> Result<(), AllocError>
 fn put_snapshot_entries(out: &mut Vec<u8>, entries: &[SnapshotEntry]) -> Result<(), AllocError>
     requires count { length entries.now ≤ 64 }
     requires each { AllByRecursion IsSnapshotEntry entries.now }
-    ensures { OnOk result (out.new.items
+    ensures spelled { OnOk result (out.new.items
         ≡ out.old.items ++ (u16 (length entries.now) ++ flat_map snapshot_entry entries.now)) }
+    ensures kept { IsFrontOf out.old.items out.new.items }
 {
     put_u16(out, entries.len() as u16)?;
     for e in entries {
@@ -217,8 +258,9 @@ fn put_snapshot_entries(out: &mut Vec<u8>, entries: &[SnapshotEntry]) -> Result<
 
 fn put_places(out: &mut Vec<u8>, places: &[(u16, u16)]) -> Result<(), AllocError>
     requires { length places.now ≤ 1024 }
-    ensures { OnOk result (out.new.items
+    ensures spelled { OnOk result (out.new.items
         ≡ out.old.items ++ (u16 (length places.now) ++ flat_map place places.now)) }
+    ensures kept { IsFrontOf out.old.items out.new.items }
 {
     put_u16(out, places.len() as u16)?;
     for (tab, partition) in places {
@@ -233,7 +275,8 @@ fn put_places(out: &mut Vec<u8>, places: &[(u16, u16)]) -> Result<(), AllocError
 #[tactic(auto, unfolding(crate::specs::Grammar::command))]
 fn put_command(out: &mut Vec<u8>, c: &Command) -> Result<(), AllocError>
     requires { IsCommand c.now }
-    ensures { OnOk result (out.new.items ≡ out.old.items ++ command c.now) }
+    ensures spelled { OnOk result (out.new.items ≡ out.old.items ++ command c.now) }
+    ensures kept { IsFrontOf out.old.items out.new.items }
 {
     put_kind(out, 1, 1)?;
     put_u32(out, c.generation)?;
@@ -244,7 +287,8 @@ fn put_command(out: &mut Vec<u8>, c: &Command) -> Result<(), AllocError>
 #[tactic(auto, unfolding(crate::specs::Grammar::report))]
 fn put_report(out: &mut Vec<u8>, r: &Report) -> Result<(), AllocError>
     requires { IsReport r.now }
-    ensures { OnOk result (out.new.items ≡ out.old.items ++ report r.now) }
+    ensures spelled { OnOk result (out.new.items ≡ out.old.items ++ report r.now) }
+    ensures kept { IsFrontOf out.old.items out.new.items }
 {
     put_kind(out, 1, 2)?;
     put_u32(out, r.generation)?;
@@ -255,7 +299,8 @@ fn put_report(out: &mut Vec<u8>, r: &Report) -> Result<(), AllocError>
 #[tactic(auto, unfolding(crate::specs::Grammar::report_part))]
 fn put_report_part(out: &mut Vec<u8>, r: &ReportPart) -> Result<(), AllocError>
     requires { IsReportPart r.now }
-    ensures { OnOk result (out.new.items ≡ out.old.items ++ report_part r.now) }
+    ensures spelled { OnOk result (out.new.items ≡ out.old.items ++ report_part r.now) }
+    ensures kept { IsFrontOf out.old.items out.new.items }
 {
     put_kind(out, 2, 2)?;
     put_u32(out, r.generation)?;
@@ -268,7 +313,8 @@ fn put_report_part(out: &mut Vec<u8>, r: &ReportPart) -> Result<(), AllocError>
 #[tactic(auto, unfolding(crate::specs::Grammar::post))]
 fn put_post(out: &mut Vec<u8>, p: &Post) -> Result<(), AllocError>
     requires { IsPost p.now }
-    ensures { OnOk result (out.new.items ≡ out.old.items ++ post p.now) }
+    ensures spelled { OnOk result (out.new.items ≡ out.old.items ++ post p.now) }
+    ensures kept { IsFrontOf out.old.items out.new.items }
 {
     put_kind(out, 1, 3)?;
     put_u32(out, p.number)?;
@@ -278,7 +324,8 @@ fn put_post(out: &mut Vec<u8>, p: &Post) -> Result<(), AllocError>
 
 #[tactic(auto, unfolding(crate::specs::Grammar::hello))]
 fn put_hello(out: &mut Vec<u8>, h: &Hello) -> Result<(), AllocError>
-    ensures { OnOk result (out.new.items ≡ out.old.items ++ hello h.now) }
+    ensures spelled { OnOk result (out.new.items ≡ out.old.items ++ hello h.now) }
+    ensures kept { IsFrontOf out.old.items out.new.items }
 {
     put_kind(out, 1, 16)?;
     put_u32(out, h.generation)
@@ -286,7 +333,8 @@ fn put_hello(out: &mut Vec<u8>, h: &Hello) -> Result<(), AllocError>
 
 #[tactic(auto, unfolding(crate::specs::Grammar::answer))]
 fn put_answer(out: &mut Vec<u8>, a: &Answer) -> Result<(), AllocError>
-    ensures { OnOk result (out.new.items ≡ out.old.items ++ answer a.now) }
+    ensures spelled { OnOk result (out.new.items ≡ out.old.items ++ answer a.now) }
+    ensures kept { IsFrontOf out.old.items out.new.items }
 {
     put_kind(out, 1, 17)?;
     put_u32(out, a.generation)?;
@@ -298,7 +346,8 @@ fn put_answer(out: &mut Vec<u8>, a: &Answer) -> Result<(), AllocError>
 #[tactic(auto, unfolding(crate::specs::Grammar::snapshot))]
 fn put_snapshot(out: &mut Vec<u8>, s: &Snapshot) -> Result<(), AllocError>
     requires { IsSnapshot s.now }
-    ensures { OnOk result (out.new.items ≡ out.old.items ++ snapshot s.now) }
+    ensures spelled { OnOk result (out.new.items ≡ out.old.items ++ snapshot s.now) }
+    ensures kept { IsFrontOf out.old.items out.new.items }
 {
     put_kind(out, 1, 18)?;
     put_u32(out, s.generation)?;
@@ -311,7 +360,8 @@ fn put_snapshot(out: &mut Vec<u8>, s: &Snapshot) -> Result<(), AllocError>
 #[tactic(auto, unfolding(crate::specs::Grammar::heard))]
 fn put_heard(out: &mut Vec<u8>, h: &Heard) -> Result<(), AllocError>
     requires { IsHeard h.now }
-    ensures { OnOk result (out.new.items ≡ out.old.items ++ heard h.now) }
+    ensures spelled { OnOk result (out.new.items ≡ out.old.items ++ heard h.now) }
+    ensures kept { IsFrontOf out.old.items out.new.items }
 {
     put_kind(out, 1, 19)?;
     put_u16(out, h.source)?;
@@ -323,7 +373,8 @@ fn put_heard(out: &mut Vec<u8>, h: &Heard) -> Result<(), AllocError>
 #[tactic(auto, unfolding(crate::specs::Grammar::welcome))]
 fn put_welcome(out: &mut Vec<u8>, w: &Welcome) -> Result<(), AllocError>
     requires { IsWelcome w.now }
-    ensures { OnOk result (out.new.items ≡ out.old.items ++ welcome w.now) }
+    ensures spelled { OnOk result (out.new.items ≡ out.old.items ++ welcome w.now) }
+    ensures kept { IsFrontOf out.old.items out.new.items }
 {
     put_kind(out, 1, 20)?;
     put_u16(out, w.tab)?;
@@ -333,7 +384,8 @@ fn put_welcome(out: &mut Vec<u8>, w: &Welcome) -> Result<(), AllocError>
 #[tactic(auto, unfolding(crate::specs::Grammar::pair_welcome))]
 fn put_pair_welcome(out: &mut Vec<u8>, w: &PairWelcome) -> Result<(), AllocError>
     requires { IsPairWelcome w.now }
-    ensures { OnOk result (out.new.items ≡ out.old.items ++ pair_welcome w.now) }
+    ensures spelled { OnOk result (out.new.items ≡ out.old.items ++ pair_welcome w.now) }
+    ensures kept { IsFrontOf out.old.items out.new.items }
 {
     put_kind(out, 2, 20)?;
     put_u16(out, w.tab)?;
@@ -344,7 +396,8 @@ fn put_pair_welcome(out: &mut Vec<u8>, w: &PairWelcome) -> Result<(), AllocError
 #[tactic(auto, unfolding(crate::specs::Grammar::upward))]
 fn put_upward(out: &mut Vec<u8>, inner: &Upward) -> Result<(), AllocError>
     requires { IsUpward inner.now }
-    ensures { OnOk result (out.new.items ≡ out.old.items ++ upward inner.now) }
+    ensures spelled { OnOk result (out.new.items ≡ out.old.items ++ upward inner.now) }
+    ensures kept { IsFrontOf out.old.items out.new.items }
 {
     match inner {
         Upward::Command(c) => put_command(out, c),
@@ -356,7 +409,8 @@ fn put_upward(out: &mut Vec<u8>, inner: &Upward) -> Result<(), AllocError>
 #[tactic(auto, unfolding(crate::specs::Grammar::downward))]
 fn put_downward(out: &mut Vec<u8>, inner: &Downward) -> Result<(), AllocError>
     requires { IsDownward inner.now }
-    ensures { OnOk result (out.new.items ≡ out.old.items ++ downward inner.now) }
+    ensures spelled { OnOk result (out.new.items ≡ out.old.items ++ downward inner.now) }
+    ensures kept { IsFrontOf out.old.items out.new.items }
 {
     match inner {
         Downward::Hello(h) => put_hello(out, h),
@@ -368,7 +422,8 @@ fn put_downward(out: &mut Vec<u8>, inner: &Downward) -> Result<(), AllocError>
 #[tactic(auto, unfolding(crate::specs::Grammar::stamped))]
 fn put_stamped(out: &mut Vec<u8>, s: &Stamped) -> Result<(), AllocError>
     requires { IsStamped s.now }
-    ensures { OnOk result (out.new.items ≡ out.old.items ++ stamped s.now) }
+    ensures spelled { OnOk result (out.new.items ≡ out.old.items ++ stamped s.now) }
+    ensures kept { IsFrontOf out.old.items out.new.items }
 {
     put_kind(out, 1, 32)?;
     put_u16(out, s.tab)?;
@@ -379,7 +434,8 @@ fn put_stamped(out: &mut Vec<u8>, s: &Stamped) -> Result<(), AllocError>
 #[tactic(auto, unfolding(crate::specs::Grammar::start))]
 fn put_start(out: &mut Vec<u8>, s: &Start) -> Result<(), AllocError>
     requires { IsStart s.now }
-    ensures { OnOk result (out.new.items ≡ out.old.items ++ start s.now) }
+    ensures spelled { OnOk result (out.new.items ≡ out.old.items ++ start s.now) }
+    ensures kept { IsFrontOf out.old.items out.new.items }
 {
     put_kind(out, 1, 33)?;
     put_u32(out, s.generation)?;
@@ -389,7 +445,8 @@ fn put_start(out: &mut Vec<u8>, s: &Start) -> Result<(), AllocError>
 #[tactic(auto, unfolding(crate::specs::Grammar::addressed))]
 fn put_addressed(out: &mut Vec<u8>, a: &Addressed) -> Result<(), AllocError>
     requires { IsAddressed a.now }
-    ensures { OnOk result (out.new.items ≡ out.old.items ++ addressed a.now) }
+    ensures spelled { OnOk result (out.new.items ≡ out.old.items ++ addressed a.now) }
+    ensures kept { IsFrontOf out.old.items out.new.items }
 {
     put_kind(out, 1, 34)?;
     put_u16(out, a.tab)?;
@@ -398,7 +455,8 @@ fn put_addressed(out: &mut Vec<u8>, a: &Addressed) -> Result<(), AllocError>
 
 #[tactic(auto, unfolding(crate::specs::Grammar::dead))]
 fn put_dead(out: &mut Vec<u8>, d: &Dead) -> Result<(), AllocError>
-    ensures { OnOk result (out.new.items ≡ out.old.items ++ dead d.now) }
+    ensures spelled { OnOk result (out.new.items ≡ out.old.items ++ dead d.now) }
+    ensures kept { IsFrontOf out.old.items out.new.items }
 {
     put_kind(out, 1, 35)?;
     put_u16(out, d.tab)
