@@ -1,5 +1,5 @@
 -- Lemmas on what a desk does with one frame, with one list of frames after another, and with one piece after another.
-use Rattle.std.proofs.Common.{◌≡◌, ◌≢◌, ◌↔◌, ℕ, ◌+◌, ◌<◌, length, get_or, drop, List, [], ◌∷◌, ◌++◌, Bool, true, false, Option, Some, None, Result, Ok, Err, IfOk, OnErr, MatchResult, refl, sym, ap, subst, ◌∙◌, append_assoc, append-nil, arith}
+use Rattle.std.proofs.Common.{◌≡◌, ◌≢◌, ◌↔◌, ℕ, ◌+◌, ◌<◌, nat_eq, length, get_or, drop, List, [], ◌∷◌, ◌++◌, Bool, true, false, Option, Some, None, Result, Ok, Err, IfOk, OnErr, MatchResult, refl, sym, ap, subst, ◌∙◌, append_assoc, append-nil, arith}
 use Rattle.std.specs.Option.{is_some}
 use Rattle.std.specs.List.{AllByRecursion}
 use Rattle.std.proofs.lemmas.List.{drop_more}
@@ -19,9 +19,9 @@ use Rattle.wl_workers.specs.declared.desk.DeskFault.{DeskFault}
 use Rattle.wl_workers.specs.declared.desk.DeskFault.TheVariants as desk
 use Rattle.wl_frames.specs.Device.{IsFrontOf}
 use Rattle.wl_workers.specs.Desk.{DeskState, Opening, Serving, Refused, taken, desk_step, desk_after, desk_outs, IsServing, IsRefused}
-use Rattle.wl_workers.specs.DeskSteps.{state_of, IsSpeaking, spelled, due, Steps, Delivers, Deals}
+use Rattle.wl_workers.specs.DeskSteps.{state_of, IsSpeaking, spelled, due, IsBegun, Steps, Spells, Deals}
 use Rattle.wl_broker.proofs.Speech.{spells_start, spells_taking, spells_burial}
-use Rattle.wl_frames.proofs.DeviceLemmas.{IsFrontOf-append, append-IsFrontOf}
+use Rattle.wl_frames.proofs.DeviceLemmas.{IsFrontOf-append, append-IsFrontOf, IsFrontOf-trans}
 
 -- ---- one frame
 
@@ -187,26 +187,27 @@ pub frames_before_opening : (fs : List Frame) → Opening ≡ desk_after Opening
 frames_before_opening [] e = refl
 frames_before_opening (f ∷ fs) e = absurd (past_after fs (desk_step Opening f).0 (past_step Opening f) (sym e))
 
--- ---- frames to tabs, written one after another
+-- ---- frames to tabs, spelled one after another
 
 pub outs_more : (all rest more : List Addressed) (a : Addressed) (done piece : List ℕ) → rest ≡ a ∷ more → done ++ spelled rest ≡ spelled all → piece ≡ spelling (frame.Addressed a)
     → done ++ piece ++ spelled more ≡ spelled all
 outs_more all rest more a done piece e h p =
     append_assoc done piece (spelled more) ∙ ap (λ l. done ++ (l ++ spelled more)) p ∙ ap (λ l. done ++ spelled l) (sym e) ∙ h
 
-outs_front : (all rest more : List Addressed) (a : Addressed) (done piece : List ℕ) → rest ≡ a ∷ more → done ++ spelled rest ≡ spelled all → IsFrontOf piece (spelling (frame.Addressed a))
-    → IsFrontOf (done ++ piece) (spelled all)
-outs_front all rest more a done piece e h p =
-    subst (IsFrontOf (done ++ piece)) (ap (λ l. done ++ spelled l) (sym e) ∙ h) (append-IsFrontOf done piece _ (IsFrontOf-append piece _ (spelled more) p))
+-- a frame that was not answered leaves the bytes as they were
+pub unanswered_begins : (old new : DeskState) (f : Frame) (bytes : List ℕ) (e : DeskFault) → Steps old f new (Err e) → Spells old f new bytes bytes (Err e)
+unanswered_begins old new f bytes (desk.Frame x) step = step
+unanswered_begins old new f bytes desk.Unexpected step = (step, refl)
+unanswered_begins old new f bytes desk.Read step = step
+unanswered_begins old new f bytes desk.Write step = step
+unanswered_begins old new f bytes desk.TooManyReads step = step
+unanswered_begins old new f bytes desk.Memory step = ([], sym (append-nil bytes), (due old (f ∷ []), refl))
 
-pub outs_fail : (all rest more : List Addressed) (a : Addressed) (done piece : List ℕ) (e : DeskFault) → rest ≡ a ∷ more → done ++ spelled rest ≡ spelled all
-    → Delivers (spelling (frame.Addressed a)) (Err e) piece → Delivers (spelled all) (Err e) (done ++ piece)
-outs_fail all rest more a done piece (desk.Frame f) e h p = p
-outs_fail all rest more a done piece desk.Unexpected e h p = p
-outs_fail all rest more a done piece desk.Read e h p = p
-outs_fail all rest more a done piece desk.Write e h p = outs_front all rest more a done piece e h p
-outs_fail all rest more a done piece desk.TooManyReads e h p = p
-outs_fail all rest more a done piece desk.Memory e h p = outs_front all rest more a done piece e h p
+-- nor is one whose answer could not be spelled
+pub unspelled_begins : (old new : DeskState) (f : Frame) (outs : List Addressed) (before after : List ℕ) → Steps old f new (Ok outs) → IsBegun before (spelled outs) after
+    → Spells old f new before after (Err desk.Memory)
+unspelled_begins old new f outs before after step (piece, p, q) =
+    (piece, p, subst (IsFrontOf piece) (sym (due-cons old new f [] outs step.0)) (IsFrontOf-append piece (spelled outs) (due new []) q))
 
 -- ---- frames, answered one after another
 
@@ -262,25 +263,77 @@ answer_fails first now new last all rest more f output desk.Write h e step = abs
 answer_fails first now new last all rest more f output desk.TooManyReads h e step = step
 answer_fails first now new last all rest more f output desk.Memory h e step = (due now rest, sym h.output_is)
 
-outs_are_front : (first now new : DeskState) (all rest more : List Frame) (f : Frame) (outs : List Addressed) (output piece : List ℕ) → Leaves first now all rest output → rest ≡ f ∷ more
-    → Steps now f new (Ok outs) → IsFrontOf piece (spelled outs) → IsFrontOf (output ++ piece) (due first all)
-outs_are_front first now new all rest more f outs output piece h e step p =
-    subst (IsFrontOf (output ++ piece)) (ap (λ l. output ++ l) (sym (due-cons now new f more outs step.0) ∙ ap (due now) (sym e)) ∙ h.output_is)
-    (append-IsFrontOf output piece _ (IsFrontOf-append piece _ (due new more) p))
+-- the answers to the frames before, and a front of that to the next
+begun_is_front : (first now : DeskState) (all rest more : List Frame) (f : Frame) (written before after : List ℕ) → Leaves first now all rest (written ++ before) → rest ≡ f ∷ more
+    → IsBegun before (due now (f ∷ [])) after → IsFrontOf (written ++ after) (due first all)
+begun_is_front first now all rest more f written before after h e (piece, p, q) =
+    let whole : due now rest ≡ due now (f ∷ []) ++ due (desk_step now f).0 more = ap (due now) e ∙ due-append now (f ∷ []) more in
+    let ahead = IsFrontOf-append piece _ (due (desk_step now f).0 more) q in
+    let all_front = append-IsFrontOf (written ++ before) piece _ ahead in
+    subst (λ l. IsFrontOf l (due first all)) (append_assoc written before piece ∙ ap (λ l. written ++ l) (sym p))
+    (subst (IsFrontOf ((written ++ before) ++ piece)) (ap (λ l. (written ++ before) ++ l) (sym whole) ∙ h.output_is) all_front)
 
-not_empty : (all : List Frame) (n : ℕ) → n < length all → all ≡ [] → ⊥
+-- its answer stands behind those before
+pub Leaves-spelled : (first now new : DeskState) (all rest more : List Frame) (f : Frame) (written before after : List ℕ) → Leaves first now all rest (written ++ before) → rest ≡ f ∷ more
+    → Spells now f new before after (Ok tt) → Leaves first new all more (written ++ after)
+Leaves-spelled first now new all rest more f written before after h e (outs, step, serving, p) =
+    subst (Leaves first new all more) (append_assoc written before (spelled outs) ∙ ap (λ l. written ++ l) (sym p))
+    (Leaves-more first now new all rest more f outs (written ++ before) (spelled outs) h e (step, serving) refl)
+
+-- it was answered, since it is not said why not
+pub answered_unless : (now new : DeskState) (f : Frame) (before after : List ℕ) (r : Result (Unit {0}) DeskFault) → Spells now f new before after r
+    → ((e : DeskFault) → r ≡ Err e → ⊥) → Spells now f new before after (Ok tt)
+answered_unless now new f before after (Ok done) spells otherwise = spells
+answered_unless now new f before after (Err e) spells otherwise = absurd (otherwise e refl)
+
+-- a bundle was written
+pub Leaves-bundled : (first now : DeskState) (all rest : List Frame) (written before piece after : List ℕ) → Leaves first now all rest (written ++ before) → before ≡ piece ++ after
+    → Leaves first now all rest ((written ++ piece) ++ after)
+Leaves-bundled first now all rest written before piece after h e =
+    subst (Leaves first now all rest) (ap (λ l. written ++ l) e ∙ sym (append_assoc written piece after)) h
+
+-- a frame was not answered: what was gathered is written
+pub spelling_fails : (first now new last : DeskState) (all rest more : List Frame) (f : Frame) (written before after : List ℕ) (e : DeskFault) → Leaves first now all rest (written ++ before)
+    → rest ≡ f ∷ more → Spells now f new before after (Err e) → Deals first all last (Err e) (written ++ after)
+spelling_fails first now new last all rest more f written before after (desk.Frame x) h e step = step
+spelling_fails first now new last all rest more f written before after desk.Unexpected h e step =
+    rw (step.1) (answer_fails first now new last all rest more f (written ++ before) desk.Unexpected h e step.0)
+spelling_fails first now new last all rest more f written before after desk.Read h e step = step
+spelling_fails first now new last all rest more f written before after desk.Write h e step = absurd step
+spelling_fails first now new last all rest more f written before after desk.TooManyReads h e step = step
+spelling_fails first now new last all rest more f written before after desk.Memory h e step = begun_is_front first now all rest more f written before after h e step
+
+-- what was gathered before a frame that was not answered was not written
+spelled_is_front : (first now new : DeskState) (all rest more : List Frame) (f : Frame) (written before after : List ℕ) (e : DeskFault) → Leaves first now all rest (written ++ before)
+    → rest ≡ f ∷ more → Spells now f new before after (Err e) → IsFrontOf (written ++ after) (due first all)
+spelled_is_front first now new all rest more f written before after (desk.Frame x) h e step = absurd step
+spelled_is_front first now new all rest more f written before after desk.Unexpected h e step =
+    ([], sym (spelling_fails first now new new all rest more f written before after desk.Unexpected h e step).1 ∙ sym (append-nil (written ++ after)))
+spelled_is_front first now new all rest more f written before after desk.Read h e step = absurd step
+spelled_is_front first now new all rest more f written before after desk.Write h e step = absurd step
+spelled_is_front first now new all rest more f written before after desk.TooManyReads h e step = absurd step
+spelled_is_front first now new all rest more f written before after desk.Memory h e step = begun_is_front first now all rest more f written before after h e step
+
+pub breaks_off : (first now new last : DeskState) (all rest more : List Frame) (f : Frame) (written before after front : List ℕ) (e : DeskFault) → (all ≡ [] → ⊥)
+    → Leaves first now all rest (written ++ before) → rest ≡ f ∷ more → Spells now f new before after (Err e) → IsFrontOf front after → Deals first all last (Err desk.Write) (written ++ front)
+breaks_off first now new last all rest more f written before after front e some h next step p =
+    (some, IsFrontOf-trans _ _ _ (append-IsFrontOf written front after p) (spelled_is_front first now new all rest more f written before after e h next step))
+
+-- what was gathered was not written
+pub writing_fails : (first now last : DeskState) (all rest : List Frame) (written bytes front : List ℕ) → (all ≡ [] → ⊥) → Leaves first now all rest (written ++ bytes)
+    → IsFrontOf front bytes → Deals first all last (Err desk.Write) (written ++ front)
+writing_fails first now last all rest written bytes front some h p = (
+  some,
+  subst (IsFrontOf (written ++ front)) h.output_is (IsFrontOf-append (written ++ front) _ (due now rest) (append-IsFrontOf written front bytes p)),
+)
+
+-- there is a frame
+pub not_empty : (all : List Frame) (n : ℕ) → n < length all → all ≡ [] → ⊥
 not_empty all n h e = let none : length all ≡ 0 = ap length e in omega arith
 
--- its answer was not written
-pub write_fails : (first now new last : DeskState) (all rest more : List Frame) (f : Frame) (outs : List Addressed) (output piece : List ℕ) (n : ℕ) (e : DeskFault) → n < length all
-    → Leaves first now all rest output → rest ≡ f ∷ more → Steps now f new (Ok outs) → Delivers (spelled outs) (Err e) piece → Deals first all last (Err e) (output ++ piece)
-write_fails first now new last all rest more f outs output piece n (desk.Frame x) some h e step p = p
-write_fails first now new last all rest more f outs output piece n desk.Unexpected some h e step p = absurd p
-write_fails first now new last all rest more f outs output piece n desk.Read some h e step p = p
-write_fails first now new last all rest more f outs output piece n desk.Write some h e step p =
-    (not_empty all n some, outs_are_front first now new all rest more f outs output piece h e step p)
-write_fails first now new last all rest more f outs output piece n desk.TooManyReads some h e step p = p
-write_fails first now new last all rest more f outs output piece n desk.Memory some h e step p = outs_are_front first now new all rest more f outs output piece h e step p
+pub some_frames : (all : List Frame) → nat_eq (length all) 0 ≡ false → all ≡ [] → ⊥
+some_frames [] h e = cc
+some_frames (f ∷ fs) h e = cc
 
 -- the frame at an index, and the ones after it
 pub next_frame : (all : List Frame) (n : ℕ) (f : Frame) → n < length all → f ≡ get_or all n f → drop n all ≡ f ∷ drop (n + 1) all

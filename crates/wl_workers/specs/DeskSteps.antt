@@ -1,5 +1,5 @@
 -- Helpers of the desk's private contracts: what one frame, one list of frames and one piece of the input do at a desk.
-use Rattle.std.specs.Prelude.{◌≡◌, ◌≢◌, ℕ, List, [], ◌++◌, false, Option, Some, None, Result, Ok, Err}
+use Rattle.std.specs.Prelude.{◌≡◌, ◌≢◌, ℕ, List, [], ◌∷◌, ◌++◌, false, Option, Some, None, Result, Ok, Err}
 use Rattle.std.specs.List.{flat_map}
 use Rattle.wl_frames.specs.declared.frame.Addressed.{Addressed}
 use Rattle.wl_frames.specs.declared.frame.Frame.{Frame}
@@ -66,15 +66,20 @@ Steps old f new (Err desk.Write) = ⊥
 Steps old f new (Err desk.TooManyReads) = ⊥
 Steps old f new (Err desk.Memory) = Unit {0}
 
--- the bytes that are due were written, or a front of them
-abbrev pub Delivers : List ℕ → Result (Unit {0}) DeskFault → List ℕ → Type 0
-Delivers bytes (Ok done) output = output ≡ bytes
-Delivers bytes (Err (desk.Frame e)) output = ⊥
-Delivers bytes (Err desk.Unexpected) output = ⊥
-Delivers bytes (Err desk.Read) output = ⊥
-Delivers bytes (Err desk.Write) output = IsFrontOf output bytes
-Delivers bytes (Err desk.TooManyReads) output = ⊥
-Delivers bytes (Err desk.Memory) output = IsFrontOf output bytes
+-- a front of these bytes stands behind the old ones
+abbrev pub IsBegun : List ℕ → List ℕ → List ℕ → Type 0
+IsBegun old bytes new = (piece : List ℕ) × (new ≡ old ++ piece) × IsFrontOf piece bytes
+
+-- a frame was answered behind the bytes before, was not expected, or was not answered for want of memory
+abbrev pub Spells : DeskState → Frame → DeskState → List ℕ → List ℕ → Result (Unit {0}) DeskFault → Type 0
+Spells old f new before after (Ok done) =
+    (outs : List Addressed) × (desk_step old f ≡ (new, outs)) × IsServing new × (after ≡ before ++ spelled outs)
+Spells old f new before after (Err (desk.Frame e)) = ⊥
+Spells old f new before after (Err desk.Unexpected) = (desk_step old f ≡ (Refused, [])) × (after ≡ before)
+Spells old f new before after (Err desk.Read) = ⊥
+Spells old f new before after (Err desk.Write) = ⊥
+Spells old f new before after (Err desk.TooManyReads) = ⊥
+Spells old f new before after (Err desk.Memory) = IsBegun before (due old (f ∷ [])) after
 
 -- frames are answered, up to the end or the first fault
 abbrev pub Deals : DeskState → List Frame → DeskState → Result (Unit {0}) DeskFault → List ℕ → Type 0

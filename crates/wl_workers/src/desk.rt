@@ -1,13 +1,14 @@
 //! The desk: frames in, the broker's answers out.
 
-ghost use Rattle.std.specs.Prelude.{◌≡◌, ◌≢◌, ◌↔◌, ℕ, List, [], true, false, Err, IfOk, OnOk, MatchResult};
+ghost use Rattle.std.specs.Prelude.{◌≡◌, ◌≢◌, ◌↔◌, ℕ, List, [], ◌++◌, true, false, Err, IfOk, OnOk, OnErr, MatchResult};
 ghost use Rattle.std.specs.List.{AllByRecursion};
 ghost use Rattle.std.specs.Io.KnownBytes.{Appends, IsAtEnd};
-ghost use Rattle.wl_frames.specs.Grammar.{IsWellFormed, IsAddressed, spelling};
+ghost use Rattle.wl_frames.specs.Device.{WritesFront};
+ghost use Rattle.wl_frames.specs.Grammar.{IsWellFormed, IsAddressed};
 ghost use Rattle.wl_frames.specs.Stream.{IsPartial};
 ghost use Rattle.wl_workers.specs.declared.desk.DeskFault.TheVariants.{Write as write_fault, Memory as memory};
 ghost use Rattle.wl_workers.specs.Desk.{Opening, IsRefused, Runs};
-ghost use Rattle.wl_workers.specs.DeskSteps.{of_read, of_frame, spelled, Steps, Delivers, Deals, Treats, Closes};
+ghost use Rattle.wl_workers.specs.DeskSteps.{of_read, of_frame, spelled, IsBegun, Steps, Spells, Deals, Treats, Closes};
 
 use std::alloc::{AllocError, Global};
 use std::io::{Read, Write};
@@ -15,11 +16,14 @@ use std::marker::Model;
 use thiserror::Error;
 use wl_broker::{Broker, Dropped, LockTable, Outs};
 use wl_frames::device::{READ_LIMIT, ReadFault, Sink, Source, WriteFault};
-use wl_frames::{Addressed, Dead, Feed, Frame, FrameFault, Sequence, Stamped, Start, encode};
+use wl_frames::{Dead, Feed, Frame, FrameFault, Sequence, Stamped, Start, encode_into};
 use wl_table::IndexedTable;
 
 /// How many bytes are read at once, at most.
 const PIECE_LEN: usize = 4096;
+
+/// How many bytes are gathered before they are written anyway.
+const BUNDLE_LEN: usize = 32_768;
 
 /// Why the desk ended before its input did.
 #[derive(Clone, Copy, Debug, PartialEq, Eq, Error)]
@@ -161,11 +165,27 @@ impl<T: LockTable> Desk<T> {
         }
     }
 
-    /// Answers frames in order, up to the first fault.
+    /// Appends the bytes of the answer to one frame.
+    fn spell_answer(
+        &mut self,
+        alloc: Global,
+        frame: &Frame,
+        bytes: &mut Vec<u8>,
+    ) -> Result<(), DeskFault>
+        requires { IsWellFormed frame.now }
+        ensures { Spells self.old frame.now self.new bytes.old.items bytes.new.items result }
+    {
+        let outs = self.answer(alloc, frame)?;
+        spell_all(outs, bytes)?;
+        Ok(())
+    }
+
+    /// Answers frames in order, up to the first fault. What is ready is written at once, in the room that the bytes have.
     fn answer_all<W: Write>(
         &mut self,
         alloc: Global,
         frames: &[Frame],
+        bytes: &mut Vec<u8>,
         sink: &mut Sink<W>,
     ) -> Result<(), DeskFault>
         requires frames { AllByRecursion IsWellFormed frames.now }
@@ -175,10 +195,19 @@ impl<T: LockTable> Desk<T> {
             × Deals self.old frames.now self.new result output }
         ensures write { (result ≡ Err DeskFault.Write) ↔ (sink.new.has_failed ≡ true) }
     {
-        for frame in frames {
-            let outs = self.answer(alloc, frame)?;
-            write_all(alloc, outs, sink)?;
+        if frames.is_empty() {
+            return Ok(());
         }
+        bytes.clear();
+        for frame in frames {
+            if let Err(fault) = self.spell_answer(alloc, frame, bytes) {
+                // What stands before the fault is written first.
+                sink.write(bytes.as_slice())?;
+                return Err(fault);
+            }
+            write_bundle(bytes, sink)?;
+        }
+        sink.write(bytes.as_slice())?;
         Ok(())
     }
 
@@ -188,6 +217,7 @@ impl<T: LockTable> Desk<T> {
         alloc: Global,
         feed: &mut Feed,
         piece: &[u8],
+        bytes: &mut Vec<u8>,
         sink: &mut Sink<W>,
     ) -> Result<(), DeskFault>
         requires feed { feed.old.has_failed ≡ false }
@@ -199,9 +229,9 @@ impl<T: LockTable> Desk<T> {
         ensures write { (result ≡ Err DeskFault.Write) ↔ (sink.new.has_failed ≡ true) }
     {
         match feed.push(piece) {
-            Ok(frames) => self.answer_all(alloc, frames.as_slice(), sink),
+            Ok(frames) => self.answer_all(alloc, frames.as_slice(), bytes, sink),
             Err(refused) => {
-                self.answer_all(alloc, refused.before.as_slice(), sink)?;
+                self.answer_all(alloc, refused.before.as_slice(), bytes, sink)?;
                 Err(DeskFault::from(refused.fault))
             }
         }
@@ -230,34 +260,31 @@ fn unanswered(alloc: Global, reason: Dropped) -> Result<Outs, DeskFault>
     }
 }
 
-/// Writes the encodings of the broker's frames, in order.
-fn write_all<W: Write>(alloc: Global, outs: Outs, sink: &mut Sink<W>) -> Result<(), DeskFault>
-    requires outs { AllByRecursion IsAddressed outs }
-    requires sink { sink.old.has_failed ≡ false }
-    ensures written { (output : List ℕ) × Appends (W.contents sink.old.writer) (W.contents sink.new.writer) output
-        × Delivers (spelled outs) result output }
-    ensures write { (result ≡ Err DeskFault.Write) ↔ (sink.new.has_failed ≡ true) }
+/// Appends the encodings of the broker's frames, in order.
+fn spell_all(outs: Outs, bytes: &mut Vec<u8>) -> Result<(), AllocError>
+    requires { AllByRecursion IsAddressed outs }
+    ensures spelled { OnOk result (bytes.new.items ≡ bytes.old.items ++ spelled outs) }
+    ensures refused { OnErr result (IsBegun bytes.old.items (spelled outs) bytes.new.items) }
 {
     for addressed in outs.into_vec() {
-        write_one(alloc, addressed, sink)?;
+        encode_into(bytes, &Frame::Addressed(addressed))?;
     }
     Ok(())
 }
 
-/// Writes the encoding of one of the broker's frames.
-fn write_one<W: Write>(
-    alloc: Global,
-    addressed: Addressed,
-    sink: &mut Sink<W>,
-) -> Result<(), DeskFault>
-    requires addressed { IsAddressed addressed }
-    requires sink { sink.old.has_failed ≡ false }
-    ensures written { (output : List ℕ) × Appends (W.contents sink.old.writer) (W.contents sink.new.writer) output
-        × Delivers (spelling (Frame.Addressed addressed)) result output }
-    ensures write { (result ≡ Err DeskFault.Write) ↔ (sink.new.has_failed ≡ true) }
+/// Writes the bytes and takes them away, once they are many.
+fn write_bundle<W: Write>(bytes: &mut Vec<u8>, sink: &mut Sink<W>) -> Result<(), WriteFault>
+    ensures written { OnOk result ((piece : List ℕ) × Appends (W.contents sink.old.writer) (W.contents sink.new.writer) piece
+        × (bytes.old.items ≡ piece ++ bytes.new.items)) }
+    ensures sound { OnOk result (sink.new.has_failed ≡ sink.old.has_failed) }
+    ensures failed { OnErr result ((sink.new.has_failed ≡ true)
+        × WritesFront (W.contents sink.old.writer) (W.contents sink.new.writer) bytes.old.items) }
 {
-    let bytes = encode(alloc, &Frame::Addressed(addressed))?;
+    if bytes.len() < BUNDLE_LEN {
+        return Ok(());
+    }
     sink.write(bytes.as_slice())?;
+    bytes.clear();
     Ok(())
 }
 
@@ -285,13 +312,14 @@ pub fn desk_run_on<T: LockTable, R: Read, W: Write>(
     let mut feed = Feed::new(alloc);
     let mut desk = Desk::<T>::new();
     let mut buffer = [0; PIECE_LEN];
+    let mut bytes = Vec::new(alloc);
     // A loop is proved to end, so this one counts the reads too.
     for _reads in 0..READ_LIMIT {
         let n = source.read(&mut buffer)?;
         if n == 0 {
             return desk.end(feed);
         }
-        desk.take_piece(alloc, &mut feed, &buffer[..n], sink)?;
+        desk.take_piece(alloc, &mut feed, &buffer[..n], &mut bytes, sink)?;
     }
     Err(DeskFault::TooManyReads)
 }

@@ -1,13 +1,13 @@
-use Rattle.std.proofs.Common.{◌≡◌, ℕ, List, false, drop}
+use Rattle.std.proofs.Common.{◌≡◌, ℕ, List, ◌++◌, false, drop}
 use Rattle.std.specs.Io.KnownBytes.{Appends}
 use Rattle.wl_workers.proofs.DeskLemmas.{Leaves}
 use Rattle.wl_workers.proofs.desk.Desk.answer_all.Given as goal
 
--- the answers to the frames that are left are what is still due
+-- what was written, what was gathered and the answers to the frames that are left are what is due
 abbrev pub invariant-loop-frame : goal.invariant-loop-frame
 invariant-loop-frame g l = record {
   sound : l.sink.has_failed ≡ false;
-  output : List ℕ;
-  appended : Appends (g.W.Write.contents l.fn.sink.writer) (g.W.Write.contents l.sink.writer) output;
-  leaves : Leaves l.fn.self l.self l.frames (drop l.frame-index l.frames) output;
+  written : List ℕ;
+  appended : Appends (g.W.Write.contents l.fn.sink.writer) (g.W.Write.contents l.sink.writer) written;
+  leaves : Leaves l.fn.self l.self l.frames (drop l.frame-index l.frames) (written ++ l.bytes.items);
 }
