@@ -15,6 +15,7 @@ pub mod Missing
 pub mod Others
 pub mod PartitionRows
 pub mod SettledLocks
+pub mod shards
 pub mod SnapshotParts
 pub mod Speech
 pub mod SpeechFrames

@@ -2,8 +2,11 @@ pub use Rattle.wl_draft.specs.Tables
 pub use Rattle.wl_draft.specs.Locks
 pub use Rattle.wl_frames.specs.Grammar
 pub mod Broker
+pub mod Events
 pub mod Grants
 pub mod Kept
 pub mod Laws
 pub mod Rows
+pub mod ShardRows
+pub mod Shards
 pub mod Speech

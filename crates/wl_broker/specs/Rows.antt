@@ -8,19 +8,15 @@ use Rattle.wl_frames.specs.declared.frame.Operation.TheVariants.{Request, Releas
 use Rattle.wl_frames.specs.declared.frame.Outcome.{Outcome}
 use Rattle.wl_frames.specs.declared.frame.Outcome.TheVariants.{Waiting, Granted, Gone, Taken}
 use Rattle.wl_frames.specs.declared.frame.SnapshotEntry.{SnapshotEntry}
-use Rattle.wl_frames.specs.declared.frame.Stamped.{Stamped}
 use Rattle.wl_frames.specs.declared.frame.Addressed.{Addressed}
 use Rattle.wl_frames.specs.declared.frame.Upward.TheVariants as up
 use Rattle.wl_frames.specs.declared.frame.Downward.TheVariants as down
 use Rattle.wl_broker.specs.declared.dropped.Dropped.{Dropped}
 use Rattle.wl_broker.specs.declared.dropped.Dropped.TheVariants.{Recovering, OutOfTurn, DeadTab, AlreadyJoined, HeldByNewcomer, BadReport, Misplaced, PartTwice}
 use Rattle.wl_broker.specs.Broker.{BrokerState, started, Taking, Drops, Does, taking, burial}
+use Rattle.wl_broker.specs.Events.{Event, Comes, Dies, happens}
 
 -- ---- a conversation with a broker
-
-pub data Item : Type 0 where
-  Says : (stamped : Stamped) → Item
-  Dies : (tab : ℕ) → Item
 
 pub data Told : Type 0 where
   Dropping : (reason : Dropped) → Told
@@ -30,14 +26,13 @@ abbrev pub told_for : Taking → Told
 told_for (Drops reason) = Dropping reason
 told_for (Does after outs) = Sending outs
 
-abbrev pub after_taking : BrokerState → Taking → BrokerState
-after_taking b (Drops reason) = b
-after_taking b (Does after outs) = after
+abbrev pub told_by : BrokerState → Event → Told
+told_by b (Comes s) = told_for (taking b s)
+told_by b (Dies t) = Sending (burial b t).1
 
-abbrev pub told : BrokerState → List Item → List Told
+abbrev pub told : BrokerState → List Event → List Told
 told b [] = []
-told b (Says s ∷ items) = told_for (taking b s) ∷ told (after_taking b (taking b s)) items
-told b (Dies t ∷ items) = Sending (burial b t).1 ∷ told (burial b t).0 items
+told b (e ∷ es) = told_by b e ∷ told (happens b e) es
 
 -- ---- words
 
@@ -45,24 +40,24 @@ abbrev pub a : List ℕ
 a = 97 ∷ []
 
 -- tab t of partition p reports in generation g
-abbrev pub report : ℕ → ℕ → ℕ → ℕ → List Entry → Item
+abbrev pub report : ℕ → ℕ → ℕ → ℕ → List Entry → Event
 report g t p base entries =
-    Says (record { tab = t; partition = p; inner = up.Report (record { generation = g; base = base; entries = entries }) })
+    Comes (record { tab = t; partition = p; inner = up.Report (record { generation = g; base = base; entries = entries }) })
 
 -- tab t of partition p reports a part of so many in generation 2, under base 2
-abbrev pub part : ℕ → ℕ → ℕ → ℕ → List Entry → Item
+abbrev pub part : ℕ → ℕ → ℕ → ℕ → List Entry → Event
 part t p k parts entries =
-    Says (record { tab = t; partition = p; inner = up.ReportPart (record { generation = 2; base = 2; part = k; parts = parts; entries = entries }) })
+    Comes (record { tab = t; partition = p; inner = up.ReportPart (record { generation = 2; base = 2; part = k; parts = parts; entries = entries }) })
 
 -- tab t of partition 1 sends command n of generation 1
-abbrev pub command : ℕ → ℕ → Operation → Item
+abbrev pub command : ℕ → ℕ → Operation → Event
 command t n operation =
-    Says (record { tab = t; partition = 1; inner = up.Command (record { generation = 1; number = n; operation = operation }) })
+    Comes (record { tab = t; partition = 1; inner = up.Command (record { generation = 1; number = n; operation = operation }) })
 
-abbrev pub ask : ℕ → ℕ → Mode → Item
+abbrev pub ask : ℕ → ℕ → Mode → Event
 ask t n mode = command t n (Request mode false a)
 
-abbrev pub probe : ℕ → ℕ → Mode → Item
+abbrev pub probe : ℕ → ℕ → Mode → Event
 probe t n mode = command t n (Request mode true a)
 
 abbrev pub held_entry : ℕ → Entry
@@ -80,7 +75,7 @@ snapshot t n entries =
     record { tab = t; inner = down.Snapshot (record { generation = 1; number = n; part = 0; parts = 1; entries = entries }) }
 
 -- the first of these tabs join, with nothing to report
-abbrev pub joins : List ℕ → List Item
+abbrev pub joins : List ℕ → List Event
 joins tabs = map (λ t. report 1 t 1 0 []) tabs
 
 -- ---- the rows

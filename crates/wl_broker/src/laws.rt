@@ -1,10 +1,11 @@
-//! Laws over the broker's definition, and worked rows that are computed on it.
+//! Laws over the broker's definition.
 
 ghost use Rattle.std.specs.Prelude.{ℕ, List};
 ghost use Rattle.wl_frames.specs.declared.frame.Stamped.{Stamped};
 ghost use Rattle.wl_broker.specs.Broker.{BrokerState};
 ghost use Rattle.wl_broker.specs.Laws.{IsListedOnce, TakesInOnePartition, BuriesInOnePartition, GrantsNothingWhileRecovering, BuriesInSilenceWhileRecovering, StaysActive, MovesItsOwn, KeepsCompatible, CountsCommands};
 ghost use Rattle.wl_broker.specs.Grants.{StartsSettled, TakesSettled, BuriesSettled, BuriesItsOwn, BuriesOnce, BuriesActive, TakesTelling, BuriesTelling};
+ghost use Rattle.wl_broker.specs.Shards.{SeenAtEachShard, AnsweredByItsShard, DeathsSentByShards, DeathsSentByOneShard, HellosOfShards, InOneOrder};
 ghost use Rattle.wl_broker.specs.Speech.{SpellsStart, SpellsTaking, SpellsBurial};
 
 /// What any message and any death do: one partition at a time, nothing granted while recovering, each tab's locks moved by
@@ -38,4 +39,22 @@ pub fn law_speech()
     ensures start { (g : ℕ) (listed : List (ℕ × ℕ)) → SpellsStart g listed }
     ensures taking { (b : BrokerState) (s : Stamped) → SpellsTaking b s }
     ensures burial { (b : BrokerState) (t : ℕ) → SpellsBurial b t }
+{}
+
+/// How the brokers of the shards are one broker, for every start list and every list of messages and deaths in which each tab
+/// stands under one partition. A partition belongs to the shard of its remainder.
+pub fn law_shards()
+    // The one broker, seen at a shard, is one that was started with the shard's tabs, and to which its events alone happened.
+    ensures state { SeenAtEachShard }
+    // A message is dropped by both for the same reason, or answered by the same.
+    ensures answers { AnsweredByItsShard }
+    // What the shards send on a death is together what the one broker sends.
+    ensures deaths { DeathsSentByShards }
+    // The shard in which the dead tab had its place sends it all, every other one nothing.
+    ensures one_sends { DeathsSentByOneShard }
+    // The hellos of the shards, by rising shard, are those of the one broker in another order.
+    ensures hellos { HellosOfShards }
+    // Whatever came first among messages of two shards, there is one list that gives each shard what came to it, if deaths came
+    // to all in one order.
+    ensures order { InOneOrder }
 {}

@@ -1,5 +1,6 @@
 //! What no list of events can break.
 
+ghost use Rattle.wl_broker.specs.Shards.{AnsweredByItsShard, DeathsSentByOneShard, DeathsSentByShards, HellosOfShards, InOneOrder, SeenAtEachShard};
 ghost use Rattle.wl_world.specs.Apart.{DroppedLeavesAlone, KeptDoesAlike, RunsApartForAll};
 ghost use Rattle.wl_world.specs.Heard.{HeardIsReadForAll, HeardPostsForAll, HeardRisingForAll, HeardTillClosedForAll};
 ghost use Rattle.wl_world.specs.Holdings.{ExclusionForAll, OwnForAll};
@@ -13,7 +14,8 @@ ghost use Rattle.wl_world.specs.Refusals.{RefusedChangesNothing};
 /// hold. Order within a generation speaks, for every generation and partition, of the list of what the generation took of the
 /// partition, which is picked from the events. Apart speaks of what belongs to a partition: its tabs with their locks and
 /// channels, all that the broker holds of them, the messages to and from them; and beside these of whether a broker is up, and
-/// of its generation. Heard speaks of what a channel object takes, read or not.
+/// of its generation. Heard speaks of what a channel object takes, read or not. Shards speaks of a broker's list of messages and
+/// deaths, in which each tab stands under one partition, as each tab of a world does.
 pub fn law_safety()
     // An event that is answered by a refusal leaves any world as it was, and sends nothing.
     ensures refused { RefusedChangesNothing }
@@ -54,4 +56,17 @@ pub fn law_safety()
     ensures unnamed { HonestUnlessNamed }
     // and who is honest was so before.
     ensures before { HonestBefore }
+
+    // The broker of all, seen at a shard, is the shard's, which is given its partitions' messages and every death.
+    ensures shards { SeenAtEachShard }
+    // A message is dropped by the shard of its partition for the same reason, or answered by the same.
+    ensures answers { AnsweredByItsShard }
+    // What the shards send on a death is together what the broker of all sends,
+    ensures deaths { DeathsSentByShards }
+    // and the shard in which the dead tab had its place sends it all, every other one nothing.
+    ensures one_sends { DeathsSentByOneShard }
+    // The hellos of the shards, by rising shard, are those of the list in another order.
+    ensures hellos { HellosOfShards }
+    // Whatever came first among messages of two shards, one list gives each shard what came to it, if deaths came in one order.
+    ensures order { InOneOrder }
 {}

@@ -1,3 +1,5 @@
+use Rattle.wl_broker.proofs.shards.Orders.{in-one_order}
+use Rattle.wl_broker.proofs.shards.Runs.{seen-at_each_shard, answered-by_its_shard, deaths-sent_by_shards, deaths-sent_by_one_shard, hellos-of_shards}
 use Rattle.wl_world.specs.World.{empty_world, run}
 use Rattle.wl_world.proofs.Cover.{Sound-exclusion}
 use Rattle.wl_world.proofs.Hearings.{heard-rising, heard-posts}
@@ -61,3 +63,21 @@ returns-clause-unnamed c = honest-unless_named
 
 pub returns-clause-before : goal.returns-clause-before
 returns-clause-before c = honest-sooner
+
+pub returns-clause-shards : goal.returns-clause-shards
+returns-clause-shards c = seen-at_each_shard
+
+pub returns-clause-answers : goal.returns-clause-answers
+returns-clause-answers c = answered-by_its_shard
+
+pub returns-clause-deaths : goal.returns-clause-deaths
+returns-clause-deaths c = deaths-sent_by_shards
+
+pub returns-clause-one_sends : goal.returns-clause-one_sends
+returns-clause-one_sends c = deaths-sent_by_one_shard
+
+pub returns-clause-hellos : goal.returns-clause-hellos
+returns-clause-hellos c = hellos-of_shards
+
+pub returns-clause-order : goal.returns-clause-order
+returns-clause-order c = in-one_order

@@ -1,0 +1,5 @@
+pub mod Cuts
+pub mod Homes
+pub mod Orders
+pub mod Runs
+pub mod Steps

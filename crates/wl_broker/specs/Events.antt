@@ -1,0 +1,21 @@
+-- What happens to a broker: messages come, and tabs are named dead.
+use Rattle.std.specs.Prelude.{ℕ, List, [], ◌∷◌}
+use Rattle.wl_frames.specs.declared.frame.Stamped.{Stamped}
+use Rattle.wl_broker.specs.Broker.{BrokerState, Taking, Drops, Does, taking, burial}
+
+pub data Event : Type 0 where
+  Comes : (message : Stamped) → Event
+  Dies : (tab : ℕ) → Event
+
+-- a message that is dropped changes nothing
+abbrev pub broker_after : BrokerState → Taking → BrokerState
+broker_after b (Drops reason) = b
+broker_after b (Does after outs) = after
+
+abbrev pub happens : BrokerState → Event → BrokerState
+happens b (Comes s) = broker_after b (taking b s)
+happens b (Dies t) = (burial b t).0
+
+abbrev pub run : BrokerState → List Event → BrokerState
+run b [] = b
+run b (e ∷ es) = run (happens b e) es

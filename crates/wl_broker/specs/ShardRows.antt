@@ -1,0 +1,87 @@
+-- Worked rows: two shards, one of the odd partitions and one of the even.
+use Rattle.std.specs.Prelude.{◌≡◌, ℕ, List, [], ◌∷◌, true, false}
+use Rattle.wl_draft.specs.declared.mode.Mode.TheVariants.{Exclusive}
+use Rattle.wl_draft.specs.Locks.{row_of}
+use Rattle.wl_frames.specs.declared.frame.Operation.TheVariants.{Request}
+use Rattle.wl_frames.specs.declared.frame.Outcome.TheVariants.{Granted}
+use Rattle.wl_frames.specs.declared.frame.Stamped.{Stamped}
+use Rattle.wl_frames.specs.declared.frame.Upward.TheVariants as up
+use Rattle.wl_broker.specs.declared.seat.Seat.TheVariants.{Joined, Dead}
+use Rattle.wl_broker.specs.declared.dropped.Dropped.TheVariants.{Misplaced}
+use Rattle.wl_broker.specs.Broker.{BrokerState, Drops, taking, burial}
+use Rattle.wl_broker.specs.Events.{Event, Comes, Dies}
+use Rattle.wl_broker.specs.Rows.{a, answer}
+use Rattle.wl_broker.specs.Shards.{is_of, seen_at, stands_once, places, one_broker, shard_broker, sent_by_shards}
+
+-- ---- words
+
+-- tab t of partition p reports no locks
+abbrev pub reports : ℕ → ℕ → Stamped
+reports t p = record { tab = t; partition = p; inner = up.Report (record { generation = 1; base = 0; entries = [] }) }
+
+-- it asks for the lock a
+abbrev pub asks : ℕ → ℕ → Stamped
+asks t p = record { tab = t; partition = p; inner = up.Command (record { generation = 1; number = 0; operation = Request Exclusive false a }) }
+
+-- ---- two shards
+
+-- tabs 1 and 2 are listed; tabs 3 and 4 come later
+abbrev pub listed : List (ℕ × ℕ)
+listed = (1, 1) ∷ (2, 2) ∷ []
+
+-- all four ask for the one name, two in each partition; the tab that waits behind tab 2 dies
+abbrev pub events : List Event
+events =
+    Comes (reports 1 1) ∷ Comes (reports 2 2) ∷ Comes (reports 3 1) ∷ Comes (asks 1 1) ∷ Comes (reports 4 2) ∷ Comes (asks 2 2)
+    ∷ Comes (asks 3 1) ∷ Comes (asks 4 2) ∷ Dies 4 ∷ []
+
+-- what the shards have then: who was named dead is in both
+abbrev pub odd : BrokerState
+odd =
+    record {
+      generation = 1;
+      listed = (1, 1) ∷ [];
+      seats = (1, Joined 1 1 64) ∷ (3, Joined 1 1 64) ∷ (4, Dead) ∷ [];
+      managers = (1, record { held = row_of 1 0 a Exclusive ∷ []; waiting = row_of 3 0 a Exclusive ∷ [] }) ∷ [];
+      partial = [];
+    }
+
+abbrev pub even : BrokerState
+even =
+    record {
+      generation = 1;
+      listed = (2, 2) ∷ [];
+      seats = (2, Joined 2 1 64) ∷ (4, Dead) ∷ [];
+      managers = (2, record { held = row_of 2 0 a Exclusive ∷ []; waiting = [] }) ∷ [];
+      partial = [];
+    }
+
+abbrev pub TwoShards : Type 0
+TwoShards =
+    (stands_once (places listed events) ≡ true)
+    × (seen_at (is_of 2 1) (one_broker 1 listed events) ≡ odd)
+    × (shard_broker (is_of 2 1) 1 listed events ≡ odd)
+    × (seen_at (is_of 2 0) (one_broker 1 listed events) ≡ even)
+    × (shard_broker (is_of 2 0) 1 listed events ≡ even)
+
+-- then the death of tab 1 grants tab 3 its lock, and the odd shard alone sends that
+abbrev pub DeathInOneShard : Type 0
+DeathInOneShard =
+    ((burial (one_broker 1 listed events) 1).1 ≡ answer 1 3 0 1 Granted ∷ [])
+    × ((burial (shard_broker (is_of 2 1) 1 listed events) 1).1 ≡ answer 1 3 0 1 Granted ∷ [])
+    × ((burial (shard_broker (is_of 2 0) 1 listed events) 1).1 ≡ [])
+    × (sent_by_shards 2 1 listed events 1 ≡ answer 1 3 0 1 Granted ∷ [])
+
+-- ---- a tab under two partitions
+
+-- tab 3 joins under partition 1 and comes again under partition 2
+abbrev pub twice : List Event
+twice = Comes (reports 3 1) ∷ Comes (reports 3 2) ∷ []
+
+-- the one broker drops its second report, and the even shard, which knows nothing of the first, lets it join
+abbrev pub UnderTwoPartitions : Type 0
+UnderTwoPartitions =
+    (stands_once (places [] twice) ≡ false)
+    × (taking (one_broker 1 [] (Comes (reports 3 1) ∷ [])) (reports 3 2) ≡ Drops Misplaced)
+    × ((seen_at (is_of 2 0) (one_broker 1 [] twice)).seats ≡ [])
+    × ((shard_broker (is_of 2 0) 1 [] twice).seats ≡ (3, Joined 2 0 64) ∷ [])
