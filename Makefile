@@ -1,7 +1,7 @@
 # `make demo` builds the program and shows it at work, `make demo-processes` as processes, and `make try` with nothing proved;
-# `make bench` times it, `make soak` and `make fuzz` run it hard; `make test` is the gate, and `make more-edits` tries the
-# must-fail edits that the gate leaves out.
-.PHONY: bench demo demo-processes fuzz more-edits soak test try
+# `make bench` times it, `make soak` and `make fuzz` run it hard, `make refuse` runs tests with each allocation refused in its turn;
+# `make test` is the gate, and `make more-edits` tries the must-fail edits that the gate leaves out.
+.PHONY: bench demo demo-processes fuzz more-edits refuse soak test try
 
 EXAMPLE ?= examples/handover.sim
 
@@ -39,6 +39,13 @@ test:
 
 more-edits:
 	python3 tools/more_edits.py $(CRATES)
+
+TESTS ?= edge_tests
+WORD ?= growths
+
+refuse:
+	cd crates/$(TESTS) && rt test
+	python3 tools/refuse.py crates/$(TESTS)/out/$(TESTS)_tests $(WORD)
 
 MINUTES ?= 10
 MEGABYTES ?= 100

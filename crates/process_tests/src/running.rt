@@ -1,6 +1,6 @@
 //! What the program does with its words.
 
-use crate::foreign;
+use crate::{foreign, hostile};
 use std::test::Fail;
 use wl_broker_process::run_broker;
 use wl_kernel_process::{KernelWords, run_kernel};
@@ -88,6 +88,15 @@ pub(crate) fn be_tab<R: Host>(rt: R, words: &[String]) -> Result<(), Fail> {
     }
     if script.ends_with("/HALF") {
         return foreign::break_off(&rt, socket);
+    }
+    if script.ends_with("/GARBAGE") {
+        return hostile::rave(&rt, socket);
+    }
+    if let Some(directory) = script.strip_suffix("/TALKER") {
+        return hostile::talk(&rt, socket, directory);
+    }
+    if let Some(directory) = script.strip_suffix("/CLAIMER") {
+        return hostile::claim(&rt, socket, directory);
     }
     ended(run_tab(rt, rt.alloc(), socket, script))
 }

@@ -1,6 +1,6 @@
 //! Kernels that run scripts, with real children.
 
-use std::os::unix::net::UnixStream;
+use crate::hostile::{OTHER_COUNTER, OWN_COUNTER, ROUNDS_OF_TWO};
 use std::process::{Child, Command, Output, Stdio};
 use std::rt::Files;
 use std::test::Fail;
@@ -46,8 +46,12 @@ impl Stage {
         Ok(())
     }
 
-    /// Starts a kernel with these many steps a generation.
+    /// Starts a kernel of two lanes with these many steps a generation.
     fn start(&self, rt: &HostRuntime, limit: &str) -> Result<Child, Fail> {
+        self.start_lanes(rt, "2", limit)
+    }
+
+    fn start_lanes(&self, rt: &HostRuntime, lanes: &str, limit: &str) -> Result<Child, Fail> {
         let script = self.path(rt, "KERNEL")?;
         Ok(
             Command::new(rt.alloc(), self.program.as_str())?
@@ -55,7 +59,7 @@ impl Stage {
                 .arg("--dir")?
                 .arg(self.directory.as_str())?
                 .arg("--lanes")?
-                .arg("2")?
+                .arg(lanes)?
                 .arg("--shards")?
                 .arg("1")?
                 .arg("--limit")?
@@ -68,7 +72,11 @@ impl Stage {
     }
 
     fn counter(&self, rt: &HostRuntime) -> Result<String, Fail> {
-        let path = self.path(rt, "COUNTER")?;
+        self.read(rt, "COUNTER")
+    }
+
+    fn read(&self, rt: &HostRuntime, name: &str) -> Result<String, Fail> {
+        let path = self.path(rt, name)?;
         Ok(fs::read_to_string(rt, path.as_str())?)
     }
 
@@ -98,14 +106,26 @@ fn text_of(output: &Output) -> Result<&str, Fail> {
     Ok(std::str::from_utf8(output.stdout.as_slice())?)
 }
 
+/// The last line that is the kernel's own: a tests' binary tells its result too.
+fn last_line(text: &str) -> Option<&str> {
+    text.lines()
+        .filter(|line| !line.is_empty() && !line.starts_with("test result: "))
+        .last()
+}
+
 /// The script of a tab of so many rounds.
 fn rounds(rt: &HostRuntime, count: u32) -> Result<String, Fail> {
+    rounds_on(rt, count, "COUNTER")
+}
+
+/// The same on another counter.
+fn rounds_on(rt: &HostRuntime, count: u32, counter: &str) -> Result<String, Fail> {
     let alloc = rt.alloc();
     let mut script = String::new(alloc);
     for round in 0..count {
         let number = round.saturating_mul(2);
         let text = format!(in alloc;
-            "ask exclusive f\nwait {number}\nadd DIR/COUNTER\nrelease {number}\n"
+            "ask exclusive f\nwait {number}\nadd DIR/{counter}\nrelease {number}\n"
         )?;
         script.push_str(text.as_str())?;
     }
@@ -145,9 +165,14 @@ fn four_tabs_make_forty_rounds(rt: HostRuntime) -> Result<(), Fail> {
 fn spent_generations_are_followed_by_others(rt: HostRuntime) -> Result<(), Fail> {
     let stage = Stage::new(&rt, "spent", "start\nopen https://a.test/ DIR/TAB\njoin\n")?;
     stage.write(&rt, "TAB", rounds(&rt, 10)?.as_str())?;
-    let output = printed(&rt, stage.start(&rt, "8")?)?;
+    let output = printed(&rt, stage.start_lanes(&rt, "1", "8")?)?;
     let text = text_of(&output)?;
-    assert!(rt; text.contains("ended 1 0\n"), "{text}");
+    assert_eq!(rt; last_line(text), Some("ended 1 0"), "{text}");
+    // A round has two commands.
+    assert!(rt;
+        text.contains("up 1\n") && output.status.success(),
+        "{text}"
+    );
     assert_eq!(rt; stage.counter(&rt)?.as_str(), "10\n");
     stage.clear(&rt)
 }
@@ -217,6 +242,45 @@ fn foreign_clients_are_served(rt: HostRuntime) -> Result<(), Fail> {
     assert!(rt; text.contains("ended 1 0\n"), "{text}");
     assert!(rt; text.contains("ended 2 "), "{text}");
     assert!(rt; output.status.success());
+    stage.clear(&rt)
+}
+
+const BESIDE_HOSTILE_TABS: &str =
+    "open https://a.test/ DIR/OWN\nopen https://a.test/ DIR/OWN\nopen https://b.test/ DIR/OTHER\nopen https://b.test/ DIR/OTHER\nopen https://a.test/ DIR/TALKER\nopen https://a.test/ DIR/CLAIMER\nopen https://a.test/ DIR/GARBAGE\nopen https://a.test/ DIR/HALF\nstart\nopen https://a.test/ DIR/GARBAGE\nopen https://a.test/ DIR/HALF\njoin\n";
+
+/// Two tabs of the hostile tabs' origin and two of another one hand locks over, and no round is lost.
+#[test]
+fn hostile_tabs_lose_nobody_a_lock(rt: HostRuntime) -> Result<(), Fail> {
+    let stage = Stage::new(&rt, "hostile", BESIDE_HOSTILE_TABS)?;
+    for (script, counter) in [("OWN", OWN_COUNTER), ("OTHER", OTHER_COUNTER)] {
+        stage.write(&rt, script, rounds_on(&rt, 30, counter)?.as_str())?;
+        stage.write(&rt, counter, "0\n")?;
+    }
+    let output = printed(&rt, stage.start(&rt, "65536")?)?;
+    let text = text_of(&output)?;
+    // The first four are honest, and the next two send nothing but frames.
+    for line in [
+        "ended 1 0\n",
+        "ended 2 0\n",
+        "ended 3 0\n",
+        "ended 4 0\n",
+        "ended 5 0\n",
+        "ended 6 0\n",
+    ] {
+        assert!(rt; text.contains(line), "{text}");
+    }
+    for line in ["ended 7 ", "ended 8 ", "ended 9 ", "ended 10 "] {
+        assert!(rt; text.contains(line), "{text}");
+    }
+    assert!(rt; output.status.success());
+    for counter in [OWN_COUNTER, OTHER_COUNTER] {
+        assert_eq!(rt;
+            stage.read(&rt, counter)?.as_str(),
+            ROUNDS_OF_TWO,
+            "of {counter}"
+        );
+    }
+    assert!(rt; !stage.has_sockets(&rt)?);
     stage.clear(&rt)
 }
 

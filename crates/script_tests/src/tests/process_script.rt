@@ -1,4 +1,5 @@
-//! The lines of the scripts of kernel and tab, what the kernel prints, and the files that tabs count in.
+//! The lines of the scripts of kernel and tab, what the kernel prints, and the files that tabs count in. A call that is refused
+//! memory is made again: so these tests pass whichever allocation is refused.
 
 use std::alloc::{AllocError, Global};
 use std::process::Abort;
@@ -10,7 +11,27 @@ use wl_process_script::{
 use wl_words::Unread;
 
 fn name(alloc: Global, text: &str) -> Result<Name, AllocError> {
-    Ok(Name::new(String::from_str(alloc, text)?))
+    let spelled = match String::from_str(alloc, text) {
+        Ok(spelled) => spelled,
+        Err(_) => String::from_str(alloc, text)?,
+    };
+    Ok(Name::new(spelled))
+}
+
+/// What a line of a kernel's script says. Where memory is refused it is read again.
+fn kernel_line(alloc: Global, text: &[u8]) -> Result<KernelLine, Unread> {
+    match read_kernel_line(alloc, text) {
+        Err(Unread::Memory) => read_kernel_line(alloc, text),
+        read => read,
+    }
+}
+
+/// What a line of a tab's script says. Where memory is refused it is read again.
+fn tab_line(alloc: Global, text: &[u8]) -> Result<TabLine, Unread> {
+    match read_tab_line(alloc, text) {
+        Err(Unread::Memory) => read_tab_line(alloc, text),
+        read => read,
+    }
 }
 
 /// Whether a line is of another form, unless memory was refused.
@@ -28,7 +49,7 @@ fn is_kernel_line(
     text: &str,
     line: KernelLine,
 ) -> Result<(), Fail> {
-    let read = read_kernel_line(alloc, text.as_bytes())?;
+    let read = kernel_line(alloc, text.as_bytes())?;
     assert_eq!(rt; read, line, "of {text}");
     Ok(())
 }
@@ -142,18 +163,18 @@ fn other_kernel_lines(rt: HostRuntime) -> Result<(), Fail> {
         "wait 0",
     ];
     for text in cases {
-        let read = read_kernel_line(rt.alloc(), text.as_bytes());
+        let read = kernel_line(rt.alloc(), text.as_bytes());
         assert!(rt; is_refused(read)?, "of {text}");
     }
     let not_utf8 = [b"open \xff TAB".as_slice(), b"open a \xff".as_slice()];
     for text in not_utf8 {
-        assert!(rt; is_refused(read_kernel_line(rt.alloc(), text))?);
+        assert!(rt; is_refused(kernel_line(rt.alloc(), text))?);
     }
     Ok(())
 }
 
 fn is_tab_line(rt: &impl Abort, alloc: Global, text: &str, line: TabLine) -> Result<(), Fail> {
-    let read = read_tab_line(alloc, text.as_bytes())?;
+    let read = tab_line(alloc, text.as_bytes())?;
     assert_eq!(rt; read, line, "of {text}");
     Ok(())
 }
@@ -240,10 +261,10 @@ fn other_tab_lines(rt: HostRuntime) -> Result<(), Fail> {
         "post 0 x",
     ];
     for text in cases {
-        let read = read_tab_line(rt.alloc(), text.as_bytes());
+        let read = tab_line(rt.alloc(), text.as_bytes());
         assert!(rt; is_refused(read)?, "of {text}");
     }
-    assert!(rt; is_refused(read_tab_line(rt.alloc(), b"add \xff"))?);
+    assert!(rt; is_refused(tab_line(rt.alloc(), b"add \xff"))?);
     Ok(())
 }
 
@@ -289,7 +310,11 @@ fn what_the_kernel_prints(rt: HostRuntime) -> Result<(), Fail> {
     ];
     for (reply, text) in cases {
         let mut out = Vec::new(rt.alloc());
-        reply.put(&mut out)?;
+        if reply.put(&mut out).is_err() {
+            assert!(rt; text.as_bytes().starts_with(out.as_slice()), "of {text}");
+            out.clear();
+            reply.put(&mut out)?;
+        }
         assert_eq!(rt; out.as_slice(), text.as_bytes(), "of {text}");
     }
     Ok(())
@@ -321,7 +346,11 @@ fn counts(rt: HostRuntime) -> Result<(), Fail> {
     }
     for (count, text) in [(0, "0\n"), (10, "10\n"), (1_000_000, "1000000\n")] {
         let mut out = Vec::new(rt.alloc());
-        put_count(&mut out, count)?;
+        if put_count(&mut out, count).is_err() {
+            assert!(rt; text.as_bytes().starts_with(out.as_slice()), "of {count}");
+            out.clear();
+            put_count(&mut out, count)?;
+        }
         assert_eq!(rt; out.as_slice(), text.as_bytes(), "of {count}");
     }
     Ok(())

@@ -1,0 +1,153 @@
+//! Tabs that are hostile: they forge what they send, or send what is no frame. They know nothing but the bytes.
+
+use std::alloc::{AllocError, Global};
+use std::io::Write;
+use std::os::unix::net::UnixStream;
+use std::test::Fail;
+use wl_process::Host;
+
+/// Each message is forged for every generation below this one. No flood is long enough to use them up.
+const GENERATIONS: u32 = 8;
+
+/// How often a flood is written, at most.
+const WRITES: u32 = 40;
+
+/// How many turns are written at once.
+const TURNS: u32 = 50;
+
+/// How many bytes a post has.
+const POST_LEN: usize = 16_384;
+
+/// What is in the honest tabs' counters at their end.
+pub(crate) const ROUNDS_OF_TWO: &str = "60\n";
+
+/// The counter of the hostile tabs' own origin.
+pub(crate) const OWN_COUNTER: &str = "OWN_COUNTER";
+
+/// The counter of the other origin.
+pub(crate) const OTHER_COUNTER: &str = "OTHER_COUNTER";
+
+/// A kind that no frame has, and a length that no frame has.
+const GARBAGE: [u8; 10] = [0, 0, 0, 2, 1, 99, 0xFF, 0xFF, 0xFF, 0xFF];
+
+/// Appends a frame with a kind, some numbers, and then bytes.
+fn put_frame(out: &mut Vec<u8>, kind: u8, numbers: &[u32], bytes: &[u8]) -> Result<(), AllocError> {
+    let len = numbers.len().wrapping_mul(4).wrapping_add(bytes.len());
+    let len = u32::try_from(len).unwrap_or(0).wrapping_add(2);
+    out.extend_from_slice(&len.to_be_bytes())?;
+    out.extend_from_slice(&[1, kind])?;
+    for number in numbers {
+        out.extend_from_slice(&number.to_be_bytes())?;
+    }
+    out.extend_from_slice(bytes)
+}
+
+/// A report without entries.
+fn put_report(out: &mut Vec<u8>, generation: u32, base: u32) -> Result<(), AllocError> {
+    put_frame(out, 2, &[generation, base], &[0, 0])
+}
+
+/// A request of the exclusive lock `f`, if it is free.
+fn put_probe(out: &mut Vec<u8>, generation: u32, number: u32) -> Result<(), AllocError> {
+    put_frame(out, 1, &[generation, number], &[1, 2, 1, 1, b'f'])
+}
+
+/// A release (2) or an abort (3) of a number.
+fn put_end(
+    out: &mut Vec<u8>,
+    generation: u32,
+    number: u32,
+    operation: u8,
+    of: u32,
+) -> Result<(), AllocError> {
+    let [a, b, c, d] = of.to_be_bytes();
+    put_frame(out, 1, &[generation, number], &[operation, a, b, c, d])
+}
+
+/// In turn, the lock is probed and let go; out of turn, locks are released and aborted whose numbers are the honest tabs'.
+fn put_turn(out: &mut Vec<u8>, number: u32) -> Result<(), AllocError> {
+    let next = number.wrapping_add(1);
+    for generation in 1..GENERATIONS {
+        put_report(out, generation, number)?;
+        put_probe(out, generation, number)?;
+        put_end(out, generation, next, 2, number)?;
+        put_end(out, generation, number.wrapping_add(100), 2, 0)?;
+        put_end(out, generation, 0, 3, 2)?;
+    }
+    Ok(())
+}
+
+/// The turns of one write, from a number on.
+fn talk_from(alloc: Global, number: u32) -> Result<Vec<u8>, AllocError> {
+    let mut out = Vec::new(alloc);
+    for turn in 0..TURNS {
+        put_turn(&mut out, turn.wrapping_mul(2).wrapping_add(number))?;
+    }
+    Ok(out)
+}
+
+/// Whether all honest rounds of a counter are over.
+fn are_over<R: Host>(rt: &R, directory: &str, counter: &str) -> Result<bool, Fail> {
+    let path = format!(in rt.alloc(); "{directory}/{counter}")?;
+    let text = rt.read_file(path.as_str())?;
+    Ok(text.as_slice() == ROUNDS_OF_TWO.as_bytes())
+}
+
+/// Contends for the lock `f` in forged messages of all generations, until the tabs of its own origin are through.
+pub(crate) fn talk<R: Host>(rt: &R, socket: &str, directory: &str) -> Result<(), Fail> {
+    let link = rt.connect(socket)?;
+    let mut out = &link;
+    for write in 0..WRITES {
+        let number = write.wrapping_mul(TURNS).wrapping_mul(2);
+        let turns = talk_from(rt.alloc(), number)?;
+        out.write_all(turns.as_slice())?;
+        if are_over(rt, directory, OWN_COUNTER)? {
+            break;
+        }
+    }
+    Ok(())
+}
+
+/// In each generation a report by which the lock `f` is held, and releases of numbers that are no lock; then a long post.
+fn claims(alloc: Global) -> Result<Vec<u8>, AllocError> {
+    let mut out = Vec::new(alloc);
+    for generation in 1..GENERATIONS {
+        let held = [0, 1, 0, 0, 0, 0, 1, 2, 1, b'f'];
+        put_frame(&mut out, 2, &[generation, 1], &held)?;
+        for number in 1..TURNS {
+            put_end(&mut out, generation, number, 2, number)?;
+        }
+    }
+    let mut post = Vec::from_elem(alloc, 0u8, POST_LEN)?;
+    let mut bytes = Vec::new(alloc);
+    bytes.extend_from_slice(&[1, b'n', 0x40, 0])?;
+    bytes.append(&mut post)?;
+    put_frame(&mut out, 3, &[1], bytes.as_slice())?;
+    Ok(out)
+}
+
+/// Claims the lock `f` of its origin, until the tabs of the other one are through.
+pub(crate) fn claim<R: Host>(rt: &R, socket: &str, directory: &str) -> Result<(), Fail> {
+    let link = rt.connect(socket)?;
+    let mut out = &link;
+    let claims = claims(rt.alloc())?;
+    for _write in 0..WRITES {
+        out.write_all(claims.as_slice())?;
+        if are_over(rt, directory, OTHER_COUNTER)? {
+            break;
+        }
+    }
+    Ok(())
+}
+
+/// Sends what is no frame behind what is one.
+pub(crate) fn rave<R: Host>(rt: &R, socket: &str) -> Result<(), Fail> {
+    let link: UnixStream = rt.connect(socket)?;
+    let mut out = &link;
+    let mut bytes = Vec::new(rt.alloc());
+    put_report(&mut bytes, 1, 0)?;
+    put_probe(&mut bytes, 1, 0)?;
+    bytes.extend_from_slice(&GARBAGE)?;
+    out.write_all(bytes.as_slice())?;
+    Ok(())
+}

@@ -1,0 +1,37 @@
+// Preloaded into a program: refuses the allocation of one number, counted from 1 over `malloc` and `realloc`, which are all that
+// the program has. REFUSE is that number. At the end the program's allocations are written, as a decimal, to the file descriptor
+// REFUSE_TELL. Needs glibc.
+#define _GNU_SOURCE
+#include <stdio.h>
+#include <stdlib.h>
+#include <unistd.h>
+
+extern void *__libc_malloc(size_t);
+extern void *__libc_realloc(void *, size_t);
+
+static long count;
+
+static long number_of(const char *name) {
+    const char *text = getenv(name);
+    return text ? atol(text) : 0;
+}
+
+static int is_refused(void) {
+    return __atomic_add_fetch(&count, 1, __ATOMIC_SEQ_CST) == number_of("REFUSE");
+}
+
+void *malloc(size_t size) {
+    return is_refused() ? NULL : __libc_malloc(size);
+}
+
+void *realloc(void *block, size_t size) {
+    return is_refused() ? NULL : __libc_realloc(block, size);
+}
+
+__attribute__((destructor)) static void tell(void) {
+    char text[32];
+    int len = snprintf(text, sizeof text, "%ld", count);
+    if (write((int)number_of("REFUSE_TELL"), text, (size_t)len) != len) {
+        _exit(3);
+    }
+}

@@ -1,0 +1,83 @@
+"""Runs the tests of a crate with each allocation refused in its turn.
+
+usage: refuse.py TESTS [WORD]
+
+TESTS is what `rt test` leaves of a crate's tests, `crates/NAME/out/NAME_tests`. Each test whose name contains WORD, or each, is
+run once for each of its allocations, which is refused in that run and no other. Prints for each test how many were refused, and
+how it failed where it did. The status is 0 where all runs passed: where a call that was refused memory had changed nothing, was
+made again, and gave its answer.
+
+Tests with threads may allocate in another order each time, so there a number names no certain allocation. It needs `cc` and glibc.
+"""
+
+import collections
+import os
+import subprocess
+import sys
+import tempfile
+
+HERE = os.path.dirname(os.path.abspath(__file__))
+SECONDS = 120
+# How many bytes of what a failed run said are shown.
+SHOWN = 160
+
+
+def build(place):
+    """What is preloaded."""
+    library = os.path.join(place, "refuse.so")
+    subprocess.run(["cc", "-O2", "-shared", "-fPIC", "-o", library, os.path.join(HERE, "refuse.c")], check=True)
+    return library
+
+
+def run(tests, name, library, number):
+    """One test with one allocation refused: its status, how many it made, and what it said."""
+    reading, writing = os.pipe()
+    given = {**os.environ, "LD_PRELOAD": library, "REFUSE": str(number), "REFUSE_TELL": str(writing)}
+    try:
+        ran = subprocess.run(
+            [tests, name], env=given, pass_fds=[writing], capture_output=True, text=True, timeout=SECONDS, check=False
+        )
+    finally:
+        os.close(writing)
+        with os.fdopen(reading, "rb") as told:
+            count = told.read()
+    return ran.returncode, int(count or 0), ran.stderr.strip()[:SHOWN]
+
+
+def names_of(tests, word):
+    listed = subprocess.run([tests, "--list"], capture_output=True, text=True, check=True).stdout.splitlines()
+    return [line.removesuffix(": test") for line in listed if line.endswith(": test") and word in line]
+
+
+def refuse_all(tests, name, library):
+    """How many allocations were refused, and how often the test failed with which words."""
+    status, count, said = run(tests, name, library, 0)
+    if status:
+        return 0, collections.Counter([said])
+    failures = collections.Counter()
+    for number in range(1, count + 1):
+        status, _told, said = run(tests, name, library, number)
+        if status:
+            failures[said] += 1
+    return count, failures
+
+
+def main():
+    if len(sys.argv) not in (2, 3):
+        sys.exit(__doc__)
+    tests = os.path.abspath(sys.argv[1])
+    names = names_of(tests, sys.argv[2] if len(sys.argv) == 3 else "")
+    failed = not names
+    with tempfile.TemporaryDirectory(prefix="refuse-") as place:
+        library = build(place)
+        for name in names:
+            count, failures = refuse_all(tests, name, library)
+            print(f"{name}: {count} refused, {failures.total()} failed", flush=True)
+            for said, times in failures.items():
+                print(f"    {times} times: {said}", flush=True)
+            failed = failed or bool(failures)
+    return 1 if failed else 0
+
+
+if __name__ == "__main__":
+    sys.exit(main())
