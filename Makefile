@@ -40,8 +40,8 @@ test:
 more-edits:
 	python3 tools/more_edits.py $(CRATES)
 
-TESTS ?= edge_tests
-WORD ?= growths
+TESTS ?= script_tests
+WORD ?= process_script
 
 refuse:
 	cd crates/$(TESTS) && rt test
