@@ -40,8 +40,8 @@ test:
 more-edits:
 	python3 tools/more_edits.py $(CRATES)
 
-TESTS ?= script_tests
-WORD ?= process_script
+TESTS ?= edge_tests
+WORD ?= growths
 
 refuse:
 	cd crates/$(TESTS) && rt test

@@ -23,8 +23,8 @@ Shared: several threads draw numbers from a board, look at a tab on it, or put p
 The same loops run over a `Mutex` in the same runs. Prints how many a second there were, the best of the runs, and the time as a
 ratio to that of the loop over the mutex, the middle one of the runs: below 1 is faster than the mutex.
 
-Lanes: 1, 2 and 4 lanes, each on a thread of its own, step one broker behind its lock, each with requests and releases of a lock
-that nobody else wants. A broker that no other thread has takes the events of one lane. Prints how many steps a second there
+Lanes: 1, 2 and 4 lanes, each on a thread of its own, step a broker of 1, 2 and 4 shards, each behind a lock of its own. Each lane
+has requests and releases of a tab that is alone in its partition. A broker that no other thread has takes the events of one lane. Prints how many steps a second there
 were, of all lanes together, the best of the runs, and that rate as a ratio to the rate of one lane, the middle one of the runs.
 Where the broker alone has a ratio of 2, a step of a lane takes twice as long as one without lock, history and receipts.
 
@@ -33,7 +33,7 @@ Processes: a kernel, its broker with two lanes, and tabs, each of which asks for
 name each. The tabs are opened and ask while no broker is up, so that they begin together: the time is that from the line of the
 broker's start to that of the tabs' ends. What a tab sends in a round is two frames: the request, for whose answer it waits, and
 the release, for whose answer it does not. Prints how many locks a second were granted, to all tabs together, the best of the
-runs. Beside it in each run stands `relay.c`, a program in C with the same hops and threads, in which as many tabs each send a
+runs. Sixteen tabs of four origins play again with four lanes, on one shard and on four. Beside it in each run stands `relay.c`, a program in C with the same hops and threads, in which as many tabs each send a
 frame and wait for it as often; it is timed in the same way. Prints its round trips a second, the best of the runs, and the ratio
 of the first rate to the second, the middle one of the runs. Where there is no `cc` there is neither.
 
@@ -293,14 +293,15 @@ def locked(program):
         done = subprocess.run([program, "time"], stdout=subprocess.PIPE, check=True)
         run = {}
         for line in done.stdout.decode().splitlines():
-            what, lanes, steps, taken = line.split()
-            run[what, lanes] = int(steps) / int(taken) * 1e9
+            what, lanes, shards, steps, taken = line.split()
+            run[what, lanes, shards] = int(steps) / int(taken) * 1e9
         for key, rate in run.items():
             rates.setdefault(key, []).append(rate)
-            ratios.setdefault(key, []).append(rate / run["lanes", "1"])
+            ratios.setdefault(key, []).append(rate / run["lanes", "1", "1"])
     for key, some in rates.items():
-        what, lanes = key
-        print(f"locked: {what} {lanes} {max(some) / 1e6:8.3f} million a second  ratio to one lane {statistics.median(ratios[key]):5.2f}")
+        what, lanes, shards = key
+        ratio = statistics.median(ratios[key])
+        print(f"locked: {what} {lanes} on {shards} {max(some) / 1e6:8.3f} million a second  ratio to one lane {ratio:5.2f}")
 
 
 # ---- the processes
@@ -368,11 +369,12 @@ def write(place, name, lines):
         file.write(lines)
 
 
-def kernel_words(program):
-    return [program, "kernel", "--dir", ".", "--lanes", "2", "--shards", "1", "--limit", "65536", "KERNEL"]
+def kernel_words(program, lanes=2, shards=1):
+    words = ["--lanes", str(lanes), "--shards", str(shards), "--limit", "65536"]
+    return [program, "kernel", "--dir", ".", *words, "KERNEL"]
 
 
-def granting_seconds(program, origins, tabs, has_names, rounds):
+def granting_seconds(program, origins, tabs, has_names, rounds, lanes=2, shards=1):
     """Of all rounds of so many tabs of so many origins."""
     with tempfile.TemporaryDirectory(prefix="wlb-") as place:
         script = ""
@@ -382,7 +384,7 @@ def granting_seconds(program, origins, tabs, has_names, rounds):
                 script += f"open https://o{origin}.test/ TAB{tab}\n"
         # The pause is for the last tabs, which have to read their scripts.
         write(place, "KERNEL", script + "pause 500\nstart\njoin\n")
-        return seconds_between(kernel_words(program), place, b"up ", b"ended ", origins * tabs)
+        return seconds_between(kernel_words(program, lanes, shards), place, b"up ", b"ended ", origins * tabs)
 
 
 def relaying_seconds(relay, tabs, rounds):
@@ -417,6 +419,20 @@ def granting(program, rounds=ROUNDS, runs=RUNS):
                 line += f"  the relay {max(relayed):8.0f} trips  ratio {ratio:5.2f}"
                 line += f"  goal {goal}" if goal else ""
             print(line)
+
+
+def sharding(program, rounds=ROUNDS, runs=RUNS):
+    """Sixteen tabs of four origins, with four lanes on one shard and on four."""
+    program = os.path.abspath(program)
+    rates, ratios = {1: [], 4: []}, []
+    for _ in range(runs):
+        run = {shards: 16 * rounds / granting_seconds(program, 4, 4, True, rounds, 4, shards) for shards in rates}
+        for shards, rate in run.items():
+            rates[shards].append(rate)
+        ratios.append(run[4] / run[1])
+    for shards, some in rates.items():
+        print(f"processes: 16 tabs of 4 origins, 4 lanes on {shards} {max(some):8.0f} locks a second")
+    print(f"processes: four shards to one  ratio {statistics.median(ratios):5.2f}  goal 1")
 
 
 def share_of(session, seconds):
@@ -462,6 +478,7 @@ def main():
     shared(board)
     locked(lanes)
     granting(program)
+    sharding(program)
     idle(program)
 
 

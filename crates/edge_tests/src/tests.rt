@@ -3,6 +3,10 @@
 mod board;
 mod broker;
 mod desk;
+mod growths;
+mod lane_ends;
 mod lanes;
 mod outbox;
+mod sending;
+mod shards;
 mod tab_links;

@@ -10,7 +10,8 @@ pub type Events = VecDeque<BookEvent>;
 /// The names of locks, one for each tab.
 const NAMES: [&str; 4] = ["a", "b", "c", "d"];
 
-/// A tab's report, and then so often a request of a lock that no other tab wants, and the release of it.
+/// A tab's report, and then so often a request of a lock that no other tab wants, and the release of it. Each tab has a
+/// partition of its own.
 pub fn of_tab(alloc: Global, tab: u16, locks: u32) -> Result<Events, AllocError> {
     let mut events = VecDeque::new(alloc);
     events.push_back(said(tab, report(alloc)))?;
@@ -32,7 +33,7 @@ pub fn of_tab(alloc: Global, tab: u16, locks: u32) -> Result<Events, AllocError>
 fn said(tab: u16, inner: Upward) -> BookEvent {
     BookEvent::Take(Stamped {
         tab,
-        partition: 1,
+        partition: tab,
         inner,
     })
 }

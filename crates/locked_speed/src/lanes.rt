@@ -1,31 +1,54 @@
-//! Lanes that step one broker, each on a thread of its own.
+//! Lanes that step a broker in shards, each on a thread of its own.
 
 ghost use Rattle.std.specs.Prelude.{◌≡◌, ◌<◌, ◌≤◌, []};
-ghost use Rattle.wl_broker.specs.Broker.{started};
+ghost use Rattle.wl_locked.specs.Blanks.{HaveParts, AreNamed};
 ghost use Rattle.wl_locked.specs.declared.locked.TheConstants.{LANE_LIMIT};
+ghost use Rattle.wl_locked.specs.declared.shards.TheConstants.{SHARD_LIMIT};
 
 use crate::Outcome;
 use crate::events::{Events, of_tab};
 use std::alloc::Global;
 use std::io;
-use std::marker::Brand;
+use std::marker::{Brand, Model, PhantomData};
 use std::sync::Wait;
-use std::sync::ledger::Blank;
 use std::thread::Threads;
 use std::time::{Clock, Instant};
 use wl_frames::Frame;
-use wl_locked::{BookEvent, Generation, LANE_LIMIT, LockedBroker};
+use wl_locked::{Blanks, LANE_LIMIT, Sharded, Shards, Work, shard_of};
 use wl_workers::{Gate, Intake, Job, Outlet, OutletFault, run_lanes};
 
-/// Gives what stands in a list.
+/// Gives what stands in a list, all of it for one of so many shards. Contracts see it as the number of shards.
 #[derive(Drop)]
-struct Listed {
+struct Listed<J: Shards> {
+    shards: u16,
+    shard: u16,
     events: Events,
+    of: PhantomData<J>,
 }
 
-impl Intake for Listed {
-    fn next<R: Wait + Clock>(&mut self, _rt: &R) -> Option<BookEvent> {
-        self.events.pop_front()
+impl<J: Shards> Model for Listed<J> {
+    ghost use Rattle.std.specs.Prelude.{◌≡◌, ℕ};
+
+    ghost Value = { ℕ };
+
+    ghost view = { λ i. i.shards };
+
+    ghost invariant = { λ i. i.shards ≡ J.run.shards };
+}
+
+impl<J: Shards> Intake for Listed<J> {
+    ghost shards = { λ _. J.run.shards };
+
+    fn next<R: Wait + Clock>(&mut self, _rt: &R) -> Option<Work> {
+        let event = self.events.pop_front()?;
+        let work = Work {
+            shard: self.shard,
+            event,
+        };
+        match work.is_dealt(self.shards) {
+            true => Some(work),
+            false => None,
+        }
     }
 }
 
@@ -51,39 +74,53 @@ impl Outlet for Nowhere {
     }
 }
 
-/// Runs so many lanes, each with the events of a tab of its own.
+/// Runs so many lanes over so many shards, each with the events of a tab of its own, whose partition has the tab's number.
 pub fn run<R: Threads + Wait + Clock + Sync>(
     rt: &R,
     alloc: Global,
     lanes: u16,
+    shards: u16,
     locks: u32,
 ) -> io::Result<Outcome>
-    requires { (0 < lanes) × (lanes ≤ LANE_LIMIT) }
+    requires lanes { (0 < lanes) × (lanes ≤ LANE_LIMIT) }
+    requires shards { (0 < shards) × (shards ≤ SHARD_LIMIT) }
 {
-    let blank = Blank::new(u64::from(lanes));
-    run_named::<Brand, R>(rt, alloc, blank, lanes, locks)
+    let blanks = Blanks::new(u64::from(lanes));
+    run_named::<Brand, R>(rt, alloc, blanks, lanes, shards, locks)
 }
 
-fn run_named<J: Generation + Send + Sync, R: Threads + Wait + Clock + Sync>(
+fn run_named<J: Shards + Send + Sync, R: Threads + Wait + Clock + Sync>(
     rt: &R,
     alloc: Global,
-    blank: Blank,
+    blanks: Blanks,
     lanes: u16,
+    shards: u16,
     locks: u32,
 ) -> io::Result<Outcome>
-    requires name { blank.name ≡ J.name }
-    requires parts { (blank.parts ≡ J.parts) × (J.parts ≡ lanes) }
+    requires names { AreNamed J.names blanks }
+    requires parts { HaveParts lanes blanks }
     requires lanes { (0 < lanes) × (lanes ≤ LANE_LIMIT) }
-    requires opening { J.opening ≡ started 1 [] }
-    requires limit { J.limit ≡ 4294967295 }
+    requires shards { (0 < shards) × (shards ≤ SHARD_LIMIT) }
+    requires run { J.run ≡ record { generation = 1; listed = []; shards = shards; lanes = lanes; limit = 4294967295 } }
 {
-    let (broker, made, _hellos) = LockedBroker::<J>::new(alloc, blank, 1, &[], u32::MAX, lanes)?;
+    let (broker, made, _hellos) = Sharded::<J>::new(
+        alloc,
+        blanks,
+        1,
+        &[],
+        u32::MAX,
+        lanes,
+        shards,
+    )?;
     let mut jobs = Vec::new(alloc);
     for (lane, tab) in made.into_iter().zip(1..) {
         jobs.push(Job {
             lane,
             intake: Listed {
+                shards,
+                shard: shard_of(shards, tab),
                 events: of_tab(alloc, tab, locks)?,
+                of: PhantomData::<J>,
             },
             outlet: Nowhere,
             end: None,
@@ -99,11 +136,13 @@ fn run_named<J: Generation + Send + Sync, R: Threads + Wait + Clock + Sync>(
     for job in jobs {
         done.push(job.lane)?;
     }
-    match broker.close(done) {
-        Ok(history) => Ok(Outcome {
-            steps: history.steps().len() as u32,
-            nanoseconds,
-        }),
-        Err(_fault) => Err(io::Error::from(io::ErrorKind::Other)),
+    let Ok(histories) = broker.close(done) else {
+        return Err(io::Error::from(io::ErrorKind::Other));
+    };
+    let mut steps = 0u32;
+    for history in histories.iter() {
+        let more = u32::try_from(history.steps().len()).unwrap_or(u32::MAX);
+        steps = steps.saturating_add(more);
     }
+    Ok(Outcome { steps, nanoseconds })
 }

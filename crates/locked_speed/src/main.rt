@@ -1,4 +1,4 @@
-//! Times lanes that step one broker behind its lock, beside the same events taken by a broker that no other thread has. With
+//! Times lanes that step a broker in shards, each behind a lock of its own, beside the same events taken by a broker that no other thread has. With
 //! the argument `time` it prints nanoseconds; without it, it makes small runs and prints how many steps they made, the same
 //! each time.
 #![tactic(auto)]
@@ -16,8 +16,8 @@ use wl_broker::Broker;
 use wl_locked::BookEvent;
 use wl_table::IndexedTable;
 
-/// How many lanes step the broker.
-const LANES: [u16; 3] = [1, 2, 4];
+/// How many lanes step the broker, in how many shards.
+const RUNS: [(u16, u16); 6] = [(1, 1), (2, 1), (4, 1), (2, 2), (4, 2), (4, 4)];
 
 /// How many locks each lane hands over with no argument, and where it is timed.
 const FEW: u32 = 50;
@@ -36,10 +36,10 @@ fn main(rt: HostRuntime) -> io::Result<()> {
     let is_timed = std::env::args(&rt)?.nth(1).is_some();
     let locks = if is_timed { MANY } else { FEW };
     let events = events::of_tab(alloc, 1, locks)?;
-    tell(&rt, "alone", 1, is_timed, alone(&rt, alloc, events)?)?;
-    for lanes in LANES {
-        let outcome = lanes::run(&rt, alloc, lanes, locks)?;
-        tell(&rt, "lanes", lanes, is_timed, outcome)?;
+    tell(&rt, "alone", (1, 1), is_timed, alone(&rt, alloc, events)?)?;
+    for (lanes, shards) in RUNS {
+        let outcome = lanes::run(&rt, alloc, lanes, shards, locks)?;
+        tell(&rt, "lanes", (lanes, shards), is_timed, outcome)?;
     }
     Ok(())
 }
@@ -71,13 +71,16 @@ fn takes(broker: &mut Broker<IndexedTable>, event: &BookEvent) -> bool {
 fn tell<R: Print>(
     rt: &R,
     what: &str,
-    lanes: u16,
+    (lanes, shards): (u16, u16),
     is_timed: bool,
     outcome: Outcome,
 ) -> io::Result<()> {
     if is_timed {
-        println!(rt; "{what} {lanes} {} {}", outcome.steps, outcome.nanoseconds)
+        println!(rt;
+            "{what} {lanes} {shards} {} {}",
+            outcome.steps, outcome.nanoseconds
+        )
     } else {
-        println!(rt; "{what} {lanes} {}", outcome.steps)
+        println!(rt; "{what} {lanes} {shards} {}", outcome.steps)
     }
 }

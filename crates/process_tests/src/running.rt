@@ -4,7 +4,7 @@ use crate::{foreign, hostile};
 use std::test::Fail;
 use wl_broker_process::run_broker;
 use wl_kernel_process::{KernelWords, run_kernel};
-use wl_locked::LANE_LIMIT;
+use wl_locked::{LANE_LIMIT, SHARD_LIMIT};
 use wl_process::{Host, ProcessFault};
 use wl_tab_process::run_tab;
 
@@ -63,16 +63,19 @@ pub(crate) fn be_broker<R: Host>(rt: R, words: &[String]) -> Result<(), Fail> {
     if !are_words(words) {
         return Ok(());
     }
-    let lanes = small(words, 5);
+    let (lanes, shards) = (small(words, 5), small(words, 7));
     if lanes == 0 || lanes > LANE_LIMIT {
         return Err(Fail::new("wlb: lanes"));
+    }
+    if shards == 0 || shards > SHARD_LIMIT {
+        return Err(Fail::new("wlb: shards"));
     }
     ended(run_broker(
         rt,
         rt.alloc(),
         text(words, 3),
         lanes,
-        small(words, 7),
+        shards,
         number(words, 9),
     ))
 }

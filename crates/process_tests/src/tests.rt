@@ -46,12 +46,18 @@ impl Stage {
         Ok(())
     }
 
-    /// Starts a kernel of two lanes with these many steps a generation.
+    /// Starts a kernel of two lanes on one shard, with these many steps a generation.
     fn start(&self, rt: &HostRuntime, limit: &str) -> Result<Child, Fail> {
-        self.start_lanes(rt, "2", limit)
+        self.start_lanes(rt, "2", "1", limit)
     }
 
-    fn start_lanes(&self, rt: &HostRuntime, lanes: &str, limit: &str) -> Result<Child, Fail> {
+    fn start_lanes(
+        &self,
+        rt: &HostRuntime,
+        lanes: &str,
+        shards: &str,
+        limit: &str,
+    ) -> Result<Child, Fail> {
         let script = self.path(rt, "KERNEL")?;
         Ok(
             Command::new(rt.alloc(), self.program.as_str())?
@@ -61,7 +67,7 @@ impl Stage {
                 .arg("--lanes")?
                 .arg(lanes)?
                 .arg("--shards")?
-                .arg("1")?
+                .arg(shards)?
                 .arg("--limit")?
                 .arg(limit)?
                 .arg(script.as_str())?
@@ -135,29 +141,73 @@ fn rounds_on(rt: &HostRuntime, count: u32, counter: &str) -> Result<String, Fail
 const FORTY_ROUNDS: &str =
     "start\nopen https://a.test/ DIR/TAB\nopen https://a.test/ DIR/TAB\nopen https://a.test/ DIR/TAB\nopen https://a.test/ DIR/TAB\npause 50\nstop\nstart\npause 50\nstop\nstart\njoin\n";
 
+/// What a kernel prints of them, among other lines.
+const FORTY_LINES: [&str; 10] = [
+    "up 1\n",
+    "opened 4 https://a.test\n",
+    "stopped 1\n",
+    "up 2\n",
+    "stopped 2\n",
+    "up 3\n",
+    "ended 1 0\n",
+    "ended 2 0\n",
+    "ended 3 0\n",
+    "ended 4 0\n",
+];
+
+/// Plays four tabs of ten rounds each, while the broker is stopped twice: what the kernel printed, and what the counter has
+/// then. No socket is left.
+fn make_forty_rounds(
+    rt: &HostRuntime,
+    name: &str,
+    lanes: &str,
+    shards: &str,
+) -> Result<(Output, String), Fail> {
+    let stage = Stage::new(rt, name, FORTY_ROUNDS)?;
+    stage.write(rt, "TAB", rounds(rt, 10)?.as_str())?;
+    let output = printed(rt, stage.start_lanes(rt, lanes, shards, "65536")?)?;
+    let counter = stage.counter(rt)?;
+    if stage.has_sockets(rt)? {
+        return Err(Fail::new("a socket is left"));
+    }
+    stage.clear(rt)?;
+    Ok((output, counter))
+}
+
 #[test]
 fn four_tabs_make_forty_rounds(rt: HostRuntime) -> Result<(), Fail> {
-    let stage = Stage::new(&rt, "forty", FORTY_ROUNDS)?;
-    stage.write(&rt, "TAB", rounds(&rt, 10)?.as_str())?;
-    let output = printed(&rt, stage.start(&rt, "65536")?)?;
+    let (output, counter) = make_forty_rounds(&rt, "forty", "2", "1")?;
     let text = text_of(&output)?;
-    for line in [
-        "up 1\n",
-        "opened 4 https://a.test\n",
-        "stopped 1\n",
-        "up 2\n",
-        "stopped 2\n",
-        "up 3\n",
-    ] {
-        assert!(rt; text.contains(line), "{text}");
-    }
-    for line in ["ended 1 0\n", "ended 2 0\n", "ended 3 0\n", "ended 4 0\n"] {
+    for line in FORTY_LINES {
         assert!(rt; text.contains(line), "{text}");
     }
     assert!(rt; output.status.success());
-    assert_eq!(rt; stage.counter(&rt)?.as_str(), "40\n");
-    assert!(rt; !stage.has_sockets(&rt)?);
-    stage.clear(&rt)
+    assert_eq!(rt; counter.as_str(), "40\n");
+    Ok(())
+}
+
+#[test]
+fn four_tabs_make_forty_rounds_over_two_shards(rt: HostRuntime) -> Result<(), Fail> {
+    let (output, counter) = make_forty_rounds(&rt, "forty_over_two", "2", "2")?;
+    let text = text_of(&output)?;
+    for line in FORTY_LINES {
+        assert!(rt; text.contains(line), "{text}");
+    }
+    assert!(rt; output.status.success());
+    assert_eq!(rt; counter.as_str(), "40\n");
+    Ok(())
+}
+
+#[test]
+fn four_tabs_make_forty_rounds_over_sixteen_shards(rt: HostRuntime) -> Result<(), Fail> {
+    let (output, counter) = make_forty_rounds(&rt, "forty_over_sixteen", "4", "16")?;
+    let text = text_of(&output)?;
+    for line in FORTY_LINES {
+        assert!(rt; text.contains(line), "{text}");
+    }
+    assert!(rt; output.status.success());
+    assert_eq!(rt; counter.as_str(), "40\n");
+    Ok(())
 }
 
 /// A generation of eight steps ends again and again, and the next goes on.
@@ -165,7 +215,7 @@ fn four_tabs_make_forty_rounds(rt: HostRuntime) -> Result<(), Fail> {
 fn spent_generations_are_followed_by_others(rt: HostRuntime) -> Result<(), Fail> {
     let stage = Stage::new(&rt, "spent", "start\nopen https://a.test/ DIR/TAB\njoin\n")?;
     stage.write(&rt, "TAB", rounds(&rt, 10)?.as_str())?;
-    let output = printed(&rt, stage.start_lanes(&rt, "1", "8")?)?;
+    let output = printed(&rt, stage.start_lanes(&rt, "1", "1", "8")?)?;
     let text = text_of(&output)?;
     assert_eq!(rt; last_line(text), Some("ended 1 0"), "{text}");
     // A round has two commands.

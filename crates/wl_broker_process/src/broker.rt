@@ -2,22 +2,24 @@
 
 ghost use Rattle.std.specs.Prelude.{◌≡◌, ◌<◌, ◌≤◌, IfOk};
 ghost use Rattle.wl_frames.specs.Grammar.{TabsRiseFrom};
-ghost use Rattle.wl_broker.specs.Broker.{started};
+ghost use Rattle.wl_locked.specs.Blanks.{HaveParts, AreNamed};
 ghost use Rattle.wl_locked.specs.declared.locked.TheConstants.{LANE_LIMIT};
+ghost use Rattle.wl_locked.specs.declared.shards.TheConstants.{SHARD_LIMIT};
 
 use crate::mailbox::Mailbox;
 use std::alloc::Global;
 use std::io::Write;
-use std::marker::Brand;
+use std::marker::{Brand, Model, PhantomData};
 use std::net::Shutdown;
 use std::os::unix::net::UnixStream;
 use std::rt::Clock;
-use std::sync::ledger::Blank;
 use std::sync::{Arc, Mutex, Wait};
 use std::thread;
 use wl_frames::device::READ_LIMIT;
 use wl_frames::{Frame, Start};
-use wl_locked::{BookEvent, Generation, Lane, LockedBroker, NotStepped, Outs, Receipt};
+use wl_locked::{
+    Blanks, BookEvent, NotStepped, Outs, Receipt, ShardLane, Sharded, Shards, Work, deal,
+};
 use wl_process::{BUNDLE_LEN, Host, Incoming, ProcessFault, append};
 use wl_workers::{Cause, Desk, Gate, Intake, LaneEnd, Outlet, OutletFault, lane};
 
@@ -61,22 +63,48 @@ impl Outbound {
     }
 }
 
-/// A lane's intake. What the lane has gathered is written before it sleeps.
+/// A lane's intake. What the lane has gathered is written before it sleeps. Contracts see it as the number of its broker's
+/// shards.
 #[derive(Drop)]
-struct LaneIntake {
+struct LaneIntake<J: Shards> {
     mailbox: Arc<Mailbox>,
     outbound: Arc<Outbound>,
+    shards: u16,
+    of: PhantomData<J>,
 }
 
-impl Intake for LaneIntake {
-    fn next<R: Wait + Clock>(&mut self, rt: &R) -> Option<BookEvent> {
-        if let Some(event) = self.mailbox.take_now(rt) {
-            return Some(event);
+impl<J: Shards> Model for LaneIntake<J> {
+    ghost use Rattle.std.specs.Prelude.{◌≡◌, ℕ};
+
+    ghost Value = { ℕ };
+
+    ghost view = { λ i. i.shards };
+
+    ghost invariant = { λ i. i.shards ≡ J.run.shards };
+}
+
+impl<J: Shards> LaneIntake<J> {
+    /// The next work, or None where the link is shut.
+    fn wait<R: Wait>(&self, rt: &R) -> Option<Work> {
+        if let Some(work) = self.mailbox.take_now(rt) {
+            return Some(work);
         }
         if self.outbound.flush(rt).is_err() {
             return None;
         }
         self.mailbox.take(rt)
+    }
+}
+
+impl<J: Shards> Intake for LaneIntake<J> {
+    ghost shards = { λ _. J.run.shards };
+
+    fn next<R: Wait + Clock>(&mut self, rt: &R) -> Option<Work> {
+        // What `deal` puts into a mailbox is dealt; the lock round it cannot say so.
+        match self.wait(rt) {
+            Some(work) if work.is_dealt(self.shards) => Some(work),
+            _ => None,
+        }
     }
 }
 
@@ -102,46 +130,35 @@ impl Gate for Open {
     fn answered<R: Wait + Clock>(&self, _rt: &R, _lane: u16) {}
 }
 
-/// The desk of a lane: the locked broker, which steps for it.
+/// The desk of a lane: the broker in shards, which steps for it.
 #[derive(Drop)]
-struct LaneDesk<'a, J: Generation> {
-    broker: &'a LockedBroker<J>,
-    lane: &'a mut Lane<J>,
+struct LaneDesk<'a, J: Shards> {
+    broker: &'a Sharded<J>,
+    lane: &'a mut ShardLane<J>,
 }
 
-impl<'a, J: Generation> Desk for LaneDesk<'a, J> {
-    ghost use Rattle.std.specs.Prelude.{Some};
-
-    ghost kept = { λ d. Some d.lane.now };
-
+impl<'a, J: Shards> Desk for LaneDesk<'a, J> {
     ghost borrowed = { λ d. d.lane.ghost_name };
 
-    fn take_one<R: Wait + Clock>(
-        &mut self,
-        rt: &R,
-        event: BookEvent,
-    ) -> Result<Receipt, NotStepped> {
-        self.broker.take(rt, self.lane, event)
+    ghost shards = { λ _. J.run.shards };
+
+    fn take_one<R: Wait + Clock>(&mut self, rt: &R, work: Work) -> Result<Receipt, NotStepped> {
+        self.broker.take(rt, self.lane, work)
     }
 }
 
 /// What a lane works with, and how it ended.
 #[derive(Drop)]
-struct Job<J: Generation> {
+struct Job<J: Shards> {
     number: u16,
-    lane: Lane<J>,
-    intake: LaneIntake,
+    lane: ShardLane<J>,
+    intake: LaneIntake<J>,
     outlet: LaneOutlet,
     end: Option<LaneEnd>,
 }
 
 /// Runs one lane to its end. A lane that ends before its events do ends the reading of the link.
-fn run_lane<R: Host, J: Generation>(
-    rt: &R,
-    broker: &LockedBroker<J>,
-    job: &mut Job<J>,
-    link: &UnixStream,
-) {
+fn run_lane<R: Host, J: Shards>(rt: &R, broker: &Sharded<J>, job: &mut Job<J>, link: &UnixStream) {
     let mut desk = LaneDesk {
         broker,
         lane: &mut job.lane,
@@ -189,21 +206,29 @@ fn read_start(incoming: &mut Incoming<'_>) -> Result<(Start, Vec<Frame>), Proces
     Err(ProcessFault::TooManyReads)
 }
 
-/// Gives each event of these frames to the lane of its tab.
-fn deal<R: Host>(
+/// Gives each event of these frames to the lane of its tab. One that memory refuses is lost.
+fn deal_frames<R: Host>(
     rt: &R,
+    alloc: Global,
     mailboxes: &[Arc<Mailbox>],
+    shards: u16,
     frames: Vec<Frame>,
-) -> Result<(), ProcessFault> {
+) -> Result<(), ProcessFault>
+    requires { 0 < shards }
+{
+    let lanes = mailboxes.len().max(1);
+    let mut works = Vec::new(alloc);
     for frame in frames {
         let (tab, event) = match frame {
             Frame::Stamped(stamped) => (stamped.tab, BookEvent::Take(stamped)),
             Frame::Dead(dead) => (dead.tab, BookEvent::Dead(dead.tab)),
             _ => return Err(ProcessFault::Unexpected),
         };
-        let lanes = mailboxes.len().max(1);
-        if let Some(mailbox) = mailboxes.get(usize::from(tab) % lanes) {
-            mailbox.put(rt, event);
+        let _lost = deal(&mut works, shards, event).is_err();
+        while let Some(work) = works.pop() {
+            if let Some(mailbox) = mailboxes.get(usize::from(tab) % lanes) {
+                mailbox.put(rt, work);
+            }
         }
     }
     Ok(())
@@ -213,13 +238,16 @@ fn deal<R: Host>(
 fn deal_all<R: Host>(
     rt: &R,
     mailboxes: &[Arc<Mailbox>],
+    shards: u16,
     incoming: &mut Incoming<'_>,
-) -> Result<(), ProcessFault> {
+) -> Result<(), ProcessFault>
+    requires { 0 < shards }
+{
     for _reads in 0..READ_LIMIT {
         let Some(frames) = incoming.next()? else {
             return Ok(());
         };
-        deal(rt, mailboxes, frames)?;
+        deal_frames(rt, incoming.alloc(), mailboxes, shards, frames)?;
     }
     Err(ProcessFault::TooManyReads)
 }
@@ -231,46 +259,59 @@ pub fn run_broker<R: Host>(
     alloc: Global,
     socket: &str,
     lanes: u16,
-    _shards: u16,
+    shards: u16,
     limit: u32,
 ) -> Result<(), ProcessFault>
-    requires { (1 ≤ lanes) × (lanes ≤ LANE_LIMIT) }
+    requires lanes { (1 ≤ lanes) × (lanes ≤ LANE_LIMIT) }
+    requires shards { (1 ≤ shards) × (shards ≤ SHARD_LIMIT) }
 {
     let link = rt.connect(socket).map_err(ProcessFault::of_device)?;
     let mut incoming = Incoming::new(alloc, &link);
     let (start, rest) = read_start(&mut incoming)?;
-    let blank = Blank::new(u64::from(lanes));
-    let served = serve::<R, Brand>(&rt, alloc, blank, start, lanes, limit, rest, &mut incoming);
+    let blanks = Blanks::new(u64::from(lanes));
+    let served = serve::<R, Brand>(
+        &rt,
+        alloc,
+        blanks,
+        start,
+        lanes,
+        shards,
+        limit,
+        rest,
+        &mut incoming,
+    );
     let _ = link.shutdown(Shutdown::Both);
     served
 }
 
 /// Serves a generation.
-fn serve<R: Host, J: Generation + Send + Sync>(
+fn serve<R: Host, J: Shards + Send + Sync>(
     rt: &R,
     alloc: Global,
-    blank: Blank,
+    blanks: Blanks,
     start: Start,
     lanes: u16,
+    shards: u16,
     limit: u32,
     rest: Vec<Frame>,
     incoming: &mut Incoming<'_>,
 ) -> Result<(), ProcessFault>
     requires list { TabsRiseFrom 1 start.list }
-    requires name { blank.name ≡ J.name }
-    requires parts { blank.parts ≡ J.parts }
-    requires lanes { (J.parts ≡ lanes) × (0 < lanes) × (lanes ≤ LANE_LIMIT) }
-    requires opening { J.opening ≡ started start.generation start.list }
-    requires limit { J.limit ≡ limit }
+    requires names { AreNamed J.names blanks }
+    requires parts { HaveParts lanes blanks }
+    requires lanes { (0 < lanes) × (lanes ≤ LANE_LIMIT) }
+    requires shards { (0 < shards) × (shards ≤ SHARD_LIMIT) }
+    requires run { J.run ≡ record { generation = start.generation; listed = start.list; shards = shards; lanes = lanes; limit = limit } }
 {
     let link = incoming.link();
-    let (broker, places, hellos) = LockedBroker::<J>::new(
+    let (broker, places, hellos) = Sharded::<J>::new(
         alloc,
-        blank,
+        blanks,
         start.generation,
         start.list.as_slice(),
         limit,
         lanes,
+        shards,
     )?;
     let writing = link.try_clone().map_err(ProcessFault::of_device)?;
     greet(alloc, &writing, hellos)?;
@@ -295,6 +336,8 @@ fn serve<R: Host, J: Generation + Send + Sync>(
             intake: LaneIntake {
                 mailbox: Arc::try_clone(&mailbox)?,
                 outbound: Arc::try_clone(&outbound)?,
+                shards,
+                of: PhantomData,
             },
             outlet: LaneOutlet { outbound },
             end: None,
@@ -303,12 +346,14 @@ fn serve<R: Host, J: Generation + Send + Sync>(
         number = number.saturating_add(1);
     }
     // What came with the Start frame waits for the lanes, which answer it also where a fault stands behind it.
-    let mut dealt = deal(rt, mailboxes.as_slice(), rest);
+    let mut dealt = deal_frames(rt, alloc, mailboxes.as_slice(), shards, rest);
     thread::join_mut(
         rt,
-        &mut || {
+        &mut ||
+            requires { 0 < shards }
+        {
             if dealt.is_ok() {
-                dealt = deal_all(rt, mailboxes.as_slice(), incoming);
+                dealt = deal_all(rt, mailboxes.as_slice(), shards, incoming);
             }
             for mailbox in mailboxes.iter() {
                 mailbox.close(rt);

@@ -1,3 +1,8 @@
 pub mod Steps
 pub mod Runs
 pub mod Same
+pub mod Lists
+pub mod Raising
+pub mod Listing
+pub mod Gathered
+pub mod Greeting

@@ -3,3 +3,6 @@ pub mod Stepping
 pub mod History
 pub mod Receipts
 pub mod Marks
+pub mod Closing
+pub mod Sharding
+pub mod Blanks

@@ -1,13 +1,16 @@
 //! The book: a broker with all that it did.
 
-ghost use Rattle.std.specs.Prelude.{◌≡◌, ◌≢◌, ◌+◌, ◌<◌, ◌≤◌, ◌↔◌, ◌∷◌, ◌++◌, [], ℕ, length, IfOk, IsTrue, OnOk, OnErr};
+ghost use Rattle.std.specs.Prelude.{◌≡◌, ◌≢◌, ◌+◌, ◌<◌, ◌≤◌, ◌↔◌, ◌∷◌, ◌++◌, [], ℕ, List, length, map, true, false, Ok, Err, IfOk, IsTrue, OnOk, OnErr};
 ghost use Rattle.wl_locked.specs.Stepping.{stepped};
 ghost use Rattle.wl_locked.specs.History.{replay, events, IsReplay};
 ghost use Rattle.wl_locked.specs.Receipts.{step_of, total, IsMadeOf, IsMismatch};
+ghost use Rattle.wl_locked.specs.Closing.{IsClosed, IsCompared};
+ghost use Rattle.wl_locked.specs.declared.receipt.Receipt.{Receipt};
+ghost use Rattle.wl_locked.specs.declared.shards.TheConstants.{SHARD_LIMIT};
 
 use crate::answering::answer;
 use crate::event::{BookEvent, Reply};
-use crate::lane::{Generation, Lane, gather};
+use crate::lane::{Generation, Kept, Lane, gather};
 use crate::marking::compare;
 use crate::receipt::{CloseFault, History, NotStepped, Receipt, Step};
 use std::alloc::{AllocError, Global};
@@ -214,17 +217,63 @@ impl<J: Generation> Book<J> {
         ensures counted { length lanes.items ≡ J.parts → length self ≡ total lanes.items }
         ensures count { result ≡ Err CloseFault.WrongCount → length lanes.items ≢ J.parts }
     {
+        let (ending, spare) = self.compare(0, lanes.as_slice());
+        ending.end(gather(spare, lanes))
+    }
+
+    /// Compares the history with the receipts of a shard, and gives back the spare share.
+    pub(crate) fn compare<L: Kept>(self, shard: u16, lanes: &[L]) -> (Ending<J>, Share<J>)
+        requires { shard < SHARD_LIMIT }
+        ensures same { result.0.steps.items ≡ self }
+        ensures compared { IsCompared J.opening J.limit (map (L.kept shard) lanes.now) self result.0.compared result.0.calls.total }
+        ensures spare { (result.1.parts ≡ 0) × (result.1.amount ≡ 0) }
+    {
         let Book {
             broker: _,
             steps,
             mut marks,
             limit: _,
-            mut calls,
+            calls,
             spare,
             alloc: _,
         } = self;
-        let compared = compare(steps.as_slice(), marks.as_mut_slice(), lanes.as_slice());
-        let mut all = gather(spare, lanes);
+        let compared = compare(steps.as_slice(), marks.as_mut_slice(), shard, lanes);
+        (
+            Ending {
+                steps,
+                compared,
+                calls,
+            },
+            spare,
+        )
+    }
+}
+
+/// A book that was compared with the receipts of its lanes.
+#[derive(Drop)]
+pub(crate) struct Ending<J: Generation> {
+    steps: Vec<Step>,
+    /// Whether the steps are made of the receipts, or a place where they differ.
+    compared: Result<bool, u32>,
+    calls: ledger::Book<J>,
+}
+
+impl<J: Generation> Ending<J> {
+    /// The history, or why it is not that of the lanes, whose shares are these.
+    pub(crate) fn end(self, all: Share<J>) -> Result<History, CloseFault>
+        ensures same { IfOk result (λ h. h ≡ self.steps.items) }
+        ensures whole { OnOk result (self.compared ≡ Ok true) }
+        ensures mismatch { (p : ℕ) → result ≡ Err (CloseFault.Mismatch p) → self.compared ≡ Err p }
+        ensures fewer { result ≡ Err CloseFault.WrongCount → self.compared ≡ Ok false }
+        ensures counted { all.parts ≡ J.parts → all.amount ≡ self.calls.total }
+        ensures closed { (lanes : List (List Receipt)) → IsCompared J.opening J.limit lanes self.steps.items self.compared self.calls.total → all.parts ≡ length lanes → all.amount ≡ total lanes → IsClosed J.opening J.limit J.parts lanes result }
+    {
+        let Ending {
+            steps,
+            compared,
+            mut calls,
+        } = self;
+        let mut all = all;
         calls.audit(&mut all);
         match compared {
             Err(place) => Err(CloseFault::Mismatch(place)),

@@ -86,6 +86,29 @@ impl<J: Generation> Lane<J> {
     }
 }
 
+/// What keeps receipts of shards.
+pub(crate) trait Kept {
+    ghost use Rattle.std.specs.Prelude.{◌≡◌, ◌<◌, ℕ, List};
+    ghost use Rattle.wl_locked.specs.declared.receipt.Receipt.{Receipt};
+    ghost use Rattle.wl_locked.specs.declared.shards.TheConstants.{SHARD_LIMIT};
+
+    ghost kept: { ℕ → Self → List Receipt };
+
+    /// Its receipts of one shard, in order.
+    fn kept(&self, shard: u16) -> &[Receipt]
+        requires { shard < SHARD_LIMIT }
+        ensures { result.now ≡ kept shard self.now };
+}
+
+/// A lane of one book keeps all its receipts as those of any shard.
+impl<J: Generation> Kept for Lane<J> {
+    ghost kept = { λ _ l. l };
+
+    fn kept(&self, _shard: u16) -> &[Receipt] {
+        self.receipts()
+    }
+}
+
 /// All shares of these lanes in one.
 pub(crate) fn gather<J: Generation>(spare: Share<J>, lanes: Vec<Lane<J>>) -> Share<J>
     ensures parts { result.parts ≡ spare.parts + length lanes.items }

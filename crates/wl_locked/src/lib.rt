@@ -4,15 +4,25 @@
 
 mod answering;
 pub mod book;
+mod brokers;
 pub mod event;
+mod gathering;
 pub mod lane;
 pub mod locked;
 mod marking;
 pub mod receipt;
+pub mod shard_lane;
+pub mod sharded;
+pub mod shards;
+pub mod work;
 
 pub use book::Book;
 pub use event::{BookEvent, Reply};
 pub use lane::{Generation, Lane};
 pub use locked::{LANE_LIMIT, LockedBroker};
 pub use receipt::{CloseFault, History, NotStepped, Receipt, Step};
+pub use shard_lane::ShardLane;
+pub use sharded::Sharded;
+pub use shards::{Blanks, SHARD_LIMIT, Shards};
 pub use wl_broker::{Dropped, Memory, Outs};
+pub use work::{Work, deal, shard_of};

@@ -1,18 +1,20 @@
 //! The broker behind its lock.
 
-ghost use Rattle.std.specs.Prelude.{◌≡◌, ◌≢◌, ◌<◌, ◌≤◌, ◌∷◌, ◌++◌, [], ℕ, List, length, replicate, IfOk, OnErr};
+ghost use Rattle.std.specs.Prelude.{◌≡◌, ◌≢◌, ◌<◌, ◌≤◌, ◌∷◌, ◌++◌, [], ℕ, List, length, map, replicate, IfOk, OnErr};
 ghost use Rattle.wl_frames.specs.Grammar.{TabsRiseFrom};
 ghost use Rattle.wl_broker.specs.Broker.{started, hellos};
 ghost use Rattle.wl_locked.specs.declared.receipt.Step.{Step};
 ghost use Rattle.wl_locked.specs.History.{IsReplay, IsAnswer};
 ghost use Rattle.wl_locked.specs.Receipts.{total, IsMadeOf, IsMismatch};
+ghost use Rattle.wl_locked.specs.Closing.{IsCompared};
+ghost use Rattle.wl_locked.specs.declared.shards.TheConstants.{SHARD_LIMIT};
 
-use crate::book::{Book, copies};
+use crate::book::{Book, Ending, copies};
 use crate::event::{BookEvent, Reply};
-use crate::lane::{Generation, Lane};
+use crate::lane::{Generation, Kept, Lane};
 use crate::receipt::{CloseFault, History, NotStepped, Receipt};
 use std::alloc::{AllocError, Global};
-use std::sync::ledger::Blank;
+use std::sync::ledger::{Blank, Share};
 use std::sync::{Mutex, Wait};
 use wl_broker::{Broker, Dropped, Outs};
 
@@ -45,18 +47,39 @@ impl<J: Generation> LockedBroker<J> {
         ensures lanes { IfOk result (λ r. r.1.items ≡ replicate lanes []) }
         ensures hellos { IfOk result (λ r. r.2 ≡ hellos generation list.now) }
     {
-        let (calls, mut rest) = blank.open::<J>();
+        let (locked, mut rest, hellos) = LockedBroker::open(alloc, blank, generation, list, limit)?;
         let mut made = Vec::with_capacity(alloc, lanes as usize)?;
         for _i in 0..lanes {
             made.push(Lane::new(alloc, rest.split_off(1, 0)))?;
         }
+        Ok((locked, made, hellos))
+    }
+
+    /// Starts a generation without lanes, and gives the share that they are cut from.
+    pub(crate) fn open(
+        alloc: Global,
+        blank: Blank,
+        generation: u32,
+        list: &[(u16, u16)],
+        limit: u32,
+    ) -> Result<(LockedBroker<J>, Share<J>, Outs), AllocError>
+        requires list { TabsRiseFrom 1 list.now }
+        requires name { blank.name ≡ J.name }
+        requires parts { blank.parts ≡ J.parts }
+        requires opening { J.opening ≡ started generation list.now }
+        requires limit { J.limit ≡ limit }
+        ensures parts { IfOk result (λ r. r.1.parts ≡ J.parts) }
+        ensures amount { IfOk result (λ r. r.1.amount ≡ 0) }
+        ensures hellos { IfOk result (λ r. r.2 ≡ hellos generation list.now) }
+    {
+        let (calls, mut share) = blank.open::<J>();
         let (broker, hellos) = Broker::start(alloc, generation, list)?;
-        let book = Book::open(alloc, broker, limit, calls, rest);
+        let book = Book::open(alloc, broker, limit, calls, share.empty());
         let locked = LockedBroker {
             book: Mutex::new(book),
             alloc,
         };
-        Ok((locked, made, hellos))
+        Ok((locked, share, hellos))
     }
 
     /// Steps the broker once, and gives a receipt of that step, of which the lane keeps a copy. The event is copied, and the
@@ -89,5 +112,13 @@ impl<J: Generation> LockedBroker<J> {
         ensures count { result ≡ Err CloseFault.WrongCount → length lanes.items ≢ J.parts }
     {
         self.book.into_inner().close(lanes)
+    }
+    /// Compares the history with the receipts of a shard, and gives back the spare share.
+    pub(crate) fn compare<L: Kept>(self, shard: u16, lanes: &[L]) -> (Ending<J>, Share<J>)
+        requires { shard < SHARD_LIMIT }
+        ensures compared { IsCompared J.opening J.limit (map (L.kept shard) lanes.now) result.0.steps.items result.0.compared result.0.calls.total }
+        ensures spare { (result.1.parts ≡ 0) × (result.1.amount ≡ 0) }
+    {
+        self.book.into_inner().compare(shard, lanes)
     }
 }

@@ -1,11 +1,12 @@
 //! The comparison of a history with the receipts of its lanes, by marking places.
 
-ghost use Rattle.std.specs.Prelude.{◌≡◌, ◌↔◌, ℕ, ◌<◌, true, false, IsTrue, length, slice_index_or, replicate, OnOk, IfOk, IfErr};
+ghost use Rattle.std.specs.Prelude.{◌≡◌, ◌↔◌, ℕ, ◌<◌, true, false, IsTrue, length, map, slice_index_or, replicate, OnOk, IfOk, IfErr};
 ghost use Rattle.wl_locked.specs.Receipts.{IsMadeOf, IsMismatch, total};
+ghost use Rattle.wl_locked.specs.declared.shards.TheConstants.{SHARD_LIMIT};
 ghost use Rattle.wl_locked.specs.Marks.{IsFree, IsMarked, IsRefused, AreMarked, AreRefused};
 
 use crate::event::{BookEvent, Reply};
-use crate::lane::{Generation, Lane};
+use crate::lane::Kept;
 use crate::receipt::{Receipt, Step};
 
 fn is_event(one: &BookEvent, other: &BookEvent) -> bool
@@ -51,14 +52,15 @@ fn mark_lane(steps: &[Step], marks: &mut [bool], receipts: &[Receipt]) -> Result
     Ok(())
 }
 
-/// Marks the places of all lanes' receipts, or answers the first that cannot be marked.
-fn mark_all<J: Generation>(steps: &[Step], marks: &mut [bool], lanes: &[Lane<J>]) -> Result<(), u32>
-    requires { length marks.old ≡ length steps.now }
-    ensures ok { OnOk result (AreMarked steps.now lanes.now marks.old marks.new) }
-    ensures err { IfErr result (λ p. AreRefused steps.now lanes.now marks.old p) }
+/// Marks the places of all lanes' receipts of a shard, or answers the first that cannot be marked.
+fn mark_all<L: Kept>(steps: &[Step], marks: &mut [bool], shard: u16, lanes: &[L]) -> Result<(), u32>
+    requires marks { length marks.old ≡ length steps.now }
+    requires shard { shard < SHARD_LIMIT }
+    ensures ok { OnOk result (AreMarked steps.now (map (L.kept shard) lanes.now) marks.old marks.new) }
+    ensures err { IfErr result (λ p. AreRefused steps.now (map (L.kept shard) lanes.now) marks.old p) }
 {
     for lane in lanes {
-        mark_lane(steps, marks, lane.receipts())?;
+        mark_lane(steps, marks, lane.kept(shard))?;
     }
     Ok(())
 }
@@ -77,17 +79,19 @@ fn all_marked(marks: &[bool]) -> bool
 }
 
 #[tactic(auto, using(crate::proofs::Runs::made, crate::proofs::Runs::fewer, crate::proofs::Runs::mismatch))]
-/// Whether the steps are made of the lanes' receipts, or the first receipt that is not that of a step.
-pub(crate) fn compare<J: Generation>(
+/// Whether the steps are made of the lanes' receipts of a shard, or the first receipt that is not that of a step.
+pub(crate) fn compare<L: Kept>(
     steps: &[Step],
     marks: &mut [bool],
-    lanes: &[Lane<J>],
+    shard: u16,
+    lanes: &[L],
 ) -> Result<bool, u32>
-    requires { marks.old ≡ replicate (length steps.now) false }
-    ensures made { IfOk result (λ whole. whole ≡ true → IsMadeOf steps.now lanes.now) }
-    ensures fewer { IfOk result (λ whole. whole ≡ false → total lanes.now < length steps.now) }
-    ensures err { IfErr result (λ p. IsMismatch steps.now lanes.now p) }
+    requires marks { marks.old ≡ replicate (length steps.now) false }
+    requires shard { shard < SHARD_LIMIT }
+    ensures made { IfOk result (λ whole. whole ≡ true → IsMadeOf steps.now (map (L.kept shard) lanes.now)) }
+    ensures fewer { IfOk result (λ whole. whole ≡ false → total (map (L.kept shard) lanes.now) < length steps.now) }
+    ensures err { IfErr result (λ p. IsMismatch steps.now (map (L.kept shard) lanes.now) p) }
 {
-    mark_all(steps, marks, lanes)?;
+    mark_all(steps, marks, shard, lanes)?;
     Ok(all_marked(marks))
 }

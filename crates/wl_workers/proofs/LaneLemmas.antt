@@ -4,7 +4,7 @@ use Rattle.std.specs.List.{AllByRecursion, flat_map}
 use Rattle.std.proofs.lemmas.List.{length_push}
 use Rattle.wl_frames.specs.declared.frame.Addressed.{Addressed}
 use Rattle.wl_frames.specs.declared.frame.Frame.TheVariants as frame
-use Rattle.wl_locked.specs.declared.event.BookEvent.{BookEvent}
+use Rattle.wl_locked.specs.declared.work.Work.{Work}
 use Rattle.wl_locked.specs.declared.receipt.Receipt.{Receipt}
 use Rattle.wl_locked.specs.declared.receipt.NotStepped.{NotStepped}
 use Rattle.wl_locked.specs.declared.receipt.NotStepped.TheVariants.{GenerationSpent, Memory}
@@ -28,9 +28,9 @@ sent-push : (all : List Answered) (a : Answered) → flat_map sent_by (all ++ a 
 sent-push [] a = append-nil (sent_by a)
 sent-push (b ∷ all) a = ap (λ l. sent_by b ++ l) (sent-push all a) ∙ sym (append_assoc (sent_by b) (flat_map sent_by all) (sent_by a))
 
-kept-push : (all : List Answered) (a : Answered) → flat_map receipt_in (all ++ a ∷ []) ≡ flat_map receipt_in all ++ receipt_in a
-kept-push [] a = append-nil (receipt_in a)
-kept-push (b ∷ all) a = ap (λ l. receipt_in b ++ l) (kept-push all a) ∙ sym (append_assoc (receipt_in b) (flat_map receipt_in all) (receipt_in a))
+kept-push : (shard : ℕ) (all : List Answered) (a : Answered) → flat_map (receipt_in shard) (all ++ a ∷ []) ≡ flat_map (receipt_in shard) all ++ receipt_in shard a
+kept-push shard [] a = append-nil (receipt_in shard a)
+kept-push shard (b ∷ all) a = ap (λ l. receipt_in shard b ++ l) (kept-push shard all a) ∙ sym (append_assoc (receipt_in shard b) (flat_map (receipt_in shard) all) (receipt_in shard a))
 
 steps-push : (all : List Answered) (a : Answered) → steps_of (all ++ a ∷ []) ≡ steps_of all + step_of a
 steps-push [] a = omega arith
@@ -45,26 +45,27 @@ unspent-push : (all : List Answered) (a : Answered) → AllByRecursion IsUnspent
 unspent-push [] a h here = (here, tt)
 unspent-push (b ∷ all) a h here = (h.0, unspent-push all a h.1 here)
 
-kept_last : (k0 k1 k2 : Option (List Receipt)) {g0 g1 : Option (List (Option BookEvent))} {d0 d1 : Option (List Answered)} {o0 o1 : Option (List PutOut)} {seen steps : ℕ} (a : Answered) (h : GoesOn g0 g1 d0 d1 k0 k1 o0 o1 seen steps) → Grows k1 k2 (receipt_in a) → Grows k0 k2 (flat_map receipt_in (h.answers ++ a ∷ []))
-kept_last k0 k1 k2 {g0} {g1} {d0} {d1} {o0} {o1} {seen} {steps} a h kept =
-    subst (Grows k0 k2) (sym (kept-push h.answers a)) (Grows-trans k0 k1 k2 _ _ h.kept kept)
+kept_last : (k0 k1 k2 : ℕ → Option (List Receipt)) {g0 g1 : Option (List (Option Work))} {d0 d1 : Option (List Answered)} {o0 o1 : Option (List PutOut)} {seen steps : ℕ} (a : Answered) (h : GoesOn g0 g1 d0 d1 k0 k1 o0 o1 seen steps) → ((shard : ℕ) → Grows (k1 shard) (k2 shard) (receipt_in shard a))
+    → (shard : ℕ) → Grows (k0 shard) (k2 shard) (flat_map (receipt_in shard) (h.answers ++ a ∷ []))
+kept_last k0 k1 k2 {g0} {g1} {d0} {d1} {o0} {o1} {seen} {steps} a h kept shard =
+    subst (Grows (k0 shard) (k2 shard)) (sym (kept-push shard h.answers a)) (Grows-trans (k0 shard) (k1 shard) (k2 shard) _ _ (h.kept shard) (kept shard))
 
 -- at first nothing was given
-pub lane_begins : {g0 : Option (List (Option BookEvent))} {d0 : Option (List Answered)} {k0 : Option (List Receipt)} {o0 : Option (List PutOut)} → GoesOn g0 g0 d0 d0 k0 k0 o0 o0 0 0
+pub lane_begins : {g0 : Option (List (Option Work))} {d0 : Option (List Answered)} {k0 : ℕ → Option (List Receipt)} {o0 : Option (List PutOut)} → GoesOn g0 g0 d0 d0 k0 k0 o0 o0 0 0
 lane_begins {g0} {d0} {k0} {o0} =
     record {
       answers = [];
       unspent = tt;
       given = Grows-nil g0;
       answered = Grows-nil d0;
-      kept = Grows-nil k0;
+      kept = λ shard. Grows-nil (k0 shard);
       put_out = Grows-nil o0;
       counts = refl;
       length_is = refl;
     }
 
 -- an event whose answer's frames were all put out
-pub lane_goes_on : {g0 g1 g2 : Option (List (Option BookEvent))} {d0 d1 d2 : Option (List Answered)} {k0 k1 k2 : Option (List Receipt)} {o0 o1 o2 : Option (List PutOut)} {seen steps : ℕ} (a : Answered) → GoesOn g0 g1 d0 d1 k0 k1 o0 o1 seen steps → IsUnspent a → Grows g1 g2 (Some a.0 ∷ []) → Grows d1 d2 (a ∷ []) → Grows k1 k2 (receipt_in a) → Grows o1 o2 (all_put (sent_by a))
+pub lane_goes_on : {g0 g1 g2 : Option (List (Option Work))} {d0 d1 d2 : Option (List Answered)} {k0 k1 k2 : ℕ → Option (List Receipt)} {o0 o1 o2 : Option (List PutOut)} {seen steps : ℕ} (a : Answered) → GoesOn g0 g1 d0 d1 k0 k1 o0 o1 seen steps → IsUnspent a → Grows g1 g2 (Some a.0 ∷ []) → Grows d1 d2 (a ∷ []) → ((shard : ℕ) → Grows (k1 shard) (k2 shard) (receipt_in shard a)) → Grows o1 o2 (all_put (sent_by a))
     → GoesOn g0 g2 d0 d2 k0 k2 o0 o2 (seen + 1) (steps + step_of a)
 lane_goes_on {g0} {g1} {g2} {d0} {d1} {d2} {k0} {k1} {k2} {o0} {o1} {o2} {seen} {steps} a h unspent given answered kept put =
     record {
@@ -79,7 +80,7 @@ lane_goes_on {g0} {g1} {g2} {d0} {d1} {d2} {k0} {k1} {k2} {o0} {o1} {o2} {seen} 
     }
 
 -- the intake has no more
-pub lane_ended : {g0 g1 g2 : Option (List (Option BookEvent))} {d0 d1 : Option (List Answered)} {k0 k1 : Option (List Receipt)} {o0 o1 : Option (List PutOut)} {seen steps : ℕ} → GoesOn g0 g1 d0 d1 k0 k1 o0 o1 seen steps → Grows g1 g2 (None ∷ []) → RunsLane g0 g2 d0 d1 k0 k1 o0 o1 (record { steps = steps; why = cause.Ended })
+pub lane_ended : {g0 g1 g2 : Option (List (Option Work))} {d0 d1 : Option (List Answered)} {k0 k1 : ℕ → Option (List Receipt)} {o0 o1 : Option (List PutOut)} {seen steps : ℕ} → GoesOn g0 g1 d0 d1 k0 k1 o0 o1 seen steps → Grows g1 g2 (None ∷ []) → RunsLane g0 g2 d0 d1 k0 k1 o0 o1 (record { steps = steps; why = cause.Ended })
 lane_ended {g0} {g1} {g2} {d0} {d1} {k0} {k1} {o0} {o1} {seen} {steps} h given =
     record {
       answers = h.answers;
@@ -93,7 +94,7 @@ lane_ended {g0} {g1} {g2} {d0} {d1} {k0} {k1} {o0} {o1} {seen} {steps} h given =
     }
 
 -- the lane had as many events as it may
-pub lane_at_limit : {g0 g1 : Option (List (Option BookEvent))} {d0 d1 : Option (List Answered)} {k0 k1 : Option (List Receipt)} {o0 o1 : Option (List PutOut)} {seen steps : ℕ} → GoesOn g0 g1 d0 d1 k0 k1 o0 o1 seen steps → seen ≡ EVENT_LIMIT → RunsLane g0 g1 d0 d1 k0 k1 o0 o1 (record { steps = steps; why = cause.Spent })
+pub lane_at_limit : {g0 g1 : Option (List (Option Work))} {d0 d1 : Option (List Answered)} {k0 k1 : ℕ → Option (List Receipt)} {o0 o1 : Option (List PutOut)} {seen steps : ℕ} → GoesOn g0 g1 d0 d1 k0 k1 o0 o1 seen steps → seen ≡ EVENT_LIMIT → RunsLane g0 g1 d0 d1 k0 k1 o0 o1 (record { steps = steps; why = cause.Spent })
 lane_at_limit {g0} {g1} {d0} {d1} {k0} {k1} {o0} {o1} {seen} {steps} h limit =
     record {
       answers = h.answers;
@@ -106,15 +107,15 @@ lane_at_limit {g0} {g1} {d0} {d1} {k0} {k1} {o0} {o1} {seen} {steps} h limit =
       ends = (refl, inr (h.unspent, h.length_is ∙ limit));
     }
 
-given_last : (g0 g1 g2 : Option (List (Option BookEvent))) {d0 d1 : Option (List Answered)} {k0 k1 : Option (List Receipt)} {o0 o1 : Option (List PutOut)} {seen steps : ℕ} (a : Answered) (h : GoesOn g0 g1 d0 d1 k0 k1 o0 o1 seen steps) → Grows g1 g2 (Some a.0 ∷ []) → Grows g0 g2 (map (λ (b : Answered). Some b.0) (h.answers ++ a ∷ []) ++ [])
+given_last : (g0 g1 g2 : Option (List (Option Work))) {d0 d1 : Option (List Answered)} {k0 k1 : ℕ → Option (List Receipt)} {o0 o1 : Option (List PutOut)} {seen steps : ℕ} (a : Answered) (h : GoesOn g0 g1 d0 d1 k0 k1 o0 o1 seen steps) → Grows g1 g2 (Some a.0 ∷ []) → Grows g0 g2 (map (λ (b : Answered). Some b.0) (h.answers ++ a ∷ []) ++ [])
 given_last g0 g1 g2 {d0} {d1} {k0} {k1} {o0} {o1} {seen} {steps} a h given =
     subst (Grows g0 g2) (sym (append-nil (map (λ (b : Answered). Some b.0) (h.answers ++ a ∷ [])) ∙ map-push (λ (b : Answered). Some b.0) h.answers a)) (Grows-trans g0 g1 g2 _ _ h.given given)
 
-ends_with : {g0 g1 : Option (List (Option BookEvent))} {d0 d1 : Option (List Answered)} {k0 k1 : Option (List Receipt)} {o0 o1 : Option (List PutOut)} {seen steps : ℕ} (a : Answered) (h : GoesOn g0 g1 d0 d1 k0 k1 o0 o1 seen steps) → EndsWith (h.answers ++ a ∷ []) h.answers a
+ends_with : {g0 g1 : Option (List (Option Work))} {d0 d1 : Option (List Answered)} {k0 k1 : ℕ → Option (List Receipt)} {o0 o1 : Option (List PutOut)} {seen steps : ℕ} (a : Answered) (h : GoesOn g0 g1 d0 d1 k0 k1 o0 o1 seen steps) → EndsWith (h.answers ++ a ∷ []) h.answers a
 ends_with {g0} {g1} {d0} {d1} {k0} {k1} {o0} {o1} {seen} {steps} a h = record { are = refl; unspent = h.unspent }
 
 -- the generation is spent
-pub lane_spent : {g0 g1 g2 : Option (List (Option BookEvent))} {d0 d1 d2 : Option (List Answered)} {k0 k1 k2 : Option (List Receipt)} {o0 o1 : Option (List PutOut)} {seen steps : ℕ} (event : BookEvent) → GoesOn g0 g1 d0 d1 k0 k1 o0 o1 seen steps → Grows g1 g2 (Some event ∷ []) → Grows d1 d2 ((event, Err GenerationSpent) ∷ []) → Grows k1 k2 []
+pub lane_spent : {g0 g1 g2 : Option (List (Option Work))} {d0 d1 d2 : Option (List Answered)} {k0 k1 k2 : ℕ → Option (List Receipt)} {o0 o1 : Option (List PutOut)} {seen steps : ℕ} (event : Work) → GoesOn g0 g1 d0 d1 k0 k1 o0 o1 seen steps → Grows g1 g2 (Some event ∷ []) → Grows d1 d2 ((event, Err GenerationSpent) ∷ []) → ((shard : ℕ) → Grows (k1 shard) (k2 shard) [])
     → RunsLane g0 g2 d0 d2 k0 k2 o0 o1 (record { steps = steps; why = cause.Spent })
 lane_spent {g0} {g1} {g2} {d0} {d1} {d2} {k0} {k1} {k2} {o0} {o1} {seen} {steps} event h given answered kept =
     let a : Answered = (event, Err GenerationSpent) in
@@ -130,7 +131,7 @@ lane_spent {g0} {g1} {g2} {d0} {d1} {d2} {k0} {k1} {k2} {o0} {o1} {seen} {steps}
     }
 
 -- the gate is shut
-lane_shut : {g0 g1 g2 : Option (List (Option BookEvent))} {d0 d1 d2 : Option (List Answered)} {k0 k1 k2 : Option (List Receipt)} {o0 o1 : Option (List PutOut)} {seen steps : ℕ} (event : BookEvent) (receipt : Receipt) → GoesOn g0 g1 d0 d1 k0 k1 o0 o1 seen steps → Grows g1 g2 (Some event ∷ []) → Grows d1 d2 ((event, Ok receipt) ∷ []) → Grows k1 k2 (receipt ∷ [])
+lane_shut : {g0 g1 g2 : Option (List (Option Work))} {d0 d1 d2 : Option (List Answered)} {k0 k1 k2 : ℕ → Option (List Receipt)} {o0 o1 : Option (List PutOut)} {seen steps : ℕ} (event : Work) (receipt : Receipt) → GoesOn g0 g1 d0 d1 k0 k1 o0 o1 seen steps → Grows g1 g2 (Some event ∷ []) → Grows d1 d2 ((event, Ok receipt) ∷ []) → ((shard : ℕ) → Grows (k1 shard) (k2 shard) (receipt_in shard (event, Ok receipt)))
     → RunsLane g0 g2 d0 d2 k0 k2 o0 o1 (record { steps = steps + 1; why = cause.Shut })
 lane_shut {g0} {g1} {g2} {d0} {d1} {d2} {k0} {k1} {k2} {o0} {o1} {seen} {steps} event receipt h given answered kept =
     let a : Answered = (event, Ok receipt) in
@@ -146,7 +147,7 @@ lane_shut {g0} {g1} {g2} {d0} {d1} {d2} {k0} {k1} {k2} {o0} {o1} {seen} {steps} 
     }
 
 -- the outlet refused a frame
-lane_refused : {g0 g1 g2 : Option (List (Option BookEvent))} {d0 d1 d2 : Option (List Answered)} {k0 k1 k2 : Option (List Receipt)} {o0 o1 o2 : Option (List PutOut)} {seen steps : ℕ} (event : BookEvent) (receipt : Receipt) (fault : OutletFault) → GoesOn g0 g1 d0 d1 k0 k1 o0 o1 seen steps → Grows g1 g2 (Some event ∷ []) → Grows d1 d2 ((event, Ok receipt) ∷ []) → Grows k1 k2 (receipt ∷ [])
+lane_refused : {g0 g1 g2 : Option (List (Option Work))} {d0 d1 d2 : Option (List Answered)} {k0 k1 k2 : ℕ → Option (List Receipt)} {o0 o1 o2 : Option (List PutOut)} {seen steps : ℕ} (event : Work) (receipt : Receipt) (fault : OutletFault) → GoesOn g0 g1 d0 d1 k0 k1 o0 o1 seen steps → Grows g1 g2 (Some event ∷ []) → Grows d1 d2 ((event, Ok receipt) ∷ []) → ((shard : ℕ) → Grows (k1 shard) (k2 shard) (receipt_in shard (event, Ok receipt)))
     → PutsUpTo o1 o2 (frames_of receipt.reply) fault → RunsLane g0 g2 d0 d2 k0 k2 o0 o2 (record { steps = steps + 1; why = cause.Outlet })
 lane_refused {g0} {g1} {g2} {d0} {d1} {d2} {k0} {k1} {k2} {o0} {o1} {o2} {seen} {steps} event receipt fault h given answered kept p =
     let a : Answered = (event, Ok receipt) in
@@ -162,7 +163,7 @@ lane_refused {g0} {g1} {g2} {d0} {d1} {d2} {k0} {k1} {k2} {o0} {o1} {o2} {seen} 
     }
 
 -- the last step is not sent, or not all of it
-pub lane_unsent : {g0 g1 g2 : Option (List (Option BookEvent))} {d0 d1 d2 : Option (List Answered)} {k0 k1 k2 : Option (List Receipt)} {o0 o1 o2 : Option (List PutOut)} {seen steps : ℕ} (event : BookEvent) (receipt : Receipt) (why : Cause) → GoesOn g0 g1 d0 d1 k0 k1 o0 o1 seen steps → Grows g1 g2 (Some event ∷ []) → Grows d1 d2 ((event, Ok receipt) ∷ []) → Grows k1 k2 (receipt ∷ [])
+pub lane_unsent : {g0 g1 g2 : Option (List (Option Work))} {d0 d1 d2 : Option (List Answered)} {k0 k1 k2 : ℕ → Option (List Receipt)} {o0 o1 o2 : Option (List PutOut)} {seen steps : ℕ} (event : Work) (receipt : Receipt) (why : Cause) → GoesOn g0 g1 d0 d1 k0 k1 o0 o1 seen steps → Grows g1 g2 (Some event ∷ []) → Grows d1 d2 ((event, Ok receipt) ∷ []) → ((shard : ℕ) → Grows (k1 shard) (k2 shard) (receipt_in shard (event, Ok receipt)))
     → IsUnsent why o1 o2 receipt.reply → RunsLane g0 g2 d0 d2 k0 k2 o0 o2 (record { steps = steps + 1; why = why })
 lane_unsent {g0} {g1} {g2} {d0} {d1} {d2} {k0} {k1} {k2} {o0} {o1} {o2} {seen} {steps} event receipt cause.Ended h given answered kept unsent = absurd unsent
 lane_unsent {g0} {g1} {g2} {d0} {d1} {d2} {k0} {k1} {k2} {o0} {o1} {o2} {seen} {steps} event receipt cause.Spent h given answered kept unsent = absurd unsent
@@ -170,17 +171,17 @@ lane_unsent {g0} {g1} {g2} {d0} {d1} {d2} {k0} {k1} {k2} {o0} {o1} {o2} {seen} {
 lane_unsent {g0} {g1} {g2} {d0} {d1} {d2} {k0} {k1} {k2} {o0} {o1} {o2} {seen} {steps} event receipt cause.Outlet h given answered kept unsent = lane_refused event receipt unsent.0 h given answered kept unsent.1
 
 -- there are no more steps than events
-pub steps_within : {g0 g1 : Option (List (Option BookEvent))} {d0 d1 : Option (List Answered)} {k0 k1 : Option (List Receipt)} {o0 o1 : Option (List PutOut)} {seen steps : ℕ} → GoesOn g0 g1 d0 d1 k0 k1 o0 o1 seen steps → steps ≤ seen
+pub steps_within : {g0 g1 : Option (List (Option Work))} {d0 d1 : Option (List Answered)} {k0 k1 : ℕ → Option (List Receipt)} {o0 o1 : Option (List PutOut)} {seen steps : ℕ} → GoesOn g0 g1 d0 d1 k0 k1 o0 o1 seen steps → steps ≤ seen
 steps_within {g0} {g1} {d0} {d1} {k0} {k1} {o0} {o1} {seen} {steps} h = omega (arith, h.counts, h.length_is, steps_at_most h.answers)
 
 -- a step, and an event that was lost, do not say that the generation is spent
-pub step_unspent : (event : BookEvent) (receipt : Receipt) → IsUnspent (event, Ok receipt)
+pub step_unspent : (event : Work) (receipt : Receipt) → IsUnspent (event, Ok receipt)
 step_unspent event receipt e =
     let step : Result Receipt NotStepped = Ok receipt in
     let spent : Result Receipt NotStepped = Err GenerationSpent in
     let k : step ≡ spent = e in cc
 
-pub lost_unspent : (event : BookEvent) → IsUnspent (event, Err Memory)
+pub lost_unspent : (event : Work) → IsUnspent (event, Err Memory)
 lost_unspent event e =
     let lost : Result Receipt NotStepped = Err Memory in
     let spent : Result Receipt NotStepped = Err GenerationSpent in

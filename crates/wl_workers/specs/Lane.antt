@@ -1,10 +1,10 @@
 -- A lane: what it is given, what its desk answers and what it puts out belong together, up to its end.
-use Rattle.std.specs.Prelude.{◌≡◌, ◌≢◌, ◌⊎◌, ◌+◌, ℕ, List, [], ◌∷◌, ◌++◌, length, map, Option, None, Some, Result, Ok, Err}
+use Rattle.std.specs.Prelude.{◌≡◌, ◌≢◌, ◌⊎◌, ◌+◌, ◌==◌, ℕ, List, [], ◌∷◌, ◌++◌, length, map, Option, None, Some, Result, Ok, Err, if◌then◌else◌}
 use Rattle.std.specs.List.{AllByRecursion, flat_map}
 use Rattle.wl_frames.specs.declared.frame.Addressed.{Addressed}
 use Rattle.wl_frames.specs.declared.frame.Frame.{Frame}
 use Rattle.wl_frames.specs.declared.frame.Frame.TheVariants as frame
-use Rattle.wl_locked.specs.declared.event.BookEvent.{BookEvent}
+use Rattle.wl_locked.specs.declared.work.Work.{Work}
 use Rattle.wl_locked.specs.declared.event.Reply.{Reply}
 use Rattle.wl_locked.specs.declared.event.Reply.TheVariants.{Outs, Dropped}
 use Rattle.wl_locked.specs.declared.receipt.Receipt.{Receipt}
@@ -17,9 +17,9 @@ use Rattle.wl_workers.specs.declared.lanes.LaneEnd.{LaneEnd}
 use Rattle.wl_workers.specs.declared.lanes.TheConstants.{EVENT_LIMIT}
 use Rattle.wl_workers.specs.Told.{Grows}
 
--- an event with what the desk answered to it
+-- a work with what the desk answered to it
 abbrev pub Answered : Type 0
-Answered = BookEvent × Result Receipt NotStepped
+Answered = Work × Result Receipt NotStepped
 
 -- a frame with whether it was put out
 abbrev pub PutOut : Type 0
@@ -41,10 +41,10 @@ sent_by (event, Err e) = []
 abbrev pub all_put : List Frame → List PutOut
 all_put frames = map (λ f. (f, Ok tt)) frames
 
--- the receipt that an answer gives; an event that was no step has none
-abbrev pub receipt_in : Answered → List Receipt
-receipt_in (event, Ok receipt) = receipt ∷ []
-receipt_in (event, Err e) = []
+-- the receipt that an answer gives in a shard; an event that was no step, or one of another shard, has none there
+abbrev pub receipt_in : ℕ → Answered → List Receipt
+receipt_in shard (event, Ok receipt) = if event.shard == shard then receipt ∷ [] else []
+receipt_in shard (event, Err e) = []
 
 -- 1 where the event was a step
 abbrev pub step_of : Answered → ℕ
@@ -74,7 +74,7 @@ abbrev pub IsUnspent : Answered → Type 0
 IsUnspent (event, r) = r ≢ Err GenerationSpent
 
 -- what the intake gave behind the events
-abbrev pub last_given : Cause → List (Option BookEvent)
+abbrev pub last_given : Cause → List (Option Work)
 last_given cause.Ended = None ∷ []
 last_given cause.Spent = []
 last_given cause.Shut = []
@@ -92,36 +92,36 @@ EndsBy cause.Ended answers put = AllByRecursion IsUnspent answers × (put ≡ al
 -- the same, and the last event met a spent generation, or the lane had as many as it may
 EndsBy cause.Spent answers put =
     (put ≡ all_put (flat_map sent_by answers))
-    × (((front : List Answered) × (event : BookEvent) × EndsWith answers front (event, Err GenerationSpent))
+    × (((front : List Answered) × (event : Work) × EndsWith answers front (event, Err GenerationSpent))
     ⊎ (AllByRecursion IsUnspent answers × (length answers ≡ EVENT_LIMIT)))
 -- the last step was not let pass
 EndsBy cause.Shut answers put =
-    (front : List Answered) × (event : BookEvent) × (receipt : Receipt) × EndsWith answers front (event, Ok receipt) × (put ≡ all_put (flat_map sent_by front))
+    (front : List Answered) × (event : Work) × (receipt : Receipt) × EndsWith answers front (event, Ok receipt) × (put ≡ all_put (flat_map sent_by front))
 -- a frame of the last step was refused
 EndsBy cause.Outlet answers put =
-    (front : List Answered) × (event : BookEvent) × (receipt : Receipt) × EndsWith answers front (event, Ok receipt)
+    (front : List Answered) × (event : Work) × (receipt : Receipt) × EndsWith answers front (event, Ok receipt)
     × ((fault : OutletFault) × (some : List Frame) × (refused : Frame) × (rest : List Frame) × (frames_of receipt.reply ≡ some ++ refused ∷ rest)
     × (put ≡ all_put (flat_map sent_by front) ++ (all_put some ++ (refused, Err fault) ∷ [])))
 
--- the desk took the events that the intake gave, in order, each once, and kept the receipts that it answered, and what its
--- steps send was put out, in order, up to the end that is named
-pub record RunsLane (given_before given_after : Option (List (Option BookEvent))) (answered_before answered_after : Option (List Answered)) (kept_before kept_after : Option (List Receipt)) (put_before put_after : Option (List PutOut)) (end : LaneEnd) : Type 0 where
+-- the desk took the works that the intake gave, in order, each once, and kept the receipts that it answered, by their
+-- shards, and what its steps send was put out, in order, up to the end that is named
+pub record RunsLane (given_before given_after : Option (List (Option Work))) (answered_before answered_after : Option (List Answered)) (kept_before kept_after : ℕ → Option (List Receipt)) (put_before put_after : Option (List PutOut)) (end : LaneEnd) : Type 0 where
   pub answers : List Answered
   pub put : List PutOut
   pub given : Grows given_before given_after (map (λ a. Some a.0) answers ++ last_given end.why)
   pub answered : Grows answered_before answered_after answers
-  pub kept : Grows kept_before kept_after (flat_map receipt_in answers)
+  pub kept : (shard : ℕ) → Grows (kept_before shard) (kept_after shard) (flat_map (receipt_in shard) answers)
   pub put_out : Grows put_before put_after put
   pub steps : end.steps ≡ steps_of answers
   pub ends : EndsBy end.why answers put
 
 -- Only a helper: a lane that goes on
-pub record GoesOn (given_before given_now : Option (List (Option BookEvent))) (answered_before answered_now : Option (List Answered)) (kept_before kept_now : Option (List Receipt)) (put_before put_now : Option (List PutOut)) (seen steps : ℕ) : Type 0 where
+pub record GoesOn (given_before given_now : Option (List (Option Work))) (answered_before answered_now : Option (List Answered)) (kept_before kept_now : ℕ → Option (List Receipt)) (put_before put_now : Option (List PutOut)) (seen steps : ℕ) : Type 0 where
   pub answers : List Answered
   pub unspent : AllByRecursion IsUnspent answers
   pub given : Grows given_before given_now (map (λ a. Some a.0) answers)
   pub answered : Grows answered_before answered_now answers
-  pub kept : Grows kept_before kept_now (flat_map receipt_in answers)
+  pub kept : (shard : ℕ) → Grows (kept_before shard) (kept_now shard) (flat_map (receipt_in shard) answers)
   pub put_out : Grows put_before put_now (all_put (flat_map sent_by answers))
   pub counts : steps ≡ steps_of answers
   pub length_is : length answers ≡ seen

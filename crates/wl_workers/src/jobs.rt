@@ -1,58 +1,58 @@
 //! Lanes on threads of their own.
 
-ghost use Rattle.std.specs.Prelude.{◌<◌, ◌≤◌, length};
+ghost use Rattle.std.specs.Prelude.{◌≡◌, ◌<◌, ◌≤◌, length};
 ghost use Rattle.wl_locked.specs.declared.locked.TheConstants.{LANE_LIMIT};
-ghost use Rattle.wl_workers.specs.Jobs.{RunsJob, RunsJobs};
+ghost use Rattle.wl_workers.specs.Jobs.{DealTo, RunsJob, RunsJobs};
 
 use crate::lanes::{Desk, Gate, Intake, LaneEnd, Outlet, lane};
 use std::rt::Clock;
 use std::sync::Wait;
 use std::thread;
 use std::thread::Threads;
-use wl_locked::{BookEvent, Generation, Lane, LockedBroker, NotStepped, Receipt};
+use wl_locked::{NotStepped, Receipt, ShardLane, Sharded, Shards, Work};
 
 /// What a lane works with, and how it ended.
 #[derive(Drop)]
-pub struct Job<J: Generation, I, O> {
-    pub lane: Lane<J>,
+pub struct Job<J: Shards, I, O> {
+    pub lane: ShardLane<J>,
     pub intake: I,
     pub outlet: O,
     /// None until it was run.
     pub end: Option<LaneEnd>,
 }
 
-/// The desk of a lane: a locked broker, which steps for it.
+/// The desk of a lane: a broker in shards, which steps for it.
 #[derive(Drop)]
-struct LaneDesk<'a, J: Generation> {
-    broker: &'a LockedBroker<J>,
-    lane: &'a mut Lane<J>,
+struct LaneDesk<'a, J: Shards> {
+    broker: &'a Sharded<J>,
+    lane: &'a mut ShardLane<J>,
 }
 
-impl<'a, J: Generation> Desk for LaneDesk<'a, J> {
+impl<'a, J: Shards> Desk for LaneDesk<'a, J> {
     ghost use Rattle.std.specs.Prelude.{Some};
+    ghost use Rattle.wl_locked.specs.Sharding.{receipts_of};
 
-    ghost kept = { λ d. Some d.lane.now };
+    ghost kept = { λ d shard. Some (receipts_of shard d.lane.now) };
 
     ghost borrowed = { λ d. d.lane.ghost_name };
 
-    fn take_one<R: Wait + Clock>(
-        &mut self,
-        rt: &R,
-        event: BookEvent,
-    ) -> Result<Receipt, NotStepped> {
-        self.broker.take(rt, self.lane, event)
+    ghost shards = { λ _. J.run.shards };
+
+    fn take_one<R: Wait + Clock>(&mut self, rt: &R, work: Work) -> Result<Receipt, NotStepped> {
+        self.broker.take(rt, self.lane, work)
     }
 }
 
 /// Runs each job's lane to its end, on a thread of its own, and leaves in the job how it ended. It takes no memory.
 pub fn run_lanes<
-    J: Generation + Send + Sync,
+    J: Shards + Send + Sync,
     I: Intake + Send,
     O: Outlet + Send,
     G: Gate + Sync,
     R: Threads + Wait + Clock + Sync,
->(rt: &R, broker: &LockedBroker<J>, jobs: &mut [Job<J, I, O>], gate: &G)
-    requires { (0 < length jobs.old) × (length jobs.old ≤ LANE_LIMIT) }
+>(rt: &R, broker: &Sharded<J>, jobs: &mut [Job<J, I, O>], gate: &G)
+    requires count { (0 < length jobs.old) × (length jobs.old ≤ LANE_LIMIT) }
+    requires shards { DealTo I.shards J.run.shards jobs.old }
     // Each lane has the receipts of what its intake gave, and its outlet was given what they send.
     ensures { RunsJobs I.given O.put_out jobs.old jobs.new }
 {
@@ -62,20 +62,22 @@ pub fn run_lanes<
         jobs,
         threads,
         &|number: usize, job: &mut Job<J, I, O>|
-            requires { number < LANE_LIMIT }
+            requires number { number < LANE_LIMIT }
+            requires shards { I.shards job.old.intake ≡ J.run.shards }
             ensures { RunsJob I.given O.put_out job.old job.new }
         { run(rt, number as u16, broker, job, gate) },
     );
 }
 
 /// Runs one job's lane.
-fn run<J: Generation, I: Intake, O: Outlet, G: Gate, R: Wait + Clock>(
+fn run<J: Shards, I: Intake, O: Outlet, G: Gate, R: Wait + Clock>(
     rt: &R,
     number: u16,
-    broker: &LockedBroker<J>,
+    broker: &Sharded<J>,
     job: &mut Job<J, I, O>,
     gate: &G,
 )
+    requires { I.shards job.old.intake ≡ J.run.shards }
     ensures { RunsJob I.given O.put_out job.old job.new }
 {
     let mut desk = LaneDesk {

@@ -1,4 +1,4 @@
-//! A lane: one thread's part of a broker. It takes events from an intake, has the desk take them, and puts what the broker
+//! A lane: one thread's part of a broker. It takes works from an intake, has the desk take them, and puts what the broker
 //! sends out.
 
 ghost use Rattle.std.specs.Prelude.{◌≡◌, [], ◌∷◌, OnOk, IfErr};
@@ -10,47 +10,59 @@ use std::rt::Clock;
 use std::sync::Wait;
 use thiserror::Error;
 use wl_frames::{Addressed, Frame};
-use wl_locked::{BookEvent, NotStepped, Receipt, Reply};
+use wl_locked::{NotStepped, Receipt, Reply, Work};
 
 /// The most events that a lane takes.
 pub const EVENT_LIMIT: u32 = 1_000_000;
 
-/// Gives a lane its events, in order.
+/// Gives a lane its works, in order.
 pub trait Intake {
-    ghost use Rattle.std.specs.Prelude.{List, [], ◌∷◌, Option, None};
-    ghost use Rattle.wl_locked.specs.declared.event.BookEvent.{BookEvent};
+    ghost use Rattle.std.specs.Prelude.{◌≡◌, ℕ, List, [], ◌∷◌, Option, None, IfSome};
+    ghost use Rattle.wl_locked.specs.declared.work.Work.{Work};
+    ghost use Rattle.wl_locked.specs.Sharding.{IsDealt};
     ghost use Rattle.wl_workers.specs.Told.{Grows};
 
     /// What it gave at each call, None for an end, if it tells.
-    ghost given: { Self → Option (List (Option BookEvent)) } = { λ _. None };
+    ghost given: { Self → Option (List (Option Work)) } = { λ _. None };
 
-    /// The next event, or None where no more will come.
-    fn next<R: Wait + Clock>(&mut self, rt: &R) -> Option<BookEvent>
-        ensures { Grows (given self.old) (given self.new) (result ∷ []) };
+    /// To how many shards it deals.
+    ghost shards: { Self → ℕ };
+
+    /// The next work, or None where no more will come.
+    fn next<R: Wait + Clock>(&mut self, rt: &R) -> Option<Work>
+        ensures given { Grows (given self.old) (given self.new) (result ∷ []) }
+        ensures dealt { IfSome result (IsDealt (shards self.old)) }
+        ensures shards { shards self.new ≡ shards self.old };
 }
 
-/// Takes one event at a time, and answers with the receipt of the step.
+/// Takes one work at a time, and answers with the receipt of the step.
 pub trait Desk {
     ghost use Rattle.std.specs.Prelude.{◌≡◌, ℕ, List, [], ◌∷◌, Option, None, Result};
-    ghost use Rattle.wl_locked.specs.declared.event.BookEvent.{BookEvent};
+    ghost use Rattle.wl_locked.specs.declared.work.Work.{Work};
     ghost use Rattle.wl_locked.specs.declared.receipt.Receipt.{Receipt};
     ghost use Rattle.wl_locked.specs.declared.receipt.NotStepped.{NotStepped};
+    ghost use Rattle.wl_locked.specs.Sharding.{IsDealt};
     ghost use Rattle.wl_workers.specs.Told.{Grows};
     ghost use Rattle.wl_workers.specs.Lane.{receipt_in};
 
-    /// The events that it was handed, each with its answer, if it tells.
-    ghost answered: { Self → Option (List (BookEvent × Result Receipt NotStepped)) } = { λ _. None };
+    /// The works that it was handed, each with its answer, if it tells.
+    ghost answered: { Self → Option (List (Work × Result Receipt NotStepped)) } = { λ _. None };
 
-    /// The receipts that it keeps of its steps, if it tells.
-    ghost kept: { Self → Option (List Receipt) } = { λ _. None };
+    /// The receipts that it keeps of its steps in each shard, if it tells.
+    ghost kept: { Self → ℕ → Option (List Receipt) } = { λ _ _. None };
 
     /// What it keeps them in, by name, where it borrows that.
     ghost borrowed: { Self → ℕ } = { λ _. 0 };
 
-    fn take_one<R: Wait + Clock>(&mut self, rt: &R, event: BookEvent) -> Result<Receipt, NotStepped>
-        ensures answered { Grows (answered self.old) (answered self.new) ((event, result) ∷ []) }
-        ensures kept { Grows (kept self.old) (kept self.new) (receipt_in (event, result)) }
-        ensures borrowed { borrowed self.new ≡ borrowed self.old };
+    /// How many shards it has.
+    ghost shards: { Self → ℕ };
+
+    fn take_one<R: Wait + Clock>(&mut self, rt: &R, work: Work) -> Result<Receipt, NotStepped>
+        requires { IsDealt (shards self.old) work }
+        ensures answered { Grows (answered self.old) (answered self.new) ((work, result) ∷ []) }
+        ensures kept { (shard : ℕ) → Grows (kept self.old shard) (kept self.new shard) (receipt_in shard (work, result)) }
+        ensures borrowed { borrowed self.new ≡ borrowed self.old }
+        ensures shards { shards self.new ≡ shards self.old };
 }
 
 /// Stands between a step and what is sent for it. Several lanes call one gate.
@@ -180,6 +192,7 @@ pub fn lane<R: Wait + Clock, I: Intake, D: Desk, G: Gate, O: Outlet>(
     gate: &G,
     outlet: &mut O,
 ) -> LaneEnd
+    requires { I.shards intake.old ≡ D.shards desk.old }
     ensures runs { RunsLane (I.given intake.old) (I.given intake.new) (D.answered desk.old) (D.answered desk.new)
         (D.kept desk.old) (D.kept desk.new) (O.put_out outlet.old) (O.put_out outlet.new) result }
     ensures borrowed { D.borrowed desk.new ≡ D.borrowed desk.old }

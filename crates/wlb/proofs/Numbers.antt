@@ -7,7 +7,9 @@ use Rattle.clap.specs.Values.{IsSignedIn}
 use Rattle.clap.specs.Walk.{Row, Text, one_of}
 use Rattle.clap.specs.Words.{without_minus}
 use Rattle.clap.proofs.CallerReads.{signed_reads}
-use Rattle.wlb.specs.declared.command.TheConstants.{LANE_LIMIT, SHARD_LIMIT, STEP_LIMIT}
+use Rattle.wl_locked.specs.declared.locked.TheConstants.{LANE_LIMIT}
+use Rattle.wl_locked.specs.declared.shards.TheConstants.{SHARD_LIMIT}
+use Rattle.wlb.specs.declared.command.TheConstants.{STEP_LIMIT}
 use Rattle.wlb.specs.Words.{GivesNumber, GivesSize, HasNumber, HasSize, IsSizeInRange}
 
 -- what `get_one` reads of a number that is given

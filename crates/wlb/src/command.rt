@@ -5,12 +5,6 @@ ghost use Rattle.wlb.specs.declared.command.LineFault.TheVariants.{Memory as mem
 
 use std::alloc::AllocError;
 
-/// How many lanes a broker has at most.
-pub const LANE_LIMIT: u16 = 16;
-
-/// How many shards a broker has at most.
-pub const SHARD_LIMIT: u16 = 1;
-
 /// How many steps a generation has in a shard at most.
 pub const STEP_LIMIT: u32 = 65_536;
 

@@ -3,15 +3,18 @@
 ghost use Rattle.std.specs.Prelude.{◌≡◌, ◌≢◌, [], codes, map, IfOk, IfErr, Some};
 ghost use Rattle.std.specs.Option.{ForSome};
 ghost use Rattle.std.specs.String.{string_bytes};
+ghost use Rattle.wl_locked.specs.declared.locked.TheConstants.{LANE_LIMIT};
+ghost use Rattle.wl_locked.specs.declared.shards.TheConstants.{SHARD_LIMIT};
 ghost use Rattle.clap.specs.Words.{App, app_of, fault_of, kind_of, new_app, subcommand_rows_of};
 ghost use Rattle.wlb.specs.Words.{broker_command, command_line, kernel_command, number_option, placed, tab_command, text_option, up_to, values_of, with_size};
 ghost use Rattle.wlb.specs.Words.{GivesAll, GivesNumber, GivesSize, GivesText, HasGrammar, HasNumber, HasRule, HasText, IsCommand, IsInRange, IsMeant, Means};
 
-use crate::command::{LANE_LIMIT, Line, LineFault, SHARD_LIMIT, STEP_LIMIT};
+use crate::command::{Line, LineFault, STEP_LIMIT};
 use clap::builder::ValueParser;
 use clap::error::ErrorKind;
 use clap::{Arg, ArgMatches, Command, value_parser};
 use std::alloc::{AllocError, Global};
+use wl_locked::{LANE_LIMIT, SHARD_LIMIT};
 
 /// Reads the words, the program's name first. With none behind it the desk is meant.
 pub fn line(alloc: Global, words: &[String]) -> Result<Line, LineFault>
@@ -118,7 +121,7 @@ fn shards<'a>(alloc: Global) -> Arg<'a>
 {
     let numbers = value_parser!(u16).range(1..=i64::from(SHARD_LIMIT));
     number_option(alloc, "shards", "S", numbers).help(
-        "How many shards the broker's locks are kept in: 1",
+        "How many shards the broker's locks are kept in: 1 to 16",
     )
 }
 

@@ -7,7 +7,7 @@ use std::test::Fail;
 use wl_frames::{
     Addressed, Answer, Command, Dead, Downward, Entry, Feed, Frame, FrameFault, Heard, Hello, Mode,
     Name, Operation, Origin, Outcome, PairWelcome, Post, PushFault, Report, ReportPart, Sequence,
-    Snapshot, SnapshotEntry, Stamped, Start, Upward, encode,
+    Snapshot, SnapshotEntry, Stamped, Start, Upward, encode, encode_into,
 };
 
 /// The command 0 of generation 1: the lock `a` is requested, exclusive.
@@ -216,6 +216,32 @@ fn frames_of_each_kind(rt: HostRuntime) -> Result<(), Fail> {
         for frame in &frames {
             expect_example(&rt, rt.alloc(), frame, bytes)?;
         }
+    }
+    Ok(())
+}
+
+/// Appends the encoding, and once more where memory was refused, since the bytes are as they were then.
+fn append(rt: &impl Abort, bytes: &mut Vec<u8>, frame: &Frame) -> Result<(), Fail> {
+    assert!(rt; frame.is_well_formed());
+    let before = bytes.len();
+    if encode_into(bytes, frame).is_err() {
+        assert_eq!(rt; bytes.len(), before);
+        encode_into(bytes, frame)?;
+    }
+    Ok(())
+}
+
+#[test]
+fn frames_behind_each_other(rt: HostRuntime) -> Result<(), Fail> {
+    let mut bytes = Vec::new(rt.alloc());
+    let mut expected = Vec::new(rt.alloc());
+    for example in EXAMPLES.iter() {
+        let mut feed = Feed::new(rt.alloc());
+        for frame in &pushed(&rt, &mut feed, example) {
+            append(&rt, &mut bytes, frame)?;
+        }
+        expected.extend_from_slice(example)?;
+        assert!(rt; bytes.as_slice() == expected.as_slice());
     }
     Ok(())
 }

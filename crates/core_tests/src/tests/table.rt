@@ -1,5 +1,6 @@
-//! Both lock tables side by side: whatever is called, they answer the same, and their snapshots agree. A call that is refused
-//! for memory is made again, once the indexed table was seen to be as before.
+//! Both lock tables side by side: whatever is called, they answer the same, and their snapshots agree. In the worked rows a call
+//! that is refused for memory is made again, once the table was seen to be as before, and then gives the row's answer: so each
+//! growth of each call can be refused in its turn (`rt try --test --fail-alloc 1..`), and the rows pass.
 
 use std::alloc::{AllocError, Global};
 use std::process::Abort;
@@ -129,6 +130,51 @@ fn rows_of<T: LockTable>(table: &T) -> Result<(Vec<Row>, Vec<Row>), AllocError> 
     }
 }
 
+/// How many pairs are looked at for a table's content, and how many numbers of a client.
+const SEEN_PAIRS: usize = 15;
+
+const SEEN_NUMBERS: u16 = 3;
+
+/// The content of a table: its snapshot, and what it answers of some pairs.
+#[derive(Drop, PartialEq, Eq)]
+struct Content {
+    held: Vec<Row>,
+    waiting: Vec<Row>,
+    pairs: [Seen; SEEN_PAIRS],
+}
+
+fn content_of<T: LockTable>(table: &T) -> Result<Content, AllocError> {
+    let (held, waiting) = rows_of(table)?;
+    let mut pairs = [(Standing::Absent, false, 0, 0); SEEN_PAIRS];
+    for (place, pair) in (0..=u16::MAX).zip(pairs.iter_mut()) {
+        *pair = seen(table, place / SEEN_NUMBERS, u32::from(place % SEEN_NUMBERS));
+    }
+    Ok(Content {
+        held,
+        waiting,
+        pairs,
+    })
+}
+
+/// Makes a call. Where memory is refused the content is as before, and the call is made again.
+fn make_again<T: LockTable>(
+    rt: &impl Abort,
+    alloc: Global,
+    table: &mut T,
+    client: u16,
+    number: u32,
+    call: Call<'_>,
+) -> Result<Vec<Grant>, AllocError> {
+    let before = content_of(table)?;
+    match make(alloc, table, client, number, call) {
+        Err(_) => {
+            assert!(rt; content_of(table)? == before, "{client} {number}");
+            make(alloc, table, client, number, call)
+        }
+        answer => answer,
+    }
+}
+
 /// A plain table and an indexed one, which get the same calls.
 #[derive(Drop)]
 struct Both {
@@ -146,35 +192,6 @@ impl Both {
         }
     }
 
-    /// Makes a call on the indexed table. The plain one has not had it yet, so it says how a table is that refused it.
-    fn make_indexed(
-        &mut self,
-        rt: &impl Abort,
-        client: u16,
-        number: u32,
-        call: Call<'_>,
-    ) -> Result<Vec<Grant>, AllocError> {
-        match make(self.alloc, &mut self.indexed, client, number, call) {
-            Err(_) => {
-                self.compare(rt)?;
-                make(self.alloc, &mut self.indexed, client, number, call)
-            }
-            answer => answer,
-        }
-    }
-
-    fn make_plain(
-        &mut self,
-        client: u16,
-        number: u32,
-        call: Call<'_>,
-    ) -> Result<Vec<Grant>, AllocError> {
-        match make(self.alloc, &mut self.plain, client, number, call) {
-            Err(_) => make(self.alloc, &mut self.plain, client, number, call),
-            answer => answer,
-        }
-    }
-
     /// Makes a call on both, and answers what they granted.
     fn make(
         &mut self,
@@ -183,8 +200,23 @@ impl Both {
         number: u32,
         call: Call<'_>,
     ) -> Result<Vec<Grant>, AllocError> {
-        let indexed = self.make_indexed(rt, client, number, call)?;
-        let plain = self.make_plain(client, number, call)?;
+        let indexed = make(self.alloc, &mut self.indexed, client, number, call)?;
+        let plain = make(self.alloc, &mut self.plain, client, number, call)?;
+        assert_eq!(rt; plain.as_slice(), indexed.as_slice());
+        Ok(indexed)
+    }
+
+    /// The same, where memory may be refused.
+    fn make_again(
+        &mut self,
+        rt: &impl Abort,
+        client: u16,
+        number: u32,
+        call: Call<'_>,
+    ) -> Result<Vec<Grant>, AllocError> {
+        let alloc = self.alloc;
+        let indexed = make_again(rt, alloc, &mut self.indexed, client, number, call)?;
+        let plain = make_again(rt, alloc, &mut self.plain, client, number, call)?;
         assert_eq!(rt; plain.as_slice(), indexed.as_slice());
         Ok(indexed)
     }
@@ -209,7 +241,7 @@ impl Both {
     fn step(&mut self, rt: &impl Abort, step: Step<'_>) -> Result<(), AllocError> {
         match step {
             Step::Make(client, number, call, pairs) => {
-                let granted = self.make(rt, client, number, call)?;
+                let granted = self.make_again(rt, client, number, call)?;
                 assert!(rt; are(granted.as_slice(), pairs), "{client} {number}");
                 self.look(rt, client, number);
             }

@@ -1,13 +1,15 @@
-//! Lanes on threads of their own, over one broker behind its lock. Where memory is refused there is no run, or an event is
+//! Lanes on threads of their own, over a broker in shards, each behind its lock. Where memory is refused there is no run, or an event is
 //! lost; then the same is done again: so these tests pass whichever allocation is refused.
 
 ghost use Rattle.std.specs.Prelude.{◌≡◌, ◌<◌, ◌≤◌, []};
 ghost use Rattle.wl_broker.specs.Broker.{started};
+ghost use Rattle.wl_locked.specs.Blanks.{HaveParts, AreNamed};
 ghost use Rattle.wl_locked.specs.declared.locked.TheConstants.{LANE_LIMIT};
+ghost use Rattle.wl_locked.specs.declared.shards.TheConstants.{SHARD_LIMIT};
 
 use std::alloc::{AllocError, Global};
 use std::collections::VecDeque;
-use std::marker::Brand;
+use std::marker::{Brand, Model, PhantomData};
 use std::process::Abort;
 use std::rt::Clock;
 use std::sync::ledger::Blank;
@@ -22,46 +24,53 @@ use wl_frames::{
     Stamped, Upward,
 };
 use wl_locked::{
-    BookEvent, CloseFault, Generation, History, LANE_LIMIT, LockedBroker, NotStepped, Receipt,
-    Reply,
+    Blanks, BookEvent, CloseFault, Generation, History, LANE_LIMIT, LockedBroker, NotStepped,
+    Receipt, Reply, SHARD_LIMIT, ShardLane, Sharded, Shards, Work, deal,
 };
 use wl_table::IndexedTable;
-use wl_workers::{
-    Cause, Desk, EVENT_LIMIT, Gate, Intake, Job, LaneEnd, Outlet, OutletFault, lane, run_lanes,
-};
+use wl_workers::{Cause, Gate, Intake, Job, LaneEnd, Outlet, OutletFault, run_lanes};
 
-type Events = VecDeque<BookEvent>;
+pub(super) type Events = VecDeque<BookEvent>;
 
 // ---- events
 
-fn said(tab: u16, inner: Upward) -> BookEvent {
+/// What a tab of a partition says.
+fn said_in(partition: u16, tab: u16, inner: Upward) -> BookEvent {
     BookEvent::Take(Stamped {
         tab,
-        partition: 1,
+        partition,
         inner,
     })
 }
 
-/// A tab's first report.
-fn report(alloc: Global, tab: u16) -> BookEvent {
+/// A tab's first report, in a partition.
+pub(super) fn report_in(alloc: Global, partition: u16, tab: u16) -> BookEvent {
     let report = Report {
         generation: 1,
         base: 0,
         entries: Sequence::new(Vec::new(alloc)),
     };
-    said(tab, Upward::Report(report))
+    said_in(partition, tab, Upward::Report(report))
 }
 
-fn command(tab: u16, number: u32, operation: Operation) -> BookEvent {
+fn report(alloc: Global, tab: u16) -> BookEvent {
+    report_in(alloc, 1, tab)
+}
+
+pub(super) fn command_in(partition: u16, tab: u16, number: u32, operation: Operation) -> BookEvent {
     let command = Command {
         generation: 1,
         number,
         operation,
     };
-    said(tab, Upward::Command(command))
+    said_in(partition, tab, Upward::Command(command))
 }
 
-fn request(
+fn command(tab: u16, number: u32, operation: Operation) -> BookEvent {
+    command_in(1, tab, number, operation)
+}
+
+pub(super) fn request(
     alloc: Global,
     mode: Mode,
     if_available: bool,
@@ -90,25 +99,57 @@ fn handing_over(alloc: Global, tab: u16, times: u32) -> Result<Events, AllocErro
 
 // ---- neighbours of a lane
 
-/// Gives what stands in a list.
+/// Gives what stands in a list, up to what is not dealt to so many shards. Contracts see it as the number of shards.
 #[derive(Drop)]
-struct Script {
-    events: Events,
+struct Script<J: Shards> {
+    shards: u16,
+    works: VecDeque<Work>,
     given: u32,
+    of: PhantomData<J>,
 }
 
-impl Intake for Script {
-    fn next<R: Wait + Clock>(&mut self, _rt: &R) -> Option<BookEvent> {
-        let event = self.events.pop_front()?;
+impl<J: Shards> Model for Script<J> {
+    ghost use Rattle.std.specs.Prelude.{◌≡◌, ℕ};
+
+    ghost Value = { ℕ };
+
+    ghost view = { λ s. s.shards };
+
+    ghost invariant = { λ s. s.shards ≡ J.run.shards };
+}
+
+impl<J: Shards> Intake for Script<J> {
+    ghost shards = { λ _. J.run.shards };
+
+    fn next<R: Wait + Clock>(&mut self, _rt: &R) -> Option<Work> {
+        let work = self.works.pop_front()?;
+        if !work.is_dealt(self.shards) {
+            return None;
+        }
         self.given = self.given.wrapping_add(1);
-        Some(event)
+        Some(work)
     }
+}
+
+/// The works of these events over so many shards.
+pub(super) fn dealt(
+    alloc: Global,
+    shards: u16,
+    events: Events,
+) -> Result<VecDeque<Work>, AllocError>
+    requires { 0 < shards }
+{
+    let mut works = Vec::new(alloc);
+    for event in events {
+        deal(&mut works, shards, event)?;
+    }
+    works.into_iter().collect::<VecDeque<Work>>(alloc)
 }
 
 /// Counts frames.
 #[derive(Drop)]
-struct Counter {
-    frames: u32,
+pub(super) struct Counter {
+    pub(super) frames: u32,
 }
 
 impl Outlet for Counter {
@@ -120,7 +161,7 @@ impl Outlet for Counter {
 
 /// Lets every step pass.
 #[derive(Drop)]
-struct Open;
+pub(super) struct Open;
 
 impl Gate for Open {
     fn pass<R: Wait + Clock>(&self, _rt: &R, _lane: u16) -> bool {
@@ -217,7 +258,7 @@ fn steps_used_up(rt: HostRuntime) {
 }
 
 /// That tab 1 has its first lock.
-fn granted(alloc: Global) -> Result<Reply, AllocError> {
+pub(super) fn granted(alloc: Global) -> Result<Reply, AllocError> {
     let mut outs = Vec::new(alloc);
     outs.push(Addressed {
         tab: 1,
@@ -265,61 +306,131 @@ fn one_lane_of_four_steps(rt: HostRuntime) {
 
 // ---- lanes on threads
 
-/// How the lanes ended, and the history.
+/// How the lanes ended, and the histories.
 #[derive(Drop)]
-struct Ran {
-    ends: Vec<LaneEnd>,
-    closed: Result<History, CloseFault>,
+pub(super) struct Ran {
+    pub(super) ends: Vec<LaneEnd>,
+    pub(super) closed: Result<Vec<History>, (u16, CloseFault)>,
 }
 
 /// Which lanes are there at the close.
 #[derive(Clone, Copy, PartialEq, Eq)]
-enum Handed {
+pub(super) enum Handed {
     All,
-    AllButOne,
+    /// The first one alone.
+    First,
 }
 
-/// Runs a lane for each list of events, up to 16. No tab is listed.
-fn run_named<J: Generation + Send + Sync, G: Gate + Sync, R: Threads + Wait + Clock + Abort + Sync>(
+/// A job for a lane, with the works that it has.
+fn job_of<J: Shards>(
+    lane: ShardLane<J>,
+    shards: u16,
+    works: VecDeque<Work>,
+) -> Job<J, Script<J>, Counter>
+    requires { shards ≡ J.run.shards }
+{
+    Job {
+        lane,
+        intake: Script {
+            shards,
+            works,
+            given: 0,
+            of: PhantomData::<J>,
+        },
+        outlet: Counter { frames: 0 },
+        end: None,
+    }
+}
+
+/// A job for each lane that has a list of works.
+fn jobs_of<J: Shards>(
+    alloc: Global,
+    lanes: Vec<ShardLane<J>>,
+    shards: u16,
+    scripts: Vec<VecDeque<Work>>,
+) -> Result<Vec<Job<J, Script<J>, Counter>>, AllocError>
+    requires { shards ≡ J.run.shards }
+{
+    lanes
+        .into_iter()
+        .zip(scripts)
+        .map(
+            |(lane, works): (ShardLane<J>, VecDeque<Work>)|
+                requires { shards ≡ J.run.shards }
+            { job_of(lane, shards, works) },
+        )
+        .collect::<Vec<Job<J, Script<J>, Counter>>>(alloc)
+}
+
+/// Runs jobs: one at least, and as many as a broker has lanes at most.
+fn run_jobs<J: Shards + Send + Sync, G: Gate + Sync, R: Threads + Wait + Clock + Abort + Sync>(
+    rt: &R,
+    broker: &Sharded<J>,
+    jobs: &mut [Job<J, Script<J>, Counter>],
+    gate: &G,
+) {
+    assert!(rt; !jobs.is_empty() && jobs.len() <= usize::from(LANE_LIMIT));
+    run_lanes(rt, broker, jobs, gate);
+}
+
+/// How a job that was run ended. A work that is lost is for want of memory.
+fn end_of<J: Shards, R: Abort>(
+    rt: &R,
+    job: &Job<J, Script<J>, Counter>,
+) -> Result<LaneEnd, AllocError> {
+    let end = job.end.expect(rt, "it was run");
+    if end.why == Cause::Ended && end.steps < job.intake.given {
+        return Err(AllocError);
+    }
+    Ok(end)
+}
+
+fn ends_of<J: Shards, R: Abort>(
     rt: &R,
     alloc: Global,
-    blank: Blank,
+    jobs: &[Job<J, Script<J>, Counter>],
+) -> Result<Vec<LaneEnd>, AllocError> {
+    let mut ends = Vec::new(alloc);
+    for job in jobs {
+        ends.push(end_of(rt, job)?)?;
+    }
+    Ok(ends)
+}
+
+fn lanes_of<J: Shards>(
+    alloc: Global,
+    jobs: Vec<Job<J, Script<J>, Counter>>,
+) -> Result<Vec<ShardLane<J>>, AllocError> {
+    jobs.into_iter()
+        .map(|job: Job<J, Script<J>, Counter>| job.lane)
+        .collect::<Vec<ShardLane<J>>>(alloc)
+}
+
+/// Runs a lane for each list of works, up to 16. No tab is listed.
+fn run_named<J: Shards + Send + Sync, G: Gate + Sync, R: Threads + Wait + Clock + Abort + Sync>(
+    rt: &R,
+    alloc: Global,
+    blanks: Blanks,
     lanes: u16,
+    shards: u16,
     limit: u32,
-    scripts: Vec<Events>,
+    scripts: Vec<VecDeque<Work>>,
     gate: &G,
     handed: Handed,
 ) -> Result<Ran, AllocError>
-    requires name { blank.name ≡ J.name }
-    requires parts { (blank.parts ≡ J.parts) × (J.parts ≡ lanes) }
+    requires names { AreNamed J.names blanks }
+    requires parts { HaveParts lanes blanks }
     requires lanes { (0 < lanes) × (lanes ≤ LANE_LIMIT) }
-    requires opening { J.opening ≡ started 1 [] }
-    requires limit { J.limit ≡ limit }
+    requires shards { (0 < shards) × (shards ≤ SHARD_LIMIT) }
+    requires run { J.run ≡ record { generation = 1; listed = []; shards = shards; lanes = lanes; limit = limit } }
 {
-    let (broker, lanes, _hellos) = LockedBroker::<J>::new(alloc, blank, 1, &[], limit, lanes)?;
-    let mut jobs = Vec::new(alloc);
-    for (lane, events) in lanes.into_iter().zip(scripts) {
-        jobs.push(Job {
-            lane,
-            intake: Script { events, given: 0 },
-            outlet: Counter { frames: 0 },
-            end: None,
-        })?;
-    }
-    assert!(rt; !jobs.is_empty() && jobs.len() <= usize::from(LANE_LIMIT));
-    run_lanes(rt, &broker, jobs.as_mut_slice(), gate);
-    let mut ends = Vec::new(alloc);
-    let mut lanes = Vec::new(alloc);
-    for job in jobs {
-        let end = job.end.expect(rt, "it was run");
-        if end.why == Cause::Ended && end.steps < job.intake.given {
-            return Err(AllocError);
-        }
-        ends.push(end)?;
-        lanes.push(job.lane)?;
-    }
-    if handed == Handed::AllButOne {
-        let _left_out = lanes.pop();
+    let (broker, lanes, _hellos) = Sharded::<J>::new(alloc, blanks, 1, &[], limit, lanes, shards)?;
+    let mut jobs = jobs_of(alloc, lanes, shards, scripts)?;
+    run_jobs(rt, &broker, jobs.as_mut_slice(), gate);
+    let ends = ends_of(rt, alloc, jobs.as_slice())?;
+    let mut lanes = lanes_of(alloc, jobs)?;
+    if handed == Handed::First {
+        lanes.truncate(1);
     }
     Ok(Ran {
         ends,
@@ -327,7 +438,26 @@ fn run_named<J: Generation + Send + Sync, G: Gate + Sync, R: Threads + Wait + Cl
     })
 }
 
-/// The same, with a lane for each list. An event that is lost is for want of memory.
+/// The same, with a lane for each list.
+pub(super) fn run_over<G: Gate + Sync, R: Threads + Wait + Clock + Abort + Sync>(
+    rt: &R,
+    alloc: Global,
+    shards: u16,
+    limit: u32,
+    scripts: Vec<VecDeque<Work>>,
+    gate: &G,
+    handed: Handed,
+) -> Result<Ran, AllocError> {
+    let lanes = u16::try_from(scripts.len()).expect(rt, "few lanes");
+    assert!(rt; 0 < lanes && lanes <= LANE_LIMIT);
+    assert!(rt; 0 < shards && shards <= SHARD_LIMIT);
+    let blanks = Blanks::new(u64::from(lanes));
+    run_named::<Brand, G, R>(
+        rt, alloc, blanks, lanes, shards, limit, scripts, gate, handed,
+    )
+}
+
+/// The same over one shard.
 fn run_all<G: Gate + Sync, R: Threads + Wait + Clock + Abort + Sync>(
     rt: &R,
     alloc: Global,
@@ -336,13 +466,21 @@ fn run_all<G: Gate + Sync, R: Threads + Wait + Clock + Abort + Sync>(
     gate: &G,
     handed: Handed,
 ) -> Result<Ran, AllocError> {
-    let lanes = u16::try_from(scripts.len()).expect(rt, "few lanes");
-    assert!(rt; 0 < lanes && lanes <= LANE_LIMIT);
-    let blank = Blank::new(u64::from(lanes));
-    run_named::<Brand, G, R>(rt, alloc, blank, lanes, limit, scripts, gate, handed)
+    let mut all = Vec::new(alloc);
+    for events in scripts {
+        all.push(dealt(alloc, 1, events)?)?;
+    }
+    run_over(rt, alloc, 1, limit, all, gate, handed)
 }
 
-fn ended(steps: u32) -> LaneEnd {
+/// The history of the only shard.
+fn only<R: Abort>(rt: &R, closed: Result<Vec<History>, (u16, CloseFault)>) -> History {
+    let mut histories = closed.expect(rt, "the steps of all lanes");
+    assert_eq!(rt; histories.len(), 1);
+    histories.pop().expect(rt, "one shard")
+}
+
+pub(super) fn ended(steps: u32) -> LaneEnd {
     LaneEnd {
         steps,
         why: Cause::Ended,
@@ -358,7 +496,7 @@ fn run_two<R: Threads + Wait + Clock + Abort + Sync>(
     scripts.push(handing_over(alloc, 2, 50)?)?;
     let ran = run_all(rt, alloc, 202, scripts, &Open, Handed::All)?;
     assert_eq!(rt; ran.ends.as_slice(), [ended(101), ended(101)].as_slice());
-    let history = ran.closed.expect(rt, "the steps of both lanes");
+    let history = only(rt, ran.closed);
     assert_eq!(rt; history.steps().len(), 202);
     Ok(())
 }
@@ -378,9 +516,9 @@ fn leave_out<R: Threads + Wait + Clock + Abort + Sync>(
     let mut scripts = Vec::new(alloc);
     scripts.push(handing_over(alloc, 1, 0)?)?;
     scripts.push(handing_over(alloc, 2, 0)?)?;
-    let ran = run_all(rt, alloc, 9, scripts, &Open, Handed::AllButOne)?;
+    let ran = run_all(rt, alloc, 9, scripts, &Open, Handed::First)?;
     assert_eq!(rt; ran.ends.as_slice(), [ended(1), ended(1)].as_slice());
-    assert_eq!(rt; ran.closed.err(), Some(CloseFault::WrongCount));
+    assert_eq!(rt; ran.closed.err(), Some((0, CloseFault::WrongCount)));
     Ok(())
 }
 
@@ -475,20 +613,26 @@ impl Gate for Turnstile {
     }
 }
 
-/// Lane 0 has a report, and lane 1 another one twice.
+/// Lane 0 has a report, and lane 1 another one twice, each of a partition of its own.
 fn run_gated<R: Threads + Wait + Clock + Abort + Sync>(
     rt: &R,
     alloc: Global,
-) -> Result<(), AllocError> {
-    let mut twice = handing_over(alloc, 2, 0)?;
-    twice.push_back(report(alloc, 2))?;
+    shards: u16,
+) -> Result<(), AllocError>
+    requires { 0 < shards }
+{
+    let mut once = VecDeque::new(alloc);
+    once.push_back(report_in(alloc, 1, 1))?;
+    let mut twice = VecDeque::new(alloc);
+    twice.push_back(report_in(alloc, 2, 2))?;
+    twice.push_back(report_in(alloc, 2, 2))?;
     let mut scripts = Vec::new(alloc);
-    scripts.push(handing_over(alloc, 1, 0)?)?;
-    scripts.push(twice)?;
+    scripts.push(dealt(alloc, shards, once)?)?;
+    scripts.push(dealt(alloc, shards, twice)?)?;
     let gate = Turnstile {
         seen: Mutex::new(Seen::new()),
     };
-    let ran = run_all(rt, alloc, 3, scripts, &gate, Handed::All)?;
+    let ran = run_over(rt, alloc, shards, 3, scripts, &gate, Handed::All)?;
     assert_eq!(rt; ran.ends.as_slice(), [ended(1), ended(2)].as_slice());
     assert!(rt; ran.closed.is_ok());
     let seen = gate.seen.into_inner();
@@ -502,8 +646,16 @@ fn run_gated<R: Threads + Wait + Clock + Abort + Sync>(
 #[test]
 fn two_lanes_at_the_same_time(rt: HostRuntime) {
     let alloc = rt.alloc();
-    if run_gated(&rt, alloc).is_err() {
-        run_gated(&rt, alloc).expect(&rt, "memory is back");
+    if run_gated(&rt, alloc, 1).is_err() {
+        run_gated(&rt, alloc, 1).expect(&rt, "memory is back");
+    }
+}
+
+#[test]
+fn two_lanes_at_the_same_time_over_two_shards(rt: HostRuntime) {
+    let alloc = rt.alloc();
+    if run_gated(&rt, alloc, 2).is_err() {
+        run_gated(&rt, alloc, 2).expect(&rt, "memory is back");
     }
 }
 
@@ -512,7 +664,11 @@ fn two_lanes_at_the_same_time(rt: HostRuntime) {
 /// How many commands each tab has.
 const COMMANDS: u32 = 80;
 
-fn random_operation(dice: &mut Dice, alloc: Global, number: u32) -> Result<Operation, AllocError> {
+pub(super) fn random_operation(
+    dice: &mut Dice,
+    alloc: Global,
+    number: u32,
+) -> Result<Operation, AllocError> {
     let earlier = u32::try_from(dice.below(u64::from(number))).unwrap_or(0);
     match dice.below(8) {
         0..=3 => {
@@ -549,7 +705,10 @@ fn random_events(dice: &mut Dice, alloc: Global, tab: u16) -> Result<Events, All
 }
 
 /// What a broker that no other thread has answers to an event.
-fn answer(broker: &mut Broker<IndexedTable>, event: &BookEvent) -> Result<Reply, AllocError> {
+pub(super) fn answer(
+    broker: &mut Broker<IndexedTable>,
+    event: &BookEvent,
+) -> Result<Reply, AllocError> {
     match event {
         BookEvent::Take(stamped) => match broker.take(stamped) {
             Ok(outs) => Ok(Reply::Outs(outs)),
@@ -574,7 +733,7 @@ fn run_sixteen<R: Threads + Wait + Clock + Abort + Sync>(
     }
     let ran = run_all(rt, alloc, 2_000, scripts, &Open, Handed::All)?;
     assert!(rt; ran.ends.iter().all(|end| end.why == Cause::Ended));
-    let history = ran.closed.expect(rt, "the steps of all lanes");
+    let history = only(rt, ran.closed);
     assert_eq!(rt; history.steps().len(), given);
     let (mut broker, _hellos) = Broker::<IndexedTable>::start(alloc, 1, &[])?;
     for step in history.steps() {
@@ -589,107 +748,5 @@ fn sixteen_lanes_replay_as_one(rt: HostRuntime) {
     let alloc = rt.alloc();
     if run_sixteen(&rt, alloc).is_err() {
         run_sixteen(&rt, alloc).expect(&rt, "memory is back");
-    }
-}
-
-// ---- how a lane ends
-
-/// Gives deaths without an end.
-#[derive(Drop)]
-struct Endless {
-    given: u32,
-}
-
-impl Intake for Endless {
-    fn next<R: Wait + Clock>(&mut self, _rt: &R) -> Option<BookEvent> {
-        self.given = self.given.wrapping_add(1);
-        Some(BookEvent::Dead(1))
-    }
-}
-
-/// Answers what stands in a list, and then that memory is refused.
-#[derive(Drop)]
-struct Answers {
-    left: VecDeque<Result<Receipt, NotStepped>>,
-}
-
-impl Desk for Answers {
-    fn take_one<R: Wait + Clock>(
-        &mut self,
-        _rt: &R,
-        _event: BookEvent,
-    ) -> Result<Receipt, NotStepped> {
-        self.left.pop_front().unwrap_or(Err(NotStepped::Memory))
-    }
-}
-
-/// Lets no step pass.
-#[derive(Drop)]
-struct Shut;
-
-impl Gate for Shut {
-    fn pass<R: Wait + Clock>(&self, _rt: &R, _lane: u16) -> bool {
-        false
-    }
-
-    fn answered<R: Wait + Clock>(&self, _rt: &R, _lane: u16) {}
-}
-
-/// Refuses each frame.
-#[derive(Drop)]
-struct Refusing;
-
-impl Outlet for Refusing {
-    fn put<R: Wait + Clock>(&mut self, _rt: &R, _frame: &Frame) -> Result<(), OutletFault> {
-        Err(OutletFault::Write)
-    }
-}
-
-/// Memory is refused once, and then tab 1 has a lock.
-fn lost_and_granted(alloc: Global) -> Result<Answers, AllocError> {
-    let mut left = VecDeque::new(alloc);
-    left.push_back(Err(NotStepped::Memory))?;
-    left.push_back(Ok(Receipt {
-        place: 0,
-        event: BookEvent::Dead(1),
-        reply: granted(alloc)?,
-    }))?;
-    Ok(Answers { left })
-}
-
-fn end_lanes<R: Wait + Clock + Abort>(rt: &R, alloc: Global) -> Result<(), AllocError> {
-    let mut desk = lost_and_granted(alloc)?;
-    let mut endless = Endless { given: 0 };
-    let end = lane(rt, 0, &mut endless, &mut desk, &Shut, &mut Refusing);
-    assert_eq!(rt; (end.steps, end.why, endless.given), (1, Cause::Shut, 2));
-
-    let mut desk = lost_and_granted(alloc)?;
-    let mut endless = Endless { given: 0 };
-    let end = lane(rt, 0, &mut endless, &mut desk, &Open, &mut Refusing);
-    assert_eq!(rt; (end.steps, end.why, endless.given), (1, Cause::Outlet, 2));
-
-    let mut desk = lost_and_granted(alloc)?;
-    desk.left.push_back(Err(NotStepped::GenerationSpent))?;
-    let mut endless = Endless { given: 0 };
-    let mut outlet = Counter { frames: 0 };
-    let end = lane(rt, 0, &mut endless, &mut desk, &Open, &mut outlet);
-    assert_eq!(rt; (end.steps, end.why, endless.given), (1, Cause::Spent, 3));
-    assert_eq!(rt; outlet.frames, 1);
-
-    let mut desk = lost_and_granted(alloc)?;
-    let mut endless = Endless { given: 0 };
-    let end = lane(rt, 0, &mut endless, &mut desk, &Open, &mut outlet);
-    assert_eq!(rt;
-        (end.steps, end.why, endless.given),
-        (1, Cause::Spent, EVENT_LIMIT)
-    );
-    Ok(())
-}
-
-#[test]
-fn a_lane_ends_as_its_neighbours_say(rt: HostRuntime) {
-    let alloc = rt.alloc();
-    if end_lanes(&rt, alloc).is_err() {
-        end_lanes(&rt, alloc).expect(&rt, "memory is back");
     }
 }

@@ -1,4 +1,4 @@
-use Rattle.std.proofs.Common.{[], ◌∷◌, Ok, Err, refl, ap, ◌∙◌, subst, arith, add-zero}
+use Rattle.std.proofs.Common.{ℕ, [], ◌∷◌, Ok, Err, refl, sym, ap, ◌∙◌, subst, arith, add-zero}
 use Rattle.wl_locked.specs.declared.receipt.NotStepped.TheVariants.{Memory}
 use Rattle.wl_workers.specs.Told.{Grows}
 use Rattle.wl_workers.specs.Lane.{receipt_in}
@@ -11,42 +11,43 @@ pub overflow_add-steps : goal.overflow_add-steps
 overflow_add-steps g c = omega (arith, steps_within c.loop-event.invariant.on)
 
 pub loop-event-init : goal.loop-event-init
-loop-event-init g c = record { on = lane_begins; borrowed = refl }
+loop-event-init g c = record { on = lane_begins; borrowed = refl; shards = c.requires }
 
 pub returns-in-Err-GenerationSpent-clause-runs : goal.returns-in-Err-GenerationSpent-clause-runs
 returns-in-Err-GenerationSpent-clause-runs g c =
     let event = c.in-Some.event in
     let is = c.in-Err-GenerationSpent.is ∙ ap Err c.in-Err-GenerationSpent.field-0-is in
-    let given = subst (λ e. Grows (g.I.Intake.given c.loop-event.intake) (g.I.Intake.given c.next.new.self) (e ∷ [])) c.in-Some.is c.next.ensures in
+    let given = subst (λ e. Grows (g.I.Intake.given c.loop-event.intake) (g.I.Intake.given c.next.new.self) (e ∷ [])) c.in-Some.is c.next.ensures.given in
     let answered = subst (λ r. Grows (g.D.Desk.answered c.loop-event.desk) (g.D.Desk.answered c.take_one.new.self) ((event, r) ∷ [])) is c.take_one.ensures.answered in
-    let kept = subst (λ r. Grows (g.D.Desk.kept c.loop-event.desk) (g.D.Desk.kept c.take_one.new.self) (receipt_in (event, r))) is c.take_one.ensures.kept in
+    let kept = λ (shard : ℕ). subst (λ r. Grows (g.D.Desk.kept c.loop-event.desk shard) (g.D.Desk.kept c.take_one.new.self shard) (receipt_in shard (event, r))) is (c.take_one.ensures.kept shard) in
     lane_spent event c.loop-event.invariant.on given answered kept
 
 pub returns-in-Err-clause-runs : goal.returns-in-Err-clause-runs
 returns-in-Err-clause-runs g c =
     let event = c.in-Some.event in
-    let given = subst (λ e. Grows (g.I.Intake.given c.loop-event.intake) (g.I.Intake.given c.next.new.self) (e ∷ [])) c.in-Some.is c.next.ensures in
+    let given = subst (λ e. Grows (g.I.Intake.given c.loop-event.intake) (g.I.Intake.given c.next.new.self) (e ∷ [])) c.in-Some.is c.next.ensures.given in
     let answered = subst (λ r. Grows (g.D.Desk.answered c.loop-event.desk) (g.D.Desk.answered c.take_one.new.self) ((event, r) ∷ [])) c.in-Ok.is c.take_one.ensures.answered in
-    let kept = subst (λ r. Grows (g.D.Desk.kept c.loop-event.desk) (g.D.Desk.kept c.take_one.new.self) (receipt_in (event, r))) c.in-Ok.is c.take_one.ensures.kept in
+    let kept = λ (shard : ℕ). subst (λ r. Grows (g.D.Desk.kept c.loop-event.desk shard) (g.D.Desk.kept c.take_one.new.self shard) (receipt_in shard (event, r))) c.in-Ok.is (c.take_one.ensures.kept shard) in
     lane_unsent event c.in-Ok.receipt c.in-Err.why c.loop-event.invariant.on given answered kept c.in-Err.ensures.some
 
 pub loop-event-preserved : goal.loop-event-preserved
 loop-event-preserved g c =
     let event = c.in-Some.event in
-    let given = subst (λ e. Grows (g.I.Intake.given c.loop-event.intake) (g.I.Intake.given c.next.new.self) (e ∷ [])) c.in-Some.is c.next.ensures in
+    let given = subst (λ e. Grows (g.I.Intake.given c.loop-event.intake) (g.I.Intake.given c.next.new.self) (e ∷ [])) c.in-Some.is c.next.ensures.given in
     let borrowed = c.take_one.ensures.borrowed ∙ c.loop-event.invariant.borrowed in
+    let shards = c.next.ensures.shards ∙ c.loop-event.invariant.shards ∙ sym c.take_one.ensures.shards in
     elim c.match-take_one.branch [
       | in-Ok+in_default-send w ↦
           let answered = subst (λ a. Grows (g.D.Desk.answered c.loop-event.desk) (g.D.Desk.answered c.take_one.new.self) ((event, a) ∷ [])) w.in-Ok.is c.take_one.ensures.answered in
-          let kept = subst (λ a. Grows (g.D.Desk.kept c.loop-event.desk) (g.D.Desk.kept c.take_one.new.self) (receipt_in (event, a))) w.in-Ok.is c.take_one.ensures.kept in
+          let kept = λ (shard : ℕ). subst (λ a. Grows (g.D.Desk.kept c.loop-event.desk shard) (g.D.Desk.kept c.take_one.new.self shard) (receipt_in shard (event, a))) w.in-Ok.is (c.take_one.ensures.kept shard) in
           let on = lane_goes_on (event, Ok w.in-Ok.receipt) c.loop-event.invariant.on (step_unspent event w.in-Ok.receipt) given answered kept w.in_default-send.ensures.all in
-          record { on = rw (w.outlet-is, w.steps-is) on; borrowed = borrowed }
+          record { on = rw (w.outlet-is, w.steps-is) on; borrowed = borrowed; shards = shards }
       | in-Err-Memory w ↦
           let is = w.in-Err-Memory.is ∙ ap Err w.in-Err-Memory.field-0-is in
           let answered = subst (λ a. Grows (g.D.Desk.answered c.loop-event.desk) (g.D.Desk.answered c.take_one.new.self) ((event, a) ∷ [])) is c.take_one.ensures.answered in
-          let kept = subst (λ a. Grows (g.D.Desk.kept c.loop-event.desk) (g.D.Desk.kept c.take_one.new.self) (receipt_in (event, a))) is c.take_one.ensures.kept in
+          let kept = λ (shard : ℕ). subst (λ a. Grows (g.D.Desk.kept c.loop-event.desk shard) (g.D.Desk.kept c.take_one.new.self shard) (receipt_in shard (event, a))) is (c.take_one.ensures.kept shard) in
           let on = lane_goes_on (event, Err Memory) c.loop-event.invariant.on (lost_unspent event) given answered kept (Grows-nil (g.O.Outlet.put_out c.loop-event.outlet)) in
-          record { on = rw (w.outlet-is, w.steps-is, ← add-zero c.loop-event.steps) on; borrowed = borrowed }
+          record { on = rw (w.outlet-is, w.steps-is, ← add-zero c.loop-event.steps) on; borrowed = borrowed; shards = shards }
     ]
 
 pub returns-clause-runs : goal.returns-clause-runs

@@ -2,10 +2,11 @@ use Rattle.std.proofs.Common.{◌≡◌}
 use Rattle.wl_workers.specs.Lane.{GoesOn}
 use Rattle.wl_workers.proofs.lanes.lane.Given as goal
 
--- the lane goes on, and its desk still borrows what it did
+-- the lane goes on, its desk still borrows what it did, and what comes is dealt to as many shards as it has
 abbrev pub invariant-loop-event : goal.invariant-loop-event
 invariant-loop-event g l = record {
   on : GoesOn (g.I.Intake.given l.initial.intake) (g.I.Intake.given l.intake) (g.D.Desk.answered l.initial.desk) (g.D.Desk.answered l.desk)
       (g.D.Desk.kept l.initial.desk) (g.D.Desk.kept l.desk) (g.O.Outlet.put_out l.initial.outlet) (g.O.Outlet.put_out l.outlet) l._event l.steps;
   borrowed : g.D.Desk.borrowed l.desk ≡ g.D.Desk.borrowed l.initial.desk;
+  shards : g.I.Intake.shards l.intake ≡ g.D.Desk.shards l.desk;
 }

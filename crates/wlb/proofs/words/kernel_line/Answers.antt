@@ -1,5 +1,7 @@
 use Rattle.std.proofs.Common.{codes, arith}
-use Rattle.wlb.specs.declared.command.TheConstants.{LANE_LIMIT, SHARD_LIMIT, STEP_LIMIT}
+use Rattle.wl_locked.specs.declared.locked.TheConstants.{LANE_LIMIT}
+use Rattle.wl_locked.specs.declared.shards.TheConstants.{SHARD_LIMIT}
+use Rattle.wlb.specs.declared.command.TheConstants.{STEP_LIMIT}
 use Rattle.wlb.specs.Words.{values_of}
 use Rattle.wlb.proofs.Numbers.{size_in_range, wider}
 use Rattle.wlb.proofs.words.kernel_line.Goals as goal

@@ -1,0 +1,369 @@
+//! Calls of a locked broker that are refused memory. Such a call leaves the steps and the lane's receipts as they were, and
+//! is made again, with its row's answer: so these tests pass whichever allocation is refused.
+
+ghost use Rattle.std.specs.Prelude.{◌≡◌, ◌<◌, ◌≤◌, []};
+ghost use Rattle.wl_broker.specs.Broker.{started};
+ghost use Rattle.wl_frames.specs.Grammar.{TabsRiseFrom};
+ghost use Rattle.wl_locked.specs.declared.locked.TheConstants.{LANE_LIMIT};
+
+use std::alloc::{AllocError, Global};
+use std::marker::Brand;
+use std::process::Abort;
+use std::sync::Wait;
+use std::sync::ledger::Blank;
+use wl_broker::Outs;
+use wl_frames::{
+    Addressed, Answer, Command, Downward, Hello, Mode, Name, Operation, Outcome, Report, Sequence,
+    Stamped, Upward,
+};
+use wl_locked::{
+    BookEvent, Generation, LANE_LIMIT, Lane, LockedBroker, NotStepped, Receipt, Reply, Step,
+};
+
+// ---- steps
+
+/// What a tab of partition 1 says.
+fn said(tab: u16, inner: Upward) -> BookEvent {
+    BookEvent::Take(Stamped {
+        tab,
+        partition: 1,
+        inner,
+    })
+}
+
+fn command(tab: u16, number: u32, operation: Operation) -> BookEvent {
+    let command = Command {
+        generation: 1,
+        number,
+        operation,
+    };
+    said(tab, Upward::Command(command))
+}
+
+fn answer(tab: u16, upto: u32, number: u32, outcome: Outcome) -> Addressed {
+    Addressed {
+        tab,
+        inner: Downward::Answer(Answer {
+            generation: 1,
+            upto,
+            number,
+            outcome,
+        }),
+    }
+}
+
+/// A reply that sends nothing.
+fn nothing(alloc: Global) -> Reply {
+    Reply::Outs(Sequence::new(Vec::new(alloc)))
+}
+
+/// A reply that sends one frame.
+fn one(alloc: Global, out: Addressed) -> Result<Reply, AllocError> {
+    let mut outs = Vec::new(alloc);
+    outs.push(out)?;
+    Ok(Reply::Outs(Sequence::new(outs)))
+}
+
+/// A reply that sends two frames.
+fn two(alloc: Global, first: Addressed, second: Addressed) -> Result<Reply, AllocError> {
+    let mut outs = Vec::new(alloc);
+    outs.push(first)?;
+    outs.push(second)?;
+    Ok(Reply::Outs(Sequence::new(outs)))
+}
+
+/// A tab's first report.
+fn reports(alloc: Global, tab: u16) -> Step {
+    let report = Report {
+        generation: 1,
+        base: 0,
+        entries: Sequence::new(Vec::new(alloc)),
+    };
+    Step {
+        event: said(tab, Upward::Report(report)),
+        reply: nothing(alloc),
+    }
+}
+
+/// A tab's request of the exclusive lock `a`, and what becomes of it.
+fn asks(alloc: Global, tab: u16, number: u32, outcome: Outcome) -> Result<Step, AllocError> {
+    let operation = Operation::Request {
+        mode: Mode::Exclusive,
+        if_available: false,
+        name: Name::new(String::from_str(alloc, "a")?),
+    };
+    let upto = number.wrapping_add(1);
+    Ok(Step {
+        event: command(tab, number, operation),
+        reply: one(alloc, answer(tab, upto, number, outcome))?,
+    })
+}
+
+/// A tab's release of its lock, for which no other tab waits.
+fn releases(alloc: Global, tab: u16, number: u32) -> Result<Step, AllocError> {
+    let release = number.wrapping_add(1);
+    let taken = answer(tab, release.wrapping_add(1), release, Outcome::Taken);
+    Ok(Step {
+        event: command(tab, release, Operation::Release { number }),
+        reply: one(alloc, taken)?,
+    })
+}
+
+/// A tab's release of its lock, for which another tab's request waits that is that tab's last command.
+fn hands_over(
+    alloc: Global,
+    tab: u16,
+    number: u32,
+    other: u16,
+    request: u32,
+) -> Result<Step, AllocError> {
+    let release = number.wrapping_add(1);
+    let taken = answer(tab, release.wrapping_add(1), release, Outcome::Taken);
+    let granted = answer(other, request.wrapping_add(1), request, Outcome::Granted);
+    Ok(Step {
+        event: command(tab, release, Operation::Release { number }),
+        reply: two(alloc, taken, granted)?,
+    })
+}
+
+/// A tab's death after which nothing is sent.
+fn dies(alloc: Global, tab: u16) -> Step {
+    Step {
+        event: BookEvent::Dead(tab),
+        reply: nothing(alloc),
+    }
+}
+
+// ---- rows
+
+/// Two tabs' reports, and a request.
+fn three_steps(alloc: Global) -> Result<Vec<Step>, AllocError> {
+    let mut steps = Vec::new(alloc);
+    steps.push(reports(alloc, 1))?;
+    steps.push(reports(alloc, 2))?;
+    steps.push(asks(alloc, 1, 0, Outcome::Granted)?)?;
+    Ok(steps)
+}
+
+/// A tab's report, its request, and its death twice.
+fn four_steps(alloc: Global) -> Result<Vec<Step>, AllocError> {
+    let mut steps = Vec::new(alloc);
+    steps.push(reports(alloc, 1))?;
+    steps.push(asks(alloc, 1, 0, Outcome::Granted)?)?;
+    steps.push(dies(alloc, 1))?;
+    steps.push(dies(alloc, 1))?;
+    Ok(steps)
+}
+
+/// How often each of two tabs has the lock.
+const TIMES: u32 = 50;
+
+/// Two tabs' reports, and then each tab's request while the other one has the lock, which gives it up to it.
+fn handing_over(alloc: Global) -> Result<Vec<Step>, AllocError> {
+    let mut steps = three_steps(alloc)?;
+    for time in 1..TIMES {
+        let number = time.wrapping_mul(2);
+        let last = number.wrapping_sub(2);
+        steps.push(asks(alloc, 2, last, Outcome::Waiting)?)?;
+        steps.push(hands_over(alloc, 1, last, 2, last)?)?;
+        steps.push(asks(alloc, 1, number, Outcome::Waiting)?)?;
+        steps.push(hands_over(alloc, 2, last, 1, number)?)?;
+    }
+    let last = TIMES.wrapping_mul(2).wrapping_sub(2);
+    steps.push(asks(alloc, 2, last, Outcome::Waiting)?)?;
+    steps.push(hands_over(alloc, 1, last, 2, last)?)?;
+    steps.push(releases(alloc, 2, last)?)?;
+    Ok(steps)
+}
+
+// ---- playing them
+
+fn copy(rt: &impl Abort, alloc: Global, event: &BookEvent) -> BookEvent {
+    match event.copy(alloc) {
+        Ok(copy) => copy,
+        Err(_) => event.copy(alloc).expect(rt, "memory is back"),
+    }
+}
+
+/// Takes an event for a lane. Where memory is refused the lane is as before, and the event is taken again.
+fn take<J: Generation, R: Wait + Abort>(
+    rt: &R,
+    alloc: Global,
+    broker: &LockedBroker<J>,
+    lane: &mut Lane<J>,
+    event: &BookEvent,
+) -> Result<Receipt, NotStepped> {
+    let count = lane.count();
+    match broker.take(rt, lane, copy(rt, alloc, event)) {
+        Err(NotStepped::Memory) => {
+            assert_eq!(rt; lane.count(), count);
+            broker.take(rt, lane, copy(rt, alloc, event))
+        }
+        answer => answer,
+    }
+}
+
+/// Whether a receipt is that of the step at its place.
+fn is_of(receipt: &Receipt, steps: &[Step]) -> bool {
+    match steps.get(receipt.place as usize) {
+        Some(step) => receipt.event == step.event && receipt.reply == step.reply,
+        None => false,
+    }
+}
+
+/// Which of so many lanes takes an event: each tab has one, if there are as many.
+fn lane_of(event: &BookEvent, lanes: usize) -> usize {
+    let tab = match event {
+        BookEvent::Take(stamped) => stamped.tab,
+        BookEvent::Dead(tab) => *tab,
+    };
+    usize::from(tab).checked_rem(lanes).unwrap_or(0)
+}
+
+/// Has lanes take the steps of a row, and then one event more, for which no step is left.
+fn take_row<J: Generation, R: Wait + Abort>(
+    rt: &R,
+    alloc: Global,
+    broker: &LockedBroker<J>,
+    lanes: &mut [Lane<J>],
+    row: &[Step],
+) {
+    for (place, step) in row.iter().enumerate() {
+        let number = lane_of(&step.event, lanes.len());
+        let lane = lanes.get_mut(number).expect(rt, "a lane");
+        let receipt = take(rt, alloc, broker, lane, &step.event).expect(rt, "a step");
+        assert!(rt;
+            receipt.place as usize == place && is_of(&receipt, row),
+            "at {place}"
+        );
+    }
+    let lane = lanes.get_mut(0).expect(rt, "a lane");
+    let count = lane.count();
+    let query = command(1, 1, Operation::Query);
+    let spent = broker.take(rt, lane, query);
+    assert_eq!(rt; spent.err(), Some(NotStepped::GenerationSpent));
+    assert_eq!(rt; lane.count(), count);
+}
+
+/// Plays a row on a broker that may take no more steps than the row has. Nothing but the broker itself is refused.
+fn play_named<J: Generation, R: Wait + Abort>(
+    rt: &R,
+    alloc: Global,
+    blank: Blank,
+    lanes: u16,
+    limit: u32,
+    row: &[Step],
+) -> Result<(), AllocError>
+    requires name { blank.name ≡ J.name }
+    requires parts { (blank.parts ≡ J.parts) × (J.parts ≡ lanes) }
+    requires lanes { (0 < lanes) × (lanes ≤ LANE_LIMIT) }
+    requires opening { J.opening ≡ started 1 [] }
+    requires limit { J.limit ≡ limit }
+{
+    let (broker, mut lanes, _hellos) = LockedBroker::<J>::new(alloc, blank, 1, &[], limit, lanes)?;
+    take_row(rt, alloc, &broker, lanes.as_mut_slice(), row);
+    for lane in &lanes {
+        assert!(rt; lane.receipts().iter().all(|receipt| is_of(receipt, row)));
+    }
+    let history = broker.close(lanes).expect(rt, "the steps of the lanes");
+    assert_eq!(rt; history.steps().len(), row.len());
+    for (step, wanted) in history.steps().iter().zip(row) {
+        assert!(rt; step.event == wanted.event && step.reply == wanted.reply);
+    }
+    Ok(())
+}
+
+/// Plays a row with one or two lanes.
+fn play<R: Wait + Abort>(
+    rt: &R,
+    alloc: Global,
+    lanes: u16,
+    row: &[Step],
+) -> Result<(), AllocError> {
+    assert!(rt; 0 < lanes && lanes <= LANE_LIMIT);
+    let limit = u32::try_from(row.len()).expect(rt, "few steps");
+    let blank = Blank::new(u64::from(lanes));
+    play_named::<Brand, R>(rt, alloc, blank, lanes, limit, row)
+}
+
+/// The same; where the broker was refused, with another one.
+fn plays<R: Wait + Abort>(rt: &R, alloc: Global, lanes: u16, row: &[Step]) {
+    if play(rt, alloc, lanes, row).is_err() {
+        play(rt, alloc, lanes, row).expect(rt, "memory is back");
+    }
+}
+
+#[test]
+fn steps_used_up(rt: HostRuntime) {
+    let alloc = rt.alloc();
+    let row = match three_steps(alloc) {
+        Ok(row) => row,
+        Err(_) => three_steps(alloc).expect(&rt, "memory is back"),
+    };
+    plays(&rt, alloc, 1, row.as_slice());
+}
+
+#[test]
+fn four_steps_of_one_lane(rt: HostRuntime) {
+    let alloc = rt.alloc();
+    let row = match four_steps(alloc) {
+        Ok(row) => row,
+        Err(_) => four_steps(alloc).expect(&rt, "memory is back"),
+    };
+    plays(&rt, alloc, 1, row.as_slice());
+}
+
+#[test]
+fn two_lanes_hand_over(rt: HostRuntime) {
+    let alloc = rt.alloc();
+    let row = match handing_over(alloc) {
+        Ok(row) => row,
+        Err(_) => handing_over(alloc).expect(&rt, "memory is back"),
+    };
+    assert_eq!(&rt; row.len(), 202);
+    plays(&rt, alloc, 2, row.as_slice());
+}
+
+// ---- a broker with tabs
+
+/// The greeting of a tab in generation 2.
+fn hello(tab: u16) -> Addressed {
+    Addressed {
+        tab,
+        inner: Downward::Hello(Hello { generation: 2 }),
+    }
+}
+
+/// Starts a broker for listed tabs, and closes it at once.
+fn greet_named<J: Generation>(
+    rt: &impl Abort,
+    alloc: Global,
+    blank: Blank,
+    list: &[(u16, u16)],
+) -> Result<(), AllocError>
+    requires list { TabsRiseFrom 1 list.now }
+    requires name { blank.name ≡ J.name }
+    requires parts { (blank.parts ≡ J.parts) × (J.parts ≡ 3) }
+    requires opening { J.opening ≡ started 2 list.now }
+    requires limit { J.limit ≡ 1 }
+{
+    let (broker, lanes, hellos) = LockedBroker::<J>::new(alloc, blank, 2, list, 1, 3)?;
+    assert_eq!(rt; lanes.len(), 3);
+    assert!(rt; lanes.iter().all(|lane| lane.count() == 0));
+    assert!(rt; hellos.as_slice() == [hello(1), hello(2)].as_slice());
+    let history = broker.close(lanes).expect(rt, "no steps");
+    assert!(rt; history.steps().is_empty());
+    Ok(())
+}
+
+fn greet(rt: &impl Abort, alloc: Global) -> Result<(), AllocError> {
+    greet_named::<Brand>(rt, alloc, Blank::new(3), &[(1, 1), (2, 1)])
+}
+
+#[test]
+fn listed_tabs_are_greeted(rt: HostRuntime) {
+    let alloc = rt.alloc();
+    if greet(&rt, alloc).is_err() {
+        greet(&rt, alloc).expect(&rt, "memory is back");
+    }
+}

@@ -1,0 +1,213 @@
+//! A broker in shards: steps used up in one of them, and sixteen lanes over four.
+
+ghost use Rattle.std.specs.Prelude.{◌≡◌, []};
+ghost use Rattle.wl_locked.specs.Blanks.{HaveParts, AreNamed};
+
+use super::lanes::{
+    Events, Handed, Open, answer, command_in, dealt, random_operation, report_in, request, run_over,
+};
+use std::alloc::{AllocError, Global};
+use std::collections::VecDeque;
+use std::marker::Brand;
+use std::process::Abort;
+use std::rt::Clock;
+use std::sync::Wait;
+use std::thread::Threads;
+use wl_broker::Broker;
+use wl_fakes::dice::Dice;
+use wl_frames::Mode;
+use wl_locked::{
+    Blanks, BookEvent, LANE_LIMIT, NotStepped, Receipt, ShardLane, Sharded, Shards, Work,
+};
+use wl_table::IndexedTable;
+use wl_workers::Cause;
+
+// ---- two shards of two steps
+
+/// Does a work, which has to be dealt.
+fn take<J: Shards, R: Wait + Abort>(
+    rt: &R,
+    broker: &Sharded<J>,
+    lane: &mut ShardLane<J>,
+    shard: u16,
+    event: BookEvent,
+) -> Result<Receipt, NotStepped> {
+    let work = Work { shard, event };
+    assert!(rt; work.is_dealt(broker.shards()));
+    broker.take(rt, lane, work)
+}
+
+/// How many receipts a lane has of each of two shards.
+fn counts<J: Shards>(lane: &ShardLane<J>) -> (usize, usize) {
+    (lane.receipts(0).len(), lane.receipts(1).len())
+}
+
+/// What a work was answered. Where memory is refused the lane is as before, and the work is done again.
+fn answered<J: Shards, R: Wait + Abort>(
+    rt: &R,
+    alloc: Global,
+    broker: &Sharded<J>,
+    lane: &mut ShardLane<J>,
+    shard: u16,
+    event: BookEvent,
+) -> Result<Receipt, NotStepped> {
+    let before = counts(lane);
+    let Ok(again) = event.copy(alloc) else {
+        return Err(NotStepped::Memory);
+    };
+    match take(rt, broker, lane, shard, event) {
+        Err(NotStepped::Memory) => {
+            assert_eq!(rt; counts(lane), before);
+            take(rt, broker, lane, shard, again)
+        }
+        answer => answer,
+    }
+}
+
+/// The place of a step, or that its generation is spent.
+fn place_of(answer: Result<Receipt, NotStepped>) -> Result<Option<u32>, AllocError> {
+    match answer {
+        Ok(receipt) => Ok(Some(receipt.place)),
+        Err(NotStepped::GenerationSpent) => Ok(None),
+        Err(NotStepped::Memory) => Err(AllocError),
+    }
+}
+
+/// Uses up the two steps of shard 1. Shard 0 has its own.
+fn step_through<J: Shards, R: Wait + Abort>(
+    rt: &R,
+    alloc: Global,
+    broker: &Sharded<J>,
+    lane: &mut ShardLane<J>,
+) -> Result<(), AllocError> {
+    let first = answered(rt, alloc, broker, lane, 1, report_in(alloc, 1, 1));
+    assert_eq!(rt; place_of(first)?, Some(0));
+    let second = answered(rt, alloc, broker, lane, 1, report_in(alloc, 3, 3));
+    assert_eq!(rt; place_of(second)?, Some(1));
+    let asked = request(alloc, Mode::Exclusive, false, "a")?;
+    let spent = answered(rt, alloc, broker, lane, 1, command_in(1, 1, 0, asked));
+    assert_eq!(rt; place_of(spent)?, None);
+    let other = answered(rt, alloc, broker, lane, 0, report_in(alloc, 2, 2));
+    assert_eq!(rt; place_of(other)?, Some(0));
+    assert_eq!(rt; counts(lane), (1, 2));
+    Ok(())
+}
+
+fn use_up_named<J: Shards, R: Wait + Abort>(
+    rt: &R,
+    alloc: Global,
+    blanks: Blanks,
+) -> Result<(), AllocError>
+    requires names { AreNamed J.names blanks }
+    requires parts { HaveParts 1 blanks }
+    requires run { J.run ≡ record { generation = 1; listed = []; shards = 2; lanes = 1; limit = 2 } }
+{
+    let (broker, mut lanes, hellos) = Sharded::<J>::new(alloc, blanks, 1, &[], 2, 1, 2)?;
+    assert!(rt; hellos.as_slice().is_empty());
+    for lane in lanes.iter_mut() {
+        step_through(rt, alloc, &broker, lane)?;
+    }
+    let histories = broker.close(lanes).expect(rt, "the steps of one lane");
+    let steps = |shard: usize| histories.get(shard).map(|history| history.steps().len());
+    assert_eq!(rt;
+        (histories.len(), steps(0), steps(1)),
+        (2, Some(1), Some(2))
+    );
+    Ok(())
+}
+
+fn use_up<R: Wait + Abort>(rt: &R, alloc: Global) -> Result<(), AllocError> {
+    use_up_named::<Brand, R>(rt, alloc, Blanks::new(1))
+}
+
+#[test]
+fn steps_used_up_in_one_of_two_shards(rt: HostRuntime) {
+    let alloc = rt.alloc();
+    if use_up(&rt, alloc).is_err() {
+        use_up(&rt, alloc).expect(&rt, "memory is back");
+    }
+}
+
+// ---- sixteen lanes over four shards
+
+const SHARDS: u16 = 4;
+
+/// How many tabs there are, and how many of them are in a partition, each in a lane of its own.
+const TABS: u16 = 64;
+
+const TABS_OF_PARTITION: u16 = 4;
+
+/// How many commands each tab has.
+const COMMANDS: u32 = 20;
+
+/// A tab's report, its commands, and for some tabs their death.
+fn random_events(dice: &mut Dice, alloc: Global, tab: u16) -> Result<Events, AllocError> {
+    let partition = tab / TABS_OF_PARTITION;
+    let mut events = VecDeque::new(alloc);
+    events.push_back(report_in(alloc, partition, tab))?;
+    for number in 0..COMMANDS {
+        let operation = random_operation(dice, alloc, number)?;
+        events.push_back(command_in(partition, tab, number, operation))?;
+    }
+    if dice.below(4) == 0 {
+        events.push_back(BookEvent::Dead(tab))?;
+    }
+    Ok(events)
+}
+
+/// The works of the tabs of a lane: the tab's number by the number of lanes is the lane's.
+fn script_of(dice: &mut Dice, alloc: Global, lane: u16) -> Result<VecDeque<Work>, AllocError> {
+    let mut works = VecDeque::new(alloc);
+    for tab in 1..=TABS {
+        if tab % LANE_LIMIT == lane {
+            let events = random_events(dice, alloc, tab)?;
+            for work in dealt(alloc, SHARDS, events)? {
+                works.push_back(work)?;
+            }
+        }
+    }
+    Ok(works)
+}
+
+fn scripts(alloc: Global) -> Result<Vec<VecDeque<Work>>, AllocError> {
+    let mut dice = Dice::new(20_261_124);
+    let mut all = Vec::new(alloc);
+    for lane in 0..LANE_LIMIT {
+        all.push(script_of(&mut dice, alloc, lane)?)?;
+    }
+    Ok(all)
+}
+
+fn run_sixteen<R: Threads + Wait + Clock + Abort + Sync>(
+    rt: &R,
+    alloc: Global,
+) -> Result<(), AllocError> {
+    let scripts = scripts(alloc)?;
+    let mut given = 0usize;
+    for script in scripts.iter() {
+        given = given.saturating_add(script.len());
+    }
+    let ran = run_over(rt, alloc, SHARDS, 4_000, scripts, &Open, Handed::All)?;
+    assert!(rt; ran.ends.iter().all(|end| end.why == Cause::Ended));
+    let histories = ran.closed.expect(rt, "the steps of all lanes");
+    assert_eq!(rt; histories.len(), usize::from(SHARDS));
+    let mut steps = 0usize;
+    for history in histories.iter() {
+        steps = steps.saturating_add(history.steps().len());
+        let (mut broker, _hellos) = Broker::<IndexedTable>::start(alloc, 1, &[])?;
+        for step in history.steps() {
+            let reply = answer(&mut broker, &step.event)?;
+            assert!(rt; reply == step.reply);
+        }
+    }
+    assert_eq!(rt; steps, given);
+    Ok(())
+}
+
+#[test]
+fn sixteen_lanes_over_four_shards(rt: HostRuntime) {
+    let alloc = rt.alloc();
+    if run_sixteen(&rt, alloc).is_err() {
+        run_sixteen(&rt, alloc).expect(&rt, "memory is back");
+    }
+}

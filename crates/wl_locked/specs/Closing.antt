@@ -1,0 +1,32 @@
+-- What comes of a book that is closed with the receipts of its lanes.
+use Rattle.std.specs.Prelude.{◌≡◌, ◌≢◌, ◌<◌, ◌≤◌, ℕ, Bool, true, false, List, length, Result, Ok, Err, IfOk, IfErr}
+use Rattle.wl_broker.specs.Broker.{BrokerState}
+use Rattle.wl_locked.specs.declared.receipt.Receipt.{Receipt}
+use Rattle.wl_locked.specs.declared.receipt.Step.{Step}
+use Rattle.wl_locked.specs.declared.receipt.CloseFault.{CloseFault}
+use Rattle.wl_locked.specs.declared.receipt.CloseFault.TheVariants.{Mismatch, WrongCount}
+use Rattle.wl_locked.specs.History.{IsReplay}
+use Rattle.wl_locked.specs.Receipts.{total, IsMadeOf, IsMismatch}
+
+-- one thread could have made it, it has no more steps than it may have, and it is made of the receipts
+abbrev pub IsHistory : BrokerState → ℕ → List (List Receipt) → List Step → Type 0
+IsHistory opening limit lanes history = IsReplay opening history × (length history ≤ limit) × IsMadeOf history lanes
+
+-- a receipt is not that of a step, or the lanes are not all
+abbrev pub IsFault : BrokerState → ℕ → List (List Receipt) → CloseFault → Type 0
+IsFault opening parts lanes (Mismatch p) =
+    (history : List Step) × IsReplay opening history × (length lanes ≡ parts → length history ≡ total lanes) × IsMismatch history lanes p
+IsFault opening parts lanes WrongCount = length lanes ≢ parts
+
+abbrev pub IsClosed : BrokerState → ℕ → ℕ → List (List Receipt) → Result (List Step) CloseFault → Type 0
+IsClosed opening limit parts lanes (Ok history) = IsHistory opening limit lanes history
+IsClosed opening limit parts lanes (Err fault) = IsFault opening parts lanes fault
+
+-- Only a helper: what the comparison found, and how many steps the ledger counts
+pub record IsCompared (opening : BrokerState) (limit : ℕ) (lanes : List (List Receipt)) (steps : List Step) (compared : Result Bool ℕ) (counted : ℕ) : Type 0 where
+  pub replays : IsReplay opening steps
+  pub within : length steps ≤ limit
+  pub counts : counted ≡ length steps
+  pub made : IfOk compared (λ whole. whole ≡ true → IsMadeOf steps lanes)
+  pub fewer : IfOk compared (λ whole. whole ≡ false → total lanes < length steps)
+  pub other : IfErr compared (λ p. IsMismatch steps lanes p)

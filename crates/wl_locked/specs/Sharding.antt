@@ -1,0 +1,100 @@
+-- A broker in shards: what a run is started with, which shard a work belongs to, and what a lane has of each shard.
+use Rattle.std.specs.Prelude.{◌≡◌, ◌<◌, ◌+◌, ◌==◌, ℕ, zero, suc, List, [], ◌∷◌, ◌++◌, length, map, slice_index_or, if◌then◌else◌, ◌≤◌, Option, None, Some, vec_capacity}
+use Rattle.wl_broker.specs.Broker.{BrokerState, started, hellos}
+use Rattle.wl_broker.specs.Shards.{shard_of, is_of, listed_of}
+use Rattle.wl_frames.specs.declared.frame.Addressed.{Addressed}
+use Rattle.wl_locked.specs.declared.event.BookEvent.{BookEvent}
+use Rattle.wl_locked.specs.declared.event.BookEvent.TheVariants.{Take, Dead}
+use Rattle.wl_locked.specs.declared.work.Work.{Work}
+use Rattle.wl_locked.specs.declared.brokers.Beginning.{Beginning}
+use Rattle.wl_locked.specs.declared.receipt.Receipt.{Receipt}
+use Rattle.wl_locked.specs.declared.receipt.Step.{Step}
+use Rattle.wl_locked.specs.declared.receipt.CloseFault.{CloseFault}
+use Rattle.wl_locked.specs.declared.gathering.Gathering.{Gathering}
+use Rattle.wl_locked.specs.Closing.{IsHistory, IsFault}
+
+-- what the brokers of all shards are started with, the lanes that step them, and how many steps each may take
+pub record Run : Type 0 where
+  pub generation : ℕ
+  pub listed : List (ℕ × ℕ)
+  pub shards : ℕ
+  pub lanes : ℕ
+  pub limit : ℕ
+
+-- Only a helper: the run that begins so
+abbrev pub IsRun : Run → Beginning → Type 0
+IsRun run b =
+    (run.generation ≡ b.generation) × (run.listed ≡ b.list.now) × (run.shards ≡ b.shards) × (run.limit ≡ b.limit)
+
+-- a message belongs to the shard of its partition, a death to each
+abbrev pub Belongs : ℕ → ℕ → BookEvent → Type 0
+Belongs shards shard (Take message) = shard_of shards message.partition ≡ shard
+Belongs shards shard (Dead tab) = Unit {0}
+
+-- there is such a shard, and the event belongs to it
+abbrev pub IsDealt : ℕ → Work → Type 0
+IsDealt shards work = (work.shard < shards) × Belongs shards work.shard work.event
+
+-- one death for each shard below this one, by rising shard
+abbrev pub deaths_below : ℕ → ℕ → List Work
+deaths_below tab zero = []
+deaths_below tab (suc shard) = deaths_below tab shard ++ record { shard = shard; event = Dead tab } ∷ []
+
+-- the works of an event: a message in its shard, a death in each
+abbrev pub works_of : ℕ → BookEvent → List Work
+works_of shards (Take message) = record { shard = shard_of shards message.partition; event = Take message } ∷ []
+works_of shards (Dead tab) = deaths_below tab shards
+
+-- a shard's broker is started with its part of the list
+abbrev pub opening_of : Run → ℕ → BrokerState
+opening_of run shard = started run.generation (listed_of (is_of run.shards shard) run.listed)
+
+-- the hellos of the shards below this one, by rising shard
+abbrev pub hellos_below : Run → ℕ → List Addressed
+hellos_below run zero = []
+hellos_below run (suc shard) = hellos_below run shard ++ hellos run.generation (listed_of (is_of run.shards shard) run.listed)
+
+-- the receipts of one shard, and those of each lane
+abbrev pub receipts_of : ℕ → List (List Receipt) → List Receipt
+receipts_of shard lane = slice_index_or lane shard []
+
+abbrev pub receipts_in : ℕ → List (List (List Receipt)) → List (List Receipt)
+receipts_in shard lanes = map (receipts_of shard) lanes
+
+-- Only a helper: a lane with this receipt behind those of the shard
+abbrev pub with_receipt : ℕ → Receipt → List (List Receipt) → List (List Receipt)
+with_receipt shard receipt [] = []
+with_receipt zero receipt (rs ∷ lane) = (rs ++ receipt ∷ []) ∷ lane
+with_receipt (suc shard) receipt (rs ∷ lane) = rs ∷ with_receipt shard receipt lane
+
+-- a lane has the receipt behind those that it had of the shard, and of the others what it had
+abbrev pub KeepsIn : ℕ → Receipt → List (List Receipt) → List (List Receipt) → Type 0
+KeepsIn shard receipt old new = (s : ℕ) → receipts_of s new ≡ receipts_of s old ++ (if shard == s then receipt ∷ [] else [])
+
+-- Only a helper: amounts with as many more as a lane has receipts of each shard
+abbrev pub raised : List ℕ → List (List Receipt) → List ℕ
+raised [] lane = []
+raised (n ∷ ns) [] = n ∷ ns
+raised (n ∷ ns) (rs ∷ lane) = (n + length rs) ∷ raised ns lane
+
+-- a shard's history is made of the lanes' receipts of that shard
+abbrev pub IsShardHistory : Run → List (List (List Receipt)) → ℕ → List Step → Type 0
+IsShardHistory run lanes shard history = IsHistory (opening_of run shard) run.limit (receipts_in shard lanes) history
+
+abbrev pub IsShardFault : Run → List (List (List Receipt)) → ℕ → CloseFault → Type 0
+IsShardFault run lanes shard fault = IsFault (opening_of run shard) run.lanes (receipts_in shard lanes) fault
+
+-- Only a helper: there is room for the histories to come, and as many were gathered as shards came, up to the first fault
+pub record IsRoomy (shard : ℕ) (g : Gathering) : Type 0 where
+  pub room : g.shards ≤ vec_capacity g.histories
+  pub some : g.fault ≡ None → shard ≤ g.shards → length g.histories.items ≡ shard
+  pub all : g.fault ≡ None → g.shards ≤ shard → length g.histories.items ≡ g.shards
+
+-- what was gathered: the histories of the first shards, or the least shard at fault, each lesser one having a history
+abbrev pub IsGatheredAs : Run → List (List (List Receipt)) → List (List Step) → Option (ℕ × CloseFault) → Type 0
+IsGatheredAs run lanes histories None = (shard : ℕ) → shard < length histories → IsShardHistory run lanes shard (slice_index_or histories shard [])
+IsGatheredAs run lanes histories (Some e) =
+    (e.0 < run.shards) × IsShardFault run lanes e.0 e.1 × ((shard : ℕ) → shard < e.0 → (history : List Step) × IsShardHistory run lanes shard history)
+
+abbrev pub IsGathered : Run → List (List (List Receipt)) → Gathering → Type 0
+IsGathered run lanes g = IsGatheredAs run lanes g.histories.items g.fault
