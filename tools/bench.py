@@ -24,8 +24,9 @@ The same loops run over a `Mutex` in the same runs. Prints how many a second the
 ratio to that of the loop over the mutex, the middle one of the runs: below 1 is faster than the mutex.
 
 Lanes: 1, 2 and 4 lanes, each on a thread of its own, step a broker of 1, 2 and 4 shards, each behind a lock of its own. Each lane
-has requests and releases of a tab that is alone in its partition. A broker that no other thread has takes the events of one lane. Prints how many steps a second there
-were, of all lanes together, the best of the runs, and that rate as a ratio to the rate of one lane, the middle one of the runs.
+has requests and releases of a tab that is alone in its partition. A broker that no other thread has takes the events of one lane.
+Prints how many steps a second there were, of all lanes together, the best of the runs, and that rate as a ratio to the rate of
+one lane on one shard, the middle one of the runs.
 Where the broker alone has a ratio of 2, a step of a lane takes twice as long as one without lock, history and receipts.
 
 Processes: a kernel, its broker with two lanes, and tabs, each of which asks for an exclusive lock, waits for it and gives it up,
@@ -33,8 +34,9 @@ Processes: a kernel, its broker with two lanes, and tabs, each of which asks for
 name each. The tabs are opened and ask while no broker is up, so that they begin together: the time is that from the line of the
 broker's start to that of the tabs' ends. What a tab sends in a round is two frames: the request, for whose answer it waits, and
 the release, for whose answer it does not. Prints how many locks a second were granted, to all tabs together, the best of the
-runs. Sixteen tabs of four origins play again with four lanes, on one shard and on four. Beside it in each run stands `relay.c`, a program in C with the same hops and threads, in which as many tabs each send a
-frame and wait for it as often; it is timed in the same way. Prints its round trips a second, the best of the runs, and the ratio
+runs. Sixteen tabs of four origins play again with four lanes, on one shard and on four. Beside it in each run stands `relay.c`, a
+program in C with the same hops and threads, in which as many tabs each send a frame and wait for it as often; it is timed in the
+same way. Prints its round trips a second, the best of the runs, and the ratio
 of the first rate to the second, the middle one of the runs. Where there is no `cc` there is neither.
 
 Idle: 64 tabs of one origin wait for a lock that one of them holds, that one too, by a second request behind the others'. Each
