@@ -7,6 +7,8 @@ mod foreign;
 #[cfg(test)]
 mod hostile;
 #[cfg(test)]
+mod pacing;
+#[cfg(test)]
 mod running;
 #[cfg(test)]
 mod tests;

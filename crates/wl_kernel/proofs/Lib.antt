@@ -1,6 +1,7 @@
 pub mod RisingNumbers
 pub mod Living
 pub mod OpenedTabs
+pub mod HomePlaces
 pub mod KeptHomes
 pub mod Consistency
 pub mod Hearing

@@ -10,7 +10,7 @@ use Rattle.wl_kernel.specs.Kept.{AreTabs}
 use Rattle.wl_kernel.proofs.RisingNumbers.{without}
 use Rattle.wl_kernel.proofs.Living.{passes, living_in-push, living_in-ended, listed-living_in, rises_living_in}
 use Rattle.wl_kernel.proofs.OpenedTabs.{tabs-push, tabs-ended, ended_of, open_is_allowed}
-use Rattle.wl_kernel.proofs.KeptHomes.{one_partition}
+use Rattle.wl_kernel.proofs.HomePlaces.{one_partition}
 use Rattle.wl_kernel.proofs.Calls.{Keeps, after_keeps, reached_tabs}
 
 -- ---- one more, and one fewer

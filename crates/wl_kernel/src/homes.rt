@@ -1,27 +1,35 @@
 //! What is kept of each partition in which a tab was opened.
 
-ghost use Rattle.std.specs.Prelude.{◌≡◌, IfOk, OnOk, OnErr, Some, [], ◌∷◌, option_map, true, if◌then◌else◌};
-ghost use Rattle.wl_origin.specs.Order.{Pair, pair_eq};
-ghost use Rattle.wl_kernel.specs.Kernel.{rises};
-ghost use Rattle.wl_kernel.specs.Kept.{home_seen, home_of, members, joined, left};
+ghost use Rattle.std.specs.Prelude.{◌≡◌, ◌<◌, IfOk, OnOk, OnErr, Some, [], ◌∷◌, length, option_map, true};
+ghost use Rattle.wl_kernel.specs.Kernel.{put_in, rises};
+ghost use Rattle.wl_kernel.specs.Kept.{no_homes, home_of, partition_at, SetsHome, KeepsPlaces, members, joined, left};
 
 use crate::rising;
 use std::alloc::{AllocError, Global};
 use std::collections::BTreeMap;
+use std::marker::Model;
 use wl_origin::Partition;
 
 /// A partition's number and its living tabs.
 #[derive(Drop)]
 pub(crate) struct Home {
-    pub(crate) number: u16,
+    number: u16,
     /// By rising number.
-    pub(crate) living: Vec<u16>,
+    living: Vec<u16>,
+}
+
+impl Model for Home {
+    ghost use Rattle.std.specs.Prelude.{ℕ, List};
+
+    ghost Value = { ℕ × List ℕ };
+
+    ghost view = { λ h. (h.number, h.living.items) };
 }
 
 impl Home {
     /// That of a partition in which this is the first tab.
     fn new(alloc: Global, tab: u16) -> Result<Home, AllocError>
-        ensures { IfOk result (λ home. home_seen home ≡ (tab, tab ∷ [])) }
+        ensures { IfOk result (λ home. home ≡ (tab, tab ∷ [])) }
     {
         let mut living = Vec::with_capacity(alloc, 1)?;
         living.push_reserved(tab);
@@ -30,53 +38,125 @@ impl Home {
             living,
         })
     }
-}
 
-/// The living tabs of a partition, by rising number.
-pub(crate) fn members<'a>(homes: &'a BTreeMap<Partition, Home>, partition: &Partition) -> &'a [u16]
-    ensures { result.now ≡ members (home_of homes.now.entries partition.now) }
-{
-    match homes.get(partition) {
-        Some(home) => home.living.as_slice(),
-        None => &[],
+    /// The partition's number.
+    pub(crate) fn number(&self) -> u16
+        ensures { result ≡ self.now.0 }
+    {
+        self.number
+    }
+
+    /// The living tabs, by rising number.
+    pub(crate) fn members(&self) -> &[u16]
+        ensures { result.now ≡ self.now.1 }
+    {
+        self.living.as_slice()
+    }
+
+    /// A further tab joins.
+    fn join(&mut self, tab: u16) -> Result<(), AllocError>
+        requires { rises self.old.1 ≡ true }
+        ensures ok { OnOk result (self.new ≡ (self.old.0, put_in tab self.old.1)) }
+        ensures err { OnErr result (self.new ≡ self.old) }
+    {
+        self.living.reserve(1)?;
+        rising::put_in(&mut self.living, tab);
+        Ok(())
+    }
+
+    /// A tab leaves, and the partition keeps its number. It takes no memory.
+    fn leave(&mut self, tab: u16)
+        ensures { self.new ≡ left tab self.old }
+    {
+        rising::take_out(&mut self.living, tab);
     }
 }
 
-/// A tab joins its partition, as its first one or among others. The partition's number is answered.
-pub(crate) fn join(
-    alloc: Global,
-    homes: &mut BTreeMap<Partition, Home>,
-    partition: &Partition,
-    tab: u16,
-) -> Result<u16, AllocError>
-    requires { rises (members (home_of homes.old.entries partition.now)) ≡ true }
-    ensures number { IfOk result (λ n. n ≡ (joined tab (home_of homes.old.entries partition.now)).0) }
-    ensures joined { OnOk result ((q : Pair) → home_of homes.new.entries q
-        ≡ (if pair_eq partition.now q then Some (joined tab (home_of homes.old.entries partition.now)) else home_of homes.old.entries q)) }
-    ensures err { OnErr result ((q : Pair) → home_of homes.new.entries q ≡ home_of homes.old.entries q) }
-{
-    match homes.get_mut(partition) {
-        Some(home) => {
-            home.living.reserve(1)?;
-            rising::put_in(&mut home.living, tab);
-            Ok(home.number)
-        }
-        None => {
-            let key = partition.copy(alloc)?;
-            let home = Home::new(alloc, tab)?;
-            homes.insert(key, home)?;
-            Ok(tab)
-        }
-    }
+/// The homes of all partitions in which a tab was opened. Each stays at its place.
+#[derive(Drop)]
+pub(crate) struct Homes {
+    /// In the order of their partitions' first tabs.
+    list: Vec<Home>,
+    /// Where the home of a partition stands.
+    places: BTreeMap<Partition, usize>,
 }
 
-/// A tab leaves its partition, which keeps its number. It takes no memory.
-pub(crate) fn leave(homes: &mut BTreeMap<Partition, Home>, partition: &Partition, tab: u16)
-    ensures { (q : Pair) → home_of homes.new.entries q
-        ≡ (if pair_eq partition.now q then option_map (left tab) (home_of homes.old.entries q) else home_of homes.old.entries q) }
-{
-    match homes.get_mut(partition) {
-        Some(home) => rising::take_out(&mut home.living, tab),
-        None => {}
+impl Model for Homes {
+    ghost use Rattle.std.specs.Prelude.{length};
+    ghost use Rattle.wl_kernel.specs.Kept.{HomeTable, AreHomePlaces};
+
+    ghost Value = { HomeTable };
+
+    ghost view = { λ h. record { homes = h.list.items; places = h.places.entries } };
+
+    ghost invariant = { λ h. AreHomePlaces h.places.entries (length h.list.items) };
+}
+
+impl Homes {
+    pub(crate) fn new(alloc: Global) -> Homes
+        ensures { result ≡ no_homes }
+    {
+        Homes {
+            list: Vec::new(alloc),
+            places: BTreeMap::new(alloc),
+        }
+    }
+
+    /// The home at a place.
+    pub(crate) fn at(&self, place: usize) -> &Home
+        requires { place < length self.now.homes }
+        ensures { home_of self.now (partition_at self.now place) ≡ Some result.now }
+    {
+        &self.list[place]
+    }
+
+    /// The living tabs of a partition, by rising number.
+    pub(crate) fn members(&self, partition: &Partition) -> &[u16]
+        ensures { result.now ≡ members (home_of self.now partition.now) }
+    {
+        match self.places.get(partition) {
+            Some(place) => self.list[*place].members(),
+            None => &[],
+        }
+    }
+
+    /// A tab joins its partition, as its first one or among others. The place of the partition's home is answered.
+    pub(crate) fn join(
+        &mut self,
+        alloc: Global,
+        partition: Partition,
+        tab: u16,
+    ) -> Result<usize, AllocError>
+        requires { rises (members (home_of self.old partition)) ≡ true }
+        ensures joined { OnOk result (SetsHome self.old self.new partition (Some (joined tab (home_of self.old partition)))) }
+        ensures place { IfOk result (λ place. (place < length self.new.homes) × (partition_at self.new place ≡ partition)) }
+        ensures kept { OnOk result (KeepsPlaces self.old self.new) }
+        ensures err { OnErr result (self.new ≡ self.old) }
+    {
+        match self.places.get(&partition).copied() {
+            Some(place) => {
+                self.list[place].join(tab)?;
+                Ok(place)
+            }
+            None => {
+                // The last growth is the first change, so a refused one changes nothing.
+                let home = Home::new(alloc, tab)?;
+                let place = self.list.len();
+                self.list.reserve(1)?;
+                self.places.insert(partition, place)?;
+                self.list.push_reserved(home);
+                Ok(place)
+            }
+        }
+    }
+
+    /// A tab leaves its partition, whose home stands at the place. It takes no memory.
+    pub(crate) fn leave(&mut self, place: usize, tab: u16)
+        requires { place < length self.old.homes }
+        ensures left { SetsHome self.old self.new (partition_at self.old place)
+            (option_map (left tab) (home_of self.old (partition_at self.old place))) }
+        ensures kept { KeepsPlaces self.old self.new }
+    {
+        self.list[place].leave(tab);
     }
 }

@@ -6,13 +6,13 @@ ghost use Rattle.wl_frames.specs.declared.frame.Frame.TheVariants as frame;
 ghost use Rattle.wl_kernel.specs.declared.routes.Routed.TheVariants.{Broker};
 ghost use Rattle.wl_kernel.specs.Kernel.{OpenedTab, no_tabs, tab_of, is_opened, is_living, living_tabs, living_of, partition_number, number_for, open_refusal, opened, kill_refusal, killed, start_refusal, placed, stranger, missing, is_from_before, rises, may_stop, stopped};
 ghost use Rattle.wl_kernel.specs.Routes.{tab_refusal, stamped, hearers, route_up_refusal, routed_up, TakesMemory, IsWellRouted, route_down_refusal, routed_down};
-ghost use Rattle.wl_kernel.specs.Kept.{seen, place_in, IsList};
+ghost use Rattle.wl_kernel.specs.Kept.{seen_in, partition_of, place_in, IsList};
 
 use crate::fault::{GenerationsUsedUp, KillFault, OpenFault, RouteFault, StartFault};
-use crate::homes::{self, Home};
+use crate::homes::Homes;
 use crate::rising;
 use crate::routes::{Routed, frame_of, generation_of, heard};
-use crate::rows::{self, TabRow};
+use crate::rows::{Found, TabRow};
 use std::alloc::{AllocError, Global};
 use std::collections::BTreeMap;
 use std::marker::Model;
@@ -37,7 +37,8 @@ pub struct Tabs {
     rows: Vec<TabRow>,
     /// Where the row of a tab stands.
     places: BTreeMap<u16, usize>,
-    homes: BTreeMap<Partition, Home>,
+    /// What is kept of each partition.
+    homes: Homes,
     /// All living tabs, by rising number.
     living: Vec<u16>,
     generation: u32,
@@ -50,9 +51,9 @@ impl Model for Tabs {
 
     ghost Value = { KernelState };
 
-    ghost view = { λ t. record { opened = all_seen t.rows.items; generation = t.generation; last = t.last } };
+    ghost view = { λ t. record { opened = all_seen t.homes t.rows.items; generation = t.generation; last = t.last } };
 
-    ghost invariant = { λ t. IsConsistent t.rows.items t.places.entries t.homes.entries t.living.items t.generation t.last };
+    ghost invariant = { λ t. IsConsistent t.rows.items t.places.entries t.homes t.living.items t.generation t.last };
 }
 
 impl Tabs {
@@ -65,7 +66,7 @@ impl Tabs {
             alloc,
             rows: Vec::new(alloc),
             places: BTreeMap::new(alloc),
-            homes: BTreeMap::new(alloc),
+            homes: Homes::new(alloc),
             living: Vec::new(alloc),
             generation: 1,
             last,
@@ -84,8 +85,8 @@ impl Tabs {
     pub fn is_living(&self, tab: u16) -> bool
         ensures { result ≡ is_living self.now tab }
     {
-        match self.row_of(tab) {
-            Some(row) => row.is_living,
+        match self.found(tab) {
+            Some(found) => found.row.is_living,
             None => false,
         }
     }
@@ -101,8 +102,8 @@ impl Tabs {
     pub fn partition_number(&self, tab: u16) -> Option<u16>
         ensures { result ≡ (if is_opened self.now tab then Some (partition_number self.now tab) else None) }
     {
-        match self.row_of(tab) {
-            Some(row) => Some(row.number),
+        match self.found(tab) {
+            Some(found) => Some(found.home.number()),
             None => None,
         }
     }
@@ -121,8 +122,8 @@ impl Tabs {
         self.rows.reserve(1)?;
         self.living.reserve(1)?;
         self.places.insert(tab, self.rows.len())?;
-        let number = match homes::join(self.alloc, &mut self.homes, &partition, tab) {
-            Ok(number) => number,
+        let home = match self.homes.join(self.alloc, partition, tab) {
+            Ok(home) => home,
             Err(refused) => {
                 self.places.remove(&tab);
                 return Err(OpenFault::from(refused));
@@ -130,13 +131,12 @@ impl Tabs {
         };
         self.rows.push_reserved(TabRow {
             tab,
-            partition,
-            number,
+            home,
             generation: self.generation,
             is_living: true,
         });
         rising::put_in(&mut self.living, tab);
-        Ok(number)
+        Ok(self.homes.at(home).number())
     }
 
     /// A tab is dead from now on. It takes no memory.
@@ -146,10 +146,10 @@ impl Tabs {
         ensures err { OnErr result (self.new ≡ self.old) }
     {
         let place = self.living_place(tab)?;
-        let row = rows::row_at(&self.rows, place);
-        homes::leave(&mut self.homes, &row.partition, tab);
+        let row = &mut self.rows[place];
+        row.is_living = false;
+        self.homes.leave(row.home, tab);
         rising::take_out(&mut self.living, tab);
-        rows::end_at(&mut self.rows, place, tab);
         Ok(())
     }
 
@@ -188,7 +188,7 @@ impl Tabs {
         if generation_of(&addressed.inner) != link {
             return Err(RouteFault::WrongKind);
         }
-        self.living_row(addressed.tab)?;
+        self.found_living(addressed.tab)?;
         Ok((addressed.tab, frame_of(addressed.inner)))
     }
 
@@ -233,7 +233,7 @@ impl Tabs {
     fn open_fault(&self, tab: u16, partition: &Partition) -> Option<OpenFault>
         ensures { result ≡ open_refusal tab partition.now self.now }
     {
-        if tab == 0 || self.row_of(tab).is_some() {
+        if tab == 0 || self.found(tab).is_some() {
             return Some(OpenFault::NumberTaken);
         }
         if self.living().len() >= LIVING_LIMIT {
@@ -249,7 +249,7 @@ impl Tabs {
     fn members(&self, partition: &Partition) -> &[u16]
         ensures { result.now ≡ living_of self.now partition.now }
     {
-        homes::members(&self.homes, partition)
+        self.homes.members(partition)
     }
 
     /// Where the row of a living tab stands.
@@ -261,32 +261,35 @@ impl Tabs {
         let Some(place) = self.places.get(&tab) else {
             return Err(KillFault::NoTab);
         };
-        if !rows::row_at(&self.rows, *place).is_living {
+        if !self.rows[*place].is_living {
             return Err(KillFault::AlreadyDead);
         }
         Ok(*place)
     }
 
-    /// The row of a tab, if it was ever opened.
-    fn row_of(&self, tab: u16) -> Option<&TabRow>
-        ensures row { option_map (λ row. seen row.now) result ≡ tab_of self.now tab }
-        ensures number { IfSome result (λ row. row.now.number ≡ partition_number self.now tab) }
+    /// The row of a tab and the home of its partition, if it was ever opened.
+    fn found(&self, tab: u16) -> Option<Found<'_>>
+        ensures row { option_map (λ found. seen_in (partition_of self.now tab) found.row.now) result ≡ tab_of self.now tab }
+        ensures home { IfSome result (λ found. found.home.now ≡ (partition_number self.now tab, living_of self.now (partition_of self.now tab))) }
         ensures from_one { (o : OpenedTab) → tab_of self.now tab ≡ Some o → (1 ≤ tab) × (1 ≤ partition_number self.now tab) }
     {
-        rows::row_of(&self.rows, &self.places, tab)
+        let place = self.places.get(&tab)?;
+        let row = &self.rows[*place];
+        let home = self.homes.at(row.home);
+        Some(Found { row, home })
     }
 
-    /// The row of a living tab.
-    fn living_row(&self, tab: u16) -> Result<&TabRow, RouteFault>
-        ensures row { IfOk result (λ row. tab_of self.now tab ≡ Some (seen row.now)) }
-        ensures number { IfOk result (λ row. row.now.number ≡ partition_number self.now tab) }
+    /// The row of a living tab and the home of its partition.
+    fn found_living(&self, tab: u16) -> Result<Found<'_>, RouteFault>
+        ensures row { IfOk result (λ found. tab_of self.now tab ≡ Some (seen_in (partition_of self.now tab) found.row.now)) }
+        ensures home { IfOk result (λ found. found.home.now ≡ (partition_number self.now tab, living_of self.now (partition_of self.now tab))) }
         ensures allowed { OnOk result (tab_refusal self.now tab ≡ None) }
         ensures refused { IfErr result (λ e. tab_refusal self.now tab ≡ Some e) }
         ensures no_memory { IfErr result (λ e. e ≢ RouteFault.Memory) }
         ensures from_one { (o : OpenedTab) → tab_of self.now tab ≡ Some o → (1 ≤ tab) × (1 ≤ partition_number self.now tab) }
     {
-        match self.row_of(tab) {
-            Some(row) if row.is_living => Ok(row),
+        match self.found(tab) {
+            Some(found) if found.row.is_living => Ok(found),
             Some(_) => Err(RouteFault::DeadTab),
             None => Err(RouteFault::NoTab),
         }
@@ -300,8 +303,8 @@ impl Tabs {
         ensures no_memory { IfErr result (λ e. e ≢ RouteFault.Memory) }
         ensures well_formed { IfOk result (λ routed. IsUpward inner → IsWellRouted routed) }
     {
-        let row = self.living_row(tab)?;
-        let partition = row.number();
+        let found = self.found_living(tab)?;
+        let partition = found.home.number();
         Ok(Routed::Broker(Frame::Stamped(Stamped {
             tab,
             partition,
@@ -318,8 +321,8 @@ impl Tabs {
         ensures growth { result ≡ Err RouteFault.Memory → hearers tab self.now ≢ [] }
         ensures well_formed { IfOk result (λ routed. IsPost post → IsWellRouted routed) }
     {
-        let row = self.living_row(tab)?;
-        let members = self.members(&row.partition);
+        let found = self.found_living(tab)?;
+        let members = found.home.members();
         let heard = heard(self.alloc, tab, post, members)?;
         Ok(Routed::Tabs(Sequence::new(heard)))
     }
@@ -329,7 +332,7 @@ impl Tabs {
         ensures { result ≡ stranger self.now listed.now }
     {
         for tab in listed {
-            if self.row_of(*tab).is_none() {
+            if self.found(*tab).is_none() {
                 return Some(*tab);
             }
         }
@@ -354,8 +357,8 @@ impl Tabs {
     fn is_from_before(&self, tab: u16) -> bool
         ensures { result ≡ is_from_before self.now tab }
     {
-        match self.row_of(tab) {
-            Some(row) => row.generation < self.generation,
+        match self.found(tab) {
+            Some(found) => found.row.generation < self.generation,
             None => false,
         }
     }
@@ -378,8 +381,8 @@ impl Tabs {
     fn number_of(&self, tab: u16) -> u16
         ensures { result ≡ partition_number self.now tab }
     {
-        match self.row_of(tab) {
-            Some(row) => row.number,
+        match self.found(tab) {
+            Some(found) => found.home.number(),
             None => 0,
         }
     }

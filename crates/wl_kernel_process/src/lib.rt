@@ -9,6 +9,7 @@ mod keeper;
 pub mod kernel;
 pub mod link_end;
 mod listening;
+pub mod pace;
 mod post;
 mod supervisor;
 mod tab_link;

@@ -3,6 +3,7 @@
 use crate::bundle::{Bundle, Flushed, Gathering};
 use crate::hub::Hub;
 use crate::link_end::{Mercy, mercy_at, status_of};
+use crate::pace::{ahead_after, pause_of};
 use crate::post::{Post, Taking};
 use std::alloc::{AllocError, Global};
 use std::cell::RefCell;
@@ -14,7 +15,7 @@ use std::process::Child;
 use std::rt::Clock;
 use std::sync::{Arc, Mutex, Wait};
 use std::thread::JoinHandle;
-use std::time::Duration;
+use std::time::{Duration, Instant};
 use std::{io, thread};
 use wl_frames::Frame;
 use wl_frames::device::{Sink, Source};
@@ -74,19 +75,74 @@ impl TabProcess {
     }
 }
 
+/// What a tab's reader has gathered for the broker since it read last, and the tab's pace.
+#[derive(Drop)]
+struct Gathered {
+    bytes: Vec<u8>,
+    frames: u32,
+    /// How many nanoseconds the tab is ahead, and since when.
+    ahead: u64,
+    since: Option<Instant>,
+}
+
+impl Gathered {
+    fn new(alloc: Global) -> Gathered {
+        Gathered {
+            bytes: Vec::new(alloc),
+            frames: 0,
+            ahead: 0,
+            since: None,
+        }
+    }
+
+    /// Writes what was gathered to the broker, and gives for how long the tab has to pause then.
+    fn hand_on<R: Wait + Clock>(&mut self, rt: &R, hub: &Hub) -> Duration {
+        if self.bytes.is_empty() {
+            return Duration::ZERO;
+        }
+        hub.write(rt, self.bytes.as_slice());
+        let pause = self.pause(rt);
+        self.bytes.clear();
+        self.frames = 0;
+        pause
+    }
+
+    /// Without a clock there is no pause.
+    fn pause<R: Clock>(&mut self, rt: &R) -> Duration {
+        let now = Instant::now(rt).ok();
+        let elapsed = match (now, self.since) {
+            (Some(now), Some(since)) => now.duration_since(since).as_nanos(),
+            _ => u128::MAX,
+        };
+        self.since = now;
+        self.ahead = ahead_after(
+            self.ahead,
+            u64::try_from(elapsed).unwrap_or(u64::MAX),
+            self.frames,
+            u32::try_from(self.bytes.len()).unwrap_or(u32::MAX),
+        );
+        Duration::from_nanos(pause_of(self.ahead))
+    }
+}
+
 /// Where a tab's frames are handed up: what goes to the broker is gathered until the tab's reader reads again.
 #[derive(Drop)]
 struct KernelLink<'a> {
     hub: &'a Hub,
-    gathered: &'a RefCell<Vec<u8>>,
+    gathered: &'a RefCell<Gathered>,
 }
 
 impl Uplink for KernelLink<'_> {
     fn up<R: Wait + Clock>(&mut self, rt: &R, tab: u16, frame: Frame) -> Result<(), RouteFault> {
-        match self.gathered.try_borrow_mut() {
-            Ok(mut bytes) => self.hub.up(rt, tab, frame, &mut bytes),
-            Err(_) => Err(RouteFault::Memory),
+        let Ok(mut gathered) = self.gathered.try_borrow_mut() else {
+            return Err(RouteFault::Memory);
+        };
+        let had = gathered.bytes.len();
+        self.hub.up(rt, tab, frame, &mut gathered.bytes)?;
+        if gathered.bytes.len() != had {
+            gathered.frames = gathered.frames.saturating_add(1);
         }
+        Ok(())
     }
 }
 
@@ -95,22 +151,24 @@ impl Uplink for KernelLink<'_> {
 struct TabLink<'a, R> {
     rt: R,
     hub: &'a Hub,
-    gathered: &'a RefCell<Vec<u8>>,
+    gathered: &'a RefCell<Gathered>,
     link: &'a UnixStream,
 }
 
-impl<R: Wait> TabLink<'_, R> {
+impl<R: Wait + Clock> TabLink<'_, R> {
+    /// Hands on what was gathered. A tab that is ahead of its pace pauses then.
     fn hand_on(&self) {
-        if let Ok(mut bytes) = self.gathered.try_borrow_mut() {
-            if !bytes.is_empty() {
-                self.hub.write(&self.rt, bytes.as_slice());
-                bytes.clear();
-            }
+        let pause = match self.gathered.try_borrow_mut() {
+            Ok(mut gathered) => gathered.hand_on(&self.rt, self.hub),
+            Err(_) => Duration::ZERO,
+        };
+        if !pause.is_zero() {
+            thread::sleep(&self.rt, pause);
         }
     }
 }
 
-impl<R: Wait> Read for TabLink<'_, R> {
+impl<R: Wait + Clock> Read for TabLink<'_, R> {
     fn read(&mut self, buffer: &mut [u8]) -> io::Result<usize> {
         self.hand_on();
         let mut link = self.link;
@@ -126,7 +184,7 @@ fn read_link<R: Host>(
     tab: u16,
     link: &UnixStream,
 ) -> Result<ReadEnd, AllocError> {
-    let gathered = RefCell::new(Vec::new(alloc));
+    let gathered = RefCell::new(Gathered::new(alloc));
     let mut lives = SharedSeat::new(hub.seat_of(tab)?);
     let mut uplink = KernelLink {
         hub,
@@ -139,8 +197,8 @@ fn read_link<R: Host>(
         link,
     });
     let end = tab_reader(rt, alloc, tab, &mut source, &mut lives, &mut uplink);
-    if let Ok(bytes) = gathered.try_borrow() {
-        hub.write(rt, bytes.as_slice());
+    if let Ok(gathered) = gathered.try_borrow() {
+        hub.write(rt, gathered.bytes.as_slice());
     }
     Ok(end)
 }

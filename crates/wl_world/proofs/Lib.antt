@@ -47,7 +47,7 @@ pub mod Honesty
 pub mod ChannelSteps
 pub mod Hearings
 pub mod Readings
-pub mod SameLists
+pub mod SameFrames
 pub mod Indexing
 pub mod Finding
 mod Positions

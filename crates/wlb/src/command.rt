@@ -4,6 +4,7 @@ ghost use Rattle.std.specs.Prelude.{◌≡◌};
 ghost use Rattle.wlb.specs.declared.command.LineFault.TheVariants.{Memory as memory};
 
 use std::alloc::AllocError;
+use thiserror::Error;
 
 /// How many steps a generation has in a shard at most.
 pub const STEP_LIMIT: u32 = 65_536;
@@ -49,11 +50,13 @@ pub enum Line {
 }
 
 /// Why the words are no command.
-#[derive(Debug, Drop)]
+#[derive(Debug, Drop, Error)]
 pub enum LineFault {
     /// What to print on standard error: a usage, or the help that was asked for.
+    #[error("{0}")]
     Usage(String),
     /// Memory was refused.
+    #[error("Memory")]
     Memory,
 }
 

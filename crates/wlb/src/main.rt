@@ -88,11 +88,18 @@ fn main(rt: HostRuntime) -> ExitCode {
         Ok(Line::Tab { socket, script }) => {
             ended(&rt, run_tab(rt, alloc, socket.as_str(), script.as_str()))
         }
-        Err(LineFault::Usage(text)) => {
-            let _ = eprint!(rt; "{text}");
+        Err(fault) => misused(&rt, fault),
+    }
+}
+
+/// Says why the words are no command. A usage stands as clap spells it.
+fn misused(rt: &impl Eprint, fault: LineFault) -> ExitCode {
+    match fault {
+        LineFault::Usage(_) => {
+            let _ = eprint!(rt; "{fault}");
             ExitCode::from(USAGE)
         }
-        Err(LineFault::Memory) => failed(&rt, "Memory", DEVICE_OR_MEMORY),
+        LineFault::Memory => failed(rt, fault, DEVICE_OR_MEMORY),
     }
 }
 

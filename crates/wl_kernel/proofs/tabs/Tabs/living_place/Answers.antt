@@ -1,10 +1,9 @@
-use Rattle.std.proofs.Common.{◌≡◌, Bool, Option, Some, None, is_some, if◌then◌else◌, sym, ap, ◌∙◌}
-use Rattle.wl_draft.proofs.TableLemmas.{lookup-find}
+use Rattle.std.proofs.Common.{Bool, Option, Some, None, is_some, if◌then◌else◌, sym, ap, ◌∙◌, arith}
 use Rattle.wl_kernel.specs.declared.fault.KillFault.{KillFault}
 use Rattle.wl_kernel.specs.declared.fault.KillFault.TheVariants.{NoTab, AlreadyDead}
 use Rattle.wl_kernel.specs.Kernel.{KernelState, OpenedTab, tab_in, lives}
 use Rattle.wl_kernel.specs.Kept.{all_seen, place_in}
-use Rattle.wl_kernel.proofs.OpenedTabs.{row_placed, row_below, not_placed}
+use Rattle.wl_kernel.proofs.OpenedTabs.{place_got, row_below, row_read, not_placed}
 use Rattle.wl_kernel.proofs.tabs.Tabs.living_place.Goals as goal
 
 -- why a tab is not killed, by what is known of it
@@ -16,41 +15,37 @@ by_life b = if b then None else Some AlreadyDead
 
 pub returns-in_default-clause-refused : goal.returns-in_default-clause-refused
 returns-in_default-clause-refused c =
-    let os = all_seen c.self.inside.rows.items in
-    let places = c.self.inside.places.entries in
-    let none : tab_in os c.args.tab ≡ None =
-    not_placed os c.args.tab (sym (c.self.invariant.placed c.args.tab) ∙ sym (lookup-find places c.args.tab) ∙ sym c.in_default.ensures.value) in
-    ap (λ (k : KernelState). fault_of (tab_in k.opened c.args.tab)) (sym c.self.view_is) ∙ ap fault_of none
+    let os = all_seen c.self.inside.homes c.self.inside.rows.items in
+    let place = place_got os c.self.inside.places.entries c.args.tab None c.self.invariant.placed (sym c.in_default.ensures.value) in
+    ap (λ (k : KernelState). fault_of (tab_in k.opened c.args.tab)) (sym c.self.view_is) ∙ ap fault_of (not_placed os c.args.tab place)
 
-pub row_at-requires : goal.row_at-requires
-row_at-requires c =
+pub index-requires : goal.index-requires
+index-requires c =
+    let h = c.self.inside.homes in
     let rows = c.self.inside.rows.items in
-    let places = c.self.inside.places.entries in
-    let place : place_in (all_seen rows) c.args.tab ≡ Some c.in-Some.place.now =
-    sym (c.self.invariant.placed c.args.tab) ∙ sym (lookup-find places c.args.tab) ∙ sym c.in-Some.ensures.value in
-    rw c.deref.ensures.value (row_below rows c.args.tab c.in-Some.place.now place)
+    let place = place_got (all_seen h rows) c.self.inside.places.entries c.args.tab (Some c.in-Some.place.now) c.self.invariant.placed (sym c.in-Some.ensures.value) in
+    let lt = row_below h rows c.args.tab c.in-Some.place.now place in
+    omega (arith, lt, c.self.inside.rows.ok.0)
 
-pub returns-then-not-row_at-clause-refused : goal.returns-then-not-row_at-clause-refused
-returns-then-not-row_at-clause-refused c =
+pub returns-then-not-index-clause-refused : goal.returns-then-not-index-clause-refused
+returns-then-not-index-clause-refused c =
+    let h = c.self.inside.homes in
     let rows = c.self.inside.rows.items in
-    let places = c.self.inside.places.entries in
-    let place : place_in (all_seen rows) c.args.tab ≡ Some c.in-Some.place.now =
-    sym (c.self.invariant.placed c.args.tab) ∙ sym (lookup-find places c.args.tab) ∙ sym c.in-Some.ensures.value in
-    let there = row_placed rows c.args.tab c.in-Some.place.now c.row_at.result.now place (rw (← c.deref.ensures.value) c.row_at.ensures) in
-    ap (λ (k : KernelState). fault_of (tab_in k.opened c.args.tab)) (sym c.self.view_is) ∙ ap fault_of there ∙ ap by_life c.if-not-row_at.true
+    let place = place_got (all_seen h rows) c.self.inside.places.entries c.args.tab (Some c.in-Some.place.now) c.self.invariant.placed (sym c.in-Some.ensures.value) in
+    let row = row_read h rows c.args.tab c.in-Some.place.now c.index.result.now place c.index.ensures in
+    ap (λ (k : KernelState). fault_of (tab_in k.opened c.args.tab)) (sym c.self.view_is) ∙ ap fault_of row.1 ∙ ap by_life c.if-not-index.true
 
 pub returns-clause-place : goal.returns-clause-place
 returns-clause-place c =
+    let h = c.self.inside.homes in
     let rows = c.self.inside.rows.items in
-    let places = c.self.inside.places.entries in
-    ap (λ (k : KernelState). place_in k.opened c.args.tab) (sym c.self.view_is)
-    ∙ sym (c.self.invariant.placed c.args.tab) ∙ sym (lookup-find places c.args.tab) ∙ sym c.in-Some.ensures.value
+    let place = place_got (all_seen h rows) c.self.inside.places.entries c.args.tab (Some c.in-Some.place.now) c.self.invariant.placed (sym c.in-Some.ensures.value) in
+    ap (λ (k : KernelState). place_in k.opened c.args.tab) (sym c.self.view_is) ∙ place
 
 pub returns-clause-allowed : goal.returns-clause-allowed
 returns-clause-allowed c =
+    let h = c.self.inside.homes in
     let rows = c.self.inside.rows.items in
-    let places = c.self.inside.places.entries in
-    let place : place_in (all_seen rows) c.args.tab ≡ Some c.in-Some.place.now =
-    sym (c.self.invariant.placed c.args.tab) ∙ sym (lookup-find places c.args.tab) ∙ sym c.in-Some.ensures.value in
-    let there = row_placed rows c.args.tab c.in-Some.place.now c.row_at.result.now place (rw (← c.deref.ensures.value) c.row_at.ensures) in
-    ap (λ (k : KernelState). fault_of (tab_in k.opened c.args.tab)) (sym c.self.view_is) ∙ ap fault_of there ∙ ap by_life c.if-not-row_at.false
+    let place = place_got (all_seen h rows) c.self.inside.places.entries c.args.tab (Some c.in-Some.place.now) c.self.invariant.placed (sym c.in-Some.ensures.value) in
+    let row = row_read h rows c.args.tab c.in-Some.place.now c.index.result.now place c.index.ensures in
+    ap (λ (k : KernelState). fault_of (tab_in k.opened c.args.tab)) (sym c.self.view_is) ∙ ap fault_of row.1 ∙ ap by_life c.if-not-index.false

@@ -7,5 +7,5 @@ use Rattle.wl_kernel.proofs.tabs.Tabs.members.Goals as goal
 pub returns : goal.returns
 returns c =
     let p = c.args.partition.now in
-    c.members.ensures ∙ members_kept p (all_seen c.self.inside.rows.items) c.self.inside.homes.entries c.self.invariant.housed
+    c.members.ensures ∙ members_kept p (all_seen c.self.inside.homes c.self.inside.rows.items) c.self.inside.homes c.self.invariant.housed
     ∙ ap (λ k. living_of k p) c.self.view_is
