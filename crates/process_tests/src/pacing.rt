@@ -14,7 +14,7 @@ fn a_tab_beyond_its_burst_pauses(rt: HostRuntime) -> Result<(), Fail> {
     let twice = ahead_after(once, 1_000_000, 2_000, 40_000);
     assert_eq!(rt; twice, 73_000_000);
     assert_eq!(rt; pause_of(twice), 23_000_000);
-    // Paused for that long, it may go on with one frame only after it has paused for that, too.
+    // It has paused for that long, and sends one frame more.
     let paused = ahead_after(twice, 23_000_000, 1, 20);
     assert_eq!(rt; paused, 50_018_500);
     assert_eq!(rt; pause_of(paused), 18_500);

@@ -107,7 +107,7 @@ impl Gathered {
         pause
     }
 
-    /// Without a clock there is no pause.
+    /// For how long the tab has to pause now that this was gathered. Without a clock it need not.
     fn pause<R: Clock>(&mut self, rt: &R) -> Duration {
         let now = Instant::now(rt).ok();
         let elapsed = match (now, self.since) {
