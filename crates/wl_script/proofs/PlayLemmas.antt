@@ -6,12 +6,13 @@ use Rattle.wl_origin.specs.declared.fault.OriginFault.{OriginFault}
 use Rattle.wl_origin.specs.declared.fault.OriginFault.TheVariants.{Memory}
 use Rattle.wl_kernel.specs.declared.fault.OpenFault.{OpenFault}
 use Rattle.wl_kernel.specs.Kernel.{open_refusal}
+use Rattle.wl_said.specs.declared.said.Said.{Said}
+use Rattle.wl_said.specs.declared.said.Said.TheVariants as said
+use Rattle.wl_said.specs.Refused.{refused_or}
 use Rattle.wl_world.specs.declared.event.Event.TheVariants as event
-use Rattle.wl_world.specs.declared.reply.Said.{Said}
-use Rattle.wl_world.specs.declared.reply.Said.TheVariants as said
 use Rattle.wl_world.specs.World.{WorldState}
 use Rattle.wl_world.specs.Machine.{Machine}
-use Rattle.wl_world.specs.Replies.{of_open, refused_or, said_of, reply_of}
+use Rattle.wl_world.specs.Replies.{of_open, said_of, reply_of}
 use Rattle.wl_script.specs.Played.{Played, plays, says, and_plays, fault_text, opening, opens, opens_url}
 use Rattle.wl_script.specs.SimSteps.{is_opened, Becomes}
 

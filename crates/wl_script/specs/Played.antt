@@ -6,8 +6,8 @@ use Rattle.wl_origin.specs.Partition.{partition_of, partition_of_pair}
 use Rattle.wl_origin.specs.declared.fault.OriginFault.{OriginFault}
 use Rattle.wl_origin.specs.declared.fault.OriginFault.TheVariants as origin
 use Rattle.wl_kernel.specs.Kernel.{open_refusal, living_tabs}
-use Rattle.wl_world.specs.declared.holding.Holding.{Holding}
-use Rattle.wl_world.specs.declared.message.Message.{Message}
+use Rattle.wl_bag.specs.declared.message.Message.{Message}
+use Rattle.wl_tab.specs.declared.holding.Holding.{Holding}
 use Rattle.wl_world.specs.declared.event.Event.{Event}
 use Rattle.wl_world.specs.declared.event.Event.TheVariants as event
 use Rattle.wl_world.specs.World.{WorldState, happens}

@@ -8,22 +8,22 @@ use Rattle.wl_origin.specs.Partition.{origin_text}
 use Rattle.wl_agent.specs.declared.snapshot.LockInfo.{LockInfo}
 use Rattle.wl_agent.specs.declared.snapshot.Snapshot.{Snapshot}
 use Rattle.wl_broadcast.specs.declared.letter.Letter.{Letter}
-use Rattle.wl_world.specs.declared.message.Sender.{Sender}
-use Rattle.wl_world.specs.declared.message.Sender.TheVariants.{Kernel, Broker}
-use Rattle.wl_world.specs.declared.message.Message.{Message}
-use Rattle.wl_world.specs.declared.message.Message.TheVariants.{Up, Down, Across}
+use Rattle.wl_said.specs.declared.said.Said.{Said}
+use Rattle.wl_said.specs.declared.said.Said.TheVariants as said
+use Rattle.wl_said.specs.declared.said.Ended.{Ended}
+use Rattle.wl_said.specs.declared.said.Ended.TheVariants as ended
+use Rattle.wl_said.specs.declared.said.Reached.{Reached}
+use Rattle.wl_said.specs.declared.said.Reached.TheVariants.{Took, Full}
+use Rattle.wl_said.specs.declared.said.Refusal.{Refusal}
+use Rattle.wl_said.specs.declared.said.Refusal.TheVariants as refusal
+use Rattle.wl_said.specs.declared.said.Reason.{Reason}
+use Rattle.wl_said.specs.declared.said.Reason.TheVariants as reason
+use Rattle.wl_bag.specs.declared.message.Sender.{Sender}
+use Rattle.wl_bag.specs.declared.message.Sender.TheVariants.{Kernel, Broker}
+use Rattle.wl_bag.specs.declared.message.Message.{Message}
+use Rattle.wl_bag.specs.declared.message.Message.TheVariants.{Up, Down, Across}
+use Rattle.wl_bag.specs.declared.sent.Sent.{Sent}
 use Rattle.wl_world.specs.declared.reply.Reply.{Reply}
-use Rattle.wl_world.specs.declared.reply.Sent.{Sent}
-use Rattle.wl_world.specs.declared.reply.Said.{Said}
-use Rattle.wl_world.specs.declared.reply.Said.TheVariants as said
-use Rattle.wl_world.specs.declared.reply.Ended.{Ended}
-use Rattle.wl_world.specs.declared.reply.Ended.TheVariants as ended
-use Rattle.wl_world.specs.declared.reply.Reached.{Reached}
-use Rattle.wl_world.specs.declared.reply.Reached.TheVariants.{Took, Full}
-use Rattle.wl_world.specs.declared.reply.Refusal.{Refusal}
-use Rattle.wl_world.specs.declared.reply.Refusal.TheVariants as refusal
-use Rattle.wl_world.specs.declared.reply.Reason.{Reason}
-use Rattle.wl_world.specs.declared.reply.Reason.TheVariants as reason
 use Rattle.wl_words.specs.Words.{word_of}
 use Rattle.wl_words.specs.Printing.{line, numbered}
 use Rattle.wl_script.specs.Texts.{mode_text, upward_text, downward_text, post_text, part_text}

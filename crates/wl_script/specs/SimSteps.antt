@@ -1,9 +1,9 @@
 -- Helpers of the sim's private contracts: what one line and one piece of a script do.
 use Rattle.std.specs.Prelude.{◌≡◌, ℕ, ◌+◌, ◌≤◌, Bool, false, true, List, [], ◌∷◌, ◌++◌, length, Some, None, Result, Ok, Err}
+use Rattle.wl_said.specs.declared.said.Said.{Said}
+use Rattle.wl_said.specs.declared.said.Said.TheVariants as said
 use Rattle.wl_world.specs.World.{WorldState, empty_world}
 use Rattle.wl_world.specs.Machine.{Machine}
-use Rattle.wl_world.specs.declared.reply.Said.{Said}
-use Rattle.wl_world.specs.declared.reply.Said.TheVariants as said
 use Rattle.wl_frames.specs.declared.device.ReadFault.{ReadFault}
 use Rattle.wl_frames.specs.declared.device.ReadFault.TheVariants as read
 use Rattle.wl_frames.specs.Device.{IsFrontOf}

@@ -4,11 +4,12 @@ use Rattle.wl_draft.specs.Locks.{Locks, settle}
 use Rattle.wl_frames.specs.declared.frame.Stamped.{Stamped}
 use Rattle.wl_broker.specs.Broker.{BrokerState, manager_of}
 use Rattle.wl_broker.specs.Laws.{SameOfOthers}
-use Rattle.wl_world.specs.declared.message.Message.TheVariants.{Up}
+use Rattle.wl_bag.specs.declared.message.Message.TheVariants.{Up}
+use Rattle.wl_bag.specs.Membership.{In}
 use Rattle.wl_world.specs.declared.event.Event.{Event}
 use Rattle.wl_world.specs.declared.event.Event.TheVariants as event
 use Rattle.wl_world.specs.World.{WorldState, empty_world, happens, run}
-use Rattle.wl_world.specs.Holdings.{In, IsHonest}
+use Rattle.wl_world.specs.Holdings.{IsHonest}
 
 -- locks of one tab were added or removed in its partition; those of others are the same, each in its order, and then
 -- may be settled; other partitions' are the same

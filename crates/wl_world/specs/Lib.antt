@@ -1,6 +1,3 @@
-pub mod Messages
-pub mod Keys
-pub mod Index
 pub mod World
 pub mod Holdings
 pub mod Rows
@@ -9,10 +6,7 @@ pub mod ReplyRows
 pub mod Orders
 pub mod Apart
 pub mod Heard
-pub mod TabTokens
-pub mod TabChannels
-pub mod Settling
-pub mod Supervised
+pub mod Parts
 pub mod Machine
 pub mod Refusals
 pub mod Merging

@@ -2,11 +2,12 @@
 use Rattle.std.specs.Prelude.{◌≡◌, ◌⊎◌, ℕ, ◌<◌, List, [], ◌∷◌}
 use Rattle.std.specs.List.{AllByRecursion, flat_map}
 use Rattle.wl_kernel.specs.Kernel.{living_tabs}
+use Rattle.wl_bag.specs.Membership.{In}
+use Rattle.wl_tab.specs.declared.holding.Holding.{Holding}
+use Rattle.wl_tab.specs.TabTokens.{holdings_of}
 use Rattle.wl_world.specs.declared.event.Event.{Event}
-use Rattle.wl_world.specs.declared.holding.Holding.{Holding}
-use Rattle.wl_world.specs.TabTokens.{holdings_of}
 use Rattle.wl_world.specs.World.{WorldState, tab_of}
-use Rattle.wl_world.specs.Holdings.{In, IsHolding, mode_at, name_at}
+use Rattle.wl_world.specs.Holdings.{IsHolding, mode_at, name_at}
 
 pub record Machine : Type 0 where
   pub events : List Event

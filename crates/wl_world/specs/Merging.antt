@@ -7,13 +7,13 @@ use Rattle.wl_frames.specs.declared.frame.Heard.{Heard}
 use Rattle.wl_broadcast.specs.declared.letter.Posted.{Posted}
 use Rattle.wl_broadcast.specs.declared.letter.Hearing.{Hearing}
 use Rattle.wl_broadcast.specs.declared.letter.Hearing.TheVariants.{Old, New}
-use Rattle.wl_world.specs.declared.message.Message.{Message}
-use Rattle.wl_world.specs.declared.message.Message.TheVariants.{Across}
-use Rattle.wl_world.specs.declared.reply.Said.{Said}
-use Rattle.wl_world.specs.declared.reply.Said.TheVariants as said
-use Rattle.wl_world.specs.declared.reply.Reason.TheVariants as reason
-use Rattle.wl_world.specs.declared.reply.Reached.{Reached}
-use Rattle.wl_world.specs.declared.reply.Reached.TheVariants.{Took, Full}
+use Rattle.wl_said.specs.declared.said.Said.{Said}
+use Rattle.wl_said.specs.declared.said.Said.TheVariants as said
+use Rattle.wl_said.specs.declared.said.Reason.TheVariants as reason
+use Rattle.wl_said.specs.declared.said.Reached.{Reached}
+use Rattle.wl_said.specs.declared.said.Reached.TheVariants.{Took, Full}
+use Rattle.wl_bag.specs.declared.message.Message.{Message}
+use Rattle.wl_bag.specs.declared.message.Message.TheVariants.{Across}
 use Rattle.wl_world.specs.Replies.{letter_of}
 
 -- how many of the first numbers are below a bound

@@ -2,9 +2,9 @@
 
 ghost use Rattle.std.specs.Prelude.{◌≡◌, IfOk};
 
-use crate::message::Message;
 use bytes::Bytes;
 use std::alloc::{AllocError, Global};
+use wl_bag::Message;
 use wl_draft::{Mode, Name};
 use wl_frames::{Post, Sequence, Upward};
 use wl_origin::Partition;

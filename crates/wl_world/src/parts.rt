@@ -2,11 +2,11 @@
 
 ghost use Rattle.std.specs.Prelude.{◌≡◌, [], ◌++◌, IfOk, OnOk, is_some, map, slice_get};
 ghost use Rattle.std.specs.Option.{option_copied};
+ghost use Rattle.wl_said.specs.declared.said.Said.TheVariants as said;
+ghost use Rattle.wl_tab.specs.TabTokens.{holdings_of};
 ghost use Rattle.wl_world.specs.Machine.{held_by_living};
-ghost use Rattle.wl_world.specs.TabTokens.{holdings_of};
-ghost use Rattle.wl_kernel.specs.Kernel.{living_tabs};
 ghost use Rattle.wl_world.specs.World.{empty_world, lives, tab_of, from_broker};
-ghost use Rattle.wl_world.specs.declared.reply.Said.TheVariants as said;
+ghost use Rattle.wl_kernel.specs.Kernel.{living_tabs};
 
 mod acting;
 mod commanding;
@@ -15,17 +15,14 @@ mod forging;
 mod posting;
 mod supervising;
 
-use crate::bag::Bag;
-use crate::channels::TabChannels;
-use crate::holding::Holding;
-use crate::locks::TabLocks;
-use crate::message::Message;
-use crate::reply::{Refusal, Said};
 use crate::sending::from_broker;
-use crate::supervisor::{Outcome, Supervisor};
 use std::alloc::{AllocError, Global};
 use std::collections::BTreeMap;
 use std::marker::Model;
+use wl_bag::{Bag, Message};
+use wl_said::{Refusal, Said};
+use wl_supervisor::{Outcome, Supervisor};
+use wl_tab::{Holding, TabChannels, TabLocks};
 
 /// All parts of the world.
 #[derive(Drop)]
@@ -41,7 +38,7 @@ pub struct Parts {
 
 impl Model for Parts {
     ghost use Rattle.wl_world.specs.World.{WorldState};
-    ghost use Rattle.wl_world.specs.Supervised.{world_of, OwnRows};
+    ghost use Rattle.wl_world.specs.Parts.{world_of, OwnRows};
 
     ghost Value = { WorldState };
 

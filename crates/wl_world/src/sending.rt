@@ -2,15 +2,15 @@
 
 ghost use Rattle.std.specs.Prelude.{◌≡◌, ◌++◌, [], ◌∷◌, IfOk, OnOk, map};
 ghost use Rattle.std.specs.List.{flat_map};
-ghost use Rattle.wl_world.specs.Supervised.{issued_in, command_in, report_in, resent_in, stamped_in};
+ghost use Rattle.wl_world.specs.Parts.{issued_in, command_in, report_in, resent_in, stamped_in};
 ghost use Rattle.wl_world.specs.World.{from_broker};
 
-use crate::locks::TabLocks;
-use crate::message::{Message, Sender};
 use std::alloc::{AllocError, Global};
+use wl_bag::{Message, Sender};
 use wl_broker::Outs;
 use wl_frames::{Frame, Sequence};
 use wl_kernel::{Routed, Tabs};
+use wl_tab::TabLocks;
 
 /// What the broker sends.
 pub fn from_broker(alloc: Global, outs: Outs) -> Result<Vec<Message>, AllocError>

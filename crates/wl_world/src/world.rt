@@ -9,13 +9,13 @@ ghost use Rattle.wl_world.specs.World.{empty_world, happens, run};
 ghost use Rattle.wl_world.specs.Replies.{reply_of};
 
 use crate::event::Event;
-use crate::holding::Holding;
-use crate::message::Message;
 use crate::parts::{Done, Parts};
 use crate::reply::Reply;
 use std::alloc::{AllocError, Global};
 use std::marker::Model;
+use wl_bag::Message;
 use wl_frames::Sequence;
+use wl_tab::Holding;
 
 /// A list of events, and what they made of the world. Its drop spends what it holds.
 #[derive(Drop)]

@@ -1,17 +1,15 @@
 //! One event.
 
 ghost use Rattle.std.specs.Prelude.{◌≡◌, true, IfOk, OnOk};
+ghost use Rattle.wl_bag.specs.Messages.{sent_all};
 ghost use Rattle.wl_world.specs.World.{deed};
-ghost use Rattle.wl_world.specs.Messages.{sent_all};
 ghost use Rattle.wl_world.specs.Replies.{said_of, sendings};
-ghost use Rattle.wl_world.specs.Supervised.{is_in_place};
+ghost use Rattle.wl_world.specs.Parts.{is_in_place};
 
-use crate::bag::Bag;
 use crate::event::Event;
-use crate::message::Message;
 use crate::parts::{Done, Parts};
-use crate::reply::Sent;
 use std::alloc::{AllocError, Global};
+use wl_bag::{Bag, Message, Sent};
 
 impl Parts {
     /// An event happens. What it sends is not in the bag yet.

@@ -2,19 +2,21 @@
 
 ghost use Rattle.std.specs.Prelude.{◌≡◌, ◌≢◌, ◌∷◌, true, IfOk, OnOk};
 ghost use Rattle.wl_draft.specs.Tables.{find};
-ghost use Rattle.wl_world.specs.World.{WorldState, tab_of, tab_in, lives, asks, queries, aborts, releases, resends, resent};
+ghost use Rattle.wl_said.specs.declared.said.Said.TheVariants as said;
+ghost use Rattle.wl_tab.specs.Tabs.{tab_in};
+ghost use Rattle.wl_supervisor.specs.Supervised.{kernel_of};
+ghost use Rattle.wl_world.specs.World.{WorldState, tab_of, lives, asks, queries, aborts, releases, resends, resent};
 ghost use Rattle.wl_world.specs.Replies.{asking, querying, aborting, releasing, resending, some_resent, of_agent};
-ghost use Rattle.wl_world.specs.Supervised.{kernel_of, issued_in};
-ghost use Rattle.wl_world.specs.declared.reply.Said.TheVariants as said;
+ghost use Rattle.wl_world.specs.Parts.{issued_in};
 
-use crate::locks::Abortion;
-use crate::message::Message;
 use crate::parts::{Done, Parts, refused, silent};
-use crate::reply::{Refusal, Said};
-use crate::{sending, tables};
+use crate::sending;
 use std::alloc::{AllocError, Global};
 use wl_agent::AgentFault;
+use wl_bag::Message;
 use wl_draft::{Mode, Name};
+use wl_said::{Refusal, Said};
+use wl_tab::{Abortion, tables};
 
 impl Parts {
     /// A tab asks for a lock.

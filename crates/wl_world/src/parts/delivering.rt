@@ -4,20 +4,22 @@ ghost use Rattle.std.specs.Prelude.{◌≡◌, IfOk, OnOk, true, not, is_some, i
 ghost use Rattle.wl_draft.specs.Tables.{find};
 ghost use Rattle.wl_frames.specs.declared.frame.Frame.TheVariants as frame;
 ghost use Rattle.wl_kernel.specs.Routes.{frame_of};
-ghost use Rattle.wl_world.specs.Messages.{is_sent};
-ghost use Rattle.wl_world.specs.World.{lives, hears, comes, comes_up, where_allowed};
-ghost use Rattle.wl_world.specs.declared.reply.Said.TheVariants as said;
-ghost use Rattle.wl_world.specs.declared.reply.Refusal.TheVariants.{NoMessage};
-ghost use Rattle.wl_world.specs.Replies.{alive_or, arrival, brought, delivering};
-ghost use Rattle.wl_world.specs.World.{tab_of};
-ghost use Rattle.wl_world.specs.Supervised.{reported_in};
+ghost use Rattle.wl_said.specs.declared.said.Said.TheVariants as said;
+ghost use Rattle.wl_said.specs.declared.said.Refusal.TheVariants.{NoMessage};
+ghost use Rattle.wl_bag.specs.Messages.{is_sent};
+ghost use Rattle.wl_tab.specs.Arrivals.{arrival};
+ghost use Rattle.wl_supervisor.specs.Supervising.{brought};
+ghost use Rattle.wl_world.specs.World.{lives, hears, comes, comes_up, where_allowed, tab_of};
+ghost use Rattle.wl_world.specs.Replies.{alive_or, delivering};
+ghost use Rattle.wl_world.specs.Parts.{reported_in};
 
-use crate::message::Message;
 use crate::parts::{Done, Parts, of_broker, refused, silent};
-use crate::reply::{Reason, Refusal, Said};
-use crate::{sending, tables};
+use crate::sending;
 use std::alloc::{AllocError, Global};
+use wl_bag::Message;
 use wl_frames::{Addressed, Answer, Downward, Frame, Hello, Stamped};
+use wl_said::{Reason, Refusal, Said};
+use wl_tab::tables;
 
 impl Parts {
     /// A message that was sent once comes.
@@ -53,7 +55,7 @@ impl Parts {
     }
 
     /// A message from above comes to a tab.
-    #[tactic(auto, unfolding(crate::specs::World::acts, crate::specs::Replies::arrival))]
+    #[tactic(auto, unfolding(crate::specs::World::acts, wl_tab::specs::Arrivals::arrival))]
     pub fn hear(&mut self, addressed: &Addressed) -> Result<Done, AllocError>
         ensures world { OnOk result (self.new ≡ (where_allowed (lives self.old addressed.now.tab) self.old (hears self.old addressed.now.tab (frame_of addressed.now.inner))).world) }
         ensures said { IfOk result (λ done. done.said ≡ alive_or self.old addressed.now.tab (arrival (frame_of addressed.now.inner) (tab_of self.old addressed.now.tab))) }

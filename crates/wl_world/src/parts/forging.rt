@@ -4,17 +4,17 @@ ghost use Rattle.std.specs.Prelude.{◌≡◌, IfOk, OnOk};
 ghost use Rattle.wl_world.specs.World.{corrupts, forges, is_corrupt};
 ghost use Rattle.wl_world.specs.Replies.{corrupting, forging, some_forged};
 ghost use Rattle.wl_agent.specs.Tab.{upward_frame};
-ghost use Rattle.wl_world.specs.Supervised.{forged_in};
+ghost use Rattle.wl_world.specs.Parts.{forged_in};
 
 use crate::event::Forged;
-use crate::message::Message;
 use crate::parts::posting::to_others;
 use crate::parts::{Done, Parts, refused, silent};
-use crate::reply::{Refusal, Said};
 use crate::sending::add_stamped;
 use std::alloc::{AllocError, Global};
+use wl_bag::Message;
 use wl_frames::{Frame, Upward};
 use wl_kernel::Tabs;
+use wl_said::{Refusal, Said};
 
 impl Parts {
     /// A tab is taken over, for good.

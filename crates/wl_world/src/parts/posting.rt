@@ -4,23 +4,22 @@ ghost use Rattle.std.specs.Prelude.{◌≡◌, ◌≢◌, ◌≤◌, [], ◌++�
 ghost use Rattle.std.specs.List.{filter_map};
 ghost use Rattle.wl_frames.specs.declared.frame.Frame.TheVariants as frame;
 ghost use Rattle.wl_broadcast.specs.Channels.{after_hearing};
+ghost use Rattle.wl_said.specs.declared.said.Reached.TheVariants.{Took};
 ghost use Rattle.wl_world.specs.World.{WorldState, opens_channel, posts, reads, closes, becomes, channels_of, where_allowed, lives};
 ghost use Rattle.wl_world.specs.Replies.{opening_channel, posting, reading, closing, hearing, alive_or, of_channel};
 ghost use Rattle.wl_world.specs.Merging.{count_below, merged, across_to, number_in, posted_said, hearing_said};
-ghost use Rattle.wl_world.specs.declared.reply.Reached.TheVariants.{Took};
-ghost use Rattle.wl_world.specs.Supervised.{crossed, of_posting};
+ghost use Rattle.wl_world.specs.Parts.{crossed, of_posting};
 
-use crate::channel_tables;
-use crate::channels::ChannelRefusal;
-use crate::message::Message;
 use crate::parts::{Done, Parts, refused, silent};
-use crate::reply::{Reached, Reason, Refusal, Said};
 use bytes::Bytes;
 use std::alloc::{AllocError, Global};
+use wl_bag::Message;
 use wl_broadcast::{ChannelFault, Hearing, Letter, Posted};
 use wl_draft::Name;
 use wl_frames::{Frame, Heard, Sequence};
 use wl_kernel::{Routed, Tabs};
+use wl_said::{Reached, Reason, Refusal, Said};
+use wl_tab::{ChannelRefusal, channel_tables};
 
 impl Parts {
     /// A tab opens a channel object.

@@ -1,18 +1,19 @@
 //! Tabs are opened and killed, the broker starts and stops.
 
 ghost use Rattle.std.specs.Prelude.{◌≡◌, ◌≢◌, IfOk, OnOk};
+ghost use Rattle.wl_supervisor.specs.Supervising.{killing, telling, stopping, starting};
 ghost use Rattle.wl_world.specs.World.{opens, opens_two, kills, tells, stops, starts, greets};
-ghost use Rattle.wl_world.specs.Replies.{opening, opening_two, killing, telling, stopping, starting, greeting, of_open};
+ghost use Rattle.wl_world.specs.Replies.{opening, opening_two, greeting, of_open};
 
-use crate::locks::TabLocks;
-use crate::message::{Message, Sender};
 use crate::parts::{Done, Parts, of_broker, refused, silent};
-use crate::reply::{Refusal, Said};
-use crate::tables::put_row;
 use std::alloc::AllocError;
+use wl_bag::{Message, Sender};
 use wl_frames::{Addressed, Downward, Hello};
 use wl_kernel::OpenFault;
 use wl_origin::Partition;
+use wl_said::{Refusal, Said};
+use wl_tab::TabLocks;
+use wl_tab::tables::put_row;
 
 impl Parts {
     pub fn open(&mut self, tab: u16, partition: &Partition) -> Result<Done, AllocError>

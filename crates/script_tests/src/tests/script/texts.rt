@@ -47,6 +47,14 @@ fn other_spellings(rt: HostRuntime) {
     }
 }
 
+/// The line that the words say, read again where memory was refused.
+fn read(alloc: Global, text: &[u8]) -> Result<Line, Unread> {
+    match read_line(alloc, text) {
+        Err(Unread::Memory) => read_line(alloc, text),
+        answer => answer,
+    }
+}
+
 #[test]
 fn other_forms(rt: HostRuntime) {
     let cases = [
@@ -80,10 +88,10 @@ fn other_forms(rt: HostRuntime) {
         "show\r",
     ];
     for text in cases {
-        let read = read_line(rt.alloc(), text.as_bytes());
-        assert!(rt; matches!(&read, Err(Unread::Form)), "of {text}");
+        let line = read(rt.alloc(), text.as_bytes());
+        assert!(rt; matches!(&line, Err(Unread::Form)), "of {text}");
     }
-    let not_utf8 = read_line(rt.alloc(), b"open 1 \xff");
+    let not_utf8 = read(rt.alloc(), b"open 1 \xff");
     assert!(rt; matches!(&not_utf8, Err(Unread::Form)));
 }
 
@@ -93,11 +101,11 @@ fn a_line_of_65536_and_of_65537_bytes(rt: HostRuntime) -> Result<(), Fail> {
     for _ in 0..65_536 {
         text.push(b'#')?;
     }
-    let read = read_line(rt.alloc(), text.as_slice());
-    assert!(rt; matches!(&read, Ok(Line::Blank)));
+    let line = read(rt.alloc(), text.as_slice());
+    assert!(rt; matches!(&line, Ok(Line::Blank)));
     text.push(b'#')?;
-    let read = read_line(rt.alloc(), text.as_slice());
-    assert!(rt; matches!(&read, Err(Unread::Form)));
+    let line = read(rt.alloc(), text.as_slice());
+    assert!(rt; matches!(&line, Err(Unread::Form)));
     Ok(())
 }
 

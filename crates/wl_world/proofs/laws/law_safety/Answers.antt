@@ -1,16 +1,16 @@
 use Rattle.wl_broker.proofs.shards.Orders.{in-one_order}
 use Rattle.wl_broker.proofs.shards.Runs.{seen-at_each_shard, answered-by_its_shard, deaths-sent_by_shards, deaths-sent_by_one_shard, hellos-of_shards}
 use Rattle.wl_world.specs.World.{empty_world, run}
-use Rattle.wl_world.proofs.Cover.{Sound-exclusion}
-use Rattle.wl_world.proofs.Hearings.{heard-rising, heard-posts}
-use Rattle.wl_world.proofs.Honesty.{honest-unless_named, honest-sooner}
-use Rattle.wl_world.proofs.Isolation.{dropped-leaves_alone, kept-does_alike, runs-apart}
-use Rattle.wl_world.proofs.Moving.{takes-own_alone}
-use Rattle.wl_world.proofs.Order.{commands-in_order, granted-were_held, grants-were_sent, manager-is_fold}
-use Rattle.wl_world.proofs.Readings.{heard-till_closed, heard-is_read}
-use Rattle.wl_world.proofs.Refused.{refused-changes_nothing}
-use Rattle.wl_world.proofs.Runs.{run-sound}
-use Rattle.wl_world.proofs.Sources.{run-own}
+use Rattle.wl_world.proofs.exclusion.CoverExcludes.{Sound-exclusion}
+use Rattle.wl_world.proofs.heard.PostsRise.{heard-rising, heard-posts}
+use Rattle.wl_world.proofs.honest.StaysHonest.{honest-unless_named, honest-sooner}
+use Rattle.wl_world.proofs.apart.RunsApart.{dropped-leaves_alone, kept-does_alike, runs-apart}
+use Rattle.wl_world.proofs.order.OwnLocksMove.{takes-own_alone}
+use Rattle.wl_world.proofs.order.EventsInOrder.{commands-in_order, granted-were_held, grants-were_sent, manager-is_fold}
+use Rattle.wl_world.proofs.heard.ReadsAndRest.{heard-till_closed, heard-is_read}
+use Rattle.wl_world.proofs.calls.RefusedEvents.{refused-changes_nothing}
+use Rattle.wl_world.proofs.exclusion.SoundRuns.{run-sound}
+use Rattle.wl_world.proofs.own.AskedByEvents.{run-own}
 use Rattle.wl_world.proofs.laws.law_safety.Goals as goal
 
 pub returns-clause-refused : goal.returns-clause-refused

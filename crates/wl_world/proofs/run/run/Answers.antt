@@ -7,14 +7,14 @@ use Rattle.wl_world.specs.Hostile.{HonestIfUnnamed}
 use Rattle.wl_world.specs.Orders.{CommandsInOrder, GrantedWereHeld, GrantsWereSent, ManagerIsFold}
 use Rattle.wl_world.specs.Heard.{HeardIsRead}
 use Rattle.wl_world.specs.Apart.{RunsApart}
-use Rattle.wl_world.proofs.Cover.{Sound-exclusion}
-use Rattle.wl_world.proofs.Honesty.{honest-unless_named}
-use Rattle.wl_world.proofs.Runs.{run-sound}
-use Rattle.wl_world.proofs.Sources.{run-own}
-use Rattle.wl_world.proofs.Order.{commands-in_order, granted-were_held, grants-were_sent, manager-is_fold}
-use Rattle.wl_world.proofs.Hearings.{heard-rising, heard-posts}
-use Rattle.wl_world.proofs.Readings.{heard-till_closed, heard-is_read}
-use Rattle.wl_world.proofs.Isolation.{runs-apart}
+use Rattle.wl_world.proofs.exclusion.CoverExcludes.{Sound-exclusion}
+use Rattle.wl_world.proofs.honest.StaysHonest.{honest-unless_named}
+use Rattle.wl_world.proofs.exclusion.SoundRuns.{run-sound}
+use Rattle.wl_world.proofs.own.AskedByEvents.{run-own}
+use Rattle.wl_world.proofs.order.EventsInOrder.{commands-in_order, granted-were_held, grants-were_sent, manager-is_fold}
+use Rattle.wl_world.proofs.heard.PostsRise.{heard-rising, heard-posts}
+use Rattle.wl_world.proofs.heard.ReadsAndRest.{heard-till_closed, heard-is_read}
+use Rattle.wl_world.proofs.apart.RunsApart.{runs-apart}
 use Rattle.wl_world.proofs.run.run.Goals as goal
 
 -- all events have happened

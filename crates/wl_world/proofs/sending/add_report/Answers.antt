@@ -3,9 +3,9 @@ use Rattle.std.specs.List.{flat_map}
 use Rattle.std.proofs.lemmas.Result.{IfOk-weaker}
 use Rattle.wl_frames.specs.declared.frame.Frame.{Frame}
 use Rattle.wl_agent.specs.Tab.{report_bodies}
-use Rattle.wl_world.specs.declared.message.Message.{Message}
-use Rattle.wl_world.specs.Supervised.{stamped_in}
-use Rattle.wl_world.proofs.Stamping.{upwards-stamped}
+use Rattle.wl_bag.specs.declared.message.Message.{Message}
+use Rattle.wl_world.specs.Parts.{stamped_in}
+use Rattle.wl_world.proofs.calls.StampedMessages.{upwards-stamped}
 use Rattle.wl_world.proofs.sending.add_report.Goals as goal
 
 pub returns-in-Ok : goal.returns-in-Ok

@@ -1,5 +1,5 @@
 use Rattle.std.proofs.Common.{◌≡◌, ◌++◌, map, take}
-use Rattle.wl_world.specs.Supervised.{command_in, reports_in}
+use Rattle.wl_world.specs.Parts.{command_in, reports_in}
 use Rattle.wl_world.proofs.sending.resent.Given as goal
 
 abbrev pub invariant-loop-number : goal.invariant-loop-number

@@ -1,5 +1,5 @@
 use Rattle.std.proofs.Common.{append-nil, sym}
-use Rattle.wl_world.proofs.TabTables.{find_there, find_absent}
+use Rattle.wl_tab.proofs.TabTables.{find_there, find_absent}
 use Rattle.wl_world.proofs.parts.Parts.add_holdings.Goals as goal
 
 pub returns-in-Some : goal.returns-in-Some

@@ -1,7 +1,7 @@
 use Rattle.wl_draft.specs.Tables.{find}
 use Rattle.wl_broadcast.specs.Channels.{closed_at, is_open_at}
-use Rattle.wl_world.specs.World.{channels_in}
-use Rattle.wl_world.proofs.PostedRows.{own-after_if}
+use Rattle.wl_tab.specs.Tabs.{channels_in}
+use Rattle.wl_world.proofs.calls.ChannelRows.{own-after_if}
 use Rattle.wl_world.proofs.parts.Parts.close.Goals as goal
 
 pub invariant_of-self : goal.invariant_of-self

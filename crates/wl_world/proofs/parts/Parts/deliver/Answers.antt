@@ -1,6 +1,6 @@
 use Rattle.std.proofs.Common.{sym, ◌∙◌}
 use Rattle.std.proofs.lemmas.Result.{IfOk-weaker}
-use Rattle.wl_world.proofs.Reporting.{across-silent}
+use Rattle.wl_world.proofs.calls.ReportCalls.{across-silent}
 use Rattle.wl_world.proofs.parts.Parts.deliver.Goals as goal
 
 pub returns-in-Across-clause-sends : goal.returns-in-Across-clause-sends

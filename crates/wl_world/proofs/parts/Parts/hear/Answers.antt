@@ -5,7 +5,7 @@ use Rattle.wl_draft.specs.Tables.{Table, find}
 use Rattle.wl_draft.proofs.TableLemmas.{find-put_same}
 use Rattle.wl_agent.specs.Tab.{TabState}
 use Rattle.wl_world.specs.World.{lives}
-use Rattle.wl_world.proofs.Reporting.{hears-sends}
+use Rattle.wl_world.proofs.calls.ReportCalls.{hears-sends}
 use Rattle.wl_world.proofs.parts.Parts.hear.Goals as goal
 
 pub reported-requires : goal.reported-requires

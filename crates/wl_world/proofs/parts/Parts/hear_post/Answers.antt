@@ -4,8 +4,9 @@ use Rattle.wl_draft.specs.Tables.{find}
 use Rattle.wl_frames.specs.declared.frame.Heard.{Heard}
 use Rattle.wl_frames.specs.declared.frame.Frame.TheVariants as frame
 use Rattle.wl_broadcast.specs.Channels.{hearing_of}
-use Rattle.wl_world.specs.World.{channels_in, lives}
-use Rattle.wl_world.proofs.PostedRows.{own-heard, heard-said}
+use Rattle.wl_tab.specs.Tabs.{channels_in}
+use Rattle.wl_world.specs.World.{lives}
+use Rattle.wl_world.proofs.calls.ChannelRows.{own-heard, heard-said}
 use Rattle.wl_world.proofs.parts.Parts.hear_post.Goals as goal
 
 pub invariant_of-self-in_err-said : goal.invariant_of-self-in_err-said

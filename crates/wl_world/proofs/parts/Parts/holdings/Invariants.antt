@@ -1,7 +1,7 @@
 use Rattle.std.proofs.Common.{◌≡◌, take}
 use Rattle.std.specs.List.{flat_map}
+use Rattle.wl_tab.specs.TabTokens.{holdings_of}
 use Rattle.wl_world.specs.World.{tab_of}
-use Rattle.wl_world.specs.TabTokens.{holdings_of}
 use Rattle.wl_world.proofs.parts.Parts.holdings.Given as goal
 
 abbrev pub invariant-loop-tab : goal.invariant-loop-tab

@@ -1,7 +1,7 @@
 use Rattle.std.proofs.Common.{ap, ◌∙◌}
 use Rattle.wl_kernel.specs.Kernel.{KernelState}
-use Rattle.wl_world.specs.Supervised.{issued_in}
-use Rattle.wl_world.proofs.TabTables.{find_there, find_absent}
+use Rattle.wl_tab.proofs.TabTables.{find_there, find_absent}
+use Rattle.wl_world.specs.Parts.{issued_in}
 use Rattle.wl_world.proofs.parts.Parts.issued.Goals as goal
 
 pub returns-in_ok-sends-in-Some-clause-sends : goal.returns-in_ok-sends-in-Some-clause-sends

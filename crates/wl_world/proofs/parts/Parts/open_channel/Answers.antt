@@ -1,7 +1,7 @@
 use Rattle.wl_draft.specs.Tables.{find}
 use Rattle.wl_broadcast.specs.Channels.{opened}
-use Rattle.wl_world.specs.World.{channels_in}
-use Rattle.wl_world.proofs.PostedRows.{own-after}
+use Rattle.wl_tab.specs.Tabs.{channels_in}
+use Rattle.wl_world.proofs.calls.ChannelRows.{own-after}
 use Rattle.wl_world.proofs.parts.Parts.open_channel.Goals as goal
 
 pub invariant_of-self-2 : goal.invariant_of-self-2

@@ -2,10 +2,11 @@ use Rattle.std.proofs.Common.{sym, ap, ◌∙◌}
 use Rattle.wl_agent.specs.Tab.{TabState}
 use Rattle.wl_draft.specs.Tables.{put}
 use Rattle.wl_kernel.specs.Kernel.{opened, open_refusal}
-use Rattle.wl_world.specs.declared.supervisor.Supervisor.{Supervisor}
+use Rattle.wl_supervisor.specs.declared.supervisor.Supervisor.{Supervisor}
+use Rattle.wl_supervisor.specs.Supervised.{kernel_of, with_kernel}
 use Rattle.wl_world.specs.World.{WorldState, opens_two}
-use Rattle.wl_world.specs.Supervised.{world_of, kernel_of, with_kernel}
-use Rattle.wl_world.proofs.Parted.{opens_two-ok}
+use Rattle.wl_world.specs.Parts.{world_of}
+use Rattle.wl_world.proofs.calls.SupervisorParts.{opens_two-ok}
 use Rattle.wl_world.proofs.parts.Parts.open_two.Goals as goal
 
 pub returns-in_ok-partition-in-Ok-clause-world : goal.returns-in_ok-partition-in-Ok-clause-world

@@ -3,13 +3,14 @@ use Rattle.std.proofs.lemmas.Grind.{common_steps}
 use Rattle.std.proofs.lemmas.Result.{IfOk-weaker}
 use Rattle.wl_broadcast.specs.Channels.{posted}
 use Rattle.wl_kernel.specs.Kernel.{KernelState}
-use Rattle.wl_world.specs.declared.reply.Refusal.{Refusal}
+use Rattle.wl_said.specs.declared.said.Refusal.{Refusal}
+use Rattle.wl_said.specs.Refused.{refused}
 use Rattle.wl_world.specs.World.{lives}
-use Rattle.wl_world.specs.Replies.{posting, refused}
+use Rattle.wl_world.specs.Replies.{posting}
 use Rattle.wl_world.specs.Merging.{posted_said}
-use Rattle.wl_world.specs.Supervised.{crossed}
-use Rattle.wl_world.proofs.Parted.{always}
-use Rattle.wl_world.proofs.PostedRows.{row_of, own-after, IsPostOf, posted-world, posted-sends, posted-said, unposted-world, unposted-sends, unposted-said}
+use Rattle.wl_world.specs.Parts.{crossed}
+use Rattle.wl_world.proofs.calls.SupervisorParts.{always}
+use Rattle.wl_world.proofs.calls.ChannelRows.{row_of, own-after, IsPostOf, posted-world, posted-sends, posted-said, unposted-world, unposted-sends, unposted-said}
 use Rattle.wl_world.proofs.parts.Parts.post.Goals as goal
 use Rattle.wl_world.proofs.parts.Parts.post.Goals.{in-Ok, in-Err+in_ok-post_refusal-in-Err}
 

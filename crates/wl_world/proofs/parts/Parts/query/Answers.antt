@@ -2,7 +2,7 @@ use Rattle.std.proofs.Common.{◌≡◌, true, ◌∙◌, arith}
 use Rattle.std.proofs.lemmas.Grind.{common_steps}
 use Rattle.std.proofs.lemmas.Result.{IfOk-weaker}
 use Rattle.wl_world.specs.World.{lives}
-use Rattle.wl_world.proofs.Commanded.{queried-sends}
+use Rattle.wl_world.proofs.calls.CommandCalls.{queried-sends}
 use Rattle.wl_world.proofs.parts.Parts.query.Goals as goal
 
 pub returns-in-Ok-clause-sends : goal.returns-in-Ok-clause-sends

@@ -2,9 +2,10 @@ use Rattle.std.proofs.Common.{◌≡◌, true, arith}
 use Rattle.std.proofs.lemmas.Grind.{common_steps}
 use Rattle.wl_draft.specs.Tables.{find}
 use Rattle.wl_broadcast.specs.Channels.{read_at}
-use Rattle.wl_world.specs.World.{channels_in, lives}
-use Rattle.wl_world.proofs.Parted.{always}
-use Rattle.wl_world.proofs.PostedRows.{own-after, reads-world}
+use Rattle.wl_tab.specs.Tabs.{channels_in}
+use Rattle.wl_world.specs.World.{lives}
+use Rattle.wl_world.proofs.calls.SupervisorParts.{always}
+use Rattle.wl_world.proofs.calls.ChannelRows.{own-after, reads-world}
 use Rattle.wl_world.proofs.parts.Parts.read.Goals as goal
 
 pub invariant_of-self-2 : goal.invariant_of-self-2

@@ -2,7 +2,7 @@ use Rattle.std.proofs.Common.{◌≡◌, true, sym, ◌∙◌, arith}
 use Rattle.std.proofs.lemmas.Grind.{common_steps}
 use Rattle.std.proofs.lemmas.Result.{IfOk-weaker}
 use Rattle.wl_world.specs.World.{lives}
-use Rattle.wl_world.proofs.Commanded.{released-sends}
+use Rattle.wl_world.proofs.calls.CommandCalls.{released-sends}
 use Rattle.wl_world.proofs.parts.Parts.release.Goals as goal
 
 pub returns-in-Some-clause-sends : goal.returns-in-Some-clause-sends

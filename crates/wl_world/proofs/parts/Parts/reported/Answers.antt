@@ -3,10 +3,10 @@ use Rattle.std.specs.Option.{is_some}
 use Rattle.std.proofs.lemmas.Bool.{false≢true}
 use Rattle.wl_draft.specs.Tables.{find}
 use Rattle.wl_kernel.specs.Kernel.{KernelState}
-use Rattle.wl_world.specs.declared.message.Message.{Message}
+use Rattle.wl_bag.specs.declared.message.Message.{Message}
+use Rattle.wl_tab.proofs.TabTables.{find_there, find_absent}
 use Rattle.wl_world.specs.World.{WorldState}
-use Rattle.wl_world.specs.Supervised.{report_in}
-use Rattle.wl_world.proofs.TabTables.{find_there, find_absent}
+use Rattle.wl_world.specs.Parts.{report_in}
 use Rattle.wl_world.proofs.parts.Parts.reported.Goals as goal
 
 pub unreachable-requires : goal.unreachable-requires

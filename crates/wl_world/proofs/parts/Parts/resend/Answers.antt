@@ -2,7 +2,7 @@ use Rattle.std.proofs.Common.{◌≡◌, true, sym, ap, ◌∙◌, arith}
 use Rattle.std.proofs.lemmas.Grind.{common_steps}
 use Rattle.wl_world.specs.World.{lives}
 use Rattle.wl_world.specs.Replies.{some_resent}
-use Rattle.wl_world.proofs.Commanded.{resends-sends, resending-done}
+use Rattle.wl_world.proofs.calls.CommandCalls.{resends-sends, resending-done}
 use Rattle.wl_world.proofs.parts.Parts.resend.Goals as goal
 
 pub returns-clause-said : goal.returns-clause-said

@@ -1,9 +1,9 @@
 use Rattle.std.proofs.Common.{sym, ap, ◌∙◌}
 use Rattle.std.proofs.lemmas.Result.{IfOk-weaker}
 use Rattle.wl_kernel.specs.Kernel.{KernelState}
-use Rattle.wl_world.specs.Supervised.{world_of, resent_in}
-use Rattle.wl_world.proofs.TabTables.{find_there, find_absent}
-use Rattle.wl_world.proofs.Commanded.{newborn-resent}
+use Rattle.wl_tab.proofs.TabTables.{find_there, find_absent}
+use Rattle.wl_world.specs.Parts.{world_of, resent_in}
+use Rattle.wl_world.proofs.calls.CommandCalls.{newborn-resent}
 use Rattle.wl_world.proofs.parts.Parts.resent.Goals as goal
 
 pub returns-in-Some : goal.returns-in-Some

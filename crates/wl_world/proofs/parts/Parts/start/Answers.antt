@@ -1,9 +1,9 @@
 use Rattle.std.proofs.Common.{List, map, ap, ◌∙◌}
 use Rattle.wl_frames.specs.declared.frame.Addressed.{Addressed}
-use Rattle.wl_world.specs.declared.supervisor.Supervisor.{Supervisor}
+use Rattle.wl_supervisor.specs.declared.supervisor.Supervisor.{Supervisor}
 use Rattle.wl_world.specs.World.{WorldState, from_broker, starts}
-use Rattle.wl_world.specs.Supervised.{world_of}
-use Rattle.wl_world.proofs.Parted.{starts-after, starts-sends}
+use Rattle.wl_world.specs.Parts.{world_of}
+use Rattle.wl_world.proofs.calls.SupervisorParts.{starts-after, starts-sends}
 use Rattle.wl_world.proofs.parts.Parts.start.Goals as goal
 
 pub returns-clause-world : goal.returns-clause-world

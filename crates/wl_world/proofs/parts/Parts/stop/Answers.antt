@@ -1,8 +1,8 @@
 use Rattle.std.proofs.Common.{sym, ap, ◌∙◌}
-use Rattle.wl_world.specs.declared.supervisor.Supervisor.{Supervisor}
+use Rattle.wl_supervisor.specs.declared.supervisor.Supervisor.{Supervisor}
 use Rattle.wl_world.specs.World.{WorldState, stops}
-use Rattle.wl_world.specs.Supervised.{world_of}
-use Rattle.wl_world.proofs.Parted.{stops-after, stops-silent}
+use Rattle.wl_world.specs.Parts.{world_of}
+use Rattle.wl_world.proofs.calls.SupervisorParts.{stops-after, stops-silent}
 use Rattle.wl_world.proofs.parts.Parts.stop.Goals as goal
 
 pub returns-clause-world : goal.returns-clause-world

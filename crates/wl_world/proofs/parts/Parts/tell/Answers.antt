@@ -1,10 +1,10 @@
 use Rattle.std.proofs.Common.{List, map, ap, ◌∙◌}
 use Rattle.std.proofs.lemmas.Result.{IfOk-weaker}
 use Rattle.wl_frames.specs.declared.frame.Addressed.{Addressed}
-use Rattle.wl_world.specs.declared.supervisor.Supervisor.{Supervisor}
+use Rattle.wl_supervisor.specs.declared.supervisor.Supervisor.{Supervisor}
 use Rattle.wl_world.specs.World.{WorldState, from_broker, tells}
-use Rattle.wl_world.specs.Supervised.{world_of}
-use Rattle.wl_world.proofs.Parted.{always, tells-after, tells-sends}
+use Rattle.wl_world.specs.Parts.{world_of}
+use Rattle.wl_world.proofs.calls.SupervisorParts.{always, tells-after, tells-sends}
 use Rattle.wl_world.proofs.parts.Parts.tell.Goals as goal
 
 pub returns-clause-world : goal.returns-clause-world

@@ -1,8 +1,8 @@
 use Rattle.std.proofs.Common.{◌++◌, ◌∷◌, [], List, sym, ap, ◌∙◌}
-use Rattle.wl_world.specs.declared.message.Message.{Message}
-use Rattle.wl_world.specs.declared.reply.Sent.{Sent}
-use Rattle.wl_world.specs.Messages.{sent, sent_all, sending}
-use Rattle.wl_world.proofs.Sends.{sent_all-push, sendings-push}
+use Rattle.wl_bag.specs.declared.message.Message.{Message}
+use Rattle.wl_bag.specs.declared.sent.Sent.{Sent}
+use Rattle.wl_bag.specs.Messages.{sent, sent_all, sending}
+use Rattle.wl_world.proofs.calls.OneAfterAnother.{sent_all-push, sendings-push}
 use Rattle.wl_world.proofs.parts.acting.send_all.Goals as goal
 
 pub loop-message-preserved : goal.loop-message-preserved

@@ -1,5 +1,5 @@
 use Rattle.std.proofs.Common.{◌≡◌}
-use Rattle.wl_world.specs.Messages.{sent_all}
+use Rattle.wl_bag.specs.Messages.{sent_all}
 use Rattle.wl_world.specs.Replies.{sendings}
 use Rattle.wl_world.proofs.parts.acting.send_all.Given as goal
 

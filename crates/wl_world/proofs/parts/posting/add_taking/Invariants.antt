@@ -1,5 +1,5 @@
 use Rattle.std.proofs.Common.{◌≡◌, ◌++◌, map, take}
-use Rattle.wl_world.specs.declared.reply.Reached.TheVariants.{Took}
+use Rattle.wl_said.specs.declared.said.Reached.TheVariants.{Took}
 use Rattle.wl_world.proofs.parts.posting.add_taking.Given as goal
 
 abbrev pub invariant-loop-number : goal.invariant-loop-number

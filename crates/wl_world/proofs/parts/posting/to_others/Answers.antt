@@ -2,7 +2,7 @@ use Rattle.std.proofs.Common.{◌≡◌, sym, ◌∙◌}
 use Rattle.std.proofs.lemmas.Result.{IfOk-weaker}
 use Rattle.wl_kernel.specs.declared.routes.Routed.TheVariants.{Tabs}
 use Rattle.wl_kernel.specs.Routes.{routed_up}
-use Rattle.wl_world.proofs.Crossed.{crossed-across}
+use Rattle.wl_world.proofs.calls.PassedPosts.{crossed-across}
 use Rattle.wl_world.proofs.parts.posting.to_others.Goals as goal
 
 pub returns-in-Ok-Tabs : goal.returns-in-Ok-Tabs

@@ -1,12 +1,12 @@
 use Rattle.std.proofs.Common.{◌≡◌, List, sym, ap, subst, ◌∙◌}
+use Rattle.wl_bag.specs.declared.sent.Sent.{Sent}
 use Rattle.wl_world.specs.declared.event.Event.{Event}
-use Rattle.wl_world.specs.declared.reply.Sent.{Sent}
 use Rattle.wl_world.specs.Machine.{Machine}
 use Rattle.wl_world.specs.World.{WorldState, empty_world, happens, run}
 use Rattle.wl_world.specs.Replies.{reply_of}
 use Rattle.wl_world.specs.Hostile.{MovesOwnAloneBetween}
-use Rattle.wl_world.proofs.Moving.{event-moves_own_alone}
-use Rattle.wl_world.proofs.Stepped.{happened, replied, run-push}
+use Rattle.wl_world.proofs.order.OwnLocksMove.{event-moves_own_alone}
+use Rattle.wl_world.proofs.calls.StepsAndSends.{happened, replied, run-push}
 use Rattle.wl_world.proofs.world.World.step.Goals as goal
 
 pub invariant_of-result : goal.invariant_of-result

@@ -1,0 +1,5 @@
+pub mod Membership
+pub mod Same
+mod SameFrames
+mod Indexing
+mod Finding

@@ -1,0 +1,4 @@
+pub mod Membership
+pub mod Messages
+pub mod Keys
+pub mod Index

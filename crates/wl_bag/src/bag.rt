@@ -1,0 +1,150 @@
+//! The bag of all messages that were ever sent.
+
+ghost use Rattle.std.specs.Prelude.{◌≡◌, [], ◌∷◌, ◌++◌, length, is_some, IfOk, OnOk, OnErr, slice_get, find, if◌then◌else◌};
+ghost use Rattle.std.specs.Option.{option_copied};
+ghost use Rattle.wl_bag.specs.Messages.{is_sent, place_of, sent, sending};
+ghost use Rattle.wl_bag.specs.Index.{places_at, same_key, is_at};
+
+use crate::key::{self, Key};
+use crate::message::Message;
+use crate::places::Places;
+use crate::sameness::same_message;
+use crate::sent::Sent;
+use std::alloc::{AllocError, Global};
+use std::collections::BTreeMap;
+use std::marker::Model;
+
+/// The messages in the order of sending, each once. Contracts see them as a list.
+#[derive(Drop)]
+pub struct Bag {
+    alloc: Global,
+    messages: Vec<Message>,
+    /// Where the messages of each key stand.
+    index: BTreeMap<Key, Places>,
+}
+
+impl Model for Bag {
+    ghost use Rattle.std.specs.Prelude.{List};
+    ghost use Rattle.wl_bag.specs.declared.message.Message.{Message};
+    ghost use Rattle.wl_bag.specs.Index.{IsIndexOf};
+
+    ghost Value = { List Message };
+
+    ghost view = { λ b. b.messages.items };
+
+    ghost invariant = { λ b. IsIndexOf b.messages.items b.index };
+}
+
+impl Bag {
+    /// The empty bag.
+    pub fn new(alloc: Global) -> Bag
+        ensures { result ≡ [] }
+    {
+        Bag {
+            alloc,
+            messages: Vec::new(alloc),
+            index: BTreeMap::new(alloc),
+        }
+    }
+
+    /// The message at a place.
+    pub fn get(&self, place: usize) -> Option<&Message>
+        ensures { option_copied result ≡ slice_get self.now place }
+    {
+        self.messages.get(place)
+    }
+
+    /// The place of the message, if it was ever sent.
+    pub fn find(&self, message: &Message) -> Option<usize>
+        ensures place { result ≡ place_of message.now self.now }
+        ensures sent { is_some result ≡ is_sent message.now self.now }
+    {
+        let places = places_at(&self.index, key::key_of(message));
+        find_at(places, &self.messages, message)
+    }
+
+    /// Sends the message: a new one comes behind the others.
+    pub fn put(&mut self, message: Message) -> Result<Sent, AllocError>
+        ensures ok { OnOk result (self.new ≡ sent message self.old) }
+        ensures sending { IfOk result (λ s. s ≡ sending message self.old) }
+        ensures err { OnErr result (self.new ≡ self.old) }
+    {
+        match self.find(&message) {
+            Some(place) => Ok(Sent {
+                message,
+                place,
+                is_new: false,
+            }),
+            None => {
+                let place = self.add(message.copy(self.alloc)?)?;
+                Ok(Sent {
+                    message,
+                    place,
+                    is_new: true,
+                })
+            }
+        }
+    }
+
+    /// Puts the message behind the others, and answers its place.
+    fn add(&mut self, message: Message) -> Result<usize, AllocError>
+        ensures ok { OnOk result (self.new ≡ self.old ++ message ∷ []) }
+        ensures place { IfOk result (λ place. place ≡ length self.old) }
+        ensures err { OnErr result (self.new ≡ self.old) }
+    {
+        let place = self.messages.len();
+        self.messages.reserve(1)?;
+        note(&mut self.index, self.alloc, key::key_of(&message), place)?;
+        self.messages.push_reserved(message);
+        Ok(place)
+    }
+}
+
+/// The places that the index has at the key.
+fn places_at(index: &BTreeMap<Key, Places>, key: Key) -> &[usize]
+    ensures { result.now ≡ places_at index.now key }
+{
+    match index.get(&key) {
+        Some(places) => places.as_slice(),
+        None => &[],
+    }
+}
+
+/// The first of the places at which a message that is the same stands.
+fn find_at(places: &[usize], messages: &[Message], message: &Message) -> Option<usize>
+    ensures { result ≡ find (is_at message.now messages.now) places.now }
+{
+    places
+        .iter()
+        .copied()
+        .find(|place| is_at(messages, *place, message))
+}
+
+fn is_at(messages: &[Message], place: usize, message: &Message) -> bool
+    ensures { result ≡ is_at message.now messages.now place }
+{
+    match messages.get(place) {
+        Some(other) => same_message(message, other),
+        None => false,
+    }
+}
+
+/// Notes the place of a message of the key.
+fn note(
+    index: &mut BTreeMap<Key, Places>,
+    alloc: Global,
+    key: Key,
+    place: usize,
+) -> Result<(), AllocError>
+    ensures ok { OnOk result ((k : Key) → places_at index.new k
+        ≡ (if same_key key k then places_at index.old k ++ place ∷ [] else places_at index.old k)) }
+    ensures err { OnErr result ((k : Key) → places_at index.new k ≡ places_at index.old k) }
+{
+    match index.get_mut(&key) {
+        Some(places) => places.push(place)?,
+        None => {
+            index.insert(key, Places::of(alloc, place)?)?;
+        }
+    }
+    Ok(())
+}

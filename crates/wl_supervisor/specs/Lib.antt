@@ -1,0 +1,2 @@
+pub mod Supervised
+pub mod Supervising

@@ -1,0 +1,282 @@
+//! The supervisor, with the broker that is up.
+
+ghost use Rattle.std.specs.Prelude.{◌≡◌, ◌≢◌, [], None, Some, IfOk, OnOk, IfErr, OnErr, is_some, if◌then◌else◌};
+ghost use Rattle.wl_frames.specs.Grammar.{TabsRiseFrom};
+ghost use Rattle.wl_broker.specs.Broker.{started, hellos};
+ghost use Rattle.wl_kernel.specs.Kernel.{no_tabs, number_for, open_refusal, opened, is_living, killed};
+ghost use Rattle.wl_said.specs.declared.said.Said.TheVariants as said;
+ghost use Rattle.wl_supervisor.specs.declared.supervisor.Supervisor.TheVariants.{Down as down_state, Up as up_with};
+ghost use Rattle.wl_supervisor.specs.Supervising.{killing, stopping, starting, brought, telling, of_start, of_dropped, taken_said};
+ghost use Rattle.wl_supervisor.specs.Supervised.{kernel_of, broker_of, with_kernel, begun, greeted, halted, after_taking, outs_by_taking, after_burial, outs_by_burial, last_generation};
+
+use std::alloc::{AllocError, Global};
+use wl_broker::{Broker, Dropped, Outs};
+use wl_frames::{Frame, Sequence, Stamped, Start, Upward};
+use wl_kernel::{Down, GenerationsUsedUp, OpenFault, StartFault, Tabs, Up};
+use wl_origin::Partition;
+use wl_said::{Reason, Refusal, Said};
+use wl_table::IndexedTable;
+
+/// The last generation that there may be.
+const LAST_GENERATION: u32 = 65_535;
+
+/// No broker runs, or one does. Its own drop spends the supervisor's state.
+pub enum Supervisor {
+    Down(Down),
+    Up {
+        up: Up,
+        broker: Broker<IndexedTable>,
+    },
+}
+
+impl Drop for Supervisor {
+    fn drop(self) {
+        match self {
+            Supervisor::Down(down) => down.end(),
+            Supervisor::Up { up, broker: _ } => up.end(),
+        }
+    }
+}
+
+/// What came of an event, and what the broker says then.
+#[derive(Drop)]
+pub struct Outcome {
+    pub said: Said,
+    pub outs: Outs,
+}
+
+impl Supervisor {
+    /// No tabs, and no broker.
+    pub fn new(alloc: Global) -> Supervisor
+        ensures { result ≡ down_state (no_tabs last_generation) }
+    {
+        Supervisor::Down(Down::new(alloc, LAST_GENERATION))
+    }
+
+    pub fn tabs(&self) -> &Tabs
+        ensures { result.now ≡ kernel_of self.now }
+    {
+        match self {
+            Supervisor::Down(down) => down.tabs(),
+            Supervisor::Up { up, .. } => up.tabs(),
+        }
+    }
+
+    pub fn is_up(&self) -> bool
+        ensures { result ≡ is_some (broker_of self.now) }
+    {
+        match self {
+            Supervisor::Down(_) => false,
+            Supervisor::Up { .. } => true,
+        }
+    }
+
+    /// A tab is opened. Answers the number of its partition.
+    pub fn open(&mut self, tab: u16, partition: Partition) -> Result<u16, OpenFault>
+        ensures ok { OnOk result (self.new ≡ with_kernel (opened tab partition (kernel_of self.old)) self.old) }
+        ensures number { IfOk result (λ number. number ≡ number_for tab partition (kernel_of self.old)) }
+        ensures allowed { OnOk result (open_refusal tab partition (kernel_of self.old) ≡ None) }
+        ensures refused { IfErr result (λ e. e ≢ OpenFault.Memory → open_refusal tab partition (kernel_of self.old) ≡ Some e) }
+        ensures err { OnErr result (self.new ≡ self.old) }
+    {
+        match self {
+            Supervisor::Down(down) => down.tabs_mut().open(tab, partition),
+            Supervisor::Up { up, .. } => up.tabs_mut().open(tab, partition),
+        }
+    }
+}
+
+impl Supervisor {
+    /// A tab is dead from now on.
+    pub fn kill(&mut self, tab: u16) -> Said
+        ensures said { result ≡ killing (kernel_of self.old) tab }
+        ensures kernel { self.new ≡ with_kernel (if is_living (kernel_of self.old) tab then killed tab (kernel_of self.old) else kernel_of self.old) self.old }
+    {
+        let killed = match self {
+            Supervisor::Down(down) => down.tabs_mut().kill(tab),
+            Supervisor::Up { up, .. } => up.tabs_mut().kill(tab),
+        };
+        match killed {
+            Ok(()) => Said::Killed { tab },
+            Err(_) => Said::Refused(Refusal::NoTab),
+        }
+    }
+
+    /// Starts the broker of the generation, with these tabs listed, which it greets.
+    pub fn start(self, alloc: Global, listed: &[u16]) -> Result<(Supervisor, Outcome), AllocError>
+        ensures supervisor { IfOk result (λ r. r.0 ≡ begun listed.now self) }
+        ensures said { IfOk result (λ r. r.1.said ≡ starting (kernel_of self) listed.now (broker_of self)) }
+        ensures outs { IfOk result (λ r. r.1.outs ≡ greeted listed.now self) }
+    {
+        match self {
+            Supervisor::Down(down) => match down.start(listed) {
+                Ok((up, frame)) => {
+                    let Frame::Start(start) = frame else {
+                        unreachable!()
+                    };
+                    begin(alloc, up, &start)
+                }
+                Err((down, fault)) => refuse(alloc, down, fault),
+            },
+            Supervisor::Up { up, broker } => {
+                let supervisor = Supervisor::Up { up, broker };
+                let said = Said::Refused(Refusal::AlreadyUp);
+                Ok((supervisor, silent(alloc, said)))
+            }
+        }
+    }
+
+    /// Stops the broker.
+    pub fn stop(self) -> (Supervisor, Said)
+        ensures supervisor { result.0 ≡ halted self }
+        ensures said { result.1 ≡ stopping (kernel_of self) (broker_of self) }
+    {
+        match self {
+            Supervisor::Down(down) => (Supervisor::Down(down), Said::Refused(Refusal::AlreadyDown)),
+            Supervisor::Up { up, broker } => {
+                let generation = up.tabs().generation();
+                match up.stop() {
+                    Ok(down) => (Supervisor::Down(down), Said::Stopped { generation }),
+                    Err((up, GenerationsUsedUp)) => (
+                        Supervisor::Up { up, broker },
+                        Said::Refused(Refusal::GenerationsUsedUp),
+                    ),
+                }
+            }
+        }
+    }
+
+    /// A command or a report comes to the broker.
+    pub fn take(&mut self, alloc: Global, stamped: &Stamped) -> Result<Outcome, AllocError>
+        ensures supervisor { OnOk result (self.new ≡ after_taking stamped.now self.old) }
+        ensures said { IfOk result (λ r. r.said ≡ brought stamped.now (broker_of self.old)) }
+        ensures outs { IfOk result (λ r. r.outs ≡ outs_by_taking stamped.now self.old) }
+    {
+        let broker = match self {
+            Supervisor::Down(_) => return Ok(silent(alloc, Said::Dropped(Reason::Down))),
+            Supervisor::Up { broker, .. } => broker,
+        };
+        match broker.take(stamped) {
+            Ok(outs) => Ok(Outcome {
+                said: taken(broker, stamped),
+                outs,
+            }),
+            Err(dropped) => Ok(silent(alloc, Said::Dropped(reason_of(dropped)?))),
+        }
+    }
+
+    /// The broker is told that a tab is dead.
+    pub fn tell(&mut self, alloc: Global, tab: u16) -> Result<Outcome, AllocError>
+        ensures supervisor { OnOk result (self.new ≡ after_burial tab self.old) }
+        ensures said { IfOk result (λ r. r.said ≡ telling (kernel_of self.old) tab (broker_of self.old)) }
+        ensures outs { IfOk result (λ r. r.outs ≡ outs_by_burial tab self.old) }
+    {
+        let tabs = self.tabs();
+        if tabs.partition_number(tab).is_none() {
+            return Ok(silent(alloc, Said::Refused(Refusal::NoTab)));
+        }
+        if tabs.is_living(tab) {
+            return Ok(silent(alloc, Said::Refused(Refusal::Living)));
+        }
+        match self {
+            Supervisor::Down(_) => Ok(silent(alloc, Said::Refused(Refusal::Down))),
+            Supervisor::Up { broker, .. } => Ok(Outcome {
+                outs: broker.dead(tab)?,
+                said: Said::Told { tab },
+            }),
+        }
+    }
+}
+
+/// An event by which the broker says nothing.
+fn silent(alloc: Global, said: Said) -> Outcome
+    ensures { result ≡ record { said = said; outs = [] } }
+{
+    Outcome {
+        said,
+        outs: Sequence::new(Vec::new(alloc)),
+    }
+}
+
+/// The broker of a generation starts.
+fn begin(alloc: Global, up: Up, start: &Start) -> Result<(Supervisor, Outcome), AllocError>
+    requires { TabsRiseFrom 1 start.now.list }
+    ensures supervisor { IfOk result (λ r. r.0 ≡ up_with up (started start.now.generation start.now.list)) }
+    ensures said { IfOk result (λ r. r.1.said ≡ said.Started start.now.generation) }
+    ensures outs { IfOk result (λ r. r.1.outs ≡ hellos start.now.generation start.now.list) }
+{
+    let generation = start.generation;
+    match Broker::start(alloc, generation, start.list.as_slice()) {
+        Ok((broker, outs)) => {
+            let said = Said::Started { generation };
+            Ok((Supervisor::Up { up, broker }, Outcome { said, outs }))
+        }
+        Err(refused) => {
+            up.end();
+            Err(refused)
+        }
+    }
+}
+
+/// The broker was not started.
+fn refuse(alloc: Global, down: Down, fault: StartFault) -> Result<(Supervisor, Outcome), AllocError>
+    ensures supervisor { IfOk result (λ r. r.0 ≡ down_state down) }
+    ensures said { IfOk result (λ r. r.1.said ≡ said.Refused (of_start fault)) }
+    ensures outs { IfOk result (λ r. r.1.outs ≡ []) }
+    ensures fault { IfOk result (λ _. fault ≢ StartFault.Memory) }
+{
+    let refusal = match fault {
+        StartFault::TooManyListed => Refusal::TooManyListed,
+        StartFault::NotRising => Refusal::NotRising,
+        StartFault::Stranger(tab) => Refusal::Stranger(tab),
+        StartFault::Missing(tab) => Refusal::Missing(tab),
+        StartFault::Memory => {
+            down.end();
+            return Err(AllocError);
+        }
+    };
+    let supervisor = Supervisor::Down(down);
+    Ok((supervisor, silent(alloc, Said::Refused(refusal))))
+}
+
+/// What is said of a message, now that the broker has taken it.
+fn taken(broker: &Broker<IndexedTable>, stamped: &Stamped) -> Said
+    ensures { result ≡ taken_said broker.now stamped.now.tab stamped.now.inner }
+{
+    let tab = stamped.tab;
+    match &stamped.inner {
+        Upward::Command(_) => Said::Answered,
+        Upward::Report(_) => Said::Joined { tab },
+        Upward::ReportPart(part) => {
+            if broker.is_joined(tab) {
+                return Said::Joined { tab };
+            }
+            Said::Part {
+                part: part.part,
+                parts: part.parts,
+            }
+        }
+    }
+}
+
+/// Why the broker dropped a message, unless memory was refused.
+fn reason_of(dropped: Dropped) -> Result<Reason, AllocError>
+    ensures reason { IfOk result (λ reason. reason ≡ of_dropped dropped) }
+    ensures dropped { OnOk result (dropped ≢ Dropped.Memory) }
+{
+    Ok(match dropped {
+        Dropped::OldGeneration => Reason::OldGeneration,
+        Dropped::LaterGeneration => Reason::LaterGeneration,
+        Dropped::NotJoined => Reason::NotJoined,
+        Dropped::Recovering => Reason::Recovering,
+        Dropped::OutOfTurn => Reason::OutOfTurn,
+        Dropped::DeadTab => Reason::DeadTab,
+        Dropped::AlreadyJoined => Reason::AlreadyJoined,
+        Dropped::HeldByNewcomer => Reason::HeldByNewcomer,
+        Dropped::BadReport => Reason::BadReport,
+        Dropped::Misplaced => Reason::Misplaced,
+        Dropped::TooMany => Reason::TooMany,
+        Dropped::PartTwice => Reason::PartTwice,
+        Dropped::Memory => return Err(AllocError),
+    })
+}

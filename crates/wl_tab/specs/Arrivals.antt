@@ -1,0 +1,75 @@
+-- What is said of a frame that comes to a tab.
+use Rattle.std.specs.Prelude.{ℕ, List, [], ◌∷◌, ◌==◌, Option, Some, if◌then◌else◌}
+use Rattle.wl_draft.specs.Tables.{Table}
+use Rattle.wl_frames.specs.declared.frame.Frame.{Frame}
+use Rattle.wl_frames.specs.declared.frame.Frame.TheVariants as frame
+use Rattle.wl_frames.specs.declared.frame.Operation.{Operation}
+use Rattle.wl_agent.specs.declared.delivered.Delivered.{Delivered}
+use Rattle.wl_agent.specs.declared.delivered.Delivered.TheVariants as told
+use Rattle.wl_agent.specs.declared.delivered.Unheard.{Unheard}
+use Rattle.wl_agent.specs.declared.delivered.Unheard.TheVariants as unheard
+use Rattle.wl_agent.specs.declared.snapshot.Snapshot.{Snapshot}
+use Rattle.wl_agent.specs.declared.status.Status.{Status}
+use Rattle.wl_agent.specs.declared.status.Status.TheVariants.{Whole}
+use Rattle.wl_agent.specs.Parts.{no_parts, snapshot_of}
+use Rattle.wl_agent.specs.Tab.{TabState, status_of, is_querying, is_asked_probe}
+use Rattle.wl_agent.specs.Delivery.{delivery}
+use Rattle.wl_said.specs.declared.said.Said.{Said}
+use Rattle.wl_said.specs.declared.said.Said.TheVariants as said
+use Rattle.wl_said.specs.declared.said.Ended.{Ended}
+use Rattle.wl_said.specs.declared.said.Ended.TheVariants as ended
+use Rattle.wl_said.specs.declared.said.Reason.{Reason}
+use Rattle.wl_said.specs.declared.said.Reason.TheVariants as reason
+
+-- the numbers that entering a generation ends, by rising number: asked probes get null, asked queries are lost
+abbrev pub ended_in : List Operation → Table Status → List Ended
+ended_in issued [] = []
+ended_in issued (row ∷ rows) =
+    if is_asked_probe issued row then ended.Null row.0 ∷ ended_in issued rows
+    else if is_querying (Some row.1) then ended.Lost row.0 ∷ ended_in issued rows
+    else ended_in issued rows
+
+-- the first generation of a life ends none
+abbrev pub ended_by_entering : TabState → List Ended
+ended_by_entering a = if a.entered == 0 then [] else ended_in a.issued a.statuses
+
+-- what is addressed to a tab is of no wrong kind
+abbrev pub of_unheard : Unheard → Reason
+of_unheard unheard.OldGeneration = reason.OldGeneration
+of_unheard unheard.LaterGeneration = reason.LaterGeneration
+of_unheard unheard.Held = reason.Held
+of_unheard unheard.Over = reason.Over
+of_unheard unheard.Twice = reason.Twice
+of_unheard u = reason.Odd
+
+abbrev pub snapshot_in : Option Status → Snapshot
+snapshot_in (Some (Whole snapshot)) = snapshot
+snapshot_in s = snapshot_of no_parts
+
+-- the generation of a hello, and which part of how many a frame is
+abbrev pub generation_in : Frame → ℕ
+generation_in (frame.Hello x) = x.generation
+generation_in f = 0
+
+abbrev pub part_in : Frame → ℕ
+part_in (frame.Snapshot x) = x.part
+part_in f = 0
+
+abbrev pub parts_in : Frame → ℕ
+parts_in (frame.Snapshot x) = x.parts
+parts_in f = 0
+
+-- what is said, for a frame that came to a tab: the tab before, the tab after, and what it was told
+abbrev pub told_said : Frame → TabState → TabState → Delivered → Said
+told_said f before after (told.Entered reports) = said.Entered (generation_in f) (ended_by_entering before)
+told_said f before after (told.Granted k) = said.Granted k
+told_said f before after (told.Waiting k) = said.Waiting k
+told_said f before after (told.Null k) = said.Null k
+told_said f before after (told.Lost k) = said.Lost k
+told_said f before after (told.Taken k) = said.Taken k
+told_said f before after (told.Part k) = said.Part (part_in f) (parts_in f)
+told_said f before after (told.Whole k) = said.Whole k (snapshot_in (status_of after k))
+told_said f before after (told.Dropped u) = said.Dropped (of_unheard u)
+
+unfoldable pub arrival : Frame → TabState → Said
+arrival f a = let d = delivery f a in told_said f a d.0 d.1

@@ -1,0 +1,5 @@
+pub mod Tabs
+pub mod Arrivals
+pub mod TabTokens
+pub mod TabChannels
+pub mod Settling

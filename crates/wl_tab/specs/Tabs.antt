@@ -1,0 +1,28 @@
+-- Tabs by their rows: how one without a row is born, and what a tab's tokens are told at once.
+use Rattle.std.specs.Prelude.{ℕ, Bool, true, false, not, filter, Option, Some, None}
+use Rattle.wl_broadcast.specs.Channels.{ChannelState, no_channels}
+use Rattle.wl_agent.specs.declared.status.Status.{Status}
+use Rattle.wl_agent.specs.declared.status.Status.TheVariants as status
+use Rattle.wl_agent.specs.Tab.{TabState, newborn}
+
+-- how many commands a tab may issue
+abbrev pub command_limit : ℕ
+command_limit = 1000000
+
+-- a tab or a channel table without a row is as it was born
+abbrev pub tab_in : ℕ → Option TabState → TabState
+tab_in t None = newborn t command_limit
+tab_in t (Some a) = a
+
+abbrev pub channels_in : ℕ → Option ChannelState → ChannelState
+channels_in t None = no_channels t
+channels_in t (Some c) = c
+
+-- a query that is whole or lost is told to its token at once, which makes its number over
+abbrev pub is_told : Status → Bool
+is_told (status.Whole snapshot) = true
+is_told status.Lost = true
+is_told s = false
+
+unfoldable pub told : TabState → TabState
+told a = record a { statuses = filter (λ row. not (is_told row.1)) a.statuses }

@@ -1,0 +1,122 @@
+//! The table of the tabs' channels: a tab without a row has opened none.
+
+ghost use Rattle.std.specs.Prelude.{◌≡◌, ◌≢◌, nat_lt, length, Some, None, Ok, Err, IfOk, OnOk, IfErr, OnErr, if◌then◌else◌};
+ghost use Rattle.wl_draft.specs.Tables.{find, put};
+ghost use Rattle.wl_broadcast.specs.Channels.{opened, open_refusal, posted, post_frame, name_at, taking, full, after_hearing, hearing_of, heard_refusal, read_at, closed_at, first_of, inbox_at, is_open_at};
+ghost use Rattle.wl_tab.specs.Tabs.{channels_in};
+ghost use Rattle.wl_tab.specs.TabChannels.{number_refusal, posting_refusal};
+
+use crate::channels::{ChannelRefusal, TabChannels};
+use crate::tables::put_row;
+use std::alloc::{AllocError, Global};
+use std::collections::BTreeMap;
+use wl_broadcast::{ChannelFault, Hearing, Letter, Posted};
+use wl_draft::Name;
+use wl_frames::Frame;
+
+/// A tab opens a channel object.
+pub fn open_at(
+    alloc: Global,
+    rows: &mut BTreeMap<u16, TabChannels>,
+    tab: u16,
+    name: &Name,
+) -> Result<usize, ChannelFault>
+    ensures ok { let c = channels_in tab (find rows.old.entries tab) in
+        OnOk result (rows.new.entries ≡ put tab (opened name.now c) rows.old.entries) }
+    ensures number { IfOk result (λ n. n ≡ length (channels_in tab (find rows.old.entries tab)).objects) }
+    ensures allowed { OnOk result (open_refusal name.now (channels_in tab (find rows.old.entries tab)) ≡ None) }
+    ensures refused { IfErr result (λ e. e ≢ ChannelFault.Memory → open_refusal name.now (channels_in tab (find rows.old.entries tab)) ≡ Some e) }
+    ensures err { OnErr result (rows.new.entries ≡ rows.old.entries) }
+{
+    match rows.get_mut(&tab) {
+        Some(channels) => channels.open(name),
+        None => {
+            let mut channels = TabChannels::new(alloc, tab);
+            let number = channels.open(name)?;
+            put_row(rows, tab, channels)?;
+            Ok(number)
+        }
+    }
+}
+
+/// A post of another tab comes to a tab.
+pub fn hear_at(
+    alloc: Global,
+    rows: &mut BTreeMap<u16, TabChannels>,
+    tab: u16,
+    frame: &Frame,
+) -> Result<Hearing, AllocError>
+    requires { heard_refusal frame.now ≡ None }
+    ensures ok { let c = channels_in tab (find rows.old.entries tab) in
+        OnOk result (rows.new.entries ≡ put tab (after_hearing frame.now c) rows.old.entries) }
+    ensures hearing { IfOk result (λ h. h ≡ hearing_of frame.now (channels_in tab (find rows.old.entries tab))) }
+    ensures err { OnErr result (rows.new.entries ≡ rows.old.entries) }
+{
+    match rows.get_mut(&tab) {
+        Some(channels) => channels.heard(frame),
+        None => {
+            let mut channels = TabChannels::new(alloc, tab);
+            let hearing = channels.heard(frame)?;
+            put_row(rows, tab, channels)?;
+            Ok(hearing)
+        }
+    }
+}
+
+/// A tab posts on a channel object.
+pub fn post_at(
+    rows: &mut BTreeMap<u16, TabChannels>,
+    tab: u16,
+    number: usize,
+    bytes: &[u8],
+) -> Result<Posted, ChannelRefusal>
+    ensures ok { let c = channels_in tab (find rows.old.entries tab) in
+        OnOk result (rows.new.entries ≡ put tab (posted number bytes.now c) rows.old.entries) }
+    ensures allowed { OnOk result (posting_refusal number bytes.now (channels_in tab (find rows.old.entries tab)) ≡ None) }
+    ensures posted { let c = channels_in tab (find rows.old.entries tab) in IfOk result (λ p.
+        (p.frame ≡ post_frame c.posts (name_at c.objects number) bytes.now)
+        × (p.took ≡ taking (Some number) (name_at c.objects number) c.objects)
+        × (p.full ≡ full (Some number) (name_at c.objects number) c.objects)) }
+    ensures refused { IfErr result (λ e. e ≢ ChannelRefusal.Fault ChannelFault.Memory → posting_refusal number bytes.now (channels_in tab (find rows.old.entries tab)) ≡ Some e) }
+    ensures err { OnErr result (rows.new.entries ≡ rows.old.entries) }
+{
+    match rows.get_mut(&tab) {
+        Some(channels) => channels.post(number, bytes),
+        None => Err(ChannelRefusal::NoChannel),
+    }
+}
+
+/// A tab takes the oldest post out of an inbox.
+pub fn read_at(
+    rows: &mut BTreeMap<u16, TabChannels>,
+    tab: u16,
+    number: usize,
+) -> Result<Option<Letter>, ChannelRefusal>
+    ensures ok { let c = channels_in tab (find rows.old.entries tab) in
+        OnOk result (rows.new.entries ≡ put tab (read_at number c) rows.old.entries) }
+    ensures allowed { OnOk result (number_refusal number (channels_in tab (find rows.old.entries tab)) ≡ None) }
+    ensures letter { IfOk result (λ letter. letter ≡ first_of (inbox_at (channels_in tab (find rows.old.entries tab)).objects number)) }
+    ensures refused { IfErr result (λ e. number_refusal number (channels_in tab (find rows.old.entries tab)) ≡ Some e) }
+    ensures err { OnErr result (rows.new.entries ≡ rows.old.entries) }
+{
+    match rows.get_mut(&tab) {
+        Some(channels) => channels.read(number),
+        None => Err(ChannelRefusal::NoChannel),
+    }
+}
+
+/// A tab closes a channel object.
+pub fn close_at(
+    rows: &mut BTreeMap<u16, TabChannels>,
+    tab: u16,
+    number: usize,
+) -> Result<(), ChannelRefusal>
+    ensures result { result ≡ (if nat_lt number (length (channels_in tab (find rows.old.entries tab)).objects) then Ok tt else Err ChannelRefusal.NoChannel) }
+    ensures rows { let c = channels_in tab (find rows.old.entries tab) in
+        rows.new.entries ≡ (if is_open_at c.objects number then put tab (closed_at number c) rows.old.entries else rows.old.entries) }
+{
+    match rows.get_mut(&tab) {
+        Some(channels) => channels.close(number),
+        None => Err(ChannelRefusal::NoChannel),
+    }
+}

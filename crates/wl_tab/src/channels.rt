@@ -1,0 +1,167 @@
+//! A tab's channels by their numbers, with the open ones' tokens.
+
+ghost use Rattle.std.specs.Prelude.{◌≡◌, ◌≢◌, ◌==◌, nat_lt, length, position, Some, None, Ok, Err, IfOk, OnOk, IfErr, OnErr, if◌then◌else◌};
+ghost use Rattle.wl_broadcast.specs.Channels.{no_channels, opened, posted, post_frame, name_at, taking, full, after_hearing, hearing_of, read_at, closed_at, inbox_at, first_of, is_open_at, open_refusal, heard_refusal};
+ghost use Rattle.wl_tab.specs.TabChannels.{number_refusal, posting_refusal, place_in};
+ghost use Rattle.wl_tab.specs.declared.channels.ChannelRefusal.TheVariants.{Fault as refused_for};
+
+use std::alloc::{AllocError, Global};
+use std::marker::Model;
+use wl_broadcast::{Channel, ChannelFault, Channels, Foreign, Hearing, Letter, Posted};
+use wl_draft::Name;
+use wl_frames::Frame;
+
+/// A tab's channels. Callers name a channel by its number.
+pub struct TabChannels {
+    channels: Channels,
+    /// The number of the channel that was opened last.
+    latest: Option<usize>,
+    /// Those that are open, oldest first.
+    kept: Vec<Channel>,
+}
+
+impl Model for TabChannels {
+    ghost use Rattle.wl_broadcast.specs.Channels.{ChannelState};
+    ghost use Rattle.wl_tab.specs.TabChannels.{IsNumbered};
+
+    ghost Value = { ChannelState };
+
+    ghost view = { λ t. t.channels };
+
+    ghost invariant = { λ t. IsNumbered t.channels t.latest t.kept.items };
+}
+
+impl Drop for TabChannels {
+    fn drop(self) {
+        let TabChannels {
+            channels,
+            latest: _,
+            kept,
+        } = self;
+        channels.end(kept);
+    }
+}
+
+/// Why a call on a channel of a number was refused.
+#[derive(Clone, Copy)]
+pub enum ChannelRefusal {
+    /// No channel of this number was ever opened.
+    NoChannel,
+    Closed,
+    Fault(ChannelFault),
+}
+
+impl From<ChannelFault> for ChannelRefusal {
+    ghost from_gives = { λ fault refusal. refusal ≡ refused_for fault };
+
+    fn from(fault: ChannelFault) -> ChannelRefusal {
+        ChannelRefusal::Fault(fault)
+    }
+}
+
+impl TabChannels {
+    /// The channels of a tab that has opened none.
+    pub(crate) fn new(alloc: Global, tab: u16) -> TabChannels
+        ensures { result ≡ no_channels tab }
+    {
+        TabChannels {
+            channels: Channels::new(alloc, tab),
+            latest: None,
+            kept: Vec::new(alloc),
+        }
+    }
+
+    /// Opens a channel, and gives its number. The room for its token is made first.
+    pub(crate) fn open(&mut self, name: &Name) -> Result<usize, ChannelFault>
+        ensures ok { OnOk result ((self.new ≡ opened name.now self.old) × (open_refusal name.now self.old ≡ None)) }
+        ensures number { IfOk result (λ n. n ≡ length self.old.objects) }
+        ensures refused { IfErr result (λ e. e ≢ ChannelFault.Memory → open_refusal name.now self.old ≡ Some e) }
+        ensures err { OnErr result (self.new ≡ self.old) }
+    {
+        self.kept.reserve(1)?;
+        let channel = self.channels.open(name.as_str())?;
+        let number = channel.number();
+        self.latest = Some(number);
+        self.kept.push_reserved(channel);
+        Ok(number)
+    }
+
+    /// Posts data on a channel.
+    pub(crate) fn post(&mut self, number: usize, bytes: &[u8]) -> Result<Posted, ChannelRefusal>
+        ensures ok { OnOk result ((self.new ≡ posted number bytes.now self.old) × (posting_refusal number bytes.now self.old ≡ None)) }
+        ensures posted { IfOk result (λ p.
+            (p.frame ≡ post_frame self.old.posts (name_at self.old.objects number) bytes.now)
+            × (p.took ≡ taking (Some number) (name_at self.old.objects number) self.old.objects)
+            × (p.full ≡ full (Some number) (name_at self.old.objects number) self.old.objects)) }
+        ensures refused { IfErr result (λ e. e ≢ ChannelRefusal.Fault ChannelFault.Memory → posting_refusal number bytes.now self.old ≡ Some e) }
+        ensures err { OnErr result (self.new ≡ self.old) }
+    {
+        let place = place_of(&self.kept, self.latest, number)?;
+        Ok(self.channels.post(&self.kept[place], bytes)?)
+    }
+
+    /// Takes another tab's post in. An old one changes nothing.
+    pub(crate) fn heard(&mut self, frame: &Frame) -> Result<Hearing, AllocError>
+        requires { heard_refusal frame.now ≡ None }
+        ensures ok { OnOk result (self.new ≡ after_hearing frame.now self.old) }
+        ensures hearing { IfOk result (λ h. h ≡ hearing_of frame.now self.old) }
+        ensures err { OnErr result (self.new ≡ self.old) }
+    {
+        match self.channels.heard(frame) {
+            Ok(hearing) => Ok(hearing),
+            Err(_) => Err(AllocError),
+        }
+    }
+
+    /// Takes the oldest post out of a channel's inbox. It takes no memory.
+    pub(crate) fn read(&mut self, number: usize) -> Result<Option<Letter>, ChannelRefusal>
+        ensures ok { OnOk result ((self.new ≡ read_at number self.old) × (number_refusal number self.old ≡ None)) }
+        ensures letter { IfOk result (λ letter. letter ≡ first_of (inbox_at self.old.objects number)) }
+        ensures refused { IfErr result (λ e. number_refusal number self.old ≡ Some e) }
+        ensures err { OnErr result (self.new ≡ self.old) }
+    {
+        let place = place_of(&self.kept, self.latest, number)?;
+        Ok(self.channels.read(&self.kept[place])?)
+    }
+
+    /// Closes a channel. One that is closed already stays as it is. It takes no memory.
+    pub(crate) fn close(&mut self, number: usize) -> Result<(), ChannelRefusal>
+        ensures result { result ≡ (if nat_lt number (length self.old.objects) then Ok tt else Err ChannelRefusal.NoChannel) }
+        ensures new { self.new ≡ (if is_open_at self.old.objects number then closed_at number self.old else self.old) }
+    {
+        match place_of(&self.kept, self.latest, number) {
+            Ok(place) => {
+                let channel = self.kept.remove(place);
+                if let Err(Foreign { value }) = self.channels.close(channel) {
+                    // Never: an open channel that is kept is this tab's.
+                    self.kept.push_reserved(value);
+                }
+                Ok(())
+            }
+            Err(ChannelRefusal::Closed) => Ok(()),
+            Err(ChannelRefusal::NoChannel) => Err(ChannelRefusal::NoChannel),
+            Err(ChannelRefusal::Fault(fault)) => Err(ChannelRefusal::Fault(fault)),
+        }
+    }
+}
+
+/// Where the open channel of the number stands among those that are kept.
+fn place_of(kept: &[Channel], latest: Option<usize>, number: usize) -> Result<usize, ChannelRefusal>
+    ensures { result ≡ place_in number latest kept.now }
+{
+    match latest {
+        Some(latest) if number <= latest => {}
+        _ => return Err(ChannelRefusal::NoChannel),
+    }
+    match position_of(kept, number) {
+        Some(place) => Ok(place),
+        None => Err(ChannelRefusal::Closed),
+    }
+}
+
+/// Where the channel of the number stands.
+fn position_of(kept: &[Channel], number: usize) -> Option<usize>
+    ensures { result ≡ position (λ channel. channel.number == number) kept.now }
+{
+    kept.iter().position(|channel| channel.number() == number)
+}

@@ -1,0 +1,164 @@
+//! A tab's locks: its agent, with the tokens of those who asked.
+
+ghost use Rattle.std.specs.Prelude.{◌≡◌, ◌≢◌, ◌++◌, Some, None, Err, IfOk, OnOk, IfErr};
+ghost use Rattle.wl_agent.specs.Tab.{newborn, newborn_two, report_frames, command_frame, message_refusal, report_refusal, due, is_report_due};
+ghost use Rattle.wl_tab.specs.Tabs.{command_limit};
+ghost use Rattle.wl_tab.specs.TabTokens.{holdings_of, holding_in};
+ghost use Rattle.std.specs.List.{filter_map};
+
+mod arriving;
+mod asking;
+mod ending;
+mod kept;
+mod settling;
+
+use crate::holding::Holding;
+use crate::locks::kept::Kept;
+use std::alloc::{AllocError, Global};
+use std::marker::Model;
+use wl_agent::{Agent, MessageFault, Resend};
+use wl_frames::{Frame, Sequence};
+
+/// How many commands a tab may issue in its life.
+const COMMAND_LIMIT: u32 = 1_000_000;
+
+/// A tab's agent, with the token of each of its numbers that is not over. What a token can be told it is told at once.
+pub struct TabLocks {
+    alloc: Global,
+    tab: u16,
+    agent: Agent,
+    /// The generation that the tab has entered, 0 for none.
+    entered: u32,
+    /// By rising number.
+    kept: Vec<Kept>,
+}
+
+impl Model for TabLocks {
+    ghost use Rattle.wl_agent.specs.Tab.{TabState};
+    ghost use Rattle.wl_tab.specs.TabTokens.{IsKept};
+
+    ghost Value = { TabState };
+
+    ghost view = { λ t. t.agent };
+
+    ghost invariant = { λ t. IsKept t.agent t.tab t.entered t.kept.items };
+}
+
+impl Drop for TabLocks {
+    fn drop(self) {
+        let TabLocks {
+            alloc: _,
+            tab: _,
+            agent,
+            entered: _,
+            mut kept,
+        } = self;
+        let dead = agent.die();
+        while let Some(last) = kept.pop() {
+            let Kept {
+                operation: _,
+                token,
+            } = last;
+            dead.void(token);
+        }
+        kept.destroy_empty();
+    }
+}
+
+/// What became of an abort.
+#[derive(Clone, Copy)]
+pub enum Abortion {
+    /// The request is taken back, by the command of this number.
+    Issued(u32),
+    /// The request's lock is held.
+    Held,
+    /// The number is no request that is asked.
+    Nothing,
+}
+
+impl TabLocks {
+    /// The locks of a tab that has issued nothing.
+    pub(crate) fn new(alloc: Global, tab: u16) -> TabLocks
+        ensures { result ≡ newborn tab command_limit }
+    {
+        TabLocks {
+            alloc,
+            tab,
+            agent: Agent::new(alloc, tab, COMMAND_LIMIT),
+            entered: 0,
+            kept: Vec::new(alloc),
+        }
+    }
+
+    /// Those of a tab that may have more locks, and tells its reports in parts.
+    pub fn new_two(alloc: Global, tab: u16) -> TabLocks
+        ensures { result ≡ newborn_two tab command_limit }
+    {
+        TabLocks {
+            alloc,
+            tab,
+            agent: Agent::new_two(alloc, tab, COMMAND_LIMIT),
+            entered: 0,
+            kept: Vec::new(alloc),
+        }
+    }
+
+    /// The generation that the tab has entered, 0 for none.
+    pub fn entered(&self) -> u32
+        ensures { result ≡ self.now.entered }
+    {
+        self.entered
+    }
+
+    /// The message of a command, for the broker of the entered generation.
+    pub fn message(&self, number: u32) -> Result<Frame, MessageFault>
+        ensures message { IfOk result (λ f. f ≡ command_frame self.now number) }
+        ensures allowed { OnOk result (message_refusal self.now number ≡ None) }
+        ensures refused { IfErr result (λ e. e ≢ MessageFault.Memory → message_refusal self.now number ≡ Some e) }
+        ensures memory { result ≡ Err MessageFault.Memory → message_refusal self.now number ≡ None }
+    {
+        self.agent.message(number)
+    }
+
+    /// The report of the entered generation, in its parts.
+    pub fn report_frames(&self) -> Result<Sequence<Frame>, MessageFault>
+        ensures report { IfOk result (λ frames. frames ≡ report_frames self.now) }
+        ensures allowed { OnOk result (report_refusal self.now ≡ None) }
+        ensures refused { IfErr result (λ e. e ≢ MessageFault.Memory → report_refusal self.now ≡ Some e) }
+        ensures memory { result ≡ Err MessageFault.Memory → report_refusal self.now ≡ None }
+    {
+        self.agent.report_frames()
+    }
+
+    /// What is sent again.
+    pub fn resend(&self) -> Result<Resend, AllocError>
+        ensures report { IfOk result (λ r. r.report ≡ is_report_due self.now) }
+        ensures numbers { IfOk result (λ r. r.numbers.items ≡ due self.now) }
+    {
+        self.agent.resend()
+    }
+
+    /// Appends what the tab holds, by rising number.
+    pub fn add_holdings(&self, holdings: &mut Vec<Holding>) -> Result<(), AllocError>
+        ensures { OnOk result (holdings.new.items ≡ holdings.old.items ++ holdings_of self.now) }
+    {
+        add_holdings(self.alloc, self.tab, &self.kept, holdings)
+    }
+}
+
+/// Appends what is held of these numbers.
+fn add_holdings(
+    alloc: Global,
+    tab: u16,
+    kept: &[Kept],
+    holdings: &mut Vec<Holding>,
+) -> Result<(), AllocError>
+    ensures { OnOk result (holdings.new.items ≡ holdings.old.items ++ filter_map (holding_in tab) kept.now) }
+{
+    for number in kept {
+        if let Some(holding) = number.holding(alloc, tab)? {
+            holdings.push(holding)?;
+        }
+    }
+    Ok(())
+}

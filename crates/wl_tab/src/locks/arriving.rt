@@ -1,0 +1,139 @@
+//! Frames that come to a tab.
+
+ghost use Rattle.std.specs.Prelude.{◌≡◌, ◌≢◌, true, IfOk, OnOk, OnErr};
+ghost use Rattle.wl_agent.specs.Delivery.{delivery};
+ghost use Rattle.wl_tab.specs.Tabs.{told};
+ghost use Rattle.wl_tab.specs.Arrivals.{arrival, of_unheard, generation_in, part_in, parts_in};
+ghost use Rattle.wl_tab.specs.TabTokens.{ended_before, has_snapshot, said_of_told, entered_by};
+
+use crate::locks::TabLocks;
+use crate::locks::kept::Kept;
+use crate::locks::settling::settle_all;
+use std::alloc::{AllocError, Global};
+use wl_agent::{Delivered, Snapshot, Unheard};
+use wl_frames::{Frame, Sequence};
+use wl_said::{Ended, Reason, Said};
+
+impl TabLocks {
+    /// Takes in a frame, tells the tokens what came of it, and says it.
+    pub(crate) fn deliver(&mut self, frame: &Frame) -> Result<Said, AllocError>
+        ensures new { OnOk result (self.new ≡ told (delivery frame.now self.old).0) }
+        ensures said { IfOk result (λ said. said ≡ arrival frame.now self.old) }
+    {
+        let ended = ended_by_entering(self.alloc, self.entered, &self.kept)?;
+        let delivered = taken(self.agent.deliver(frame))?;
+        self.entered = entered_by(frame, &delivered, self.entered);
+        let snapshot = settle_all(&mut self.agent, &mut self.kept);
+        Ok(said_of_told(frame, ended, snapshot, delivered))
+    }
+}
+
+/// What a frame was to the tab, unless memory was refused.
+fn taken(delivered: Delivered) -> Result<Delivered, AllocError>
+    ensures same { IfOk result (λ d. d ≡ delivered) }
+    ensures ok { OnOk result (delivered ≢ Delivered.Dropped Unheard.Memory) }
+    ensures err { OnErr result (delivered ≡ Delivered.Dropped Unheard.Memory) }
+{
+    match delivered {
+        Delivered::Dropped(Unheard::Memory) => Err(AllocError),
+        delivered => Ok(delivered),
+    }
+}
+
+/// What of these numbers would end by entering a generation. The first one of a life ends none.
+fn ended_by_entering(alloc: Global, entered: u32, kept: &[Kept]) -> Result<Vec<Ended>, AllocError>
+    ensures { IfOk result (λ ended. ended.items ≡ ended_before entered kept.now) }
+{
+    if entered == 0 {
+        return Ok(Vec::new(alloc));
+    }
+    kept.iter()
+        .filter_map(|number| number.ended())
+        .collect(alloc)
+}
+
+/// What is said of what the agent was told.
+fn said_of_told(
+    frame: &Frame,
+    ended: Vec<Ended>,
+    snapshot: Option<Snapshot>,
+    delivered: Delivered,
+) -> Said
+    requires { has_snapshot delivered snapshot ≡ true }
+    ensures { result ≡ said_of_told frame.now ended.items snapshot delivered }
+{
+    match delivered {
+        Delivered::Entered(_) => Said::Entered {
+            generation: generation_in(frame),
+            ended: Sequence::new(ended),
+        },
+        Delivered::Granted(number) => Said::Granted(number),
+        Delivered::Waiting(number) => Said::Waiting(number),
+        Delivered::Null(number) => Said::Null(number),
+        Delivered::Lost(number) => Said::Lost(number),
+        Delivered::Taken(number) => Said::Taken(number),
+        Delivered::Part(_) => Said::Part {
+            part: part_in(frame),
+            parts: parts_in(frame),
+        },
+        Delivered::Whole(number) => match snapshot {
+            Some(snapshot) => Said::Whole { number, snapshot },
+            None => unreachable!(),
+        },
+        Delivered::Dropped(unheard) => Said::Dropped(reason_of(unheard)),
+    }
+}
+
+/// The generation that the tab has entered then.
+fn entered_by(frame: &Frame, delivered: &Delivered, entered: u32) -> u32
+    ensures { result ≡ entered_by frame.now delivered.now entered }
+{
+    match delivered {
+        Delivered::Entered(_) => generation_in(frame),
+        _ => entered,
+    }
+}
+
+/// The generation of a hello.
+fn generation_in(frame: &Frame) -> u32
+    ensures { result ≡ generation_in frame.now }
+{
+    match frame {
+        Frame::Hello(hello) => hello.generation,
+        _ => 0,
+    }
+}
+
+/// Which part of a snapshot the frame is.
+fn part_in(frame: &Frame) -> u16
+    ensures { result ≡ part_in frame.now }
+{
+    match frame {
+        Frame::Snapshot(snapshot) => snapshot.part,
+        _ => 0,
+    }
+}
+
+/// Of how many parts of a snapshot the frame is one.
+fn parts_in(frame: &Frame) -> u16
+    ensures { result ≡ parts_in frame.now }
+{
+    match frame {
+        Frame::Snapshot(snapshot) => snapshot.parts,
+        _ => 0,
+    }
+}
+
+/// Why a frame was dropped. No frame that is sent to a tab is of a wrong kind, and want of memory is no drop of the tab's.
+fn reason_of(unheard: Unheard) -> Reason
+    ensures { result ≡ of_unheard unheard }
+{
+    match unheard {
+        Unheard::OldGeneration => Reason::OldGeneration,
+        Unheard::LaterGeneration => Reason::LaterGeneration,
+        Unheard::Held => Reason::Held,
+        Unheard::Over => Reason::Over,
+        Unheard::Twice => Reason::Twice,
+        Unheard::Odd | Unheard::WrongKind | Unheard::Memory => Reason::Odd,
+    }
+}

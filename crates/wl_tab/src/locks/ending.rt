@@ -1,0 +1,95 @@
+//! Aborts and releases.
+
+ghost use Rattle.std.specs.Prelude.{◌≡◌, ◌&&◌, ◌==◌, false, length, position, Some, None, IfOk, OnOk, OnErr, if◌then◌else◌};
+ghost use Rattle.wl_agent.specs.Tab.{aborted, released, status_of, is_asked};
+ghost use Rattle.wl_agent.specs.Tokens.{is_pending, is_holding};
+ghost use Rattle.wl_tab.specs.TabTokens.{abortion, number_of, can_abort, can_release};
+
+use crate::locks::kept::Kept;
+use crate::locks::{Abortion, TabLocks};
+use wl_agent::{AbortFault, Agent, Foreign, Token};
+
+impl TabLocks {
+    /// Takes a request back that is asked. It takes no memory.
+    pub(crate) fn abort(&mut self, number: u32) -> Abortion
+        ensures said { result ≡ abortion number self.old }
+        ensures new { self.new ≡ (if is_pending self.old number && is_asked (status_of self.old number) then aborted number self.old else self.old) }
+    {
+        let Some(place) = place_of(&self.kept, number) else {
+            return Abortion::Nothing;
+        };
+        if !self.kept[place].is_request() {
+            return Abortion::Nothing;
+        }
+        if self.kept[place].is_lock() {
+            return Abortion::Held;
+        }
+        let Kept { operation, token } = self.kept.remove(place);
+        match abort(&mut self.agent, token) {
+            Ok(next) => Abortion::Issued(next),
+            Err(token) => {
+                // Never: what is kept for a request that is no lock is its pending token.
+                self.kept.push_reserved(Kept { operation, token });
+                Abortion::Nothing
+            }
+        }
+    }
+
+    /// Lets go of a lock that is held, and gives the number of the command. It takes no memory.
+    pub(crate) fn release(&mut self, number: u32) -> Option<u32>
+        ensures next { result ≡ (if is_holding self.old number then Some (length self.old.issued) else None) }
+        ensures new { self.new ≡ (if is_holding self.old number then released number self.old else self.old) }
+    {
+        let place = place_of(&self.kept, number)?;
+        if !self.kept[place].is_lock() {
+            return None;
+        }
+        let Kept { operation, token } = self.kept.remove(place);
+        match release(&mut self.agent, token) {
+            Ok(next) => Some(next),
+            Err(token) => {
+                // Never: a lock that is kept is held.
+                self.kept.push_reserved(Kept { operation, token });
+                None
+            }
+        }
+    }
+}
+
+/// Where the number is kept.
+fn place_of(kept: &[Kept], number: u32) -> Option<usize>
+    ensures { result ≡ position (λ k. number_of k.token == number) kept.now }
+{
+    kept.iter().position(|kept| kept.number() == number)
+}
+
+/// Aborts by a token, or gives it back.
+fn abort(agent: &mut Agent, token: Token) -> Result<u32, Token>
+    ensures ok { OnOk result (agent.new ≡ aborted (number_of token) agent.old) }
+    ensures next { IfOk result (λ next. next ≡ length agent.old.issued) }
+    ensures refused { OnErr result (can_abort agent.old token ≡ false) }
+{
+    match token {
+        Token::Pending(pending) => match agent.abort(pending) {
+            Ok(next) => Ok(next),
+            Err(AbortFault::Foreign(pending)) => Err(Token::Pending(pending)),
+            Err(AbortFault::Held(lock)) => Err(Token::HeldLock(lock)),
+        },
+        token => Err(token),
+    }
+}
+
+/// Releases by a token, or gives it back.
+fn release(agent: &mut Agent, token: Token) -> Result<u32, Token>
+    ensures ok { OnOk result (agent.new ≡ released (number_of token) agent.old) }
+    ensures next { IfOk result (λ next. next ≡ length agent.old.issued) }
+    ensures refused { OnErr result (can_release agent.old token ≡ false) }
+{
+    match token {
+        Token::HeldLock(lock) => match agent.release(lock) {
+            Ok(next) => Ok(next),
+            Err(Foreign { value }) => Err(Token::HeldLock(value)),
+        },
+        token => Err(token),
+    }
+}

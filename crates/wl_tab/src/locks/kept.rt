@@ -1,0 +1,73 @@
+//! What is kept for a number.
+
+ghost use Rattle.std.specs.Prelude.{◌≡◌, IfOk};
+ghost use Rattle.wl_agent.specs.Tab.{is_request};
+ghost use Rattle.wl_tab.specs.TabTokens.{number_of, is_lock, holding_in, ended_by};
+
+use crate::holding::Holding;
+use std::alloc::{AllocError, Global};
+use wl_agent::Token;
+use wl_frames::Operation;
+use wl_said::Ended;
+
+/// A number that is not over: its command, and its token.
+pub struct Kept {
+    pub(crate) operation: Operation,
+    pub(crate) token: Token,
+}
+
+impl Kept {
+    pub(crate) fn number(&self) -> u32
+        ensures { result ≡ number_of self.now.token }
+    {
+        match &self.token {
+            Token::Pending(pending) => pending.number(),
+            Token::Probe(probe) => probe.number(),
+            Token::HeldLock(lock) => lock.number(),
+            Token::Asking(asking) => asking.number(),
+        }
+    }
+
+    /// Whether it is a request that may wait.
+    pub(crate) fn is_request(&self) -> bool
+        ensures { result ≡ is_request self.now.operation }
+    {
+        match &self.operation {
+            Operation::Request { if_available, .. } => !*if_available,
+            _ => false,
+        }
+    }
+
+    /// Whether its lock is held.
+    pub(crate) fn is_lock(&self) -> bool
+        ensures { result ≡ is_lock self.now.token }
+    {
+        matches!(&self.token, Token::HeldLock(_))
+    }
+
+    /// What ends with it where its tab enters a later generation: a probe or a query that is asked.
+    pub(crate) fn ended(&self) -> Option<Ended>
+        ensures { result ≡ ended_by self.now.token }
+    {
+        match &self.token {
+            Token::Probe(probe) => Some(Ended::Null(probe.number())),
+            Token::Asking(asking) => Some(Ended::Lost(asking.number())),
+            _ => None,
+        }
+    }
+
+    /// The holding that it is, where its lock is held.
+    pub(crate) fn holding(&self, alloc: Global, tab: u16) -> Result<Option<Holding>, AllocError>
+        ensures { IfOk result (λ holding. holding ≡ holding_in tab self.now) }
+    {
+        match (&self.token, &self.operation) {
+            (Token::HeldLock(lock), Operation::Request { mode, name, .. }) => Ok(Some(Holding {
+                tab,
+                number: lock.number(),
+                mode: *mode,
+                name: name.copy(alloc)?,
+            })),
+            _ => Ok(None),
+        }
+    }
+}

@@ -1,0 +1,152 @@
+//! The tables of tabs: a tab without a row is as it was born.
+
+ghost use Rattle.std.specs.Prelude.{◌≡◌, ◌≢◌, ◌&&◌, length, Some, None, IfOk, OnOk, IfErr, OnErr, Err, if◌then◌else◌};
+ghost use Rattle.wl_draft.specs.Tables.{find, put};
+ghost use Rattle.wl_agent.specs.Tab.{asked, queried, aborted, released, ask_refusal, query_refusal, status_of, is_asked};
+ghost use Rattle.wl_agent.specs.Tokens.{is_pending, is_holding};
+ghost use Rattle.wl_agent.specs.Delivery.{delivery};
+ghost use Rattle.wl_tab.specs.Tabs.{tab_in, told};
+ghost use Rattle.wl_tab.specs.Arrivals.{arrival};
+ghost use Rattle.wl_tab.specs.TabTokens.{abortion};
+
+use crate::locks::{Abortion, TabLocks};
+use std::alloc::{AllocError, Global};
+use std::collections::BTreeMap;
+use wl_agent::AgentFault;
+use wl_draft::{Mode, Name};
+use wl_frames::Frame;
+use wl_said::Said;
+
+/// Puts a tab's first row.
+pub fn put_row<T: Drop>(rows: &mut BTreeMap<u16, T>, tab: u16, row: T) -> Result<(), AllocError>
+    ensures ok { OnOk result (rows.new.entries ≡ put tab row rows.old.entries) }
+    ensures err { OnErr result (rows.new.entries ≡ rows.old.entries) }
+{
+    rows.insert(tab, row)?;
+    Ok(())
+}
+
+/// A tab asks for a lock.
+pub fn ask_at(
+    alloc: Global,
+    tabs: &mut BTreeMap<u16, TabLocks>,
+    tab: u16,
+    mode: Mode,
+    if_available: bool,
+    name: &Name,
+) -> Result<u32, AgentFault>
+    ensures ok { let a = tab_in tab (find tabs.old.entries tab) in
+        OnOk result (tabs.new.entries ≡ put tab (asked mode if_available name.now a) tabs.old.entries) }
+    ensures number { IfOk result (λ n. n ≡ length (tab_in tab (find tabs.old.entries tab)).issued) }
+    ensures allowed { OnOk result (ask_refusal (tab_in tab (find tabs.old.entries tab)) name.now ≡ None) }
+    ensures refused { IfErr result (λ e. e ≢ AgentFault.Memory → ask_refusal (tab_in tab (find tabs.old.entries tab)) name.now ≡ Some e) }
+    ensures err { OnErr result (tabs.new.entries ≡ tabs.old.entries) }
+{
+    match tabs.get_mut(&tab) {
+        Some(locks) => ask(locks, mode, if_available, name),
+        None => {
+            let mut locks = TabLocks::new(alloc, tab);
+            let number = ask(&mut locks, mode, if_available, name)?;
+            put_row(tabs, tab, locks)?;
+            Ok(number)
+        }
+    }
+}
+
+fn ask(locks: &mut TabLocks, mode: Mode, if_available: bool, name: &Name) -> Result<u32, AgentFault>
+    ensures ok { OnOk result (locks.new ≡ asked mode if_available name.now locks.old) }
+    ensures allowed { OnOk result (ask_refusal locks.old name.now ≡ None) }
+    ensures number { IfOk result (λ n. n ≡ length locks.old.issued) }
+    ensures refused { IfErr result (λ e. e ≢ AgentFault.Memory → ask_refusal locks.old name.now ≡ Some e) }
+    ensures err { OnErr result (locks.new ≡ locks.old) }
+{
+    if if_available {
+        locks.probe(name, mode)
+    } else {
+        locks.request(name, mode)
+    }
+}
+
+/// A tab asks for a snapshot.
+pub fn query_at(
+    alloc: Global,
+    tabs: &mut BTreeMap<u16, TabLocks>,
+    tab: u16,
+) -> Result<u32, AgentFault>
+    ensures ok { let a = tab_in tab (find tabs.old.entries tab) in
+        OnOk result (tabs.new.entries ≡ put tab (queried a) tabs.old.entries) }
+    ensures number { IfOk result (λ n. n ≡ length (tab_in tab (find tabs.old.entries tab)).issued) }
+    ensures allowed { OnOk result (query_refusal (tab_in tab (find tabs.old.entries tab)) ≡ None) }
+    ensures refused { IfErr result (λ e. e ≢ AgentFault.Memory → query_refusal (tab_in tab (find tabs.old.entries tab)) ≡ Some e) }
+    ensures err { OnErr result (tabs.new.entries ≡ tabs.old.entries) }
+{
+    match tabs.get_mut(&tab) {
+        Some(locks) => locks.query(),
+        None => {
+            let mut locks = TabLocks::new(alloc, tab);
+            let number = locks.query()?;
+            put_row(tabs, tab, locks)?;
+            Ok(number)
+        }
+    }
+}
+
+/// A tab takes a request back.
+pub fn abort_at(tabs: &mut BTreeMap<u16, TabLocks>, tab: u16, number: u32) -> Abortion
+    ensures said { result ≡ abortion number (tab_in tab (find tabs.old.entries tab)) }
+    ensures tabs { let a = tab_in tab (find tabs.old.entries tab) in
+        tabs.new.entries ≡ (if is_pending a number && is_asked (status_of a number) then put tab (aborted number a) tabs.old.entries else tabs.old.entries) }
+{
+    match tabs.get_mut(&tab) {
+        Some(locks) => locks.abort(number),
+        None => Abortion::Nothing,
+    }
+}
+
+/// A tab releases a lock.
+pub fn release_at(tabs: &mut BTreeMap<u16, TabLocks>, tab: u16, number: u32) -> Option<u32>
+    ensures next { let a = tab_in tab (find tabs.old.entries tab) in result ≡ (if is_holding a number then Some (length a.issued) else None) }
+    ensures tabs { let a = tab_in tab (find tabs.old.entries tab) in
+        tabs.new.entries ≡ (if is_holding a number then put tab (released number a) tabs.old.entries else tabs.old.entries) }
+{
+    match tabs.get_mut(&tab) {
+        Some(locks) => locks.release(number),
+        None => None,
+    }
+}
+
+/// A frame comes to a tab.
+pub fn deliver_at(
+    alloc: Global,
+    tabs: &mut BTreeMap<u16, TabLocks>,
+    tab: u16,
+    frame: &Frame,
+) -> Result<Said, AllocError>
+    ensures tabs { let a = tab_in tab (find tabs.old.entries tab) in
+        OnOk result (tabs.new.entries ≡ put tab (told (delivery frame.now a).0) tabs.old.entries) }
+    ensures said { IfOk result (λ said. said ≡ arrival frame.now (tab_in tab (find tabs.old.entries tab))) }
+{
+    match tabs.get_mut(&tab) {
+        Some(locks) => locks.deliver(frame),
+        None => {
+            let mut locks = TabLocks::new(alloc, tab);
+            let said = locks.deliver(frame)?;
+            put_row(tabs, tab, locks)?;
+            Ok(said)
+        }
+    }
+}
+
+/// A tab that has no row gets the one of its birth.
+pub fn keep_at(
+    alloc: Global,
+    tabs: &mut BTreeMap<u16, TabLocks>,
+    tab: u16,
+) -> Result<(), AllocError>
+    ensures { OnOk result (tabs.new.entries ≡ put tab (tab_in tab (find tabs.old.entries tab)) tabs.old.entries) }
+{
+    match tabs.get_mut(&tab) {
+        Some(_) => Ok(()),
+        None => put_row(tabs, tab, TabLocks::new(alloc, tab)),
+    }
+}

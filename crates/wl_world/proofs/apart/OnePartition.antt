@@ -1,0 +1,316 @@
+-- What belongs together at the broker: each number that it has beside another is of the same partition.
+use Rattle.std.proofs.Common.{◌≡◌, ⊎_elim, ℕ, ◌+◌, Bool, true, false, not, ◌&&◌, ◌||◌, List, [], ◌∷◌, ◌++◌, map, filter, Option, Some, None, refl, sym, ap, ◌∙◌, subst, arith}
+use Rattle.std.specs.Prelude.{◌==◌, nat_lt, nat_le}
+use Rattle.std.specs.List.{range_with_len}
+use Rattle.std.proofs.lemmas.Bool.{eqb-true}
+use Rattle.wl_draft.specs.declared.row.Row.{Row}
+use Rattle.wl_draft.specs.declared.row.Entry.{Entry}
+use Rattle.wl_draft.specs.Tables.{Table, at}
+use Rattle.wl_draft.specs.Locks.{Locks, no_locks, is_grantable, granted, left_waiting, newly, settle, settle_if, live, without, row_of, rows_of, held_of, waiting_of, queued, probed, released, aborted, ended, restored}
+use Rattle.wl_frames.specs.declared.frame.Operation.{Operation}
+use Rattle.wl_frames.specs.declared.frame.Operation.TheVariants.{Request, Release, Abort, Query}
+use Rattle.wl_frames.specs.declared.frame.Outcome.TheVariants.{Granted, Gone}
+use Rattle.wl_frames.specs.declared.frame.SnapshotEntry.{SnapshotEntry}
+use Rattle.wl_frames.specs.declared.frame.Addressed.{Addressed}
+use Rattle.wl_frames.specs.declared.frame.Stamped.{Stamped}
+use Rattle.wl_frames.specs.declared.frame.Upward.{Upward}
+use Rattle.wl_frames.specs.declared.frame.Upward.TheVariants as up
+use Rattle.wl_broker.specs.declared.seat.Seat.{Seat}
+use Rattle.wl_broker.specs.declared.seat.Seat.TheVariants.{Joined, Dead}
+use Rattle.wl_broker.specs.declared.dropped.Dropped.TheVariants.{OldGeneration, LaterGeneration, NotJoined, Recovering, OutOfTurn, DeadTab, AlreadyJoined, HeldByNewcomer, BadReport, Misplaced, TooMany, PartTwice}
+use Rattle.wl_broker.specs.Broker.{BrokerState, seat_of, manager_of, is_joined, is_dead, next_of, is_active, with_seat, settled_at, newly_at, answer_to, grants_to, snapshot_entries, parts_of, snapshot_part, snapshot_to, first_answer, later_answer, listed_at, is_listed, seated_at, or_else, has_held, all_below, is_lock, limit_of, last_number, is_misplaced, place_of, generation_of, drafted, Taking, Drops, Does, join, perform, Partial, Told as ToldBy, Whole, partial_of, at_once, in_part, fits, is_there, with_told, is_whole, whole_of, keeping, join_if, take_told, take_command, take_inner, taking, buried_at, burial}
+use Rattle.wl_agent.specs.Kept.{Rises}
+use Rattle.wl_agent.proofs.Rows.{Rises-put, Rises-filter}
+use Rattle.wl_bag.specs.Membership.{In, Here, Later}
+use Rattle.wl_bag.proofs.Membership.{either, In-nil, In-one, In-cons_cases, In-append_cases, In-map_cases, In-filter_cases}
+use Rattle.wl_world.proofs.Tables.{find-In}
+use Rattle.wl_world.proofs.apart.Cuts.{put-cases}
+
+-- ---- a partition's locks
+
+-- each row's client has Q
+abbrev pub Own : (ℕ → Type 0) → List Row → Type 0
+Own Q rows = (r : Row) → In r rows → Q r.client
+
+abbrev pub Stands : (ℕ → Type 0) → Locks → Type 0
+Stands Q m = Own Q m.held × Own Q m.waiting
+
+Own-push : (Q : ℕ → Type 0) (rows : List Row) (x : Row) → Own Q rows → Q x.client → Own Q (rows ++ x ∷ [])
+Own-push Q rows x h q r i = ⊎_elim (λ j. h r j) (λ j. subst (λ z. Q z.client) (sym (In-one j)) q) (In-append_cases rows (x ∷ []) i)
+
+Own-append : (Q : ℕ → Type 0) (rows more : List Row) → Own Q rows → Own Q more → Own Q (rows ++ more)
+Own-append Q rows more h q r i = ⊎_elim (λ j. h r j) (λ j. q r j) (In-append_cases rows more i)
+
+Own-filter : (Q : ℕ → Type 0) (test : Row → Bool) (rows : List Row) → Own Q rows → Own Q (filter test rows)
+Own-filter Q test rows h r i = h r (In-filter_cases test rows i).0
+
+granted-Own : (Q : ℕ → Type 0) (held ahead rows : List Row) → Own Q rows → Own Q (granted held ahead rows)
+granted-Own Q held ahead [] h = h
+granted-Own Q held ahead (x ∷ rows) h =
+    either (λ zs. Own Q zs) (is_grantable held ahead x) (x ∷ granted (held ++ x ∷ []) ahead rows) (granted held (ahead ++ x ∷ []) rows)
+    (λ _ r i. ⊎_elim (λ e. subst (λ z. Q z.client) (sym e) (h x Here)) (λ l. granted-Own Q (held ++ x ∷ []) ahead rows (λ y j. h y (Later j)) r l) (In-cons_cases i))
+    (λ _. granted-Own Q held (ahead ++ x ∷ []) rows (λ y j. h y (Later j)))
+
+left-Own : (Q : ℕ → Type 0) (held ahead rows : List Row) → Own Q ahead → Own Q rows → Own Q (left_waiting held ahead rows)
+left-Own Q held ahead [] a h = a
+left-Own Q held ahead (x ∷ rows) a h =
+    either (λ zs. Own Q zs) (is_grantable held ahead x) (left_waiting (held ++ x ∷ []) ahead rows) (left_waiting held (ahead ++ x ∷ []) rows)
+    (λ _. left-Own Q (held ++ x ∷ []) ahead rows a (λ y j. h y (Later j)))
+    (λ _. left-Own Q held (ahead ++ x ∷ []) rows (Own-push Q ahead x a (h x Here)) (λ y j. h y (Later j)))
+
+newly-Own : (Q : ℕ → Type 0) (m : Locks) → Stands Q m → Own Q (newly m)
+unfolding newly
+newly-Own Q m s = granted-Own Q m.held [] m.waiting s.1
+
+settle-Stands : (Q : ℕ → Type 0) (m : Locks) → Stands Q m → Stands Q (settle m)
+unfolding settle
+settle-Stands Q m s = (Own-append Q m.held (newly m) s.0 (newly-Own Q m s), left-Own Q m.held [] m.waiting (λ r i. absurd (In-nil i)) s.1)
+
+rows_of-Own : (Q : ℕ → Type 0) (t : ℕ) (entries : List Entry) → Q t → Own Q (rows_of t entries)
+rows_of-Own Q t entries q r i =
+    let o = In-map_cases (λ (e : Entry). row_of t e.number e.name e.mode) entries i in subst (λ (z : Row). Q z.client) (sym o.2) q
+
+pub restored-Stands : (Q : ℕ → Type 0) (t : ℕ) (entries : List Entry) (m : Locks) → Q t → Stands Q m → Stands Q (restored t entries m)
+unfolding restored
+restored-Stands Q t entries m q s =
+    (Own-append Q m.held (held_of t entries) s.0 (rows_of-Own Q t _ q), Own-append Q m.waiting (waiting_of t entries) s.1 (rows_of-Own Q t _ q))
+
+pub drafted-Stands : (Q : ℕ → Type 0) (t n : ℕ) (o : Operation) (m : Locks) → Q t → Stands Q m → Stands Q (drafted t n o m)
+unfolding queued probed released aborted
+drafted-Stands Q t n (Request mode true name) m q s =
+    either (Stands Q) (is_grantable m.held m.waiting (row_of t n name mode)) (record { held = m.held ++ row_of t n name mode ∷ []; waiting = m.waiting }) m
+    (λ _. (Own-push Q m.held (row_of t n name mode) s.0 q, s.1))
+    (λ _. s)
+drafted-Stands Q t n (Request mode false name) m q s = (s.0, Own-push Q m.waiting (row_of t n name mode) s.1 q)
+drafted-Stands Q t n (Release k) m q s = (Own-filter Q _ m.held s.0, s.1)
+drafted-Stands Q t n (Abort k) m q s = (Own-filter Q _ m.held s.0, Own-filter Q _ m.waiting s.1)
+drafted-Stands Q t n Query m q s = s
+
+pub ended-Stands : (Q : ℕ → Type 0) (t : ℕ) (m : Locks) → Stands Q m → Stands Q (ended t m)
+unfolding ended
+ended-Stands Q t m s = (Own-filter Q _ m.held s.0, Own-filter Q _ m.waiting s.1)
+
+-- ---- the broker
+
+-- both were opened, and the partition has both or neither
+pub record Mates (g f : ℕ → Bool) (k q : ℕ) : Type 0 where
+  pub left : g k ≡ true
+  pub right : g q ≡ true
+  pub alike : f k ≡ f q
+
+pub mates-left : {g f : ℕ → Bool} {k q : ℕ} → Mates g f k q → Mates g f k k
+mates-left m = record { left = m.left; right = m.left; alike = refl }
+
+pub mates-right : {g f : ℕ → Bool} {k q : ℕ} → Mates g f k q → Mates g f q q
+mates-right m = record { left = m.right; right = m.right; alike = refl }
+
+abbrev pub Seated : (g f : ℕ → Bool) → ℕ → Seat → Type 0
+Seated g f t (Joined p n l) = Mates g f t p
+Seated g f t Dead = g t ≡ true
+
+abbrev pub Managed : (g f : ℕ → Bool) → ℕ → Locks → Type 0
+Managed g f p m = Mates g f p p × Stands (λ t. Mates g f t p) m
+
+pub record Fits (g f : ℕ → Bool) (b : BrokerState) : Type 0 where
+  pub listed : (x : ℕ × ℕ) → In x b.listed → Mates g f x.0 x.1
+  pub seats : (x : ℕ × Seat) → In x b.seats → Seated g f x.0 x.1
+  pub managers : (x : ℕ × Locks) → In x b.managers → Managed g f x.0 x.1
+  pub seats_rise : Rises 0 b.seats
+  pub managers_rise : Rises 0 b.managers
+  pub partial : (x : ℕ × Partial) → In x b.partial → g x.0 ≡ true
+  pub partial_rise : Rises 0 b.partial
+
+-- all that is said is said to opened tabs
+abbrev pub Told : (ℕ → Bool) → List Addressed → Type 0
+Told g outs = (x : Addressed) → In x outs → g x.tab ≡ true
+
+abbrev pub FitsTaking : (g f : ℕ → Bool) → Taking → Type 0
+FitsTaking g f (Drops r) = Unit {0}
+FitsTaking g f (Does b outs) = Fits g f b × Told g outs
+
+-- a tab alone is told
+abbrev pub IsTold : ℕ → List Addressed → Type 0
+IsTold t outs = (x : Addressed) → In x outs → x.tab ≡ t
+
+one-told : (x : Addressed) → IsTold x.tab (x ∷ [])
+one-told x y i = ap (λ z. z.tab) (In-one i)
+
+snapshot-told : (b : BrokerState) (t n : ℕ) (entries : List SnapshotEntry) → IsTold t (snapshot_to b t n entries)
+snapshot-told b t n entries =
+    either (IsTold t) (nat_lt 65535 (parts_of entries)) (answer_to b t n Gone ∷ []) (map (snapshot_part b t n entries) (range_with_len 0 (parts_of entries)))
+    (λ _. one-told (answer_to b t n Gone))
+    (λ _ x i. ap (λ z. z.tab) (In-map_cases (snapshot_part b t n entries) (range_with_len 0 (parts_of entries)) i).2)
+
+pub first-told : (b : BrokerState) (t p n : ℕ) (o : Operation) → IsTold t (first_answer b t p n o)
+first-told b t p n (Request mode if_available name) x i = ap (λ z. z.tab) (In-one i)
+first-told b t p n (Release k) x i = ap (λ z. z.tab) (In-one i)
+first-told b t p n (Abort k) x i = ap (λ z. z.tab) (In-one i)
+first-told b t p n Query x i = snapshot-told b t n (snapshot_entries (manager_of b p)) x i
+
+pub later-told : (b : BrokerState) (t p n : ℕ) (o : Operation) → (later_answer b t p n o).tab ≡ t
+later-told b t p n (Request mode if_available name) = refl
+later-told b t p n (Release k) = refl
+later-told b t p n (Abort k) = refl
+later-told b t p n Query = refl
+
+-- who is granted a lock is told
+pub grants-told : (Q : ℕ → Type 0) (b : BrokerState) (rows : List Row) → Own Q rows → (x : Addressed) → In x (grants_to b rows) → Q x.tab
+grants-told Q b rows h x i =
+    let o = In-map_cases (λ (r : Row). answer_to b r.client r.number Granted) rows i in subst (λ (z : Addressed). Q z.tab) (sym o.2) (h o.0 o.1)
+
+module _ (g f : ℕ → Bool) where
+  pub manager_of-Stands : (b : BrokerState) (p : ℕ) → Fits g f b → Stands (λ t. Mates g f t p) (manager_of b p)
+  manager_of-Stands b p h = go b.managers h.managers
+    where
+      go : (ms : Table Locks) → ((x : ℕ × Locks) → In x ms → Managed g f x.0 x.1) → Stands (λ t. Mates g f t p) (at no_locks ms p)
+      go [] i = ((λ r j. absurd (In-nil j)), (λ r j. absurd (In-nil j)))
+      go (x ∷ xs) i =
+          either (Stands (λ t. Mates g f t p)) (x.0 == p) x.1 (at no_locks xs p)
+          (λ e. subst (λ q. Stands (λ t. Mates g f t q) x.1) (eqb-true x.0 p e) (i x Here).1)
+          (λ _. go xs (λ y j. i y (Later j)))
+
+  pub with_seat-Fits : (t : ℕ) (s : Seat) (b : BrokerState) → Seated g f t s → Fits g f b → Fits g f (with_seat t s b)
+  with_seat-Fits t s b m h = record {
+    listed = h.listed;
+    seats = λ x i. ⊎_elim (λ e. subst (λ (z : ℕ × Seat). Seated g f z.0 z.1) (sym e) m) (λ j. h.seats x j) (put-cases t s b.seats i);
+    managers = h.managers;
+    seats_rise = Rises-put 0 t s b.seats (omega arith) h.seats_rise;
+    managers_rise = h.managers_rise;
+    partial = λ x i. h.partial x (In-filter_cases (λ (row : ℕ × Partial). not (row.0 == t)) b.partial i).0;
+    partial_rise = Rises-filter (λ (row : ℕ × Partial). not (row.0 == t)) 0 b.partial h.partial_rise;
+  }
+
+  -- a part is kept of an opened tab
+  pub keeping-Fits : (t : ℕ) (k : Partial) (b : BrokerState) → g t ≡ true → Fits g f b → Fits g f (keeping t k b)
+  keeping-Fits t k b e h = record {
+    listed = h.listed;
+    seats = h.seats;
+    managers = h.managers;
+    seats_rise = h.seats_rise;
+    managers_rise = h.managers_rise;
+    partial = λ x i. ⊎_elim (λ c. ap (λ (z : ℕ × Partial). g z.0) c ∙ e) (λ j. h.partial x j) (put-cases t k b.partial i);
+    partial_rise = Rises-put 0 t k b.partial (omega arith) h.partial_rise;
+  }
+
+  settle_if-Stands : (Q : ℕ → Type 0) (now : Bool) (m : Locks) → Stands Q m → Stands Q (settle_if now m)
+  settle_if-Stands Q now m s = either (Stands Q) now (settle m) m (λ _. settle-Stands Q m s) (λ _. s)
+
+  pub settled_at-Fits : (b : BrokerState) (p : ℕ) (m : Locks) → Mates g f p p → Stands (λ t. Mates g f t p) m → Fits g f b → Fits g f (settled_at b p m)
+  unfolding settled_at
+  settled_at-Fits b p m e s h = record {
+    listed = h.listed;
+    seats = h.seats;
+    managers = λ x i. ⊎_elim
+        (λ c. subst (λ (z : ℕ × Locks). Managed g f z.0 z.1) (sym c) (e, settle_if-Stands (λ t. Mates g f t p) (is_active b p) m s))
+        (λ j. h.managers x j) (put-cases p (settle_if (is_active b p) m) b.managers i);
+    seats_rise = h.seats_rise;
+    managers_rise = Rises-put 0 p (settle_if (is_active b p) m) b.managers (omega arith) h.managers_rise;
+    partial = h.partial;
+    partial_rise = h.partial_rise;
+  }
+
+  pub newly_at-Own : (b : BrokerState) (p : ℕ) (m : Locks) → Stands (λ t. Mates g f t p) m → Own (λ t. Mates g f t p) (newly_at b p m)
+  unfolding newly_at
+  newly_at-Own b p m s = either (Own (λ t. Mates g f t p)) (is_active b p) (newly m) [] (λ _. newly-Own (λ t. Mates g f t p) m s) (λ _ r i. absurd (In-nil i))
+
+  pub without-Own : (p t n : ℕ) (rows : List Row) → Own (λ t. Mates g f t p) rows → Own (λ t. Mates g f t p) (without t n rows)
+  without-Own p t n rows h = Own-filter (λ t. Mates g f t p) _ rows h
+
+  grants-Told : (b : BrokerState) (p : ℕ) (rows : List Row) → Own (λ t. Mates g f t p) rows → Told g (grants_to b rows)
+  grants-Told b p rows h x i = (grants-told (λ t. Mates g f t p) b rows h x i).left
+
+  -- what stands is settled, and who is granted a lock is told
+  abbrev pub settles : BrokerState → ℕ → Locks → Taking
+  settles b p m = Does (settled_at b p m) (grants_to (settled_at b p m) (newly_at b p m))
+
+  settles-Fits : (b : BrokerState) (p : ℕ) (m : Locks) → Mates g f p p → Stands (λ t. Mates g f t p) m → Fits g f b → FitsTaking g f (settles b p m)
+  settles-Fits b p m e s h = (settled_at-Fits b p m e s h, grants-Told (settled_at b p m) p (newly_at b p m) (newly_at-Own b p m s))
+
+  join-Fits : (b : BrokerState) (t p : ℕ) (r : Whole) → Mates g f t p → Fits g f b → FitsTaking g f (join b t p r)
+  unfolding join
+  join-Fits b t p r m h =
+      settles-Fits (with_seat t (Joined p r.base r.limit) b) p (restored t r.entries (manager_of b p)) (mates-right m)
+      (restored-Stands (λ t. Mates g f t p) t r.entries (manager_of b p) m (manager_of-Stands b p h)) (with_seat-Fits t (Joined p r.base r.limit) b m h)
+
+  perform-Fits : (b : BrokerState) (t p n : ℕ) (o : Operation) → Mates g f t p → Fits g f b → FitsTaking g f (perform b t p n o)
+  unfolding perform
+  perform-Fits b t p n o m h =
+      let z = with_seat t (Joined p (n + 1) (limit_of b t)) b in
+      let x = drafted t n o (manager_of b p) in
+      let s = drafted-Stands (λ t. Mates g f t p) t n o (manager_of b p) m (manager_of-Stands b p h) in (
+        settled_at-Fits z p x (mates-right m) s (with_seat-Fits t (Joined p (n + 1) (limit_of b t)) b m h),
+        λ y i. ⊎_elim
+            (λ j. ap g (first-told (settled_at z p x) t p n o y j) ∙ m.left)
+            (λ j. grants-Told (settled_at z p x) p (without t n (newly_at z p x)) (without-Own p t n (newly_at z p x) (newly_at-Own z p x s)) y j)
+            (In-append_cases (first_answer (settled_at z p x) t p n o) (grants_to (settled_at z p x) (without t n (newly_at z p x))) i),
+      )
+
+  told-Fits : (b : BrokerState) (t p : ℕ) (x : ToldBy) → Mates g f t p → Fits g f b → FitsTaking g f (take_told b t p x)
+  unfolding take_told join_if
+  told-Fits b t p x m h =
+      either (FitsTaking g f) (is_joined (seat_of b t)) (Drops AlreadyJoined) _ (λ _. tt)
+      (λ _. either (FitsTaking g f) (not (is_listed (listed_at t b.listed)) && has_held x.entries) (Drops HeldByNewcomer) _ (λ _. tt)
+      (λ _. either (FitsTaking g f) (not (all_below x.base x.entries && fits x (partial_of b t))) (Drops BadReport) _ (λ _. tt)
+      (λ _. either (FitsTaking g f) (is_there x (partial_of b t)) (Drops PartTwice) _ (λ _. tt)
+      (λ _. either (FitsTaking g f) (is_whole (with_told p x (partial_of b t))) (join b t p (whole_of (with_told p x (partial_of b t)))) (Does (keeping t (with_told p x (partial_of b t)) b) [])
+      (λ _. join-Fits b t p (whole_of (with_told p x (partial_of b t))) m h)
+      (λ _. (keeping-Fits t (with_told p x (partial_of b t)) b m.left h, λ y i. absurd (In-nil i)))))))
+
+  inner-Fits : (b : BrokerState) (t p : ℕ) (u : Upward) → Mates g f t p → Fits g f b → FitsTaking g f (take_inner b t p u)
+  unfolding take_command
+  inner-Fits b t p (up.Report r) m h = told-Fits b t p (at_once r) m h
+  inner-Fits b t p (up.ReportPart r) m h = told-Fits b t p (in_part r) m h
+  inner-Fits b t p (up.Command c) m h =
+      let n = c.number in
+      let o = c.operation in
+      either (FitsTaking g f) (not (is_joined (seat_of b t))) (Drops NotJoined) _ (λ _. tt)
+      (λ _. either (FitsTaking g f) (not (is_active b p)) (Drops Recovering) _ (λ _. tt)
+      (λ _. either (FitsTaking g f) (nat_lt (next_of b t) n || n == last_number) (Drops OutOfTurn) _ (λ _. tt)
+      (λ _. either (FitsTaking g f) (nat_lt n (next_of b t)) (Does b (later_answer b t p n o ∷ [])) _
+      (λ _. (h, λ y i. ap (λ z. g z.tab) (In-one i) ∙ ap g (later-told b t p n o) ∙ m.left))
+      (λ _. either (FitsTaking g f) (is_lock o && nat_le (limit_of b t) (live (manager_of b p) t)) (Drops TooMany) (perform b t p n o) (λ _. tt)
+      (λ _. perform-Fits b t p n o m h)))))
+
+  pub taking-Fits : (b : BrokerState) (x : Stamped) → Mates g f x.tab x.partition → Fits g f b → FitsTaking g f (taking b x)
+  unfolding taking
+  taking-Fits b x m h =
+      either (FitsTaking g f) (nat_lt (generation_of x.inner) b.generation) (Drops OldGeneration) _ (λ _. tt)
+      (λ _. either (FitsTaking g f) (nat_lt b.generation (generation_of x.inner)) (Drops LaterGeneration) _ (λ _. tt)
+      (λ _. either (FitsTaking g f) (is_dead (seat_of b x.tab)) (Drops DeadTab) _ (λ _. tt)
+      (λ _. either (FitsTaking g f) (is_misplaced b x.tab x.partition) (Drops Misplaced) (take_inner b x.tab x.partition x.inner) (λ _. tt)
+      (λ _. inner-Fits b x.tab x.partition x.inner m h))))
+
+  -- where a tab belongs by the broker, it belongs
+  abbrev pub Placed : ℕ → Option ℕ → Type 0
+  Placed t None = Unit {0}
+  Placed t (Some p) = Mates g f t p
+
+  listed_at-Placed : (t : ℕ) (ls : List (ℕ × ℕ)) → ((x : ℕ × ℕ) → In x ls → Mates g f x.0 x.1) → Placed t (listed_at t ls)
+  listed_at-Placed t [] h = tt
+  listed_at-Placed t (x ∷ xs) h =
+      either (Placed t) (x.0 == t) (Some x.1) (listed_at t xs)
+      (λ e. subst (λ z. Mates g f z x.1) (eqb-true x.0 t e) (h x Here)) (λ _. listed_at-Placed t xs (λ y i. h y (Later i)))
+
+  pub place_of-Placed : (b : BrokerState) (t : ℕ) → Fits g f b → Placed t (place_of b t)
+  unfolding place_of
+  place_of-Placed b t h = go (seat_of b t) refl
+    where
+      go : (s : Option Seat) → seat_of b t ≡ s → Placed t (or_else (seated_at s) (listed_at t b.listed))
+      go None e = listed_at-Placed t b.listed h.listed
+      go (Some (Joined p n l)) e = h.seats (t, Joined p n l) (find-In b.seats t (Joined p n l) e)
+      go (Some Dead) e = listed_at-Placed t b.listed h.listed
+
+  abbrev pub buries : BrokerState × List Addressed → Taking
+  buries x = Does x.0 x.1
+
+  buried_at-Fits : (b : BrokerState) (t : ℕ) (q : Option ℕ) → Placed t q → Fits g f b → FitsTaking g f (buries (buried_at b t q))
+  buried_at-Fits b t None m h = (h, λ x i. absurd (In-nil i))
+  buried_at-Fits b t (Some p) m h =
+      settles-Fits b p (ended t (manager_of b p)) (mates-right m) (ended-Stands (λ t. Mates g f t p) t (manager_of b p) (manager_of-Stands b p h)) h
+
+  pub burial-Fits : (b : BrokerState) (t : ℕ) → g t ≡ true → Fits g f b → FitsTaking g f (buries (burial b t))
+  unfolding burial
+  burial-Fits b t e h =
+      either (λ x. FitsTaking g f (buries x)) (is_dead (seat_of b t)) (b, []) (buried_at (with_seat t Dead b) t (place_of b t))
+      (λ _. (h, λ x i. absurd (In-nil i)))
+      (λ _. buried_at-Fits (with_seat t Dead b) t (place_of b t) (place_of-Placed b t h) (with_seat-Fits t Dead b e h))

@@ -1,0 +1,12 @@
+-- The code of a call: what it makes of the tables that it is lent is what the definition makes of the world.
+pub mod SupervisorParts
+pub mod StampedMessages
+pub mod OneAfterAnother
+pub mod CommandCalls
+pub mod MergedReaches
+pub mod PassedPosts
+pub mod ChannelCalls
+pub mod ChannelRows
+pub mod StepsAndSends
+pub mod RefusedEvents
+pub mod ReportCalls

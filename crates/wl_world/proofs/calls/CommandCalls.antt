@@ -1,0 +1,217 @@
+-- What a tab's command makes of its row is what it makes of the world.
+use Rattle.std.proofs.Common.{◌≡◌, ℕ, List, [], length, Bool, true, false, ◌&&◌, cond, Some, None, refl, sym, ap, ◌∙◌, subst}
+use Rattle.wl_draft.specs.declared.mode.Mode.{Mode}
+use Rattle.wl_draft.specs.Tables.{Table, find, put}
+use Rattle.wl_draft.proofs.TableLemmas.{find-put_same}
+use Rattle.wl_broadcast.specs.Channels.{ChannelState}
+use Rattle.wl_agent.specs.declared.fault.AgentFault.{AgentFault}
+use Rattle.wl_agent.specs.Tab.{TabState, asked, queried, aborted, released, ask_refusal, query_refusal, status_of, is_asked, due}
+use Rattle.wl_agent.specs.Tokens.{is_pending, is_holding}
+use Rattle.wl_said.specs.declared.said.Refusal.TheVariants as refusal
+use Rattle.wl_said.specs.Refused.{refused}
+use Rattle.wl_bag.specs.declared.message.Message.{Message}
+use Rattle.wl_tab.specs.declared.locks.Abortion.TheVariants as a
+use Rattle.wl_tab.specs.Tabs.{tab_in}
+use Rattle.wl_tab.specs.TabTokens.{abortion}
+use Rattle.wl_supervisor.specs.declared.supervisor.Supervisor.{Supervisor}
+use Rattle.wl_supervisor.specs.Supervised.{kernel_of}
+use Rattle.wl_world.specs.World.{WorldState, Deed, tab_of, lives, acts, issues, asks, queries, aborts, releases, resends, resent, nothing}
+use Rattle.wl_world.specs.Replies.{asking, querying, aborting, releasing, resending, issued_next, some_resent, of_agent}
+use Rattle.wl_world.specs.Parts.{world_of, issued_in}
+
+-- ---- a new command
+
+pub issue-world : (ts : Table TabState) (cs : Table ChannelState) (s : Supervisor) (bag : List Message) (corrupt : List ℕ) (t : ℕ) (x : TabState) (us : Table TabState) → us ≡ put t x ts → world_of us cs s bag corrupt ≡ (issues (world_of ts cs s bag corrupt) t x).world
+unfolding acts
+issue-world ts cs s bag corrupt t x us e = ap (λ z. world_of z cs s bag corrupt) e
+
+pub issue-sends : (ts : Table TabState) (cs : Table ChannelState) (s : Supervisor) (bag : List Message) (corrupt : List ℕ) (t : ℕ) (x : TabState) (us : Table TabState) (n : ℕ) → us ≡ put t x ts → n ≡ length (tab_in t (find ts t)).issued → issued_in (kernel_of s) t (tab_in t (find us t)) n ≡ (issues (world_of ts cs s bag corrupt) t x).sends
+unfolding acts
+issue-sends ts cs s bag corrupt t x us n e l =
+    ap (λ z. issued_in (kernel_of s) t (tab_in t (find z t)) n) e
+    ∙ ap (λ o. issued_in (kernel_of s) t (tab_in t o) n) (find-put_same t x ts)
+    ∙ ap (λ m. issued_in (kernel_of s) t x m) l
+
+-- ---- requests and probes
+
+pub asks-dead : (w : WorldState) (t : ℕ) (m : Mode) (f : Bool) (name : List ℕ) → lives w t ≡ false → asks w t m f name ≡ nothing w
+asks-dead w t m f name dead = rw dead refl
+
+pub asks-refused : (w : WorldState) (t : ℕ) (m : Mode) (f : Bool) (name : List ℕ) (e : AgentFault) → lives w t ≡ true → ask_refusal (tab_of w t) name ≡ Some e → asks w t m f name ≡ nothing w
+asks-refused w t m f name e live r = rw (live, r) refl
+
+pub asks-done : (w : WorldState) (t : ℕ) (m : Mode) (f : Bool) (name : List ℕ) → lives w t ≡ true → ask_refusal (tab_of w t) name ≡ None → asks w t m f name ≡ issues w t (asked m f name (tab_of w t))
+asks-done w t m f name live r = rw (live, r) refl
+
+pub asking-dead : (w : WorldState) (t : ℕ) (name : List ℕ) → lives w t ≡ false → asking w t name ≡ refused refusal.NoTab
+asking-dead w t name dead = rw dead refl
+
+pub asking-refused : (w : WorldState) (t : ℕ) (name : List ℕ) (e : AgentFault) → lives w t ≡ true → ask_refusal (tab_of w t) name ≡ Some e → asking w t name ≡ refused (of_agent e)
+asking-refused w t name e live r = rw (live, r) refl
+
+pub asking-done : (w : WorldState) (t : ℕ) (name : List ℕ) → lives w t ≡ true → ask_refusal (tab_of w t) name ≡ None → asking w t name ≡ issued_next w t
+asking-done w t name live r = rw (live, r) refl
+
+-- ---- queries
+
+pub queries-dead : (w : WorldState) (t : ℕ) → lives w t ≡ false → queries w t ≡ nothing w
+queries-dead w t dead = rw dead refl
+
+pub queries-refused : (w : WorldState) (t : ℕ) (e : AgentFault) → lives w t ≡ true → query_refusal (tab_of w t) ≡ Some e → queries w t ≡ nothing w
+queries-refused w t e live r = rw (live, r) refl
+
+pub queries-done : (w : WorldState) (t : ℕ) → lives w t ≡ true → query_refusal (tab_of w t) ≡ None → queries w t ≡ issues w t (queried (tab_of w t))
+queries-done w t live r = rw (live, r) refl
+
+pub querying-dead : (w : WorldState) (t : ℕ) → lives w t ≡ false → querying w t ≡ refused refusal.NoTab
+querying-dead w t dead = rw dead refl
+
+pub querying-refused : (w : WorldState) (t : ℕ) (e : AgentFault) → lives w t ≡ true → query_refusal (tab_of w t) ≡ Some e → querying w t ≡ refused (of_agent e)
+querying-refused w t e live r = rw (live, r) refl
+
+pub querying-done : (w : WorldState) (t : ℕ) → lives w t ≡ true → query_refusal (tab_of w t) ≡ None → querying w t ≡ issued_next w t
+querying-done w t live r = rw (live, r) refl
+
+-- ---- aborts
+
+-- what an abort's three outcomes say
+issued_by : (p q : Bool) (l n : ℕ) → cond p (cond q (a.Issued l) a.Held) a.Nothing ≡ a.Issued n → (p ≡ true) × (q ≡ true) × (l ≡ n)
+issued_by true true l n e = (refl, refl, cc)
+issued_by true false l n e = cc
+issued_by false q l n e = cc
+
+held_by : (p q : Bool) (l : ℕ) → cond p (cond q (a.Issued l) a.Held) a.Nothing ≡ a.Held → (p ≡ true) × (q ≡ false)
+held_by true true l e = cc
+held_by true false l e = (refl, refl)
+held_by false q l e = cc
+
+nothing_by : (p q : Bool) (l : ℕ) → cond p (cond q (a.Issued l) a.Held) a.Nothing ≡ a.Nothing → p ≡ false
+nothing_by true true l e = cc
+nothing_by true false l e = cc
+nothing_by false q l e = refl
+
+pub abort-issued : (k n : ℕ) (x : TabState) → abortion k x ≡ a.Issued n → (is_pending x k ≡ true) × (is_asked (status_of x k) ≡ true) × (length x.issued ≡ n)
+abort-issued k n x e = issued_by (is_pending x k) (is_asked (status_of x k)) (length x.issued) n e
+
+pub abort-held : (k : ℕ) (x : TabState) → abortion k x ≡ a.Held → (is_pending x k ≡ true) × (is_asked (status_of x k) ≡ false)
+abort-held k x e = held_by (is_pending x k) (is_asked (status_of x k)) (length x.issued) e
+
+pub abort-nothing : (k : ℕ) (x : TabState) → abortion k x ≡ a.Nothing → is_pending x k ≡ false
+abort-nothing k x e = nothing_by (is_pending x k) (is_asked (status_of x k)) (length x.issued) e
+
+pub aborts-dead : (w : WorldState) (t k : ℕ) → lives w t ≡ false → aborts w t k ≡ nothing w
+aborts-dead w t k dead = rw dead refl
+
+pub aborts-done : (w : WorldState) (t k : ℕ) → lives w t ≡ true → is_pending (tab_of w t) k ≡ true → is_asked (status_of (tab_of w t) k) ≡ true → aborts w t k ≡ issues w t (aborted k (tab_of w t))
+aborts-done w t k live p q = rw (live, p, q) refl
+
+pub aborts-held : (w : WorldState) (t k : ℕ) → lives w t ≡ true → is_pending (tab_of w t) k ≡ true → is_asked (status_of (tab_of w t) k) ≡ false → aborts w t k ≡ nothing w
+aborts-held w t k live p q = rw (live, p, q) refl
+
+pub aborts-nothing : (w : WorldState) (t k : ℕ) → lives w t ≡ true → is_pending (tab_of w t) k ≡ false → aborts w t k ≡ nothing w
+aborts-nothing w t k live p = rw (live, p) refl
+
+pub aborting-dead : (w : WorldState) (t k : ℕ) → lives w t ≡ false → aborting w t k ≡ refused refusal.NoTab
+aborting-dead w t k dead = rw dead refl
+
+pub aborting-done : (w : WorldState) (t k : ℕ) → lives w t ≡ true → is_pending (tab_of w t) k ≡ true → is_asked (status_of (tab_of w t) k) ≡ true → aborting w t k ≡ issued_next w t
+aborting-done w t k live p q = rw (live, p, q) refl
+
+pub aborting-held : (w : WorldState) (t k : ℕ) → lives w t ≡ true → is_pending (tab_of w t) k ≡ true → is_asked (status_of (tab_of w t) k) ≡ false → aborting w t k ≡ refused refusal.Held
+aborting-held w t k live p q = rw (live, p, q) refl
+
+pub aborting-nothing : (w : WorldState) (t k : ℕ) → lives w t ≡ true → is_pending (tab_of w t) k ≡ false → aborting w t k ≡ refused refusal.Nothing
+aborting-nothing w t k live p = rw (live, p) refl
+
+-- ---- releases
+
+pub releases-dead : (w : WorldState) (t k : ℕ) → lives w t ≡ false → releases w t k ≡ nothing w
+releases-dead w t k dead = rw dead refl
+
+pub releases-done : (w : WorldState) (t k : ℕ) → lives w t ≡ true → is_holding (tab_of w t) k ≡ true → releases w t k ≡ issues w t (released k (tab_of w t))
+releases-done w t k live p = rw (live, p) refl
+
+pub releases-nothing : (w : WorldState) (t k : ℕ) → lives w t ≡ true → is_holding (tab_of w t) k ≡ false → releases w t k ≡ nothing w
+releases-nothing w t k live p = rw (live, p) refl
+
+pub releasing-dead : (w : WorldState) (t k : ℕ) → lives w t ≡ false → releasing w t k ≡ refused refusal.NoTab
+releasing-dead w t k dead = rw dead refl
+
+pub releasing-done : (w : WorldState) (t k : ℕ) → lives w t ≡ true → is_holding (tab_of w t) k ≡ true → releasing w t k ≡ issued_next w t
+releasing-done w t k live p = rw (live, p) refl
+
+pub releasing-nothing : (w : WorldState) (t k : ℕ) → lives w t ≡ true → is_holding (tab_of w t) k ≡ false → releasing w t k ≡ refused refusal.Nothing
+releasing-nothing w t k live p = rw (live, p) refl
+
+release_by : (p : Bool) (l n : ℕ) → Some n ≡ cond p (Some l) None → (p ≡ true) × (l ≡ n)
+release_by true l n e = (refl, cc)
+release_by false l n e = cc
+
+release_none : (p : Bool) (l : ℕ) → None ≡ cond p (Some l) None → p ≡ false
+release_none true l e = cc
+release_none false l e = refl
+
+pub release-issued : (k n : ℕ) (x : TabState) → Some n ≡ cond (is_holding x k) (Some (length x.issued)) None → (is_holding x k ≡ true) × (length x.issued ≡ n)
+release-issued k n x e = release_by (is_holding x k) (length x.issued) n e
+
+pub release-nothing : (k : ℕ) (x : TabState) → None ≡ cond (is_holding x k) (Some (length x.issued)) None → is_holding x k ≡ false
+release-nothing k x e = release_none (is_holding x k) (length x.issued) e
+
+-- ---- resending
+
+pub resends-dead : (w : WorldState) (t : ℕ) → lives w t ≡ false → resends w t ≡ nothing w
+resends-dead w t dead = rw dead refl
+
+pub resends-done : (w : WorldState) (t : ℕ) → lives w t ≡ true → resends w t ≡ acts w t (tab_of w t) (resent w t (tab_of w t))
+resends-done w t live = rw live refl
+
+pub resends-sends : (w : WorldState) (t : ℕ) → lives w t ≡ true → (resends w t).sends ≡ resent w t (tab_of w t)
+unfolding acts
+resends-sends w t live = rw live refl
+
+-- a tab without a row has nothing to send again
+pub newborn-resent : (w : WorldState) (t : ℕ) → resent w t (tab_in t None) ≡ []
+unfolding due
+newborn-resent w t = refl
+
+pub resending-dead : (w : WorldState) (t : ℕ) → lives w t ≡ false → resending w t ≡ refused refusal.NoTab
+resending-dead w t dead = rw dead refl
+
+pub resending-done : (w : WorldState) (t : ℕ) → lives w t ≡ true → resending w t ≡ some_resent (resent w t (tab_of w t))
+resending-done w t live = rw live refl
+
+-- ---- what is sent, over the parts of the world
+
+pub asked-sends : (ts : Table TabState) (cs : Table ChannelState) (s : Supervisor) (bag : List Message) (corrupt : List ℕ) (w : WorldState) → world_of ts cs s bag corrupt ≡ w → (t : ℕ) (m : Mode) (f : Bool) (name : List ℕ) (us : Table TabState) (n : ℕ) → lives w t ≡ true → us ≡ put t (asked m f name (tab_in t (find ts t))) ts → ask_refusal (tab_in t (find ts t)) name ≡ None → n ≡ length (tab_in t (find ts t)).issued → issued_in (kernel_of s) t (tab_in t (find us t)) n ≡ (asks w t m f name).sends
+asked-sends ts cs s bag corrupt w v t m f name us n live e none l =
+    subst (λ (z : WorldState). lives z t ≡ true → issued_in (kernel_of s) t (tab_in t (find us t)) n ≡ (asks z t m f name).sends) v
+    (λ alive. issue-sends ts cs s bag corrupt t _ us n e l ∙ ap (λ (d : Deed). d.sends) (sym (asks-done (world_of ts cs s bag corrupt) t m f name alive none)))
+    live
+
+pub queried-sends : (ts : Table TabState) (cs : Table ChannelState) (s : Supervisor) (bag : List Message) (corrupt : List ℕ) (w : WorldState) → world_of ts cs s bag corrupt ≡ w → (t : ℕ) (us : Table TabState) (n : ℕ) → lives w t ≡ true → us ≡ put t (queried (tab_in t (find ts t))) ts → query_refusal (tab_in t (find ts t)) ≡ None → n ≡ length (tab_in t (find ts t)).issued → issued_in (kernel_of s) t (tab_in t (find us t)) n ≡ (queries w t).sends
+queried-sends ts cs s bag corrupt w v t us n live e none l =
+    subst (λ (z : WorldState). lives z t ≡ true → issued_in (kernel_of s) t (tab_in t (find us t)) n ≡ (queries z t).sends) v
+    (λ alive. issue-sends ts cs s bag corrupt t _ us n e l ∙ ap (λ (d : Deed). d.sends) (sym (queries-done (world_of ts cs s bag corrupt) t alive none)))
+    live
+
+both_true : (p q : Bool) (us ts vs : Table TabState) → p ≡ true → q ≡ true → us ≡ cond (p && q) vs ts → us ≡ vs
+both_true p q us ts vs e f h = rw (e, f) at h
+
+pub aborted-sends : (ts : Table TabState) (cs : Table ChannelState) (s : Supervisor) (bag : List Message) (corrupt : List ℕ) (w : WorldState) → world_of ts cs s bag corrupt ≡ w → (t k : ℕ) (us : Table TabState) (n : ℕ) → lives w t ≡ true → us ≡ cond (is_pending (tab_in t (find ts t)) k && is_asked (status_of (tab_in t (find ts t)) k)) (put t (aborted k (tab_in t (find ts t))) ts) ts → abortion k (tab_in t (find ts t)) ≡ a.Issued n → issued_in (kernel_of s) t (tab_in t (find us t)) n ≡ (aborts w t k).sends
+aborted-sends ts cs s bag corrupt w v t k us n live e said =
+    let x = tab_in t (find ts t) in
+    let p = abort-issued k n x said in
+    subst (λ (z : WorldState). lives z t ≡ true → issued_in (kernel_of s) t (tab_in t (find us t)) n ≡ (aborts z t k).sends) v
+    (λ alive. issue-sends ts cs s bag corrupt t _ us n (both_true _ _ us ts _ p.0 p.1 e) (sym p.2) ∙ ap (λ (d : Deed). d.sends) (sym (aborts-done (world_of ts cs s bag corrupt) t k alive p.0 p.1)))
+    live
+
+one_true : (p : Bool) (us ts vs : Table TabState) → p ≡ true → us ≡ cond p vs ts → us ≡ vs
+one_true p us ts vs e h = rw e at h
+
+pub released-sends : (ts : Table TabState) (cs : Table ChannelState) (s : Supervisor) (bag : List Message) (corrupt : List ℕ) (w : WorldState) → world_of ts cs s bag corrupt ≡ w → (t k : ℕ) (us : Table TabState) (n : ℕ) → lives w t ≡ true → us ≡ cond (is_holding (tab_in t (find ts t)) k) (put t (released k (tab_in t (find ts t))) ts) ts → Some n ≡ cond (is_holding (tab_in t (find ts t)) k) (Some (length (tab_in t (find ts t)).issued)) None → issued_in (kernel_of s) t (tab_in t (find us t)) n ≡ (releases w t k).sends
+released-sends ts cs s bag corrupt w v t k us n live e next =
+    let x = tab_in t (find ts t) in
+    let p = release-issued k n x next in
+    subst (λ (z : WorldState). lives z t ≡ true → issued_in (kernel_of s) t (tab_in t (find us t)) n ≡ (releases z t k).sends) v
+    (λ alive. issue-sends ts cs s bag corrupt t _ us n (one_true _ us ts _ p.0 e) (sym p.1) ∙ ap (λ (d : Deed). d.sends) (sym (releases-done (world_of ts cs s bag corrupt) t k alive p.0)))
+    live

@@ -1,0 +1,103 @@
+-- What the supervisor becomes is what the world's kernel and broker become.
+use Rattle.std.proofs.Common.{◌≡◌, ℕ, List, [], not, is_some, true, false, cond, map, Option, Some, None, Result, Ok, Err, OnOk, refl}
+use Rattle.wl_origin.specs.Order.{Pair}
+use Rattle.wl_draft.specs.Tables.{Table, put}
+use Rattle.wl_frames.specs.declared.frame.Stamped.{Stamped}
+use Rattle.wl_broadcast.specs.Channels.{ChannelState}
+use Rattle.wl_agent.specs.Tab.{TabState, newborn_two}
+use Rattle.wl_broker.specs.Broker.{BrokerState, started, hellos, Drops, Does, taking, burial}
+use Rattle.wl_kernel.specs.declared.fault.OpenFault.{OpenFault}
+use Rattle.wl_kernel.specs.Kernel.{open_refusal, opened, is_living, killed, may_stop, stopped, placed}
+use Rattle.wl_bag.specs.declared.message.Message.{Message}
+use Rattle.wl_tab.specs.Tabs.{command_limit}
+use Rattle.wl_supervisor.specs.declared.supervisor.Supervisor.{Supervisor}
+use Rattle.wl_supervisor.specs.declared.supervisor.Supervisor.TheVariants.{Down, Up}
+use Rattle.wl_supervisor.specs.Supervised.{kernel_of, broker_of, with_kernel, begins as may_begin, begun, greeted, halted, after_taking, outs_by_taking, broker_after, outs_of, is_dead, after_burial, outs_by_burial}
+use Rattle.wl_world.specs.World.{with_kernel as kernel_deed, WorldState, from_broker, nothing, where_allowed, opens, with_two, opens_two, kills, tells, buries, stops, starts, begins, follows, comes_up}
+use Rattle.wl_world.specs.Parts.{world_of}
+
+-- what holds anyway holds after a success
+pub always : {X E P : Type 0} (r : Result X E) → P → OnOk r P
+always (Ok x) p = p
+always (Err e) p = tt
+
+-- ---- opening and killing
+
+pub opens-ok : (ts : Table TabState) (cs : Table ChannelState) (s : Supervisor) (bag : List Message) (corrupt : List ℕ) (t : ℕ) (p : Pair) → open_refusal t p (kernel_of s) ≡ None → world_of ts cs (with_kernel (opened t p (kernel_of s)) s) bag corrupt ≡ (opens (world_of ts cs s bag corrupt) t p).world
+opens-ok ts cs (Down k) bag corrupt t p e = rw e refl
+opens-ok ts cs (Up k b) bag corrupt t p e = rw e refl
+
+pub opens-silent : (w : WorldState) (t : ℕ) (p : Pair) → (opens w t p).sends ≡ []
+opens-silent w t p = elim (open_refusal t p w.kernel) as (λ o. (where_allowed (not (is_some o)) w (kernel_deed (opened t p w.kernel) w)).sends ≡ []) [ None ↦ refl | Some f ↦ refl ]
+
+pub opens-refused : (w : WorldState) (t : ℕ) (p : Pair) (f : OpenFault) → open_refusal t p w.kernel ≡ Some f → (opens w t p).world ≡ w
+opens-refused w t p f e = rw e refl
+
+-- a tab of the second kind has its row from its opening on
+pub opens_two-ok : (ts us : Table TabState) (cs : Table ChannelState) (s : Supervisor) (bag : List Message) (corrupt : List ℕ) (t : ℕ) (p : Pair) → open_refusal t p (kernel_of s) ≡ None → us ≡ put t (newborn_two t command_limit) ts → world_of us cs (with_kernel (opened t p (kernel_of s)) s) bag corrupt ≡ (opens_two (world_of ts cs s bag corrupt) t p).world
+opens_two-ok ts us cs (Down k) bag corrupt t p e row = rw (e, row) refl
+opens_two-ok ts us cs (Up k b) bag corrupt t p e row = rw (e, row) refl
+
+pub opens_two-silent : (w : WorldState) (t : ℕ) (p : Pair) → (opens_two w t p).sends ≡ []
+opens_two-silent w t p = elim (open_refusal t p w.kernel) as (λ o. (where_allowed (not (is_some o)) w (kernel_deed (opened t p w.kernel) (with_two t w))).sends ≡ []) [ None ↦ refl | Some f ↦ refl ]
+
+pub opens_two-refused : (w : WorldState) (t : ℕ) (p : Pair) (f : OpenFault) → open_refusal t p w.kernel ≡ Some f → (opens_two w t p).world ≡ w
+opens_two-refused w t p f e = rw e refl
+
+pub kills-after : (ts : Table TabState) (cs : Table ChannelState) (s : Supervisor) (bag : List Message) (corrupt : List ℕ) (t : ℕ) → world_of ts cs (with_kernel (cond (is_living (kernel_of s) t) (killed t (kernel_of s)) (kernel_of s)) s) bag corrupt ≡ (kills (world_of ts cs s bag corrupt) t).world
+kills-after ts cs (Down k) bag corrupt t =
+    elim (is_living k t) as (λ b. world_of ts cs (Down (cond b (killed t k) k)) bag corrupt ≡ (where_allowed b (world_of ts cs (Down k) bag corrupt) (kernel_deed (killed t k) (world_of ts cs (Down k) bag corrupt))).world) [ true ↦ refl | false ↦ refl ]
+kills-after ts cs (Up k c) bag corrupt t =
+    elim (is_living k t) as (λ b. world_of ts cs (Up (cond b (killed t k) k) c) bag corrupt ≡ (where_allowed b (world_of ts cs (Up k c) bag corrupt) (kernel_deed (killed t k) (world_of ts cs (Up k c) bag corrupt))).world) [ true ↦ refl | false ↦ refl ]
+
+pub kills-silent : (w : WorldState) (t : ℕ) → (kills w t).sends ≡ []
+kills-silent w t = elim (is_living w.kernel t) as (λ b. (where_allowed b w (kernel_deed (killed t w.kernel) w)).sends ≡ []) [ true ↦ refl | false ↦ refl ]
+
+-- ---- starting and stopping
+
+pub stops-after : (ts : Table TabState) (cs : Table ChannelState) (s : Supervisor) (bag : List Message) (corrupt : List ℕ) → world_of ts cs (halted s) bag corrupt ≡ (stops (world_of ts cs s bag corrupt) (broker_of s)).world
+stops-after ts cs (Down k) bag corrupt = refl
+stops-after ts cs (Up k b) bag corrupt =
+    elim (may_stop k) as (λ m. world_of ts cs (cond m (Down (stopped k)) (Up k b)) bag corrupt ≡ (where_allowed m (world_of ts cs (Up k b) bag corrupt) (nothing (record (world_of ts cs (Up k b) bag corrupt) { kernel = stopped k; broker = None }))).world) [ true ↦ refl | false ↦ refl ]
+
+pub stops-silent : (w : WorldState) (o : Option BrokerState) → (stops w o).sends ≡ []
+stops-silent w None = refl
+stops-silent w (Some b) = elim (may_stop w.kernel) as (λ m. (where_allowed m w (nothing (record w { kernel = stopped w.kernel; broker = None }))).sends ≡ []) [ true ↦ refl | false ↦ refl ]
+
+pub starts-after : (ts : Table TabState) (cs : Table ChannelState) (s : Supervisor) (bag : List Message) (corrupt : List ℕ) (listed : List ℕ) → world_of ts cs (begun listed s) bag corrupt ≡ (starts (world_of ts cs s bag corrupt) listed (broker_of s)).world
+starts-after ts cs (Up k b) bag corrupt listed = refl
+starts-after ts cs (Down k) bag corrupt listed =
+    let w = world_of ts cs (Down k) bag corrupt in
+    elim (may_begin listed k) as (λ m. world_of ts cs (cond m (Up k (started k.generation (placed listed k))) (Down k)) bag corrupt ≡ (where_allowed m w (begins w listed)).world) [ true ↦ refl | false ↦ refl ]
+
+pub starts-sends : (ts : Table TabState) (cs : Table ChannelState) (s : Supervisor) (bag : List Message) (corrupt : List ℕ) (listed : List ℕ) → map from_broker (greeted listed s) ≡ (starts (world_of ts cs s bag corrupt) listed (broker_of s)).sends
+starts-sends ts cs (Up k b) bag corrupt listed = refl
+starts-sends ts cs (Down k) bag corrupt listed =
+    let w = world_of ts cs (Down k) bag corrupt in
+    elim (may_begin listed k) as (λ m. map from_broker (cond m (hellos k.generation (placed listed k)) []) ≡ (where_allowed m w (begins w listed)).sends) [ true ↦ refl | false ↦ refl ]
+
+-- ---- what comes to the broker
+
+pub comes-after : (ts : Table TabState) (cs : Table ChannelState) (s : Supervisor) (bag : List Message) (corrupt : List ℕ) (x : Stamped) → world_of ts cs (after_taking x s) bag corrupt ≡ (comes_up (world_of ts cs s bag corrupt) x (broker_of s)).world
+comes-after ts cs (Down k) bag corrupt x = refl
+comes-after ts cs (Up k b) bag corrupt x =
+    let w = world_of ts cs (Up k b) bag corrupt in
+    elim (taking b x) as (λ t. world_of ts cs (Up k (broker_after b t)) bag corrupt ≡ (follows w t).world) [ Drops r ↦ refl | Does c outs ↦ refl ]
+
+pub comes-sends : (ts : Table TabState) (cs : Table ChannelState) (s : Supervisor) (bag : List Message) (corrupt : List ℕ) (x : Stamped) → map from_broker (outs_by_taking x s) ≡ (comes_up (world_of ts cs s bag corrupt) x (broker_of s)).sends
+comes-sends ts cs (Down k) bag corrupt x = refl
+comes-sends ts cs (Up k b) bag corrupt x =
+    let w = world_of ts cs (Up k b) bag corrupt in
+    elim (taking b x) as (λ t. map from_broker (outs_of t) ≡ (follows w t).sends) [ Drops r ↦ refl | Does c outs ↦ refl ]
+
+pub tells-after : (ts : Table TabState) (cs : Table ChannelState) (s : Supervisor) (bag : List Message) (corrupt : List ℕ) (t : ℕ) → world_of ts cs (after_burial t s) bag corrupt ≡ (tells (world_of ts cs s bag corrupt) t (broker_of s)).world
+tells-after ts cs (Down k) bag corrupt t = refl
+tells-after ts cs (Up k b) bag corrupt t =
+    let w = world_of ts cs (Up k b) bag corrupt in
+    elim (is_dead k t) as (λ d. world_of ts cs (cond d (Up k (burial b t).0) (Up k b)) bag corrupt ≡ (where_allowed d w (buries w t b)).world) [ true ↦ refl | false ↦ refl ]
+
+pub tells-sends : (ts : Table TabState) (cs : Table ChannelState) (s : Supervisor) (bag : List Message) (corrupt : List ℕ) (t : ℕ) → map from_broker (outs_by_burial t s) ≡ (tells (world_of ts cs s bag corrupt) t (broker_of s)).sends
+tells-sends ts cs (Down k) bag corrupt t = refl
+tells-sends ts cs (Up k b) bag corrupt t =
+    let w = world_of ts cs (Up k b) bag corrupt in
+    elim (is_dead k t) as (λ d. map from_broker (cond d (burial b t).1 []) ≡ (where_allowed d w (buries w t b)).sends) [ true ↦ refl | false ↦ refl ]

@@ -1,0 +1,22 @@
+-- Exclusion: a world that a run reaches is sound, event by event, and a sound world excludes.
+pub mod HeldAfterSettling
+pub mod ToldParts
+pub mod Invariant
+pub mod CoverExcludes
+pub mod GrownTabs
+pub mod HeardNumbers
+pub mod ActsWithinAGeneration
+pub mod EnteringReports
+pub mod Entering
+pub mod OpenedTabs
+pub mod OpeningAndKilling
+pub mod Corrupting
+pub mod Starting
+pub mod ManagedLocks
+pub mod SayingAndPosting
+pub mod BrokerAnswers
+pub mod ReportsTaken
+pub mod CommandsTaken
+pub mod DeathsTaken
+pub mod MessagesHeard
+pub mod SoundRuns

@@ -1,0 +1,182 @@
+-- What the broker does to the locks of one partition.
+use Rattle.std.proofs.Common.{◌≡◌, ◌≢◌, ◌⊎◌, inl, inr, ⊎_elim, ℕ, ◌<◌, ◌≤◌, Bool, true, false, not, ◌||◌, refl, sym, ◌∙◌, subst, arith}
+use Rattle.std.specs.Prelude.{◌==◌}
+use Rattle.std.proofs.lemmas.Bool.{cases_eq, or_cases, eq-eqb, not-true}
+use Rattle.wl_draft.specs.declared.row.Row.{Row}
+use Rattle.wl_draft.specs.Tables.{Table, at, put}
+use Rattle.wl_draft.specs.Locks.{Locks, no_locks, settle, settle_if, newly_if, held_of}
+use Rattle.wl_draft.proofs.TableLemmas.{at-put_same, at-put_other}
+use Rattle.wl_broker.specs.Broker.{BrokerState, seat_of, has_come, manager_of, is_active, settled_at, newly_at}
+use Rattle.wl_bag.specs.Membership.{In}
+use Rattle.wl_bag.proofs.Membership.{apart, either, In-nil, list_all-In}
+use Rattle.wl_world.specs.World.{WorldState, tab_of, lives, partition_of, with_broker}
+use Rattle.wl_world.specs.Holdings.{IsHonest}
+use Rattle.wl_world.proofs.exclusion.HeldAfterSettling.{Compatible, Compatible-fewer, HeldOf, Stands, settle-Compatible, settle-keeps, settle-newly, settle-stands}
+use Rattle.wl_world.proofs.exclusion.Invariant.{Sound, Covered, Claim, Counts, stands, reported, carried, generation, came, opening, row_at, Fits}
+use Rattle.wl_world.proofs.exclusion.CoverExcludes.{came-entered}
+
+-- the broker with these locks of partition p
+abbrev pub managed : BrokerState → ℕ → Locks → BrokerState
+managed b p m = record b { managers = put p m b.managers }
+
+-- what holds of the locks of p and of those of each other partition holds of each
+pub each_manager : (P : ℕ → Locks → Type 0) (p : ℕ) (m : Locks) (ms : Table Locks) → P p m → ((q : ℕ) → p ≢ q → P q (at no_locks ms q)) → (q : ℕ) → P q (at no_locks (put p m ms) q)
+each_manager P p m ms now elsewhere q = ⊎_elim
+    (λ e. subst (λ z. P z (at no_locks (put p m ms) z)) e (subst (P p) (sym (at-put_same no_locks p m ms)) now))
+    (λ n. subst (P q) (sym (at-put_other no_locks p m ms q (λ e. n (sym e)))) (elsewhere q n))
+    (cases_eq p q)
+
+-- ---- no lock is granted: no more is held than before
+
+module _ (w : WorldState) (b : BrokerState) (s : Sound (with_broker b w)) (p : ℕ) (m : Locks)
+    (fewer : (r : Row) → In r m.held → In r (manager_of b p).held)
+    (fits : (r : Row) → Stands r m → Fits (with_broker b w) p r)
+    (kept : (t k : ℕ) → IsHonest w t → Covered (with_broker b w) t k → p ≡ partition_of w t → In (row_at t (tab_of w t) k) (manager_of b p).held → In (row_at t (tab_of w t) k) m.held) where
+  lower-claim : (q : ℕ) (r : Row) → Claim (with_broker (managed b p m) w) q r → Claim (with_broker b w) q r
+  lower-claim q r (stands h) = each_manager (λ x z. In r z.held → Claim (with_broker b w) x r) p m b.managers (λ i. stands (fewer r i)) (λ x n i. stands i) q h
+  lower-claim q r (reported e j n i) = reported e j n i
+  lower-claim q r (carried e n k c) = carried e n k (record { living = c.living; alive = c.alive; cause = c.cause })
+
+  pub lower-sound : Sound (with_broker (managed b p m) w)
+  lower-sound = record {
+    positive = s.positive;
+    current = s.current;
+    tabs = s.tabs;
+    entered = s.entered;
+    unopened = s.unopened;
+    since = s.since;
+    newcomer = s.newcomer;
+    held = s.held;
+    commands = s.commands;
+    reports = s.reports;
+    partial = s.partial;
+    grants = s.grants;
+    hellos = s.hellos;
+    joined = s.joined;
+    named = s.named;
+    lists = s.lists;
+    known = λ q r. each_manager (λ x z. Stands r z → Fits (with_broker b w) x r) p m b.managers (fits r) (λ x n. s.known x r) q;
+    covers = λ t k h c e j.
+        let old : Covered (with_broker b w) t k = record { living = c.living; alive = c.alive; cause = c.cause } in
+        each_manager (λ x z. x ≡ partition_of w t → In (row_at t (tab_of w t) k) (manager_of b x).held → In (row_at t (tab_of w t) k) z.held) p m b.managers (kept t k h old) (λ x n _ i. i) (partition_of w t) refl (s.covers t k h old e j);
+    agree = λ q. Compatible-fewer (Counts (with_broker (managed b p m) w) q) (Counts (with_broker b w) q) (λ r c. (c.0, lower-claim q r c.1)) (s.agree q);
+  }
+
+-- ---- an active partition
+
+-- each tab of the partition that is listed has come
+abbrev pub AllCame : BrokerState → ℕ → Type 0
+AllCame b p = (t : ℕ) → In (t, p) b.listed → came b t ≡ true
+
+pub active-came : (b : BrokerState) (p : ℕ) → is_active b p ≡ true → AllCame b p
+unfolding is_active
+active-came b p a t i = ⊎_elim
+    (λ n. apart (eq-eqb p p refl) (not-true _ n))
+    (λ c. c)
+    (or_cases _ _ (list_all-In (λ x. not (x.1 == p) || has_come (seat_of b x.0)) b.listed a i))
+
+module _ (w : WorldState) (b : BrokerState) (s : Sound (with_broker b w)) (p : ℕ) (all : AllCame b p) where
+  -- a tab of the partition that lives or has entered the generation has come, or is new
+  where-is : (t : ℕ) → partition_of w t ≡ p → (lives w t ≡ true) ⊎ ((tab_of w t).entered ≡ generation w) → (came b t ≡ true) ⊎ (opening w t ≡ generation w)
+  where-is t q o = ⊎_elim
+      (λ e. inr e)
+      (λ n. inl (all t (subst (λ z. In (t, z) b.listed) q (s.lists t (let le : opening w t ≤ generation w = s.since t in let d : opening w t ≢ generation w = n in omega arith) o))))
+      (cases_eq (opening w t) (generation w))
+
+  -- of honest tabs only what stands at the broker is claimed
+  active-claim : (r : Row) → IsHonest w r.client → Claim (with_broker b w) p r → In r (manager_of b p).held
+  active-claim r y (stands h) = h
+  active-claim r y (reported q j n i) = absurd (⊎_elim
+      (λ c. apart c j)
+      (λ o. ⊎_elim
+      (λ z. let f : (tab_of w r.client).entered ≡ generation w = n in let g : (tab_of w r.client).entered ≡ 0 = z in let h : 0 < generation w = s.positive in omega arith)
+      (λ z. In-nil (subst (λ es. In r (held_of r.client es)) z.1 i))
+      (s.newcomer r.client o))
+      (where-is r.client q (inr n)))
+  active-claim r y (carried q n k c) = absurd (⊎_elim
+      (λ a. ⊎_elim (λ e. n e) (λ d. apart c.living d) (came-entered (with_broker b w) s r.client y a))
+      (λ o. ⊎_elim
+      (λ z. ⊎_elim
+      (λ i. In-nil (subst (λ es. In (row_at r.client (tab_of w r.client) r.number) (held_of r.client es)) ((s.tabs r.client).first z) i))
+      (λ i. let x = s.grants r.client _ r.number i in let lt : 0 < (tab_of w r.client).entered = x.0 in let g : (tab_of w r.client).entered ≡ 0 = z in omega arith)
+      c.cause)
+      (λ z. n z.0)
+      (s.newcomer r.client o))
+      (where-is r.client q (inl c.living)))
+
+-- ---- locks are granted in an active partition
+
+module _ (w : WorldState) (b : BrokerState) (p : ℕ) (m n : Locks) (s : Sound (with_broker (managed b p m) w)) (all : AllCame b p)
+    (more : (r : Row) → In r m.held → In r n.held)
+    (fits : (r : Row) → Stands r n → Fits (with_broker b w) p r)
+    (well : Compatible (HeldOf (λ r. IsHonest w r.client) m.held) → Compatible (HeldOf (λ r. IsHonest w r.client) n.held)) where
+  old-held : (r : Row) → In r (at no_locks (put p m b.managers) p).held → In r m.held
+  old-held r i = subst (λ z. In r z.held) (at-put_same no_locks p m b.managers) i
+
+  held-old : (r : Row) → In r m.held → In r (at no_locks (put p m b.managers) p).held
+  held-old r i = subst (λ z. In r z.held) (sym (at-put_same no_locks p m b.managers)) i
+
+  -- another partition's locks are the same in both
+  same-elsewhere : (q : ℕ) → p ≢ q → at no_locks (put p n b.managers) q ≡ at no_locks (put p m b.managers) q
+  same-elsewhere q d = at-put_other no_locks p n b.managers q (λ e. d (sym e)) ∙ sym (at-put_other no_locks p m b.managers q (λ e. d (sym e)))
+
+  other-claim : (q : ℕ) → p ≢ q → (r : Row) → Claim (with_broker (managed b p n) w) q r → Claim (with_broker (managed b p m) w) q r
+  other-claim q d r (stands h) = stands (subst (λ z. In r z.held) (same-elsewhere q d) h)
+  other-claim q d r (reported e j g i) = reported e j g i
+  other-claim q d r (carried e g k c) = carried e g k (record { living = c.living; alive = c.alive; cause = c.cause })
+
+  this-claim : (r : Row) → IsHonest w r.client → Claim (with_broker (managed b p n) w) p r → In r n.held
+  this-claim r y (stands h) = subst (λ z. In r z.held) (at-put_same no_locks p n b.managers) h
+  this-claim r y (reported e j g i) = more r (old-held r (active-claim w (managed b p m) s p all r y (reported e j g i)))
+  this-claim r y (carried e g k c) = more r (old-held r (active-claim w (managed b p m) s p all r y (carried e g k (record { living = c.living; alive = c.alive; cause = c.cause }))))
+
+  pub higher-sound : Sound (with_broker (managed b p n) w)
+  higher-sound = record {
+    positive = s.positive;
+    current = s.current;
+    tabs = s.tabs;
+    entered = s.entered;
+    unopened = s.unopened;
+    since = s.since;
+    newcomer = s.newcomer;
+    held = s.held;
+    commands = s.commands;
+    reports = s.reports;
+    partial = s.partial;
+    grants = s.grants;
+    hellos = s.hellos;
+    joined = s.joined;
+    named = s.named;
+    lists = s.lists;
+    known = λ q r. each_manager (λ x z. Stands r z → Fits (with_broker b w) x r) p n b.managers (fits r)
+        (λ x d i. s.known x r (subst (λ z. Stands r z) (sym (at-put_other no_locks p m b.managers x (λ e. d (sym e)))) i)) q;
+    covers = λ t k h c e j.
+        let old : Covered (with_broker (managed b p m) w) t k = record { living = c.living; alive = c.alive; cause = c.cause } in
+        each_manager (λ x z. x ≡ partition_of w t → In (row_at t (tab_of w t) k) (at no_locks (put p m b.managers) x).held → In (row_at t (tab_of w t) k) z.held) p n b.managers
+        (λ _ i. more _ (old-held _ i))
+        (λ x d _ i. subst (λ z. In (row_at t (tab_of w t) k) z.held) (at-put_other no_locks p m b.managers x (λ f. d (sym f))) i)
+        (partition_of w t) refl (s.covers t k h old e j);
+    agree = λ q. ⊎_elim
+        (λ e. subst (λ z. Compatible (Counts (with_broker (managed b p n) w) z)) e
+        (Compatible-fewer (Counts (with_broker (managed b p n) w) p) (HeldOf (λ r. IsHonest w r.client) n.held) (λ r c. (c.0, this-claim r c.0 c.1))
+        (well (Compatible-fewer (HeldOf (λ r. IsHonest w r.client) m.held) (Counts (with_broker (managed b p m) w) p) (λ x i. (i.0, stands (held-old x i.1))) (s.agree p)))))
+        (λ d. Compatible-fewer (Counts (with_broker (managed b p n) w) q) (Counts (with_broker (managed b p m) w) q) (λ r c. (c.0, other-claim q d r c.1)) (s.agree q))
+        (cases_eq p q);
+  }
+
+-- the partition is settled, if it is active
+pub settled-sound : (w : WorldState) (b : BrokerState) (p : ℕ) (m : Locks) → Sound (with_broker (managed b p m) w) → Sound (with_broker (settled_at b p m) w)
+unfolding settled_at
+settled-sound w b p m s =
+    either (λ z. Sound (with_broker (managed b p z) w)) (is_active b p) (settle m) m
+    (λ a. higher-sound w b p m (settle m) s (active-came b p a) (λ r i. settle-keeps m i) (λ r i. s.known p r (subst (λ z. Stands r z) (sym (at-put_same no_locks p m b.managers)) (settle-stands m i))) (settle-Compatible (λ r. IsHonest w r.client) m))
+    (λ _. s)
+
+-- whoever is granted a lock by that stands in the held locks
+chosen-held : (c : Bool) (p : ℕ) (m : Locks) (ms : Table Locks) (r : Row) → In r (newly_if c m) → In r (at no_locks (put p (settle_if c m) ms) p).held
+chosen-held true p m ms r i = subst (λ z. In r z.held) (sym (at-put_same no_locks p (settle m) ms)) (settle-newly m i)
+chosen-held false p m ms r i = absurd (In-nil i)
+
+pub newly-held : (b : BrokerState) (p : ℕ) (m : Locks) (r : Row) → In r (newly_at b p m) → In r (manager_of (settled_at b p m) p).held
+unfolding settled_at newly_at
+newly-held b p m r i = chosen-held (is_active b p) p m b.managers r i

@@ -1,0 +1,257 @@
+-- Tabs are greeted; a broker stops, and the next one starts.
+use Rattle.std.proofs.Common.{◌≡◌, inl, inr, ⊎_elim, ℕ, suc, ◌+◌, ◌<◌, ◌≤◌, Bool, true, false, cond, not, ◌&&◌, List, [], ◌∷◌, length, map, Option, Some, None, is_some, refl, sym, ap, ◌∙◌, subst, arith, le_refl}
+use Rattle.std.specs.Prelude.{◌==◌, nat_lt}
+use Rattle.std.proofs.lemmas.Bool.{eqb-true, lt-ltb, not-true, not-false, and_cases}
+use Rattle.wl_draft.specs.declared.row.Row.{Row}
+use Rattle.wl_frames.specs.declared.frame.Hello.{Hello}
+use Rattle.wl_frames.specs.declared.frame.Upward.{Upward}
+use Rattle.wl_frames.specs.declared.frame.Downward.TheVariants as down
+use Rattle.wl_broker.specs.Broker.{BrokerState, started, hellos, hello_to}
+use Rattle.wl_kernel.specs.declared.fault.StartFault.TheVariants.{TooManyListed, NotRising}
+use Rattle.wl_kernel.specs.Kernel.{KernelState, OpenedTab, tab_in, tab_of as opened_tab_of, is_opened, lives as lives_in, put_in, any_tab, living_in, living_tabs, partition_number, list_limit, rises, is_listed, is_older, is_from_before, first_such, stranger, missing, absence, start_refusal, placed, may_stop, stopped}
+use Rattle.wl_bag.specs.declared.message.Sender.{Sender}
+use Rattle.wl_bag.specs.declared.message.Sender.TheVariants.{Kernel, Broker}
+use Rattle.wl_bag.specs.declared.message.Message.{Message}
+use Rattle.wl_bag.specs.declared.message.Message.TheVariants.{Down}
+use Rattle.wl_bag.specs.Messages.{sent_all}
+use Rattle.wl_bag.specs.Membership.{In, Here, Later}
+use Rattle.wl_bag.proofs.Membership.{apart, either, In-nil, In-cons_cases, In-head, In-one, In-map, In-map_cases, list_any-In}
+use Rattle.wl_bag.proofs.Same.{sent_all-keeps, sent_all-cases, down-same, hellos-same, answer-no_hello}
+use Rattle.wl_world.specs.World.{WorldState, tab_of, lives, partition_of, nothing, from_broker, with_broker, stops, begins, starts, greets}
+use Rattle.wl_world.specs.Holdings.{IsHonest}
+use Rattle.wl_world.proofs.exclusion.HeldAfterSettling.{Compatible-fewer}
+use Rattle.wl_world.proofs.exclusion.Invariant.{Sound, Covered, Claim, Counts, stands, reported, carried, generation, limit, limit_in, was_opened, opening_in, opening, HasGrant, Cause, row_at, Lists, up_message, down_message}
+use Rattle.wl_world.proofs.exclusion.CoverExcludes.{claim_of, living_opened}
+use Rattle.wl_world.proofs.exclusion.Entering.{limit-le}
+use Rattle.wl_world.proofs.exclusion.ActsWithinAGeneration.{after, allowed-sound}
+
+-- ---- hellos are sent
+
+-- a hello of this generation to a tab that was opened
+abbrev pub Greets : WorldState → Message → Type 0
+Greets w m = (v : Sender) × (u : ℕ) × (m ≡ Down v (hello_to (generation w) u)) × (was_opened w u ≡ true)
+
+module _ (w : WorldState) (s : Sound w) (now : generation w < limit w) (ms : List Message) (greetings : (m : Message) → In m ms → Greets w m) where
+  abbrev greeted_world : WorldState
+  greeted_world = record w { bag = sent_all ms w.bag }
+
+  old-up : (u p : ℕ) (x : Upward) → In (up_message u p x) (sent_all ms w.bag) → In (up_message u p x) w.bag
+  old-up u p x i = ⊎_elim (λ a. a) (λ b. let o = greetings _ b in let e : up_message u p x ≡ Down o.0 (hello_to (generation w) o.1) = o.2 in cc) (sent_all-cases ms w.bag i)
+
+  old-grant : (u q k : ℕ) → HasGrant (sent_all ms w.bag) u q k → HasGrant w.bag u q k
+  old-grant u q k h = (h.0, h.1, ⊎_elim (λ a. a) (λ b. let o = greetings _ b in absurd (answer-no_hello _ _ (down-same _ _ _ _ _ _ o.2).1)) (sent_all-cases ms w.bag h.2), h.3, h.4, h.5)
+
+  cause-keeps : (t k : ℕ) → Cause w t k → Cause greeted_world t k
+  cause-keeps t k (inl i) = inl i
+  cause-keeps t k (inr h) = inr (h.0, h.1, sent_all-keeps ms w.bag h.2, h.3, h.4, h.5)
+
+  greeted-covered : (t k : ℕ) → Covered greeted_world t k → Covered w t k
+  greeted-covered t k c = record { living = c.living; alive = c.alive; cause = ⊎_elim (λ a. inl a) (λ b. inr (old-grant t _ k b)) c.cause }
+
+  greeted-claim : (p : ℕ) (r : Row) → Claim greeted_world p r → Claim w p r
+  greeted-claim p r (stands h) = stands h
+  greeted-claim p r (reported q j n i) = reported q j n i
+  greeted-claim p r (carried q n k c) = carried q n k (greeted-covered r.client r.number c)
+
+  same-lists : (v : Option BrokerState) → Lists w v → Lists greeted_world v
+  same-lists None l = tt
+  same-lists (Some b) l = l
+
+  hello-now : (v : Sender) (t : ℕ) (h : Hello) → In (down_message v t (down.Hello h)) ms → (0 < h.generation) × (h.generation < limit w) × (was_opened w t ≡ true) × (opening w t ≡ generation w → h.generation ≡ generation w)
+  hello-now v t h i =
+      let o = greetings _ i in
+      let f = down-same _ _ _ _ _ _ o.2 in
+      let e : h.generation ≡ generation w = ap (λ z. z.generation) (hellos-same _ _ f.1) in
+      (subst (λ z. 0 < z) (sym e) s.positive, subst (λ z. z < limit w) (sym e) now, ap (was_opened w) f.0 ∙ o.3, λ _. e)
+
+  greetings-sound : Sound (record w { bag = sent_all ms w.bag })
+  greetings-sound = record {
+    positive = s.positive;
+    current = s.current;
+    tabs = s.tabs;
+    entered = s.entered;
+    unopened = s.unopened;
+    since = s.since;
+    newcomer = s.newcomer;
+    held = λ t k h. cause-keeps t k (s.held t k h);
+    commands = λ t p c i. s.commands t p c (old-up t p _ i);
+    reports = λ t p u x e i. s.reports t p u x e (old-up t p _ i);
+    partial = s.partial;
+    grants = λ t g k h. s.grants t g k (old-grant t g k h);
+    hellos = λ v t h i. ⊎_elim (λ a. s.hellos v t h a) (λ b. hello-now v t h b) (sent_all-cases ms w.bag i);
+    joined = s.joined;
+    named = s.named;
+    lists = same-lists w.broker s.lists;
+    known = s.known;
+    covers = λ t k y c. s.covers t k y (greeted-covered t k c);
+    agree = λ p. Compatible-fewer (Counts greeted_world p) (Counts w p) (λ r c. (c.0, greeted-claim p r c.1)) (s.agree p);
+  }
+
+pub greets-sound : (w : WorldState) (t : ℕ) (v : Option BrokerState) → w.broker ≡ v → Sound w → Sound (after w (greets w t v))
+greets-sound w t None e s = s
+greets-sound w t (Some b) e s =
+    allowed-sound w (lives w t) (record { world = w; sends = Down Kernel (hello_to w.kernel.generation t) ∷ [] }) s
+    (λ l. greetings-sound w s (subst (λ z. generation w < limit_in (generation w) z) (sym e) (le_refl (suc (generation w)))) (Down Kernel (hello_to w.kernel.generation t) ∷ [])
+    (λ m i. (Kernel, t, In-one i, living_opened _ l)))
+
+-- ---- a broker stops
+
+module _ (w : WorldState) (s : Sound w) where
+  abbrev down_world : WorldState
+  down_world = record w { kernel = stopped w.kernel; broker = None }
+
+  low : (t : ℕ) → (tab_of w t).entered ≤ generation w
+  low t = let lt : (tab_of w t).entered < limit w = s.entered t in let le : limit w ≤ suc (generation w) = limit-le (generation w) w.broker in omega arith
+
+  stopped-claim : (p : ℕ) (r : Row) → IsHonest w r.client → Claim down_world p r → Claim w p r
+  stopped-claim p r y (stands h) = absurd (In-nil h)
+  stopped-claim p r y (reported q j n i) = absurd (let le : (tab_of w r.client).entered ≤ generation w = low r.client in let e : (tab_of w r.client).entered ≡ generation w + 1 = n in omega arith)
+  stopped-claim p r y (carried q n k c) =
+      subst (λ z. Claim w p z) (sym k) (subst (λ z. Claim w z (row_at r.client (tab_of w r.client) r.number)) q (claim_of w s r.client r.number y (record { living = c.living; alive = c.alive; cause = c.cause })))
+
+  stopped-sound : Sound (record w { kernel = stopped w.kernel; broker = None })
+  stopped-sound = record {
+    positive = omega arith;
+    current = refl;
+    tabs = s.tabs;
+    entered = λ t. let le : (tab_of w t).entered ≤ generation w = low t in omega arith;
+    unopened = s.unopened;
+    since = λ t. let le : opening w t ≤ generation w = s.since t in omega arith;
+    newcomer = λ t e. absurd (let le : opening w t ≤ generation w = s.since t in let f : opening w t ≡ generation w + 1 = e in omega arith);
+    held = s.held;
+    commands = s.commands;
+    reports = s.reports;
+    partial = λ t k e. cc;
+    grants = λ t g k h. let o = s.grants t g k h in let lt : g < limit w = o.1 in let le : limit w ≤ suc (generation w) = limit-le (generation w) w.broker in (o.0, omega arith, λ e. absurd (let f : g ≡ generation w + 1 = e in omega arith), o.3);
+    hellos = λ v t h i. let o = s.hellos v t h i in (
+      o.0,
+      (let lt : h.generation < limit w = o.1 in let le : limit w ≤ suc (generation w) = limit-le (generation w) w.broker in omega arith),
+      o.2,
+      λ e. absurd (let le : opening w t ≤ generation w = s.since t in let f : opening w t ≡ generation w + 1 = e in omega arith),
+    );
+    joined = λ t y j. apart j refl;
+    named = λ t d. apart d refl;
+    lists = tt;
+    known = λ p r i. absurd (⊎_elim (λ a. In-nil a) (λ a. In-nil a) i);
+    covers = λ t k y c e j. apart j refl;
+    agree = λ p. Compatible-fewer (Counts down_world p) (Counts w p) (λ r c. (c.0, stopped-claim p r c.0 c.1)) (s.agree p);
+  }
+
+pub stops-sound : (w : WorldState) (v : Option BrokerState) → Sound w → Sound (after w (stops w v))
+stops-sound w None s = s
+stops-sound w (Some b) s =
+    allowed-sound w (may_stop w.kernel) (nothing (record w { kernel = stopped w.kernel; broker = None })) s (λ _. stopped-sound w s)
+
+-- ---- a broker starts
+
+module _ (w : WorldState) (listed : List (ℕ × ℕ)) (s : Sound (record w { broker = None }))
+    (all : (t : ℕ) → opening w t < generation w → lives w t ≡ true → In (t, partition_of w t) listed) where
+  abbrev idle_world : WorldState
+  idle_world = record w { broker = None }
+
+  abbrev started_world : WorldState
+  started_world = with_broker (started w.kernel.generation listed) w
+
+  started-claim : (p : ℕ) (r : Row) → Claim started_world p r → Claim idle_world p r
+  started-claim p r (stands h) = stands h
+  started-claim p r (reported q j n i) = reported q j n i
+  started-claim p r (carried q n k c) = carried q n k (record { living = c.living; alive = c.alive; cause = c.cause })
+
+  started-sound : Sound (with_broker (started w.kernel.generation listed) w)
+  started-sound = record {
+    positive = s.positive;
+    current = refl;
+    tabs = s.tabs;
+    entered = λ t. let lt : (tab_of w t).entered < generation w = s.entered t in omega arith;
+    unopened = s.unopened;
+    since = s.since;
+    newcomer = s.newcomer;
+    held = s.held;
+    commands = s.commands;
+    reports = s.reports;
+    partial = λ t k e. cc;
+    grants = λ t g k h. let o = s.grants t g k h in (o.0, (let lt : g < generation w = o.1 in omega arith), o.2, o.3);
+    hellos = λ v t h i. let o = s.hellos v t h i in (o.0, (let lt : h.generation < generation w = o.1 in omega arith), o.2, o.3);
+    joined = s.joined;
+    named = s.named;
+    lists = λ t lt o. ⊎_elim (λ l. all t lt l) (λ e. absurd (let f : (tab_of w t).entered < generation w = s.entered t in let g : (tab_of w t).entered ≡ generation w = e in omega arith)) o;
+    known = s.known;
+    covers = λ t k y c e j. apart j refl;
+    agree = λ p. Compatible-fewer (Counts started_world p) (Counts idle_world p) (λ r c. (c.0, started-claim p r c.1)) (s.agree p);
+  }
+
+-- ---- what a start that is not refused says
+
+absence-none : (x y : Option ℕ) → is_some (absence x y) ≡ false → (x ≡ None) × (y ≡ None)
+absence-none (Some t) y e = apart refl e
+absence-none None (Some t) e = apart refl e
+absence-none None None e = (refl, refl)
+
+pub none-absent : (ts : List ℕ) (k : KernelState) → is_some (start_refusal ts k) ≡ false → (stranger k ts ≡ None) × (missing k ts ≡ None)
+none-absent ts k =
+    either (λ z. is_some z ≡ false → (stranger k ts ≡ None) × (missing k ts ≡ None)) (nat_lt list_limit (length ts)) (Some TooManyListed) (cond (rises ts) (absence (stranger k ts) (missing k ts)) (Some NotRising))
+    (λ _ e. apart refl e)
+    (λ _. either (λ z. is_some z ≡ false → (stranger k ts ≡ None) × (missing k ts ≡ None)) (rises ts) (absence (stranger k ts) (missing k ts)) (Some NotRising)
+    (λ _ e. absence-none (stranger k ts) (missing k ts) e)
+    (λ _ e. apart refl e))
+
+pub first_such-none : (test : ℕ → Bool) (ts : List ℕ) (u : ℕ) → first_such test ts ≡ None → In u ts → test u ≡ false
+first_such-none test [] u = λ e i. absurd (In-nil i)
+first_such-none test (t ∷ ts) u =
+    either (λ z. z ≡ None → In u (t ∷ ts) → test u ≡ false) (test t) (Some t) (first_such test ts)
+    (λ _ e. cc)
+    (λ f e i. ⊎_elim (λ same. ap test same ∙ f) (λ j. first_such-none test ts u e j) (In-cons_cases i))
+
+put_in-has : (n : ℕ) (ms : List ℕ) → In n (put_in n ms)
+put_in-has n [] = Here
+put_in-has n (m ∷ ms) = either (In n) (nat_lt m n) (m ∷ put_in n ms) (n ∷ m ∷ ms) (λ _. Later (put_in-has n ms)) (λ _. Here)
+
+put_in-keeps : (n u : ℕ) (ms : List ℕ) → In u ms → In u (put_in n ms)
+put_in-keeps n u [] i = absurd (In-nil i)
+put_in-keeps n u (m ∷ ms) i =
+    either (In u) (nat_lt m n) (m ∷ put_in n ms) (n ∷ m ∷ ms)
+    (λ _. ⊎_elim (λ e. In-head e) (λ j. Later (put_in-keeps n u ms j)) (In-cons_cases i))
+    (λ _. Later i)
+
+living-In : (os : List OpenedTab) (t : ℕ) → lives_in (tab_in os t) ≡ true → In t (living_in any_tab os)
+living-In [] t = λ l. apart l refl
+living-In (o ∷ os) t =
+    either (λ z. lives_in z ≡ true → In t (cond (o.living && true) (put_in o.tab (living_in any_tab os)) (living_in any_tab os))) (o.tab == t) (Some o) (tab_in os t)
+    (λ e l. either (In t) (o.living && true) (put_in o.tab (living_in any_tab os)) (living_in any_tab os)
+    (λ _. subst (λ z. In z (put_in o.tab (living_in any_tab os))) (eqb-true o.tab t e) (put_in-has o.tab (living_in any_tab os)))
+    (λ d. apart (ap (λ z. z && true) l) d))
+    (λ _ l. let i = living-In os t l in
+    either (In t) (o.living && true) (put_in o.tab (living_in any_tab os)) (living_in any_tab os) (λ _. put_in-keeps o.tab t (living_in any_tab os) i) (λ _. i))
+
+older : (g : ℕ) (o : Option OpenedTab) → lives_in o ≡ true → opening_in o < g → is_older g o ≡ true
+older g None l lt = apart l refl
+older g (Some o) l lt = lt-ltb o.generation g lt
+
+-- each tab that must be listed is
+listed-all : (w : WorldState) (ts : List ℕ) → missing w.kernel ts ≡ None → (t : ℕ) → opening w t < generation w → lives w t ≡ true → In (t, partition_of w t) (placed ts w.kernel)
+listed-all w ts none t lt l =
+    let k = w.kernel in
+    let f = first_such-none (λ u. is_from_before k u && not (is_listed ts u)) (living_tabs k) t none (living-In k.opened t l) in
+    ⊎_elim
+    (λ d. apart (older k.generation (opened_tab_of k t) l lt) d)
+    (λ d. let o = list_any-In (λ n. n == t) ts (not-false _ d) in
+    In-map (λ u. (u, partition_number k u)) (subst (λ z. In z ts) (eqb-true o.0 t o.2) o.1))
+    (and_cases _ _ f)
+
+-- each tab that is listed was opened
+pub hellos-greet : (w : WorldState) (ts : List ℕ) → stranger w.kernel ts ≡ None → (m : Message) → In m (map from_broker (hellos w.kernel.generation (placed ts w.kernel))) → Greets w m
+hellos-greet w ts none m i =
+    let k = w.kernel in
+    let a = In-map_cases from_broker (hellos k.generation (placed ts k)) i in
+    let b = In-map_cases (λ x. hello_to k.generation x.0) (placed ts k) a.1 in
+    let c = In-map_cases (λ u. (u, partition_number k u)) ts b.1 in
+    (Broker, c.0, a.2 ∙ ap from_broker b.2 ∙ ap (λ z. from_broker (hello_to k.generation z.0)) c.2, not-false _ (first_such-none (λ u. not (is_opened k u)) ts c.0 none c.1))
+
+pub starts-sound : (w : WorldState) (ts : List ℕ) (v : Option BrokerState) → w.broker ≡ v → Sound w → Sound (after w (starts w ts v))
+starts-sound w ts (Some b) e s = s
+starts-sound w ts None e s =
+    allowed-sound w (not (is_some (start_refusal ts w.kernel))) (begins w ts) s
+    (λ h. let n = none-absent ts w.kernel (not-true _ h) in
+    greetings-sound (with_broker (started w.kernel.generation (placed ts w.kernel)) w)
+    (started-sound w (placed ts w.kernel) (subst (λ z. Sound (record w { broker = z })) e s) (listed-all w ts n.1))
+    (le_refl (suc (generation w))) (map from_broker (hellos w.kernel.generation (placed ts w.kernel))) (hellos-greet w ts n.0))

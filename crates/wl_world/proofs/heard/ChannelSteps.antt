@@ -1,0 +1,211 @@
+-- What an event does to a tab's channels: nothing, or one call on them; and who posts.
+use Rattle.std.proofs.Common.{◌≡◌, ◌≢◌, ⊎_elim, ℕ, Bool, true, false, cond, not, ◌&&◌, List, [], ◌∷◌, length, map, Option, Some, None, is_some, refl, sym, ap, ◌∙◌, subst}
+use Rattle.std.specs.Prelude.{◌==◌}
+use Rattle.std.proofs.lemmas.Bool.{and_parts, cond-true, cond-false, cases_eq, not-true}
+use Rattle.wl_draft.specs.Tables.{find, put}
+use Rattle.wl_draft.proofs.TableLemmas.{find-put_same, find-put_other}
+use Rattle.wl_frames.specs.declared.frame.Frame.TheVariants as frame
+use Rattle.wl_frames.specs.declared.frame.Addressed.{Addressed}
+use Rattle.wl_frames.specs.declared.frame.Stamped.{Stamped}
+use Rattle.wl_broker.specs.Broker.{BrokerState, Taking, Drops, Does, hello_to, hellos, taking, burial}
+use Rattle.wl_broadcast.specs.Channels.{ChannelState, open_refusal as channel_refusal, opened as channel_opened, post_refusal, posted, heard, is_old, is_own as is_own_channel, read_at, closed_at, after_hearing}
+use Rattle.wl_broadcast.specs.Heard.{Call, Opens, Posts, Hears, Reads, Closes, step}
+use Rattle.wl_agent.specs.declared.delivered.Delivered.{Delivered}
+use Rattle.wl_agent.specs.declared.delivered.Delivered.TheVariants.{Entered}
+use Rattle.wl_agent.specs.Tokens.{is_pending, is_holding}
+use Rattle.wl_agent.specs.Tab.{TabState, report_bodies, status_of, is_asked, ask_refusal, query_refusal, asked, queried, aborted, released, due, is_report_due}
+use Rattle.wl_agent.specs.Delivery.{delivery}
+use Rattle.wl_kernel.specs.Kernel.{is_opened, open_refusal, opened, killed, may_stop, stopped, start_refusal, placed}
+use Rattle.wl_kernel.specs.Routes.{hearers, frame_of}
+use Rattle.wl_bag.specs.declared.message.Sender.TheVariants.{Kernel}
+use Rattle.wl_bag.specs.declared.message.Message.{Message}
+use Rattle.wl_bag.specs.declared.message.Message.TheVariants.{Up, Down, Across}
+use Rattle.wl_bag.specs.Messages.{is_sent}
+use Rattle.wl_bag.specs.Membership.{In}
+use Rattle.wl_bag.proofs.Membership.{either, In-nil, In-one, In-append_cases, In-map_cases}
+use Rattle.wl_bag.proofs.Same.{is_sent-In}
+use Rattle.wl_tab.specs.Tabs.{channels_in, told}
+use Rattle.wl_world.specs.declared.event.Event.{Event}
+use Rattle.wl_world.specs.declared.event.Event.TheVariants as event
+use Rattle.wl_world.specs.declared.event.Forged.{Forged}
+use Rattle.wl_world.specs.declared.event.Forged.TheVariants as forged
+use Rattle.wl_world.specs.World.{WorldState, tab_of, channels_of, lives, Deed, nothing, where_allowed, acts, command_message, issues, stamped, report_messages, with_two, resent, becomes, across, report_if_entered, hears, from_broker, follows, comes_up, comes, with_kernel, buries, tells, stops, begins, starts, greets, is_corrupt, taken_over, forged_across, forgery, deed, happens}
+use Rattle.wl_world.specs.Heard.{may_post}
+use Rattle.wl_world.proofs.apart.CutKernel.{hearers-others}
+
+-- ---- what comes of an event
+
+-- it is no post, or one that another tab than its target forged
+abbrev pub IsNoPost : WorldState → Message → Type 0
+IsNoPost w (Up s) = Unit {0}
+IsNoPost w (Down v x) = Unit {0}
+IsNoPost w (Across t x) = (is_corrupt w x.source ≡ true) × (x.source ≢ t)
+
+-- a post is its event's, and is allowed; a post that comes was sent to this tab; a reading is its event's
+abbrev pub Caused : WorldState → ℕ → Event → Call → Type 0
+Caused w u e (Opens name) = Unit {0}
+Caused w u e (Posts j bytes) = (e ≡ event.Post u j bytes) × (may_post w u j bytes ≡ true)
+Caused w u e (Hears x) = In (Across u x) w.bag
+Caused w u e (Reads k) = e ≡ event.Read u k
+Caused w u e (Closes k) = Unit {0}
+
+-- what a call sends
+abbrev pub IsSentBy : WorldState → ℕ → Call → Message → Type 0
+IsSentBy w u (Posts j bytes) m = (n : ℕ) × In n (hearers u w.kernel) × (m ≡ across u j bytes (channels_of w u) n)
+IsSentBy w u call m = ⊥
+
+pub data Kind (w : WorldState) (e : Event) (d : Deed) : Type 0 where
+  quiet : d.world.channels ≡ w.channels → ((m : Message) → In m d.sends → IsNoPost w m) → Kind w e d
+  calls : (u : ℕ) (call : Call) → d.world.channels ≡ put u (step call (channels_of w u)) w.channels → Caused w u e call → ((m : Message) → In m d.sends → IsSentBy w u call m) → Kind w e d
+
+allowed-kind : (w : WorldState) (e : Event) (b : Bool) (d : Deed) → (b ≡ true → Kind w e d) → Kind w e (where_allowed b w d)
+allowed-kind w e b d f = either (Kind w e) b d (nothing w) f (λ _. quiet refl (λ m i. absurd (In-nil i)))
+
+-- ---- what is no call on channels
+
+acts-kind : (w : WorldState) (e : Event) (t : ℕ) (a : TabState) (ms : List Message) → ((m : Message) → In m ms → IsNoPost w m) → Kind w e (acts w t a ms)
+unfolding acts
+acts-kind w e t a ms h = quiet refl h
+
+issues-kind : (w : WorldState) (e : Event) (t : ℕ) (a : TabState) → Kind w e (issues w t a)
+issues-kind w e t a =
+    acts-kind w e t a (cond (a.entered == 0) [] (command_message w t a (length (tab_of w t).issued) ∷ [])) (λ m. either (λ zs. In m zs → IsNoPost w m) (a.entered == 0) [] (command_message w t a (length (tab_of w t).issued) ∷ [])
+    (λ _ i. absurd (In-nil i)) (λ _ i. subst (IsNoPost w) (sym (In-one i)) tt))
+
+reports-kind : (w : WorldState) (t : ℕ) (a : TabState) (m : Message) → In m (report_messages w t a) → IsNoPost w m
+reports-kind w t a m i = subst (IsNoPost w) (sym (In-map_cases (stamped w t) (report_bodies a.in_parts a.report) i).2) tt
+
+resent-kind : (w : WorldState) (t : ℕ) (a : TabState) (m : Message) → In m (resent w t a) → IsNoPost w m
+resent-kind w t a m i = ⊎_elim
+    (either (λ zs. In m zs → IsNoPost w m) (is_report_due a) (report_messages w t a) [] (λ _ j. reports-kind w t a m j) (λ _ j. absurd (In-nil j)))
+    (λ j. subst (IsNoPost w) (sym (In-map_cases (command_message w t a) (due a) j).2) tt)
+    (In-append_cases (cond (is_report_due a) (report_messages w t a) []) (map (command_message w t a) (due a)) i)
+
+report-kind : (w : WorldState) (t : ℕ) (a : TabState) (d : Delivered) (m : Message) → In m (report_if_entered w t a d) → IsNoPost w m
+report-kind w t a (Entered reports) m i = reports-kind w t a m i
+report-kind w t a _ m i = absurd (In-nil i)
+
+forgery-kind : (w : WorldState) (t : ℕ) (x : Forged) → is_corrupt w t ≡ true → (m : Message) → In m (forgery w t x) → IsNoPost w m
+forgery-kind w t (forged.Upward x) c m i = subst (IsNoPost w) (sym (In-one i)) tt
+forgery-kind w t (forged.Post p) c m i =
+    let o = In-map_cases (forged_across t p) (hearers t w.kernel) i in
+    subst (IsNoPost w) (sym o.2) (c, λ e. hearers-others w.kernel t o.0 o.1 (sym e))
+
+outs-kind : (w : WorldState) (outs : List Addressed) (m : Message) → In m (map from_broker outs) → IsNoPost w m
+outs-kind w outs m i = subst (IsNoPost w) (sym (In-map_cases from_broker outs i).2) tt
+
+follows-kind : (w : WorldState) (e : Event) (x : Taking) → Kind w e (follows w x)
+follows-kind w e (Drops r) = quiet refl (λ m i. absurd (In-nil i))
+follows-kind w e (Does b outs) = quiet refl (outs-kind w outs)
+
+up-kind : (w : WorldState) (e : Event) (x : Stamped) (v : Option BrokerState) → Kind w e (comes_up w x v)
+up-kind w e x None = quiet refl (λ m i. absurd (In-nil i))
+up-kind w e x (Some b) = follows-kind w e (taking b x)
+
+tells-kind : (w : WorldState) (e : Event) (t : ℕ) (v : Option BrokerState) → Kind w e (tells w t v)
+tells-kind w e t None = quiet refl (λ m i. absurd (In-nil i))
+tells-kind w e t (Some b) = allowed-kind w e (is_opened w.kernel t && not (lives w t)) (buries w t b) (λ _. quiet refl (outs-kind w (burial b t).1))
+
+stops-kind : (w : WorldState) (e : Event) (v : Option BrokerState) → Kind w e (stops w v)
+stops-kind w e None = quiet refl (λ m i. absurd (In-nil i))
+stops-kind w e (Some b) = allowed-kind w e (may_stop w.kernel) (nothing (record w { kernel = stopped w.kernel; broker = None })) (λ _. quiet refl (λ m i. absurd (In-nil i)))
+
+starts-kind : (w : WorldState) (e : Event) (ts : List ℕ) (v : Option BrokerState) → Kind w e (starts w ts v)
+starts-kind w e ts (Some b) = quiet refl (λ m i. absurd (In-nil i))
+starts-kind w e ts None = allowed-kind w e (not (is_some (start_refusal ts w.kernel))) (begins w ts) (λ _. quiet refl (outs-kind w (hellos w.kernel.generation (placed ts w.kernel))))
+
+greets-kind : (w : WorldState) (e : Event) (t : ℕ) (v : Option BrokerState) → Kind w e (greets w t v)
+greets-kind w e t None = quiet refl (λ m i. absurd (In-nil i))
+greets-kind w e t (Some b) = allowed-kind w e (lives w t) (record { world = w; sends = Down Kernel (hello_to w.kernel.generation t) ∷ [] }) (λ _. quiet refl (λ m i. subst (IsNoPost w) (sym (In-one i)) tt))
+
+-- ---- calls on channels
+
+-- each tab's channels are its own
+abbrev pub Owned : WorldState → Type 0
+Owned w = (t : ℕ) → (channels_of w t).tab ≡ t
+
+becomes-kind : (w : WorldState) (e : Event) (u : ℕ) (call : Call) (c : ChannelState) (ms : List Message) → c ≡ step call (channels_of w u) → Caused w u e call → ((m : Message) → In m ms → IsSentBy w u call m)
+    → Kind w e (becomes w u c ms)
+unfolding becomes
+becomes-kind w e u call c ms s cause h = calls u call (ap (λ z. put u z w.channels) s) cause h
+
+second : (a b : Bool) → (a && not b) ≡ true → b ≡ false
+second a b e = not-true b (and_parts a (not b) e).1
+
+across-kind : (w : WorldState) (e : Event) (m : Message) → In m w.bag → Kind w e (comes w m)
+across-kind w e (Up x) i = up-kind w e x w.broker
+across-kind w e (Down v x) i =
+    allowed-kind w e (lives w x.tab) (hears w x.tab (frame_of x.inner)) (λ _. let a = delivery (frame_of x.inner) (tab_of w x.tab) in acts-kind w e x.tab (told a.0) (report_if_entered w x.tab a.0 a.1) (report-kind w x.tab a.0 a.1))
+across-kind w e (Across t x) i = allowed-kind w e (lives w t) (becomes w t (after_hearing (frame.Heard x) (channels_of w t)) []) (λ _. becomes-kind w e t (Hears x) (after_hearing (frame.Heard x) (channels_of w t)) [] refl i (λ m j. absurd (In-nil j)))
+
+pub kind : (w : WorldState) (e : Event) → Owned w → Kind w e (deed w e)
+unfolding deed
+kind w (event.OpenTwo t p) own = allowed-kind w (event.OpenTwo t p) (not (is_some (open_refusal t p w.kernel))) (with_kernel (opened t p w.kernel) (with_two t w)) (λ _. quiet refl (λ m i. absurd (In-nil i)))
+kind w (event.Open t p) own = allowed-kind w (event.Open t p) (not (is_some (open_refusal t p w.kernel))) (with_kernel (opened t p w.kernel) w) (λ _. quiet refl (λ m i. absurd (In-nil i)))
+kind w (event.Ask t mode name) own = allowed-kind w (event.Ask t mode name) (lives w t && not (is_some (ask_refusal (tab_of w t) name))) (issues w t (asked mode false name (tab_of w t))) (λ _. issues-kind w (event.Ask t mode name) t (asked mode false name (tab_of w t)))
+kind w (event.Probe t mode name) own = allowed-kind w (event.Probe t mode name) (lives w t && not (is_some (ask_refusal (tab_of w t) name))) (issues w t (asked mode true name (tab_of w t))) (λ _. issues-kind w (event.Probe t mode name) t (asked mode true name (tab_of w t)))
+kind w (event.Query t) own = allowed-kind w (event.Query t) (lives w t && not (is_some (query_refusal (tab_of w t)))) (issues w t (queried (tab_of w t))) (λ _. issues-kind w (event.Query t) t (queried (tab_of w t)))
+kind w (event.Abort t k) own = allowed-kind w (event.Abort t k) (lives w t && is_pending (tab_of w t) k && is_asked (status_of (tab_of w t) k)) (issues w t (aborted k (tab_of w t))) (λ _. issues-kind w (event.Abort t k) t (aborted k (tab_of w t)))
+kind w (event.Release t k) own = allowed-kind w (event.Release t k) (lives w t && is_holding (tab_of w t) k) (issues w t (released k (tab_of w t))) (λ _. issues-kind w (event.Release t k) t (released k (tab_of w t)))
+kind w (event.Resend t) own = allowed-kind w (event.Resend t) (lives w t) (acts w t (tab_of w t) (resent w t (tab_of w t))) (λ _. acts-kind w (event.Resend t) t (tab_of w t) (resent w t (tab_of w t)) (resent-kind w t (tab_of w t)))
+kind w (event.Channel t name) own =
+    let c = channels_of w t in
+    allowed-kind w (event.Channel t name) (lives w t && not (is_some (channel_refusal name c))) (becomes w t (channel_opened name c) [])
+    (λ e. becomes-kind w (event.Channel t name) t (Opens name) (channel_opened name c) [] (sym (cond-false _ _ _ (second (lives w t) (is_some (channel_refusal name c)) e))) tt (λ m i. absurd (In-nil i)))
+kind w (event.Post t k bytes) own =
+    let c = channels_of w t in
+    allowed-kind w (event.Post t k bytes) (may_post w t k bytes) (becomes w t (posted k bytes c) (map (across t k bytes c) (hearers t w.kernel)))
+    (λ e. becomes-kind w (event.Post t k bytes) t (Posts k bytes) (posted k bytes c) (map (across t k bytes c) (hearers t w.kernel))
+    (sym (ap (λ z. cond (is_some (post_refusal z k bytes c)) c (posted k bytes c)) (own t) ∙ cond-false _ _ _ (second (lives w t) (is_some (post_refusal t k bytes c)) e)))
+    (refl, e) (λ m i. In-map_cases (across t k bytes c) (hearers t w.kernel) i))
+kind w (event.Read t k) own =
+    let c = channels_of w t in
+    allowed-kind w (event.Read t k) (lives w t && is_own_channel c t k) (becomes w t (read_at k c) [])
+    (λ e. becomes-kind w (event.Read t k) t (Reads k) (read_at k c) []
+    (sym (ap (λ z. cond (is_own_channel c z k) (read_at k c) c) (own t) ∙ cond-true _ _ _ (and_parts (lives w t) (is_own_channel c t k) e).1)) refl (λ m i. absurd (In-nil i)))
+kind w (event.Close t k) own =
+    let c = channels_of w t in
+    allowed-kind w (event.Close t k) (lives w t && is_own_channel c t k) (becomes w t (closed_at k c) [])
+    (λ e. becomes-kind w (event.Close t k) t (Closes k) (closed_at k c) []
+    (sym (ap (λ z. cond (is_own_channel c z k) (closed_at k c) c) (own t) ∙ cond-true _ _ _ (and_parts (lives w t) (is_own_channel c t k) e).1)) tt (λ m i. absurd (In-nil i)))
+kind w (event.Deliver m) own = allowed-kind w (event.Deliver m) (is_sent m w.bag) (comes w m) (λ e. across-kind w (event.Deliver m) m (is_sent-In m w.bag e))
+kind w (event.Kill t) own = allowed-kind w (event.Kill t) (lives w t) (with_kernel (killed t w.kernel) w) (λ _. quiet refl (λ m i. absurd (In-nil i)))
+kind w (event.Tell t) own = tells-kind w (event.Tell t) t w.broker
+kind w event.Stop own = stops-kind w event.Stop w.broker
+kind w (event.Start ts) own = starts-kind w (event.Start ts) ts w.broker
+kind w (event.Hello t) own = greets-kind w (event.Hello t) t w.broker
+kind w (event.Corrupt t) own = allowed-kind w (event.Corrupt t) (lives w t) (nothing (record w { corrupt = taken_over t w.corrupt })) (λ _. quiet refl (λ m i. absurd (In-nil i)))
+kind w (event.Forge t x) own =
+    allowed-kind w (event.Forge t x) (is_corrupt w t && lives w t) (record { world = w; sends = forgery w t x }) (λ e. quiet refl (forgery-kind w t x (and_parts _ _ e).0))
+
+-- ---- what it means for one tab's channels
+
+pub data Calling (t : ℕ) (w : WorldState) (e : Event) : Type 0 where
+  stays : channels_of (happens w e) t ≡ channels_of w t → Calling t w e
+  called : (call : Call) → channels_of (happens w e) t ≡ step call (channels_of w t) → Caused w t e call → Calling t w e
+
+pub calling : (t : ℕ) (w : WorldState) (e : Event) → Owned w → Calling t w e
+unfolding happens
+calling t w e own = at_table (kind w e own)
+  where
+    at_table : Kind w e (deed w e) → Calling t w e
+    at_table (quiet s h) = stays (ap (λ z. channels_in t (find z t)) s)
+    at_table (calls u call s cause h) = ⊎_elim
+        (λ same. subst (λ z. Calling z w e) same (called call (ap (λ z. channels_in u (find z u)) s ∙ ap (channels_in u) (find-put_same u (step call (channels_of w u)) w.channels)) cause))
+        (λ other. stays (ap (λ z. channels_in t (find z t)) s ∙ ap (channels_in t) (find-put_other u (step call (channels_of w u)) w.channels t (λ z. other (sym z)))))
+        (cases_eq u t)
+
+-- a call leaves a tab's channels its own
+step-tab : (call : Call) (c : ChannelState) → (step call c).tab ≡ c.tab
+step-tab (Opens name) c = either (λ z. z.tab ≡ c.tab) (is_some (channel_refusal name c)) c (channel_opened name c) (λ _. refl) (λ _. refl)
+step-tab (Posts k bytes) c = either (λ z. z.tab ≡ c.tab) (is_some (post_refusal c.tab k bytes c)) c (posted k bytes c) (λ _. refl) (λ _. refl)
+step-tab (Hears h) c = either (λ z. z.tab ≡ c.tab) (is_old c h.source h.number) c (heard h c) (λ _. refl) (λ _. refl)
+step-tab (Reads k) c = either (λ z. z.tab ≡ c.tab) (is_own_channel c c.tab k) (read_at k c) c (λ _. refl) (λ _. refl)
+step-tab (Closes k) c = either (λ z. z.tab ≡ c.tab) (is_own_channel c c.tab k) (closed_at k c) c (λ _. refl) (λ _. refl)
+
+pub happens-owned : (w : WorldState) (e : Event) → Owned w → Owned (happens w e)
+happens-owned w e own t = go (calling t w e own)
+  where
+    go : Calling t w e → (channels_of (happens w e) t).tab ≡ t
+    go (stays s) = ap (λ z. z.tab) s ∙ own t
+    go (called call s cause) = ap (λ z. z.tab) s ∙ step-tab call (channels_of w t) ∙ own t

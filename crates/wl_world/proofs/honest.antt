@@ -1,0 +1,2 @@
+-- Honest tabs beside those that were taken over.
+pub mod StaysHonest

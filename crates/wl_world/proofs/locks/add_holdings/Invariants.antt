@@ -1,7 +1,0 @@
-use Rattle.std.proofs.Common.{◌≡◌, ◌++◌, take}
-use Rattle.std.specs.List.{filter_map}
-use Rattle.wl_world.specs.TabTokens.{holding_in}
-use Rattle.wl_world.proofs.locks.add_holdings.Given as goal
-
-abbrev pub invariant-loop-number : goal.invariant-loop-number
-invariant-loop-number l = l.holdings.items ≡ l.initial.holdings.items ++ filter_map (holding_in l.tab) (take l.number-index l.kept)

@@ -1,0 +1,179 @@
+-- What is known of a tab has the tab's own number, over every list of events.
+use Rattle.std.proofs.Common.{◌≡◌, ℕ, ◌+◌, Bool, true, false, List, [], ◌∷◌, Option, Some, None, is_some, refl, sym, ap, ◌∙◌}
+use Rattle.std.specs.Prelude.{◌==◌, nat_lt}
+use Rattle.wl_draft.specs.declared.mode.Mode.{Mode}
+use Rattle.wl_frames.specs.declared.frame.Frame.{Frame}
+use Rattle.wl_frames.specs.declared.frame.Frame.TheVariants as frame
+use Rattle.wl_frames.specs.declared.frame.Snapshot.{Snapshot}
+use Rattle.wl_frames.specs.declared.frame.Stamped.{Stamped}
+use Rattle.wl_broker.specs.Broker.{BrokerState, Taking, Drops, Does, taking}
+use Rattle.wl_broadcast.specs.Channels.{ChannelState}
+use Rattle.wl_agent.specs.declared.delivered.Delivered.{Delivered}
+use Rattle.wl_agent.specs.declared.delivered.Delivered.TheVariants as heard
+use Rattle.wl_agent.specs.Tab.{TabState, newborn_two, status_of, issue, finish, ended, asked, queried, aborted, released, enter_first, enter_later, enter}
+use Rattle.wl_agent.specs.Delivery.{noted, becomes as becomes_status, after_answer, after_part, told_by_answer, part_refusal, parts_of, with_part_come, has_entered, delivery}
+use Rattle.wl_kernel.specs.Routes.{frame_of}
+use Rattle.wl_bag.specs.declared.message.Message.{Message}
+use Rattle.wl_bag.specs.declared.message.Message.TheVariants.{Up, Down, Across}
+use Rattle.wl_bag.specs.Messages.{is_sent}
+use Rattle.wl_bag.proofs.Membership.{either}
+use Rattle.wl_tab.specs.Tabs.{command_limit, told}
+use Rattle.wl_world.specs.declared.event.Event.{Event}
+use Rattle.wl_world.specs.declared.event.Event.TheVariants as event
+use Rattle.wl_world.specs.World.{WorldState, empty_world, with_two, tab_of, lives, Deed, nothing, where_allowed, acts, asks, queries, aborts, releases, resends, becomes, report_if_entered, hears, follows, comes_up, comes, tells, stops, starts, greets, deed, happens, run}
+use Rattle.wl_world.proofs.exclusion.GrownTabs.{tab_at}
+use Rattle.wl_world.proofs.exclusion.ActsWithinAGeneration.{each_tab}
+
+-- ---- what comes to a tab
+
+enter-tab : (g : ℕ) (a : TabState) → (enter g a).tab ≡ a.tab
+unfolding enter_first enter_later
+enter-tab g a = either (λ z. z.tab ≡ a.tab) (a.entered == 0) (enter_first g a) (enter_later g a) (λ _. refl) (λ _. refl)
+
+after_answer-tab : (d : Delivered) (a : TabState) → (after_answer d a).tab ≡ a.tab
+unfolding becomes_status ended
+after_answer-tab (heard.Granted k) a = refl
+after_answer-tab (heard.Null k) a = refl
+after_answer-tab (heard.Lost k) a = refl
+after_answer-tab d a = refl
+
+after_part-tab : (x : Snapshot) (a : TabState) → (after_part x a).tab ≡ a.tab
+unfolding becomes_status
+after_part-tab x a =
+    either (λ z. z.tab ≡ a.tab) (is_some (part_refusal x a)) a (becomes_status x.number (with_part_come x (parts_of (status_of a x.number))) a) (λ _. refl) (λ _. refl)
+
+noted-tab : (upto : ℕ) (a : TabState) → (noted upto a).tab ≡ a.tab
+unfolding noted
+noted-tab upto a = refl
+
+delivery-tab : (f : Frame) (a : TabState) → (delivery f a).0.tab ≡ a.tab
+unfolding delivery
+delivery-tab (frame.Hello x) a =
+    either {A = TabState × Delivered} (λ o. o.0.tab ≡ a.tab) (nat_lt a.entered x.generation) _ _ (λ _. enter-tab x.generation a) (λ _. refl)
+delivery-tab (frame.Answer x) a =
+    either {A = TabState × Delivered} (λ o. o.0.tab ≡ a.tab) (has_entered x.generation a) _ _
+    (λ _. noted-tab x.upto (after_answer (told_by_answer x a) a) ∙ after_answer-tab (told_by_answer x a) a) (λ _. refl)
+delivery-tab (frame.Snapshot x) a =
+    either {A = TabState × Delivered} (λ o. o.0.tab ≡ a.tab) (has_entered x.generation a) _ _
+    (λ _. noted-tab (x.number + 1) (after_part x a) ∙ after_part-tab x a) (λ _. refl)
+delivery-tab f a = refl
+
+told-tab : (a : TabState) → (told a).tab ≡ a.tab
+unfolding told
+told-tab a = refl
+
+-- ---- events
+
+-- what is known of each tab has the tab's number
+abbrev IsNumbered : WorldState → Type 0
+IsNumbered w = (t : ℕ) → (tab_of w t).tab ≡ t
+
+abbrev Keeps : WorldState → Deed → Type 0
+Keeps w d = (t : ℕ) → (tab_of d.world t).tab ≡ (tab_of w t).tab
+
+same-keeps : (w : WorldState) (d : Deed) → d.world.tabs ≡ w.tabs → Keeps w d
+same-keeps w d same t = ap (λ z. (tab_at z t).tab) same
+
+allowed-keeps : (w : WorldState) (b : Bool) (d : Deed) → Keeps w d → Keeps w (where_allowed b w d)
+allowed-keeps w b d k = either (Keeps w) b d (nothing w) (λ _. k) (λ _ t. refl)
+
+acts-keeps : (w : WorldState) (t : ℕ) (a : TabState) (ms : List Message) → a.tab ≡ (tab_of w t).tab → Keeps w (acts w t a ms)
+unfolding acts
+acts-keeps w t a ms e = each_tab (λ u z. z.tab ≡ (tab_of w u).tab) t a w.tabs e (λ u n. refl)
+
+becomes-keeps : (w : WorldState) (t : ℕ) (c : ChannelState) (ms : List Message) → Keeps w (becomes w t c ms)
+unfolding becomes
+becomes-keeps w t c ms u = refl
+
+asks-keeps : (w : WorldState) (t : ℕ) (mode : Mode) (if_available : Bool) (name : List ℕ) → Keeps w (asks w t mode if_available name)
+unfolding issue
+asks-keeps w t mode if_available name = allowed-keeps w _ _ (acts-keeps w t (asked mode if_available name (tab_of w t)) _ refl)
+
+queries-keeps : (w : WorldState) (t : ℕ) → Keeps w (queries w t)
+unfolding issue
+queries-keeps w t = allowed-keeps w _ _ (acts-keeps w t (queried (tab_of w t)) _ refl)
+
+aborts-keeps : (w : WorldState) (t k : ℕ) → Keeps w (aborts w t k)
+unfolding finish
+aborts-keeps w t k = allowed-keeps w _ _ (acts-keeps w t (aborted k (tab_of w t)) _ refl)
+
+releases-keeps : (w : WorldState) (t k : ℕ) → Keeps w (releases w t k)
+unfolding finish
+releases-keeps w t k = allowed-keeps w _ _ (acts-keeps w t (released k (tab_of w t)) _ refl)
+
+resends-keeps : (w : WorldState) (t : ℕ) → Keeps w (resends w t)
+resends-keeps w t = allowed-keeps w _ _ (acts-keeps w t (tab_of w t) _ refl)
+
+hears-keeps : (w : WorldState) (t : ℕ) (f : Frame) → Keeps w (hears w t f)
+hears-keeps w t f =
+    let a = delivery f (tab_of w t) in
+    acts-keeps w t (told a.0) (report_if_entered w t a.0 a.1) (told-tab a.0 ∙ delivery-tab f (tab_of w t))
+
+follows-keeps : (w : WorldState) (o : Taking) → Keeps w (follows w o)
+follows-keeps w (Drops reason) t = refl
+follows-keeps w (Does b outs) t = refl
+
+comes_up-keeps : (w : WorldState) (x : Stamped) (v : Option BrokerState) → Keeps w (comes_up w x v)
+comes_up-keeps w x None t = refl
+comes_up-keeps w x (Some b) t = follows-keeps w (taking b x) t
+
+comes-keeps : (w : WorldState) (m : Message) → Keeps w (comes w m)
+comes-keeps w (Up x) = comes_up-keeps w x w.broker
+comes-keeps w (Down v x) = allowed-keeps w (lives w x.tab) _ (hears-keeps w x.tab (frame_of x.inner))
+comes-keeps w (Across t x) = allowed-keeps w (lives w t) _ (becomes-keeps w t _ [])
+
+tells-keeps : (w : WorldState) (t : ℕ) (v : Option BrokerState) → Keeps w (tells w t v)
+tells-keeps w t None = same-keeps w (nothing w) refl
+tells-keeps w t (Some b) = allowed-keeps w _ _ (λ u. refl)
+
+stops-keeps : (w : WorldState) (v : Option BrokerState) → Keeps w (stops w v)
+stops-keeps w None = same-keeps w (nothing w) refl
+stops-keeps w (Some b) = allowed-keeps w _ _ (λ u. refl)
+
+starts-keeps : (w : WorldState) (ts : List ℕ) (v : Option BrokerState) → Keeps w (starts w ts v)
+starts-keeps w ts (Some b) = same-keeps w (nothing w) refl
+starts-keeps w ts None = allowed-keeps w _ _ (λ u. refl)
+
+greets-keeps : (w : WorldState) (t : ℕ) (v : Option BrokerState) → Keeps w (greets w t v)
+greets-keeps w t None = same-keeps w (nothing w) refl
+greets-keeps w t (Some b) = allowed-keeps w _ _ (λ u. refl)
+
+-- a tab that is opened with a row has its own number, as it had without one
+two-keeps : (w : WorldState) (t : ℕ) → IsNumbered w → (u : ℕ) → (tab_of (with_two t w) u).tab ≡ (tab_of w u).tab
+two-keeps w t own = each_tab (λ u z. z.tab ≡ (tab_of w u).tab) t (newborn_two t command_limit) w.tabs (sym (own t)) (λ u n. refl)
+
+deed-keeps : (w : WorldState) → IsNumbered w → (e : Event) → Keeps w (deed w e)
+unfolding deed
+deed-keeps w own (event.Open t p) = allowed-keeps w _ _ (λ u. refl)
+deed-keeps w own (event.OpenTwo t p) = allowed-keeps w _ _ (two-keeps w t own)
+deed-keeps w own (event.Ask t mode name) = asks-keeps w t mode false name
+deed-keeps w own (event.Probe t mode name) = asks-keeps w t mode true name
+deed-keeps w own (event.Query t) = queries-keeps w t
+deed-keeps w own (event.Abort t k) = aborts-keeps w t k
+deed-keeps w own (event.Release t k) = releases-keeps w t k
+deed-keeps w own (event.Resend t) = resends-keeps w t
+deed-keeps w own (event.Channel t name) = allowed-keeps w _ _ (becomes-keeps w t _ [])
+deed-keeps w own (event.Post t k bytes) = allowed-keeps w _ _ (becomes-keeps w t _ _)
+deed-keeps w own (event.Read t k) = allowed-keeps w _ _ (becomes-keeps w t _ [])
+deed-keeps w own (event.Close t k) = allowed-keeps w _ _ (becomes-keeps w t _ [])
+deed-keeps w own (event.Deliver m) = allowed-keeps w (is_sent m w.bag) _ (comes-keeps w m)
+deed-keeps w own (event.Kill t) = allowed-keeps w _ _ (λ u. refl)
+deed-keeps w own (event.Tell t) = tells-keeps w t w.broker
+deed-keeps w own event.Stop = stops-keeps w w.broker
+deed-keeps w own (event.Start ts) = starts-keeps w ts w.broker
+deed-keeps w own (event.Hello t) = greets-keeps w t w.broker
+deed-keeps w own (event.Corrupt t) = allowed-keeps w _ _ (λ u. refl)
+deed-keeps w own (event.Forge t x) = allowed-keeps w _ _ (λ u. refl)
+
+-- ---- runs
+
+happens-numbered : (w : WorldState) (e : Event) → IsNumbered w → IsNumbered (happens w e)
+unfolding happens
+happens-numbered w e own t = deed-keeps w own e t ∙ own t
+
+run-numbered : (events : List Event) (w : WorldState) → IsNumbered w → IsNumbered (run events w)
+run-numbered [] w own = own
+run-numbered (e ∷ es) w own = run-numbered es (happens w e) (happens-numbered w e own)
+
+pub run-number : (events : List Event) (t : ℕ) → (tab_of (run events empty_world) t).tab ≡ t
+run-number events t = run-numbered events empty_world (λ u. refl) t

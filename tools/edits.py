@@ -1,0 +1,89 @@
+"""Makes of the gate's output the list of its must-fail edits, docs/EDITS.md: what each one changes, and what refuses it.
+
+usage: edits.py LOG .. > docs/EDITS.md
+
+LOG is what `rt ci`, or `rt must-fail`, printed. Beside each edit in crates/*/must-fail stands the first goal that the prover told as
+unproved, with its function. An edit that no LOG tells of has none. It needs the repository's folder to be the current one.
+"""
+
+import glob
+import os
+import re
+import sys
+
+TOLD = re.compile(r"^(?:rt: )?must-fail (\w+)/(\w+)\.edit: refused, as it must be(.*)$")
+AT = re.compile(r"(?:note: )?(?:\./)?(\S+?):(\d+):\d+: (.*)$")
+HEAD = """# The must-fail edits of the gate
+
+Each edit changes one line of code so that it means something else, and the prover has to refuse it. Beside it stands the first goal
+that was told as unproved, in the last run that is recorded here: the function, and which of its goals. Where a lemma is named the
+edit shows less, since all that is seen is that this lemma does not fit any more. `tools/edits.py` makes this page of the gate's
+output.
+"""
+
+
+def goals_of(logs):
+    goals = {}
+    for log in logs:
+        with open(log, encoding="utf-8", errors="replace") as it:
+            for line in it:
+                told = TOLD.match(line)
+                if told:
+                    goals[told[1], told[2]] = told[3].removeprefix(": ").strip()
+    return goals
+
+
+def function_at(crate, path, number):
+    """The name of the function whose code or clause stands at a line of the edited file, which has as many lines as the file here."""
+    with open(f"crates/{crate}/{path}", encoding="utf-8") as it:
+        lines = it.read().splitlines()
+    start = min(number, len(lines)) - 1
+    # (a function is told by its first attribute)
+    while start + 1 < len(lines) and lines[start].lstrip().startswith(("#[", "///")):
+        start += 1
+    for at in range(start, -1, -1):
+        named = re.match(r"\s*(?:pub(?:\(\w+\))? )?(?:const )?fn (\w+)", lines[at])
+        if named:
+            return named[1]
+    return path
+
+
+def goal_text(crate, goal):
+    found = AT.match(goal)
+    if not found:
+        return goal.replace("|", "\\|") or "refused"
+    path, number, said = found[1], int(found[2]), found[3]
+    told = re.search(r"`([\w-]+)(?:`|$)", said.removeprefix("error: "))
+    if path.endswith(".rt"):
+        told = re.search(r"\(`([\w-]+)", said)
+        of = f"`{function_at(crate, path, number)}`"
+    elif path.endswith(("Answers.antt", "Invariants.antt")):
+        of = f"`{path.split('/')[-2]}`"
+    else:
+        of = f"the lemmas of `{path}`"
+    return f"{of}, `{told[1].rstrip('-')}`" if told else of
+
+
+def pairs_of(edit):
+    with open(edit, encoding="utf-8") as it:
+        lines = it.read().splitlines()
+    return [line.removeprefix("file: ") for line in lines if line.startswith("file: ")]
+
+
+def main():
+    if len(sys.argv) < 2:
+        sys.exit(__doc__)
+    goals = goals_of(sys.argv[1:])
+    print(HEAD)
+    for folder in sorted(glob.glob("crates/*/must-fail")):
+        crate = folder.split("/")[1]
+        print(f"\n## {crate}\n\n| Edit | In | Refused by |\n|---|---|---|")
+        for edit in sorted(glob.glob(f"{folder}/*.edit")):
+            name = os.path.basename(edit).removesuffix(".edit")
+            goal = goals.get((crate, name))
+            told = "" if goal is None else goal_text(crate, goal)
+            print(f"| {name} | `{', '.join(pairs_of(edit))}` | {told} |")
+
+
+if __name__ == "__main__":
+    main()
