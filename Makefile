@@ -42,10 +42,11 @@ more-edits:
 
 TESTS ?= edge_tests
 WORD ?= growths
+MOST ?= 0
 
 refuse:
 	cd crates/$(TESTS) && rt test
-	python3 tools/refuse.py crates/$(TESTS)/out/$(TESTS)_tests $(WORD)
+	python3 tools/refuse.py crates/$(TESTS)/out/$(TESTS)_tests $(MOST) $(WORD)
 
 MINUTES ?= 10
 MEGABYTES ?= 100

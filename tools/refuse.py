@@ -1,11 +1,11 @@
 """Runs the tests of a crate with each allocation refused in its turn.
 
-usage: refuse.py TESTS [WORD]
+usage: refuse.py TESTS [MOST] [WORD ..]
 
-TESTS is what `rt test` leaves of a crate's tests, `crates/NAME/out/NAME_tests`. Each test whose name contains WORD, or each, is
-run once for each of its allocations, which is refused in that run and no other. Prints for each test how many were refused, and
-how it failed where it did. The status is 0 where all runs passed: where a call that was refused memory had changed nothing, was
-made again, and gave its answer.
+TESTS is what `rt test` leaves of a crate's tests, `crates/NAME/out/NAME_tests`. Each test whose name contains one of the words, or
+each, is run once for each of its allocations, which is refused in that run and no other; of a test with more than MOST of them, a
+number, for MOST that are spread evenly. Prints for each test how many were refused, and how it failed where it did. The status is
+0 where all runs passed: where a call that was refused memory had changed nothing, was made again, and gave its answer.
 
 Tests with threads may allocate in another order each time, so there a number names no certain allocation. It needs `cc` and glibc.
 """
@@ -44,35 +44,39 @@ def run(tests, name, library, number):
     return ran.returncode, int(count or 0), ran.stderr.strip()[:SHOWN]
 
 
-def names_of(tests, word):
+def names_of(tests, words):
     listed = subprocess.run([tests, "--list"], capture_output=True, text=True, check=True).stdout.splitlines()
-    return [line.removesuffix(": test") for line in listed if line.endswith(": test") and word in line]
+    names = [line.removesuffix(": test") for line in listed if line.endswith(": test")]
+    return [name for name in names if not words or any(word in name for word in words)]
 
 
-def refuse_all(tests, name, library):
-    """How many allocations were refused, and how often the test failed with which words."""
+def refuse_all(tests, name, library, most):
+    """How many allocations there were, how many were refused, and how often the test failed with which words."""
     status, count, said = run(tests, name, library, 0)
     if status:
-        return 0, collections.Counter([said])
+        return 0, 0, collections.Counter([said])
+    tries = min(count, most) if most else count
     failures = collections.Counter()
-    for number in range(1, count + 1):
-        status, _told, said = run(tests, name, library, number)
+    for place in range(tries):
+        status, _told, said = run(tests, name, library, place * count // tries + 1)
         if status:
             failures[said] += 1
-    return count, failures
+    return count, tries, failures
 
 
 def main():
-    if len(sys.argv) not in (2, 3):
+    given = sys.argv[1:]
+    if not given or given[0].startswith("-"):
         sys.exit(__doc__)
-    tests = os.path.abspath(sys.argv[1])
-    names = names_of(tests, sys.argv[2] if len(sys.argv) == 3 else "")
+    tests, words = os.path.abspath(given[0]), given[1:]
+    most = int(words.pop(0)) if words and words[0].isdigit() else 0
+    names = names_of(tests, words)
     failed = not names
     with tempfile.TemporaryDirectory(prefix="refuse-") as place:
         library = build(place)
         for name in names:
-            count, failures = refuse_all(tests, name, library)
-            print(f"{name}: {count} refused, {failures.total()} failed", flush=True)
+            count, tries, failures = refuse_all(tests, name, library, most)
+            print(f"{name}: {tries} of {count} refused, {failures.total()} failed", flush=True)
             for said, times in failures.items():
                 print(f"    {times} times: {said}", flush=True)
             failed = failed or bool(failures)

@@ -1,6 +1,6 @@
-//! Times lanes that step a broker in shards, each behind a lock of its own, beside the same events taken by a broker that no other thread has. With
-//! the argument `time` it prints nanoseconds; without it, it makes small runs and prints how many steps they made, the same
-//! each time.
+//! Times lanes that step a broker in shards, each behind a lock of its own, beside the same events taken by a broker that no other
+//! thread has. With the argument `time` it prints nanoseconds; without it, it makes small runs and prints how many steps they made,
+//! the same each time.
 #![tactic(auto)]
 
 mod events;
@@ -17,7 +17,17 @@ use wl_locked::BookEvent;
 use wl_table::IndexedTable;
 
 /// How many lanes step the broker, in how many shards.
-const RUNS: [(u16, u16); 6] = [(1, 1), (2, 1), (4, 1), (2, 2), (4, 2), (4, 4)];
+const RUNS: [(u16, u16); 9] = [
+    (1, 1),
+    (1, 2),
+    (1, 4),
+    (2, 1),
+    (2, 2),
+    (2, 4),
+    (4, 1),
+    (4, 2),
+    (4, 4),
+];
 
 /// How many locks each lane hands over with no argument, and where it is timed.
 const FEW: u32 = 50;

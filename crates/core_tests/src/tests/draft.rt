@@ -222,23 +222,26 @@ fn restored_locks_wait_for_settling(rt: HostRuntime) -> Result<(), Fail> {
 }
 
 /// Each kind of call.
-const TURNS: [Call; 9] = [
-    Call::Request(1, Mode::Shared, "a"),
-    Call::Request(2, Mode::Exclusive, "a"),
-    Call::Request(3, Mode::Shared, "a"),
-    Call::Probe(3, Mode::Shared, "a"),
-    Call::Abort(2, 0),
-    Call::Probe(2, Mode::Shared, "a"),
-    Call::Restore(
-        4,
-        &[
-            (0, true, Mode::Shared, "a"),
-            (1, false, Mode::Exclusive, "a"),
-        ],
-        true,
+const TURNS: [Step; 9] = [
+    (Call::Request(1, Mode::Shared, "a"), &[(1, 0)]),
+    (Call::Request(2, Mode::Exclusive, "a"), &[]),
+    (Call::Request(3, Mode::Shared, "a"), &[]),
+    (Call::Probe(3, Mode::Shared, "a"), &[]),
+    (Call::Abort(2, 0), &[(3, 0)]),
+    (Call::Probe(2, Mode::Shared, "a"), &[(2, 1)]),
+    (
+        Call::Restore(
+            4,
+            &[
+                (0, true, Mode::Shared, "a"),
+                (1, false, Mode::Exclusive, "a"),
+            ],
+            true,
+        ),
+        &[],
     ),
-    Call::Release(1, 0),
-    Call::End(3, true),
+    (Call::Release(1, 0), &[]),
+    (Call::End(3, true), &[]),
 ];
 
 /// The snapshot, asked for once more where memory was refused.
@@ -255,13 +258,15 @@ fn call_again(
     alloc: Global,
     manager: &mut Manager,
     each: Call,
-) -> Result<(), AllocError> {
+) -> Result<Vec<Grant>, AllocError> {
     let before = rows_of(manager)?;
-    if make(rt, alloc, manager, each).is_err() {
-        assert_eq!(rt; rows_of(manager)?, before);
-        let _granted = make(rt, alloc, manager, each)?;
+    match make(rt, alloc, manager, each) {
+        Ok(granted) => Ok(granted),
+        Err(_) => {
+            assert_eq!(rt; rows_of(manager)?, before);
+            make(rt, alloc, manager, each)
+        }
     }
-    Ok(())
 }
 
 // Passes whichever single allocation is refused.
@@ -269,8 +274,9 @@ fn call_again(
 fn refused_memory_changes_nothing(rt: HostRuntime) -> Result<(), Fail> {
     let alloc = rt.alloc();
     let mut manager = Manager::new(alloc);
-    for each in TURNS {
-        call_again(&rt, alloc, &mut manager, each)?;
+    for (place, (each, pairs)) in TURNS.iter().enumerate() {
+        let granted = call_again(&rt, alloc, &mut manager, *each)?;
+        assert!(rt; are(granted.as_slice(), pairs), "call {place}");
     }
     let (held, waiting) = rows_of(&manager)?;
     assert_eq!(rt; held.len(), 2);

@@ -192,10 +192,13 @@ fn is_addressed(addressed: &Addressed) -> bool {
     }
 }
 
-/// The frame is well formed, and spelled by these bytes.
+/// The frame is well formed, and spelled by these bytes; where memory is refused it is spelled again.
 fn spelled(rt: &impl Abort, alloc: Global, frame: &Frame, bytes: &[u8]) -> Result<(), Fail> {
     assert!(rt; frame.is_well_formed());
-    let spelled = encode(alloc, frame)?;
+    let spelled = match encode(alloc, frame) {
+        Ok(spelled) => spelled,
+        Err(_) => encode(alloc, frame)?,
+    };
     assert!(rt; spelled.as_slice() == bytes, "{bytes:?}");
     Ok(())
 }
@@ -204,7 +207,11 @@ fn spelled(rt: &impl Abort, alloc: Global, frame: &Frame, bytes: &[u8]) -> Resul
 fn expect_example(rt: &impl Abort, alloc: Global, frame: &Frame, bytes: &[u8]) -> Result<(), Fail> {
     assert!(rt; is_example(frame), "{bytes:?}");
     spelled(rt, alloc, frame, bytes)?;
-    spelled(rt, alloc, &frame.copy(alloc)?, bytes)
+    let copy = match frame.copy(alloc) {
+        Ok(copy) => copy,
+        Err(_) => frame.copy(alloc)?,
+    };
+    spelled(rt, alloc, &copy, bytes)
 }
 
 #[test]

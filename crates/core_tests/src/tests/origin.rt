@@ -1,7 +1,8 @@
 use std::alloc::Global;
 use std::cmp::Ordering;
+use std::process::Abort;
 use std::test::Fail;
-use wl_origin::{OriginFault, partition, partition_pair};
+use wl_origin::{OriginFault, Partition, partition, partition_pair};
 
 fn are_equal(alloc: Global, one: &str, other: &str) -> Result<bool, OriginFault> {
     let one = partition(alloc, one)?;
@@ -245,9 +246,35 @@ fn copy_is_equal(rt: HostRuntime) -> Result<(), Fail> {
     Ok(())
 }
 
-// Holds whichever allocation is refused, and when none is.
+/// A copy is the partition; where memory is refused it is made again.
+fn expect_copy(rt: &impl Abort, alloc: Global, a: &Partition) {
+    let copy = match a.copy(alloc) {
+        Ok(copy) => copy,
+        Err(_) => a.copy(alloc).expect(rt, "memory is back"),
+    };
+    assert!(rt; copy == *a);
+}
+
+/// The partition of a URL, asked for again where memory was refused.
+fn partition_again(alloc: Global, url: &str) -> Result<Partition, OriginFault> {
+    match partition(alloc, url) {
+        Err(OriginFault::Memory) => partition(alloc, url),
+        answer => answer,
+    }
+}
+
+/// The partition of a pair of URLs, asked for again where memory was refused.
+fn pair_again(alloc: Global, top: &str, own: &str) -> Result<Partition, OriginFault> {
+    match partition_pair(alloc, top, own) {
+        Err(OriginFault::Memory) => partition_pair(alloc, top, own),
+        answer => answer,
+    }
+}
+
+// Passes whichever single allocation is refused.
 #[test]
-fn refused_memory(rt: HostRuntime) {
+fn refused_memory(rt: HostRuntime) -> Result<(), Fail> {
+    let alloc = rt.alloc();
     let cases = [
         (
             "https://faß.example:8443/x",
@@ -256,27 +283,15 @@ fn refused_memory(rt: HostRuntime) {
         ("blob:https://a.test/x", "https://a.test"),
     ];
     for (url, text) in cases {
-        match partition(rt.alloc(), url) {
-            Ok(a) => {
-                assert_eq!(rt; a.text(), text);
-                if let Ok(copy) = a.copy(rt.alloc()) {
-                    assert!(rt; copy == a);
-                }
-                assert_eq!(rt; a.text(), text);
-            }
-            Err(fault) => assert_eq!(rt; fault, OriginFault::Memory),
-        }
+        let a = partition_again(alloc, url)?;
+        expect_copy(&rt, alloc, &a);
+        assert_eq!(rt; a.text(), text);
     }
-    match partition_pair(rt.alloc(), "https://t.test:8443/", "https://a.test/x") {
-        Ok(a) => {
-            assert_eq!(rt; a.top_text(), "https://t.test:8443");
-            assert_eq!(rt; a.text(), "https://a.test");
-            if let Ok(copy) = a.copy(rt.alloc()) {
-                assert!(rt; copy == a);
-            }
-        }
-        Err(fault) => assert_eq!(rt; fault, OriginFault::Memory),
-    }
+    let a = pair_again(alloc, "https://t.test:8443/", "https://a.test/x")?;
+    expect_copy(&rt, alloc, &a);
+    assert_eq!(rt; a.top_text(), "https://t.test:8443");
+    assert_eq!(rt; a.text(), "https://a.test");
+    Ok(())
 }
 
 // A text that is too long is no matter of memory.

@@ -1,6 +1,8 @@
 //! The broker. A frame that it refuses for memory it is given again, and has to answer as the row says then: so these tests
 //! pass whichever of its allocations is refused.
 
+ghost use Rattle.wl_frames.specs.Grammar.{TabsRiseFrom};
+
 use crate::tests::desk::bytes_of;
 use crate::tests::desk::rows::{DEATH_HANDS_OVER, HANDOVER, RESTART_WHILE_HELD, Row, SNAPSHOT};
 use std::alloc::{AllocError, Global};
@@ -41,6 +43,20 @@ const TWO_PARTS: Row = Row {
 
 fn nothing(alloc: Global) -> Outs {
     Sequence::new(Vec::new(alloc))
+}
+
+/// A broker that is started, and again where memory was refused.
+fn start(
+    alloc: Global,
+    generation: u32,
+    list: &[(u16, u16)],
+) -> Result<(TestedBroker, Outs), AllocError>
+    requires { TabsRiseFrom 1 list.now }
+{
+    match Broker::start(alloc, generation, list) {
+        Ok(started) => Ok(started),
+        Err(_) => Broker::start(alloc, generation, list),
+    }
 }
 
 /// What is answered to a tab's message: nothing where it is dropped, for a cause other than memory.
@@ -152,7 +168,7 @@ fn copy(
 fn plays_in_copies(rt: &impl Abort, alloc: Global, row: &Row) -> Result<(), Fail> {
     let output = bytes_of(alloc, row.output)?;
     for place in 0..COPIES {
-        let (mut broker, hellos): (TestedBroker, Outs) = Broker::start(alloc, 1, &[])?;
+        let (mut broker, hellos) = start(alloc, 1, &[])?;
         let mut written = Vec::new(alloc);
         write(rt, alloc, hellos, &mut written)?;
         for frame in &frames(alloc, row)? {
@@ -188,26 +204,26 @@ fn deaths_are_told_in_copies(rt: HostRuntime) -> Result<(), Fail> {
 #[test]
 fn commands_are_taken_again(rt: HostRuntime) -> Result<(), Fail> {
     let alloc = rt.alloc();
-    plays(&rt, alloc, Broker::start(alloc, 1, &[])?, &HANDOVER)
+    plays(&rt, alloc, start(alloc, 1, &[])?, &HANDOVER)
 }
 
 #[test]
 fn reports_are_taken_again(rt: HostRuntime) -> Result<(), Fail> {
     let alloc = rt.alloc();
-    let started = Broker::start(alloc, 2, &[(1, 1), (2, 1)])?;
+    let started = start(alloc, 2, &[(1, 1), (2, 1)])?;
     plays(&rt, alloc, started, &RESTART_WHILE_HELD)
 }
 
 #[test]
 fn queries_are_taken_again(rt: HostRuntime) -> Result<(), Fail> {
     let alloc = rt.alloc();
-    plays(&rt, alloc, Broker::start(alloc, 1, &[])?, &SNAPSHOT)
+    plays(&rt, alloc, start(alloc, 1, &[])?, &SNAPSHOT)
 }
 
 #[test]
 fn deaths_are_told_again(rt: HostRuntime) -> Result<(), Fail> {
     let alloc = rt.alloc();
-    plays(&rt, alloc, Broker::start(alloc, 1, &[])?, &DEATH_HANDS_OVER)
+    plays(&rt, alloc, start(alloc, 1, &[])?, &DEATH_HANDS_OVER)
 }
 
 // ---- reports in parts
@@ -215,13 +231,13 @@ fn deaths_are_told_again(rt: HostRuntime) -> Result<(), Fail> {
 #[test]
 fn one_part_is_a_report(rt: HostRuntime) -> Result<(), Fail> {
     let alloc = rt.alloc();
-    plays(&rt, alloc, Broker::start(alloc, 1, &[])?, &ONE_PART)
+    plays(&rt, alloc, start(alloc, 1, &[])?, &ONE_PART)
 }
 
 #[test]
 fn parts_are_taken_again(rt: HostRuntime) -> Result<(), Fail> {
     let alloc = rt.alloc();
-    plays(&rt, alloc, Broker::start(alloc, 2, &[(1, 1)])?, &TWO_PARTS)
+    plays(&rt, alloc, start(alloc, 2, &[(1, 1)])?, &TWO_PARTS)
 }
 
 fn stamped(tab: u16, partition: u16, inner: Upward) -> Stamped {
@@ -280,7 +296,7 @@ fn keeps(rt: &impl Abort, broker: &mut TestedBroker, stamped: &Stamped) {
 #[test]
 fn parts_that_do_not_fit(rt: HostRuntime) -> Result<(), Fail> {
     let alloc = rt.alloc();
-    let (mut broker, _hellos): (TestedBroker, Outs) = Broker::start(alloc, 2, &[(2, 1)])?;
+    let (mut broker, _hellos) = start(alloc, 2, &[(2, 1)])?;
     let second = stamped(1, 1, part(alloc, 1, 0)?);
     keeps(&rt, &mut broker, &second);
     drops(&rt, &mut broker, &second, Dropped::PartTwice);

@@ -29,7 +29,15 @@ pub fn bytes_of(alloc: Global, lines: &[&str]) -> Result<Vec<u8>, AllocError> {
     Ok(bytes)
 }
 
-/// Runs the desk, and compares how it ends and what it writes.
+/// Runs the desk over these bytes.
+fn run(alloc: Global, input: &[u8], written: &mut Vec<u8>) -> Result<(), DeskFault> {
+    let mut source = Source::new(input);
+    let mut sink = Sink::new(written);
+    desk_run(alloc, &mut source, &mut sink)
+}
+
+/// Runs the desk, and compares how it ends and what it writes. A run that memory ended has written a front of that, and is made
+/// again.
 fn expect(
     rt: &impl Abort,
     alloc: Global,
@@ -38,14 +46,21 @@ fn expect(
     output: &[u8],
     name: &str,
 ) {
-    let mut source = Source::new(input);
-    let mut written = Vec::new(alloc);
-    let mut sink = Sink::new(&mut written);
-    assert_eq!(rt; desk_run(alloc, &mut source, &mut sink), end, "{name}");
+    let mut written = match Vec::with_capacity(alloc, output.len()) {
+        Ok(written) => written,
+        Err(_) => Vec::with_capacity(alloc, output.len()).expect(rt, "memory is back"),
+    };
+    let mut ended = run(alloc, input, &mut written);
+    if ended == Err(DeskFault::Memory) {
+        assert!(rt; output.starts_with(written.as_slice()), "{name}");
+        written.clear();
+        ended = run(alloc, input, &mut written);
+    }
+    assert_eq!(rt; ended, end, "{name}");
     assert_eq!(rt; written.as_slice(), output, "{name}");
 }
 
-fn expect_row(rt: &impl Abort, alloc: Global, row: &Row) -> Result<(), Fail> {
+fn play_row(rt: &impl Abort, alloc: Global, row: &Row) -> Result<(), AllocError> {
     let input = bytes_of(alloc, row.input)?;
     let output = bytes_of(alloc, row.output)?;
     expect(
@@ -56,6 +71,14 @@ fn expect_row(rt: &impl Abort, alloc: Global, row: &Row) -> Result<(), Fail> {
         output.as_slice(),
         row.name,
     );
+    Ok(())
+}
+
+/// Plays a row, and once more where the row's own bytes were refused memory.
+fn expect_row(rt: &impl Abort, alloc: Global, row: &Row) -> Result<(), Fail> {
+    if play_row(rt, alloc, row).is_err() {
+        play_row(rt, alloc, row)?;
+    }
     Ok(())
 }
 

@@ -142,7 +142,7 @@ const COMMANDS: u32 = 20;
 
 /// A tab's report, its commands, and for some tabs their death.
 fn random_events(dice: &mut Dice, alloc: Global, tab: u16) -> Result<Events, AllocError> {
-    let partition = tab / TABS_OF_PARTITION;
+    let partition = (tab.saturating_sub(1) / TABS_OF_PARTITION).saturating_add(1);
     let mut events = VecDeque::new(alloc);
     events.push_back(report_in(alloc, partition, tab))?;
     for number in 0..COMMANDS {
