@@ -1,7 +1,8 @@
 //! Tabs that are hostile: they forge what they send, or send what is no frame. They know nothing but the bytes.
 
 use std::alloc::{AllocError, Global};
-use std::io::Write;
+use std::io::{Read, Write};
+use std::net::Shutdown;
 use std::os::unix::net::UnixStream;
 use std::test::Fail;
 use wl_process::Host;
@@ -93,6 +94,19 @@ fn are_over<R: Host>(rt: &R, directory: &str, counter: &str) -> Result<bool, Fai
     Ok(text.as_slice() == ROUNDS_OF_TWO.as_bytes())
 }
 
+/// Ends a link, and reads what still comes: one that is closed over unread bytes ends as a fault.
+fn leave(link: &UnixStream) -> Result<(), Fail> {
+    link.shutdown(Shutdown::Both)?;
+    let mut buffer = [0; 4096];
+    let mut reader = link;
+    for _reads in 0..u64::MAX {
+        if reader.read(&mut buffer)? == 0 {
+            break;
+        }
+    }
+    Ok(())
+}
+
 /// Contends for the lock `f` in forged messages of all generations, until the tabs of its own origin are through.
 pub(crate) fn talk<R: Host>(rt: &R, socket: &str, directory: &str) -> Result<(), Fail> {
     let link = rt.connect(socket)?;
@@ -105,7 +119,7 @@ pub(crate) fn talk<R: Host>(rt: &R, socket: &str, directory: &str) -> Result<(),
             break;
         }
     }
-    Ok(())
+    leave(&link)
 }
 
 /// In each generation a report by which the lock `f` is held, and releases of numbers that are no lock; then a long post.
@@ -137,7 +151,7 @@ pub(crate) fn claim<R: Host>(rt: &R, socket: &str, directory: &str) -> Result<()
             break;
         }
     }
-    Ok(())
+    leave(&link)
 }
 
 /// Sends what is no frame behind what is one.

@@ -1,4 +1,4 @@
-//! The broker's process: one thread reads the link, and lanes take turns at the book and write what it sends.
+//! The broker's process: lanes take turns at reading the link, each takes what is its own to the book, and writes what comes of it.
 
 ghost use Rattle.std.specs.Prelude.{◌≡◌, ◌<◌, ◌≤◌, IfOk};
 ghost use Rattle.wl_frames.specs.Grammar.{TabsRiseFrom};
@@ -6,8 +6,8 @@ ghost use Rattle.wl_locked.specs.Blanks.{HaveParts, AreNamed};
 ghost use Rattle.wl_locked.specs.declared.locked.TheConstants.{LANE_LIMIT};
 ghost use Rattle.wl_locked.specs.declared.shards.TheConstants.{SHARD_LIMIT};
 
-use crate::mailbox::Mailbox;
-use std::alloc::Global;
+use crate::inbox::Inbox;
+use std::alloc::{AllocError, Global};
 use std::io::Write;
 use std::marker::{Brand, Model, PhantomData};
 use std::net::Shutdown;
@@ -17,13 +17,14 @@ use std::sync::{Arc, Mutex, Wait};
 use std::thread;
 use wl_frames::device::READ_LIMIT;
 use wl_frames::{Frame, Start};
-use wl_locked::{
-    Blanks, BookEvent, NotStepped, Outs, Receipt, ShardLane, Sharded, Shards, Work, deal,
-};
+use wl_locked::{Blanks, NotStepped, Outs, Receipt, ShardLane, Sharded, Shards, Work};
 use wl_process::{BUNDLE_LEN, Host, Incoming, ProcessFault, append};
 use wl_workers::{Cause, Desk, Gate, Intake, LaneEnd, Outlet, OutletFault, lane};
 
-/// What a lane sends, gathered until it has nothing more to take. The lock is the lane's own and never waited for; the link
+/// After how many works a lane writes what it has gathered, though it has more to take.
+const FLUSH_EVERY: u32 = 64;
+
+/// What a lane sends, gathered until it has nothing more to take, or has taken enough. The lock is the lane's own and never waited for; the link
 /// is shared by all lanes.
 #[derive(Drop)]
 struct Outbound {
@@ -34,6 +35,23 @@ struct Outbound {
 }
 
 impl Outbound {
+    /// That of a lane: for its intake, and for its outlet.
+    fn pair(
+        alloc: Global,
+        link: &Arc<Mutex<UnixStream>>,
+    ) -> Result<(Arc<Outbound>, Arc<Outbound>), AllocError> {
+        let outbound = Arc::new(
+            alloc,
+            Outbound {
+                alloc,
+                link: Arc::try_clone(link)?,
+                gathered: Mutex::new(Vec::new(alloc)),
+                fault: Mutex::new(None),
+            },
+        )?;
+        Ok((Arc::try_clone(&outbound)?, outbound))
+    }
+
     fn flush<R: Wait>(&self, rt: &R) -> Result<(), OutletFault> {
         let mut gathered = self.gathered.lock(rt);
         if gathered.is_empty() {
@@ -63,17 +81,20 @@ impl Outbound {
     }
 }
 
-/// A lane's intake. What the lane has gathered is written before it sleeps. Contracts see it as the number of its broker's
-/// shards.
+/// A lane's intake. What the lane has gathered is written before it reads the link or sleeps. Contracts see it as the number of
+/// its broker's shards.
 #[derive(Drop)]
-struct LaneIntake<J: Shards> {
-    mailbox: Arc<Mailbox>,
+struct LaneIntake<'a, 'l, J: Shards> {
+    inbox: &'a Inbox<'l>,
+    lane: usize,
     outbound: Arc<Outbound>,
+    /// How many works it took since it last wrote what was gathered.
+    since_flush: u32,
     shards: u16,
     of: PhantomData<J>,
 }
 
-impl<J: Shards> Model for LaneIntake<J> {
+impl<'a, 'l, J: Shards> Model for LaneIntake<'a, 'l, J> {
     ghost use Rattle.std.specs.Prelude.{◌≡◌, ℕ};
 
     ghost Value = { ℕ };
@@ -83,24 +104,27 @@ impl<J: Shards> Model for LaneIntake<J> {
     ghost invariant = { λ i. i.shards ≡ J.run.shards };
 }
 
-impl<J: Shards> LaneIntake<J> {
+impl<'a, 'l, J: Shards> LaneIntake<'a, 'l, J> {
     /// The next work, or None where the link is shut.
-    fn wait<R: Wait>(&self, rt: &R) -> Option<Work> {
-        if let Some(work) = self.mailbox.take_now(rt) {
-            return Some(work);
+    fn wait<R: Wait>(&mut self, rt: &R) -> Option<Work> {
+        self.since_flush = self.since_flush.wrapping_add(1) % FLUSH_EVERY;
+        if self.since_flush != 0 {
+            if let Some(work) = self.inbox.take_now(rt, self.lane) {
+                return Some(work);
+            }
         }
         if self.outbound.flush(rt).is_err() {
             return None;
         }
-        self.mailbox.take(rt)
+        self.inbox.take(rt, self.lane)
     }
 }
 
-impl<J: Shards> Intake for LaneIntake<J> {
+impl<'a, 'l, J: Shards> Intake for LaneIntake<'a, 'l, J> {
     ghost shards = { λ _. J.run.shards };
 
     fn next<R: Wait + Clock>(&mut self, rt: &R) -> Option<Work> {
-        // What `deal` puts into a mailbox is dealt; the lock round it cannot say so.
+        // What stands in a mailbox was dealt; the lock round it cannot say so.
         match self.wait(rt) {
             Some(work) if work.is_dealt(self.shards) => Some(work),
             _ => None,
@@ -147,18 +171,104 @@ impl<'a, J: Shards> Desk for LaneDesk<'a, J> {
     }
 }
 
-/// What a lane works with, and how it ended.
+/// What a lane works with, and how it ended; None where it did not begin.
 #[derive(Drop)]
-struct Job<J: Shards> {
+struct Job<'a, 'l, J: Shards> {
     number: u16,
     lane: ShardLane<J>,
-    intake: LaneIntake<J>,
+    intake: LaneIntake<'a, 'l, J>,
     outlet: LaneOutlet,
     end: Option<LaneEnd>,
 }
 
-/// Runs one lane to its end. A lane that ends before its events do ends the reading of the link.
-fn run_lane<R: Host, J: Shards>(rt: &R, broker: &Sharded<J>, job: &mut Job<J>, link: &UnixStream) {
+/// The job of a lane.
+fn job_of<'a, 'l, J: Shards>(
+    inbox: &'a Inbox<'l>,
+    outbounds: (Arc<Outbound>, Arc<Outbound>),
+    shards: u16,
+    place: usize,
+    lane: ShardLane<J>,
+) -> Job<'a, 'l, J>
+    requires { shards ≡ J.run.shards }
+{
+    Job {
+        number: u16::try_from(place).unwrap_or(u16::MAX),
+        lane,
+        intake: LaneIntake {
+            inbox,
+            lane: place,
+            outbound: outbounds.0,
+            since_flush: 0,
+            shards,
+            of: PhantomData,
+        },
+        outlet: LaneOutlet {
+            outbound: outbounds.1,
+        },
+        end: None,
+    }
+}
+
+/// The jobs of all lanes.
+fn jobs_of<'a, 'l, J: Shards>(
+    alloc: Global,
+    inbox: &'a Inbox<'l>,
+    outbounds: Vec<(Arc<Outbound>, Arc<Outbound>)>,
+    shards: u16,
+    lanes: Vec<ShardLane<J>>,
+) -> Result<Vec<Job<'a, 'l, J>>, AllocError>
+    requires { shards ≡ J.run.shards }
+{
+    lanes
+        .into_iter()
+        .zip(outbounds)
+        .enumerate()
+        .map(
+            move |(place, (lane, pair)): (usize, (ShardLane<J>, (Arc<Outbound>, Arc<Outbound>)))|
+                requires { shards ≡ J.run.shards }
+            { job_of(inbox, pair, shards, place, lane) },
+        )
+        .collect::<Vec<Job<'a, 'l, J>>>(alloc)
+}
+
+/// How a generation has ended, once all lanes have.
+fn end_of<R: Host, J: Shards>(
+    rt: &R,
+    inbox: &Inbox<'_>,
+    jobs: &[Job<'_, '_, J>],
+) -> Result<(), ProcessFault> {
+    if jobs.iter().any(|job| job.end.is_none()) {
+        return Err(ProcessFault::Device);
+    }
+    let is_spent = jobs.iter().any(|job| match &job.end {
+        Some(end) => end.why == Cause::Spent,
+        None => false,
+    });
+    if is_spent {
+        return Ok(());
+    }
+    for job in jobs.iter() {
+        if let Some(fault) = *job.outlet.outbound.fault.lock(rt) {
+            return Err(fault);
+        }
+    }
+    inbox.end(rt)
+}
+
+/// Runs one lane to its end, unless another one has no thread. A lane that ends before its events do ends the reading of the link, and
+/// with it the other lanes.
+fn run_lane<R: Host, J: Shards>(
+    rt: &R,
+    broker: &Sharded<J>,
+    inbox: &Inbox<'_>,
+    job: &mut Job<'_, '_, J>,
+    link: &UnixStream,
+) {
+    if !inbox.meet(rt) {
+        let _ = link.shutdown(Shutdown::Both);
+        inbox.shut(rt);
+        return;
+    }
     let mut desk = LaneDesk {
         broker,
         lane: &mut job.lane,
@@ -175,6 +285,7 @@ fn run_lane<R: Host, J: Shards>(rt: &R, broker: &Sharded<J>, job: &mut Job<J>, l
     if end.why != Cause::Ended || job.outlet.outbound.fault.lock(rt).is_some() {
         let _ = link.shutdown(Shutdown::Both);
     }
+    inbox.shut(rt);
     job.end = Some(end);
 }
 
@@ -206,52 +317,6 @@ fn read_start(incoming: &mut Incoming<'_>) -> Result<(Start, Vec<Frame>), Proces
     Err(ProcessFault::TooManyReads)
 }
 
-/// Gives each event of these frames to the lane of its tab. One that memory refuses is lost.
-fn deal_frames<R: Host>(
-    rt: &R,
-    alloc: Global,
-    mailboxes: &[Arc<Mailbox>],
-    shards: u16,
-    frames: Vec<Frame>,
-) -> Result<(), ProcessFault>
-    requires { 0 < shards }
-{
-    let lanes = mailboxes.len().max(1);
-    let mut works = Vec::new(alloc);
-    for frame in frames {
-        let (tab, event) = match frame {
-            Frame::Stamped(stamped) => (stamped.tab, BookEvent::Take(stamped)),
-            Frame::Dead(dead) => (dead.tab, BookEvent::Dead(dead.tab)),
-            _ => return Err(ProcessFault::Unexpected),
-        };
-        let _lost = deal(&mut works, shards, event).is_err();
-        while let Some(work) = works.pop() {
-            if let Some(mailbox) = mailboxes.get(usize::from(tab) % lanes) {
-                mailbox.put(rt, work);
-            }
-        }
-    }
-    Ok(())
-}
-
-/// Deals all that comes, to the end of the input or the first fault.
-fn deal_all<R: Host>(
-    rt: &R,
-    mailboxes: &[Arc<Mailbox>],
-    shards: u16,
-    incoming: &mut Incoming<'_>,
-) -> Result<(), ProcessFault>
-    requires { 0 < shards }
-{
-    for _reads in 0..READ_LIMIT {
-        let Some(frames) = incoming.next()? else {
-            return Ok(());
-        };
-        deal_frames(rt, incoming.alloc(), mailboxes, shards, frames)?;
-    }
-    Err(ProcessFault::TooManyReads)
-}
-
 /// Runs the broker of one generation, which the kernel's Start frame begins, over a socket, to the end of the input or of the
 /// generation.
 pub fn run_broker<R: Host>(
@@ -270,15 +335,7 @@ pub fn run_broker<R: Host>(
     let (start, rest) = read_start(&mut incoming)?;
     let blanks = Blanks::new(u64::from(lanes));
     let served = serve::<R, Brand>(
-        &rt,
-        alloc,
-        blanks,
-        start,
-        lanes,
-        shards,
-        limit,
-        rest,
-        &mut incoming,
+        &rt, alloc, blanks, start, lanes, shards, limit, rest, incoming,
     );
     let _ = link.shutdown(Shutdown::Both);
     served
@@ -294,7 +351,7 @@ fn serve<R: Host, J: Shards + Send + Sync>(
     shards: u16,
     limit: u32,
     rest: Vec<Frame>,
-    incoming: &mut Incoming<'_>,
+    incoming: Incoming<'_>,
 ) -> Result<(), ProcessFault>
     requires list { TabsRiseFrom 1 start.list }
     requires names { AreNamed J.names blanks }
@@ -316,72 +373,22 @@ fn serve<R: Host, J: Shards + Send + Sync>(
     let writing = link.try_clone().map_err(ProcessFault::of_device)?;
     greet(alloc, &writing, hellos)?;
     let writing = Arc::new(alloc, Mutex::new(writing))?;
-    let mut mailboxes = Vec::new(alloc);
-    let mut jobs = Vec::new(alloc);
-    let mut number = 0u16;
-    for lane in places {
-        let mailbox = Arc::new(alloc, Mailbox::new(alloc))?;
-        let outbound = Arc::new(
-            alloc,
-            Outbound {
-                alloc,
-                link: Arc::try_clone(&writing)?,
-                gathered: Mutex::new(Vec::new(alloc)),
-                fault: Mutex::new(None),
-            },
-        )?;
-        jobs.push(Job {
-            number,
-            lane,
-            intake: LaneIntake {
-                mailbox: Arc::try_clone(&mailbox)?,
-                outbound: Arc::try_clone(&outbound)?,
-                shards,
-                of: PhantomData,
-            },
-            outlet: LaneOutlet { outbound },
-            end: None,
-        })?;
-        mailboxes.push(mailbox)?;
-        number = number.saturating_add(1);
+    let mut outbounds = Vec::new(alloc);
+    for _lane in 0..lanes {
+        outbounds.push(Outbound::pair(alloc, &writing)?)?;
     }
+    let inbox = Inbox::new(alloc, lanes, shards, incoming)?;
     // What came with the Start frame waits for the lanes, which answer it also where a fault stands behind it.
-    let mut dealt = deal_frames(rt, alloc, mailboxes.as_slice(), shards, rest);
-    thread::join_mut(
+    inbox.begin(rt, rest);
+    let mut jobs = jobs_of(alloc, &inbox, outbounds, shards, places)?;
+    let threads = jobs.len().max(1);
+    thread::for_each_mut(
         rt,
-        &mut ||
-            requires { 0 < shards }
-        {
-            if dealt.is_ok() {
-                dealt = deal_all(rt, mailboxes.as_slice(), shards, incoming);
-            }
-            for mailbox in mailboxes.iter() {
-                mailbox.close(rt);
-            }
-        },
-        &mut || {
-            let threads = jobs.len().max(1);
-            thread::for_each_mut(
-                rt,
-                jobs.as_mut_slice(),
-                threads,
-                &|_place, job| { run_lane(rt, &broker, job, link) },
-            );
-        },
+        jobs.as_mut_slice(),
+        threads,
+        &|_place, job| { run_lane(rt, &broker, &inbox, job, link) },
     );
-    let is_spent = jobs.iter().any(|job| match &job.end {
-        Some(end) => end.why == Cause::Spent,
-        None => false,
-    });
-    if is_spent {
-        return Ok(());
-    }
-    for job in jobs.iter() {
-        if let Some(fault) = *job.outlet.outbound.fault.lock(rt) {
-            return Err(fault);
-        }
-    }
-    dealt
+    end_of(rt, &inbox, jobs.as_slice())
 }
 
 /// Greets the listed tabs, in one write.

@@ -3,6 +3,7 @@
 #![tactic(auto)]
 
 pub mod broker;
+mod inbox;
 mod mailbox;
 
 pub use broker::run_broker;

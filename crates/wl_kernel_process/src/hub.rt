@@ -3,7 +3,6 @@
 
 mod orders;
 
-use crate::ends::Ends;
 use crate::hub::orders::Orders;
 pub(crate) use crate::hub::orders::Stop;
 use crate::post::{Post, Taking};
@@ -20,6 +19,7 @@ use wl_frames::{Dead, Frame, Hello, Origin, PairWelcome, Upward, Welcome, encode
 use wl_kernel::{OpenFault, Routed};
 use wl_origin::Partition;
 use wl_process::{Host, ProcessFault, append};
+use wl_process_rules::Ends;
 use wl_workers::BoardSeat;
 
 /// How many tabs the board has, and how many seats.

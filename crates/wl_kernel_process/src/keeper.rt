@@ -6,8 +6,10 @@ use std::alloc::Global;
 use std::net::Shutdown;
 use std::os::unix::net::UnixStream;
 use std::process::Child;
+use std::time::{Duration, Instant};
 use wl_frames::device::READ_LIMIT;
 use wl_process::{Host, Incoming, ProcessFault};
+use wl_process_rules::Restarts;
 
 /// How often a broker's process that ends before it connects is started again.
 const TRIES: u32 = 16;
@@ -75,15 +77,31 @@ fn end(child: &mut Child) {
     let _ = child.wait();
 }
 
-/// Keeps a broker as long as one is wanted.
+/// Keeps a broker as long as one is wanted. Where brokers end at once again and again, it pauses before the next.
 pub(crate) fn keep<R: Host>(rt: &R, alloc: Global, hub: &Hub, words: &BrokerWords) {
+    let mut restarts = Restarts::new();
     for _generation in rt.forever() {
         if !hub.wait_for_order(rt) {
             return;
         }
+        let begun = Instant::now(rt).ok();
         if let Err(fault) = run_generation(rt, alloc, hub, words) {
             hub.note_failure(rt, fault);
         }
+        if hub.is_starting(rt) {
+            restarts.end(milliseconds_since(rt, begun));
+            hub.pause(rt, Duration::from_millis(restarts.pause()));
+        }
+    }
+}
+
+/// How many milliseconds have passed; very many without a clock.
+fn milliseconds_since<R: Host>(rt: &R, begun: Option<Instant>) -> u64 {
+    match (Instant::now(rt).ok(), begun) {
+        (Some(now), Some(begun)) => {
+            u64::try_from(now.duration_since(begun).as_millis()).unwrap_or(u64::MAX)
+        }
+        _ => u64::MAX,
     }
 }
 

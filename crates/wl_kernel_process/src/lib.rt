@@ -3,13 +3,11 @@
 #![tactic(auto)]
 
 mod bundle;
-pub mod ends;
 mod hub;
 mod keeper;
 pub mod kernel;
 pub mod link_end;
 mod listening;
-pub mod pace;
 mod post;
 mod supervisor;
 mod tab_link;

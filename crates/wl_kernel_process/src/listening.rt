@@ -27,7 +27,7 @@ pub(crate) fn start_child<R: Host>(
 ) -> Result<Started, ProcessFault> {
     let listener = rt.listen(path).map_err(ProcessFault::of_device)?;
     let started = start_listened(rt, &listener, program, words).map_err(ProcessFault::of_device);
-    let removed = rt.remove_file(path).map_err(ProcessFault::of_device);
+    let removed = remove(rt, path);
     let mut started = started?;
     if let Err(fault) = removed {
         let _ = started.child.kill();
@@ -35,6 +35,14 @@ pub(crate) fn start_child<R: Host>(
         return Err(fault);
     }
     Ok(started)
+}
+
+/// Removes a socket's file, unless its child has.
+fn remove<R: Host>(rt: &R, path: &str) -> Result<(), ProcessFault> {
+    match rt.remove_file(path) {
+        Err(error) if error.kind() != ErrorKind::NotFound => Err(ProcessFault::of_device(error)),
+        _ => Ok(()),
+    }
 }
 
 fn start_listened<R: Host>(

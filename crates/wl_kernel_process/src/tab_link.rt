@@ -2,10 +2,9 @@
 
 use crate::bundle::{Bundle, Flushed, Gathering};
 use crate::hub::Hub;
-use crate::link_end::{Mercy, mercy_at, status_of};
-use crate::pace::{ahead_after, pause_of};
+use crate::link_end::{Mercy, mercy_at};
 use crate::post::{Post, Taking};
-use std::alloc::{AllocError, Global};
+use std::alloc::{AllocError, AllocFailed, Global};
 use std::cell::RefCell;
 use std::io::Read;
 use std::net::Shutdown;
@@ -21,9 +20,10 @@ use wl_frames::Frame;
 use wl_frames::device::{Sink, Source};
 use wl_kernel::RouteFault;
 use wl_process::{Host, ProcessFault};
+use wl_process_rules::{Load, Pace, status_of};
 use wl_workers::tab_reader::tab_reader;
 use wl_workers::tab_writer::tab_writer;
-use wl_workers::{ReadEnd, Rung, SharedSeat, Uplink};
+use wl_workers::{ReadEnd, Rung, SharedSeat, Uplink, WriteEnd};
 
 /// How many milliseconds a process has to end by itself when its link has merely ended.
 const GRACE: u32 = 1_000;
@@ -78,50 +78,49 @@ impl TabProcess {
 /// What a tab's reader has gathered for the broker since it read last, and the tab's pace.
 #[derive(Drop)]
 struct Gathered {
+    /// What goes to the broker.
     bytes: Vec<u8>,
-    frames: u32,
-    /// How many nanoseconds the tab is ahead, and since when.
-    ahead: u64,
-    since: Option<Instant>,
+    /// All that the tab sent, also what goes to other tabs or nowhere.
+    load: Load,
+    pace: Pace,
+    /// When it sent something last.
+    sent: Option<Instant>,
 }
 
 impl Gathered {
     fn new(alloc: Global) -> Gathered {
         Gathered {
             bytes: Vec::new(alloc),
-            frames: 0,
-            ahead: 0,
-            since: None,
+            load: Load::NOTHING,
+            pace: Pace::new(),
+            sent: None,
         }
     }
 
     /// Writes what was gathered to the broker, and gives for how long the tab has to pause then.
     fn hand_on<R: Wait + Clock>(&mut self, rt: &R, hub: &Hub) -> Duration {
-        if self.bytes.is_empty() {
+        if self.load == Load::NOTHING {
             return Duration::ZERO;
         }
-        hub.write(rt, self.bytes.as_slice());
-        let pause = self.pause(rt);
+        if !self.bytes.is_empty() {
+            hub.write(rt, self.bytes.as_slice());
+        }
+        let elapsed = self.since_sent(rt);
+        self.pace.send(self.load, elapsed);
         self.bytes.clear();
-        self.frames = 0;
-        pause
+        self.load = Load::NOTHING;
+        Duration::from_nanos(self.pace.pause())
     }
 
-    /// For how long the tab has to pause now that this was gathered. Without a clock it need not.
-    fn pause<R: Clock>(&mut self, rt: &R) -> Duration {
+    /// How many nanoseconds have passed since something was sent; very many before that, and without a clock.
+    fn since_sent<R: Clock>(&mut self, rt: &R) -> u64 {
         let now = Instant::now(rt).ok();
-        let elapsed = match (now, self.since) {
-            (Some(now), Some(since)) => now.duration_since(since).as_nanos(),
-            _ => u128::MAX,
-        };
-        self.since = now;
-        self.ahead = ahead_after(
-            self.ahead,
-            u64::try_from(elapsed).unwrap_or(u64::MAX),
-            self.frames,
-            u32::try_from(self.bytes.len()).unwrap_or(u32::MAX),
-        );
-        Duration::from_nanos(pause_of(self.ahead))
+        match (now, std::mem::replace(&mut self.sent, now)) {
+            (Some(now), Some(sent)) => {
+                u64::try_from(now.duration_since(sent).as_nanos()).unwrap_or(u64::MAX)
+            }
+            _ => u64::MAX,
+        }
     }
 }
 
@@ -137,12 +136,8 @@ impl Uplink for KernelLink<'_> {
         let Ok(mut gathered) = self.gathered.try_borrow_mut() else {
             return Err(RouteFault::Memory);
         };
-        let had = gathered.bytes.len();
-        self.hub.up(rt, tab, frame, &mut gathered.bytes)?;
-        if gathered.bytes.len() != had {
-            gathered.frames = gathered.frames.saturating_add(1);
-        }
-        Ok(())
+        gathered.load.frames = gathered.load.frames.saturating_add(1);
+        self.hub.up(rt, tab, frame, &mut gathered.bytes)
     }
 }
 
@@ -172,7 +167,12 @@ impl<R: Wait + Clock> Read for TabLink<'_, R> {
     fn read(&mut self, buffer: &mut [u8]) -> io::Result<usize> {
         self.hand_on();
         let mut link = self.link;
-        link.read(buffer)
+        let count = link.read(buffer)?;
+        if let Ok(mut gathered) = self.gathered.try_borrow_mut() {
+            let bytes = u32::try_from(count).unwrap_or(u32::MAX);
+            gathered.load.bytes = gathered.load.bytes.saturating_add(bytes);
+        }
+        Ok(count)
     }
 }
 
@@ -217,6 +217,22 @@ fn read_and_bury<R: Host>(rt: &R, alloc: Global, hub: &Hub, process: &TabProcess
     hub.bury(rt, process.tab, status);
 }
 
+/// Writes what is put for a tab, until it is dead. Where its link takes no more, or memory is refused, the link is ended: the tab would
+/// wait for what was lost.
+fn write_link_or_end<R: Host>(
+    rt: &R,
+    alloc: Global,
+    hub: &Hub,
+    process: &TabProcess,
+    post: &Post,
+    taking: Taking,
+) {
+    match write_link(rt, alloc, hub, process, post, taking) {
+        Ok(WriteEnd::Dead) => {}
+        Ok(WriteEnd::Write) | Err(AllocError) => process.hang_up(),
+    }
+}
+
 /// Writes what is put for a tab, until it is dead or its link takes no more.
 fn write_link<R: Host>(
     rt: &R,
@@ -225,9 +241,9 @@ fn write_link<R: Host>(
     process: &TabProcess,
     post: &Post,
     taking: Taking,
-) -> Result<(), AllocError> {
+) -> Result<WriteEnd, AllocError> {
     let Some(link) = &process.link else {
-        return Ok(());
+        return Ok(WriteEnd::Dead);
     };
     let Taking { outbox, mut pass } = taking;
     let bundle = Bundle::new(alloc, link);
@@ -237,7 +253,7 @@ fn write_link<R: Host>(
         lives: Rung::new(Arc::try_clone(&post.bell)?, seat),
     };
     let mut sink = Sink::new(Gathering { bundle: &bundle });
-    let _end = tab_writer(
+    let end = tab_writer(
         rt,
         alloc,
         process.tab,
@@ -247,7 +263,7 @@ fn write_link<R: Host>(
         &mut sink,
     );
     bundle.flush();
-    Ok(())
+    Ok(end)
 }
 
 /// A tab as the script has it: its process, and the threads of its link.
@@ -268,7 +284,15 @@ impl TabHandle {
         post: &Arc<Post>,
         taking: Taking,
     ) -> Result<TabHandle, ProcessFault> {
-        let process = Arc::new(alloc, process)?;
+        let process = match Arc::new(alloc, process) {
+            Ok(process) => process,
+            Err(AllocFailed { value: process }) => {
+                process.kill(&rt);
+                let status = process.end(&rt, Mercy::None);
+                hub.bury(&rt, process.tab, status);
+                return Err(ProcessFault::Memory);
+            }
+        };
         let reader = {
             let (hub, process) = (Arc::try_clone(hub)?, Arc::try_clone(&process)?);
             thread::spawn(&rt, move || read_and_bury(&rt, alloc, &hub, &process)).ok()
@@ -277,7 +301,7 @@ impl TabHandle {
             let (hub, process) = (Arc::try_clone(hub)?, Arc::try_clone(&process)?);
             let post = Arc::try_clone(post)?;
             thread::spawn(&rt, move || {
-                let _ = write_link(&rt, alloc, &hub, &process, &post, taking);
+                write_link_or_end(&rt, alloc, &hub, &process, &post, taking);
             })
             .ok()
         };

@@ -3,7 +3,6 @@
 
 mod locks;
 mod page;
-pub mod patience;
 mod snapshots;
 pub mod tab;
 

@@ -1,7 +1,6 @@
 //! What the two threads of a tab's process share: its locks and its link, under one lock.
 
 use crate::locks::{Fate, Locks};
-use crate::patience::{Next, Patience};
 use std::alloc::Global;
 use std::io::Write;
 use std::os::unix::net::UnixStream;
@@ -10,6 +9,8 @@ use std::time::Duration;
 use wl_agent::{AgentFault, Delivered, MessageFault, Snapshot};
 use wl_frames::{Frame, Mode, Name};
 use wl_process::{Host, ProcessFault, append};
+use wl_process_rules::patience::RESEND_LIMIT;
+use wl_process_rules::{Next, Patience};
 
 /// How many milliseconds a waiting tab hears nothing before it sends its commands again.
 const QUIET: u64 = 20;
@@ -221,13 +222,17 @@ impl SharedPage {
 
     // ---- the thread that runs the script
 
-    /// Waits until the tab has been welcomed.
+    /// Waits until the tab has been welcomed, as long as it waits for a lock at most: a welcome that was lost does not come.
     pub(crate) fn wait_for_welcome<R: Host>(&self, rt: &R) -> Result<(), ProcessFault> {
-        let page = self.came.wait_while(rt, self.page.lock(rt), |page| {
-            page.locks.is_none() && page.end.is_none()
-        });
+        let most = Duration::from_millis(QUIET * u64::from(RESEND_LIMIT));
+        let (page, result) = self
+            .came
+            .wait_timeout_while(rt, self.page.lock(rt), most, |page| {
+                page.locks.is_none() && page.end.is_none()
+            });
         match page.end {
             Some(fault) => Err(fault),
+            None if result.timed_out() => Err(ProcessFault::Read),
             None => Ok(()),
         }
     }

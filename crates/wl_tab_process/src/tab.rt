@@ -3,6 +3,7 @@
 use crate::page::{SharedPage, Undone};
 use crate::snapshots::snapshot_json;
 use std::alloc::Global;
+use std::io::{ErrorKind, Read};
 use std::net::Shutdown;
 use std::os::unix::net::UnixStream;
 use std::sync::Arc;
@@ -11,6 +12,9 @@ use wl_frames::device::READ_LIMIT;
 use wl_process::{Host, Incoming, ProcessFault, line_number, read_script};
 use wl_process_script::{TabLine, count_of, put_count, read_tab_line};
 use wl_words::Unread;
+
+/// How many bytes are drained at once, at most.
+const PIECE_LEN: usize = 4096;
 
 /// Runs one tab's script over a socket of the kernel, to its end or the end of the link.
 pub fn run_tab<R: Host>(
@@ -31,11 +35,12 @@ pub fn run_tab<R: Host>(
                 Err(fault) => fault,
             };
             page.end(&rt, end);
+            drain(&reading);
         })
         .map_err(|_| ProcessFault::Device)?
     };
     let ran = run(&rt, alloc, &page, script);
-    // What has come and was not read is read to the end now: a link that is closed over unread bytes ends as a fault.
+    // What has come and was not read is read to the end now.
     let _ = link.shutdown(Shutdown::Both);
     reader.join(&rt);
     ran
@@ -56,6 +61,17 @@ fn read_link<R: Host>(
         page.take(rt, frames)?;
     }
     Err(ProcessFault::TooManyReads)
+}
+
+/// Reads what still comes over a link to its end: one that is closed over unread bytes ends as a fault.
+fn drain(link: &UnixStream) {
+    let mut buffer = [0; PIECE_LEN];
+    let mut reader = link;
+    for _reads in 0..u64::MAX {
+        if !matches!(reader.read(&mut buffer), Ok(count) if count != 0) {
+            return;
+        }
+    }
 }
 
 /// Runs the lines of a script.
@@ -112,7 +128,10 @@ fn obey<R: Host>(rt: &R, alloc: Global, page: &SharedPage, line: TabLine) -> Res
 /// Adds one to the number of a counter's file. It is written over the old one, which is never longer, so that the file has
 /// a number at each moment.
 fn add<R: Host>(rt: &R, alloc: Global, path: &str) -> Result<(), Undone> {
-    let text = rt.read_file(path).map_err(|_| Undone::Failed)?;
+    let text = rt.read_file(path).map_err(|error| match error.kind() {
+        ErrorKind::OutOfMemory => Undone::Fault(ProcessFault::Memory),
+        _ => Undone::Failed,
+    })?;
     let Some(count) = count_of(text.as_slice()) else {
         return Err(Undone::Failed);
     };

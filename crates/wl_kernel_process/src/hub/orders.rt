@@ -1,6 +1,8 @@
 //! What the script wants of the broker's keeper, and what has come of it.
 
 use crate::hub::Hub;
+use std::sync::CondvarTimeouts;
+use std::time::Duration;
 use wl_process::{Host, ProcessFault};
 
 /// Where the broker's life stands.
@@ -109,6 +111,24 @@ impl Hub {
             !orders.is_ending && orders.phase != Phase::Starting
         });
         !orders.is_ending
+    }
+
+    /// Whether a broker is to be started.
+    pub(crate) fn is_starting<R: Host>(&self, rt: &R) -> bool {
+        self.orders.lock(rt).phase == Phase::Starting
+    }
+
+    /// Pauses for so long, or until the kernel ends.
+    pub(crate) fn pause<R: Host>(&self, rt: &R, pause: Duration) {
+        if pause.is_zero() {
+            return;
+        }
+        let (_orders, _timeout) = self.ordered.wait_timeout_while(
+            rt,
+            self.orders.lock(rt),
+            pause,
+            |orders| !orders.is_ending,
+        );
     }
 
     pub(crate) fn is_ending<R: Host>(&self, rt: &R) -> bool {

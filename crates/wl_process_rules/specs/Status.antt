@@ -1,5 +1,5 @@
 -- The status by which the end of a process is told.
-use Rattle.std.specs.Prelude.{ℕ, ◌+◌, ◌^◌, min, ℤ, pos, negsuc, nat_lt, if◌then◌else◌}
+use Rattle.std.specs.Prelude.{ℕ, ◌+◌, min, ℤ, pos, negsuc, nat_lt, if◌then◌else◌}
 
 -- a number as a status: itself below 256, and 255 for any other
 abbrev pub status_of_number : ℤ → ℕ

@@ -1,7 +1,7 @@
 use Rattle.std.proofs.Common.{ap, ◌∙◌, rules}
-use Rattle.wl_kernel_process.specs.Ends.{running}
-use Rattle.wl_kernel_process.proofs.Telling.{retained}
-use Rattle.wl_kernel_process.proofs.ends.Ends.tell.Goals as goal
+use Rattle.wl_process_rules.specs.Ends.{running}
+use Rattle.wl_process_rules.proofs.Telling.{retained}
+use Rattle.wl_process_rules.proofs.ends.Ends.tell.Goals as goal
 
 pub returns-clause-rest : goal.returns-clause-rest
 returns-clause-rest c =

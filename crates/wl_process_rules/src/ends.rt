@@ -1,7 +1,7 @@
 //! Which tabs' processes run, and how the others ended.
 
 ghost use Rattle.std.specs.Prelude.{◌≡◌, [], IfOk, OnOk, OnErr, IsSome, None};
-ghost use Rattle.wl_kernel_process.specs.Ends.{known_of, with_begun, with_ended, without, runs, any_runs, running, untold};
+ghost use Rattle.wl_process_rules.specs.Ends.{known_of, with_begun, with_ended, without, runs, any_runs, running, untold};
 
 use std::alloc::{AllocError, Global};
 use std::collections::BTreeMap;
@@ -16,7 +16,7 @@ pub struct Ends {
 }
 
 impl Model for Ends {
-    ghost use Rattle.wl_kernel_process.specs.Ends.{Rows};
+    ghost use Rattle.wl_process_rules.specs.Ends.{Rows};
 
     ghost Value = { Rows };
 

@@ -1,7 +1,7 @@
 //! How long a tab waits for what it asked for.
 
 ghost use Rattle.std.specs.Prelude.{◌≡◌, ◌<◌, ◌≤◌, ◌+◌};
-ghost use Rattle.wl_tab_process.specs.declared.patience.TheConstants.{RESEND_LIMIT};
+ghost use Rattle.wl_process_rules.specs.declared.patience.TheConstants.{RESEND_LIMIT};
 
 use std::marker::Model;
 

@@ -1,0 +1,248 @@
+//! What comes over the broker's link. The lanes take turns at reading it, each for all of them: so a lane that reads what is its
+//! own wakes nobody.
+
+ghost use Rattle.std.specs.Prelude.{◌<◌};
+
+use crate::mailbox::{Mailbox, Woken};
+use std::alloc::{AllocError, Global};
+use std::rt::Clock;
+use std::sync::{Condvar, CondvarTimeouts, Mutex, Wait};
+use std::time::Duration;
+use wl_frames::Frame;
+use wl_locked::{BookEvent, Work, deal};
+use wl_process::{Incoming, ProcessFault};
+
+/// How many works a lane may have before it and still be left to read the link next: a busy one would come to it late.
+const FEW: usize = 8;
+
+/// For how many milliseconds a lane waits until all others have a thread.
+const MEETING: u64 = 5_000;
+
+/// The lanes before any of them reads.
+#[derive(Drop)]
+struct Meeting {
+    /// How many have a thread.
+    met: usize,
+    /// Whether they were waited for too long.
+    is_off: bool,
+}
+
+/// Whose turn it is to read the link.
+#[derive(Drop)]
+enum Turn<'a> {
+    /// Nobody's: whoever has nothing to do reads.
+    Free(Incoming<'a>),
+    /// That of a lane which reads now.
+    Taken,
+    /// Nothing more is read, and this is why.
+    Over(Result<(), ProcessFault>),
+}
+
+/// For whom there was work in what was read.
+#[derive(Clone, Copy)]
+struct Dealt {
+    /// How many works are the reading lane's own.
+    own: usize,
+    /// How many works another lane has that comes for them now, the most of any; 0 where none does.
+    others: usize,
+}
+
+/// The link's reading end and the mailboxes of the lanes. The lock of the turn comes before those of the mailboxes.
+#[derive(Drop)]
+pub(crate) struct Inbox<'a> {
+    alloc: Global,
+    shards: u16,
+    mailboxes: Vec<Mailbox>,
+    turn: Mutex<Turn<'a>>,
+    meeting: Mutex<Meeting>,
+    met: Condvar,
+    ghost some: { 0 < shards },
+}
+
+impl<'a> Inbox<'a> {
+    /// The inbox of so many lanes and shards.
+    pub(crate) fn new(
+        alloc: Global,
+        lanes: u16,
+        shards: u16,
+        incoming: Incoming<'a>,
+    ) -> Result<Inbox<'a>, AllocError>
+        requires { 0 < shards }
+    {
+        let mut mailboxes = Vec::new(alloc);
+        for _lane in 0..lanes {
+            mailboxes.push(Mailbox::new(alloc))?;
+        }
+        Ok(Inbox {
+            alloc,
+            shards,
+            mailboxes,
+            turn: Mutex::new(Turn::Free(incoming)),
+            meeting: Mutex::new(Meeting {
+                met: 0,
+                is_off: false,
+            }),
+            met: Condvar::new(),
+        })
+    }
+
+    /// Waits until every lane has a thread. False where one gets none: what is dealt to that lane would wait for ever.
+    pub(crate) fn meet<R: Wait + Clock>(&self, rt: &R) -> bool {
+        let (lanes, most) = (self.mailboxes.len(), Duration::from_millis(MEETING));
+        let mut meeting = self.meeting.lock(rt);
+        meeting.met = meeting.met.saturating_add(1);
+        self.met.notify_all();
+        let (mut meeting, result) = self.met.wait_timeout_while(
+            rt,
+            meeting,
+            most,
+            |meeting| meeting.met < lanes && !meeting.is_off,
+        );
+        if result.timed_out() {
+            meeting.is_off = true;
+            self.met.notify_all();
+        }
+        !meeting.is_off
+    }
+
+    /// Deals the frames that came before any lane was there.
+    pub(crate) fn begin<R: Wait>(&self, rt: &R, frames: Vec<Frame>) {
+        let mut turn = self.turn.lock(rt);
+        if let Err(fault) = self.deal_frames(rt, self.mailboxes.len(), frames) {
+            *turn = Turn::Over(Err(fault));
+            self.shut(rt);
+        }
+    }
+
+    /// The next work of a lane, if there is one now.
+    pub(crate) fn take_now<R: Wait>(&self, rt: &R, lane: usize) -> Option<Work> {
+        self.mailboxes.get(lane)?.take_now(rt)
+    }
+
+    /// The next work of a lane, or None where no more will come. A lane without work reads the link, unless another one does.
+    pub(crate) fn take<R: Wait>(&self, rt: &R, lane: usize) -> Option<Work> {
+        let mailbox = self.mailboxes.get(lane)?;
+        for _turns in rt.forever() {
+            if let Some(work) = mailbox.take_now(rt) {
+                return Some(work);
+            }
+            let goes_on = match self.take_turn(rt, mailbox) {
+                Some(incoming) => self.read(rt, lane, incoming),
+                None => false,
+            };
+            if goes_on {
+                continue;
+            }
+            match mailbox.take(rt) {
+                Woken::Work(work) => return Some(work),
+                Woken::Turn => {}
+                Woken::Closed => return None,
+            }
+        }
+        None
+    }
+
+    /// No lane is to wait for anything any more.
+    pub(crate) fn shut<R: Wait>(&self, rt: &R) {
+        for mailbox in self.mailboxes.iter() {
+            mailbox.close(rt);
+        }
+    }
+
+    /// Why the reading of the link ended; Ok where it did not.
+    pub(crate) fn end<R: Wait>(&self, rt: &R) -> Result<(), ProcessFault> {
+        match &*self.turn.lock(rt) {
+            Turn::Over(Err(fault)) => Err(*fault),
+            _ => Ok(()),
+        }
+    }
+
+    /// What reads the link, if it is nobody's turn. A lane with a work in its mailbox does that first: it may have been dealt since
+    /// the lane looked, and whoever dealt it leaves the reading to this lane.
+    fn take_turn<R: Wait>(&self, rt: &R, mailbox: &Mailbox) -> Option<Incoming<'a>> {
+        let mut turn = self.turn.lock(rt);
+        if mailbox.has_work(rt) {
+            return None;
+        }
+        match std::mem::replace(&mut *turn, Turn::Taken) {
+            Turn::Free(incoming) => Some(incoming),
+            other => {
+                *turn = other;
+                None
+            }
+        }
+    }
+
+    /// Reads once and deals what came, and returns whether the lane goes on by itself: where another has a few works, that one reads
+    /// on when it has done them. The turn's lock is held while works are dealt, so a lane that is woken by one finds the turn free.
+    fn read<R: Wait>(&self, rt: &R, lane: usize, mut incoming: Incoming<'a>) -> bool {
+        let came = incoming.next();
+        let mut turn = self.turn.lock(rt);
+        let dealt = match came {
+            Ok(Some(frames)) => self.deal_frames(rt, lane, frames),
+            Ok(None) => {
+                *turn = Turn::Over(Ok(()));
+                self.shut(rt);
+                return false;
+            }
+            Err(fault) => Err(fault),
+        };
+        match dealt {
+            Ok(dealt) => {
+                *turn = Turn::Free(incoming);
+                let leaves = (1..=FEW).contains(&dealt.others);
+                if dealt.own > FEW && !leaves {
+                    self.offer_turn(rt, lane);
+                }
+                !leaves
+            }
+            Err(fault) => {
+                *turn = Turn::Over(Err(fault));
+                self.shut(rt);
+                false
+            }
+        }
+    }
+
+    /// Has another lane read on that has nothing to do, if there is one, while this one has much.
+    fn offer_turn<R: Wait>(&self, rt: &R, lane: usize) {
+        for (place, mailbox) in self.mailboxes.iter().enumerate() {
+            if place != lane && mailbox.offer_turn(rt) {
+                return;
+            }
+        }
+    }
+
+    /// Puts each event of these frames into the mailbox of its tab's lane, and returns for whom there was work. An event that
+    /// memory refuses is lost.
+    fn deal_frames<R: Wait>(
+        &self,
+        rt: &R,
+        lane: usize,
+        frames: Vec<Frame>,
+    ) -> Result<Dealt, ProcessFault> {
+        let mut dealt = Dealt { own: 0, others: 0 };
+        let mut works = Vec::new(self.alloc);
+        for frame in frames {
+            let (tab, event) = match frame {
+                Frame::Stamped(stamped) => (stamped.tab, BookEvent::Take(stamped)),
+                Frame::Dead(dead) => (dead.tab, BookEvent::Dead(dead.tab)),
+                _ => return Err(ProcessFault::Unexpected),
+            };
+            let place = usize::from(tab) % self.mailboxes.len().max(1);
+            let _lost = deal(&mut works, self.shards, event).is_err();
+            while let Some(work) = works.pop() {
+                let coming = match self.mailboxes.get(place) {
+                    Some(mailbox) => mailbox.put(rt, work),
+                    None => 0,
+                };
+                if place == lane {
+                    dealt.own = dealt.own.saturating_add(1);
+                } else {
+                    dealt.others = dealt.others.max(coming);
+                }
+            }
+        }
+        Ok(dealt)
+    }
+}

@@ -1,0 +1,15 @@
+//! What the processes decide by values alone: which tabs' processes run and how the others ended, how fast a tab may send, how long
+//! it waits, and how soon a broker is started again.
+#![tactic(auto)]
+
+pub mod ends;
+pub mod pace;
+pub mod patience;
+pub mod restarts;
+pub mod status;
+
+pub use ends::Ends;
+pub use pace::{Load, Pace};
+pub use patience::{Next, Patience};
+pub use restarts::Restarts;
+pub use status::status_of;
