@@ -7,6 +7,7 @@ use Rattle.wl_script.specs.declared.line.Line.{Line}
 use Rattle.wl_script.specs.declared.line.Line.TheVariants as line
 use Rattle.wl_script.specs.declared.verb.Verb.{Verb}
 use Rattle.wl_script.specs.declared.verb.Verb.TheVariants as verb
+use Rattle.wl_world.specs.declared.event.Event.TheVariants as event
 use Rattle.wl_world.specs.declared.event.Forged.{Forged}
 use Rattle.wl_script.specs.Forgeries.{forged_at}
 
@@ -104,8 +105,8 @@ tabs_at (word ∷ words) = do
 unfoldable pub start_at : List (List ℕ) → Option Line
 start_at [] = Some line.StartAll
 start_at (word ∷ words) =
-    if bytes_eq word (codes "-") && length words == 0 then Some (line.Start [])
-    else (tabs_at (word ∷ words) >>= λ ts. Some (line.Start ts))
+    if bytes_eq word (codes "-") && length words == 0 then Some (line.Happens (event.Start []))
+    else (tabs_at (word ∷ words) >>= λ ts. Some (line.Happens (event.Start ts)))
 
 -- ---- lines
 
@@ -113,23 +114,23 @@ unfoldable pub said_by : Verb → List (List ℕ) → Option Line
 said_by verb.Open words = tab_and_url words >>= λ x. Some (line.Open x.0 x.1)
 said_by verb.OpenTwo words = tab_and_urls words >>= λ x. Some (line.OpenTwo x.0 x.1 x.2)
 said_by verb.Start words = start_at words
-said_by verb.Stop words = none words >>= λ x. Some line.Stop
-said_by verb.Hello words = tab_alone words >>= λ t. Some (line.Hello t)
-said_by verb.Kill words = tab_alone words >>= λ t. Some (line.Kill t)
-said_by verb.Tell words = tab_alone words >>= λ t. Some (line.Tell t)
-said_by verb.Ask words = tab_mode_name words >>= λ x. Some (line.Ask x.0 x.1 x.2)
-said_by verb.Probe words = tab_mode_name words >>= λ x. Some (line.Probe x.0 x.1 x.2)
-said_by verb.Query words = tab_alone words >>= λ t. Some (line.Query t)
-said_by verb.Abort words = tab_and_number most_command words >>= λ x. Some (line.Abort x.0 x.1)
-said_by verb.Release words = tab_and_number most_command words >>= λ x. Some (line.Release x.0 x.1)
-said_by verb.Resend words = tab_alone words >>= λ t. Some (line.Resend t)
+said_by verb.Stop words = none words >>= λ x. Some (line.Happens event.Stop)
+said_by verb.Hello words = tab_alone words >>= λ t. Some (line.Happens (event.Hello t))
+said_by verb.Kill words = tab_alone words >>= λ t. Some (line.Happens (event.Kill t))
+said_by verb.Tell words = tab_alone words >>= λ t. Some (line.Happens (event.Tell t))
+said_by verb.Ask words = tab_mode_name words >>= λ x. Some (line.Happens (event.Ask x.0 x.1 x.2))
+said_by verb.Probe words = tab_mode_name words >>= λ x. Some (line.Happens (event.Probe x.0 x.1 x.2))
+said_by verb.Query words = tab_alone words >>= λ t. Some (line.Happens (event.Query t))
+said_by verb.Abort words = tab_and_number most_command words >>= λ x. Some (line.Happens (event.Abort x.0 x.1))
+said_by verb.Release words = tab_and_number most_command words >>= λ x. Some (line.Happens (event.Release x.0 x.1))
+said_by verb.Resend words = tab_alone words >>= λ t. Some (line.Happens (event.Resend t))
 said_by verb.Deliver words = one words >>= message_name_at >>= λ n. Some (line.Deliver n)
-said_by verb.Channel words = tab_and_name words >>= λ x. Some (line.Channel x.0 x.1)
-said_by verb.Post words = tab_channel_data words >>= λ x. Some (line.Post x.0 x.1 x.2)
-said_by verb.Read words = tab_and_number most_number words >>= λ x. Some (line.Read x.0 x.1)
-said_by verb.Close words = tab_and_number most_number words >>= λ x. Some (line.Close x.0 x.1)
-said_by verb.Corrupt words = tab_alone words >>= λ t. Some (line.Corrupt t)
-said_by verb.Forge words = tab_and_forged words >>= λ x. Some (line.Forge x.0 x.1)
+said_by verb.Channel words = tab_and_name words >>= λ x. Some (line.Happens (event.Channel x.0 x.1))
+said_by verb.Post words = tab_channel_data words >>= λ x. Some (line.Happens (event.Post x.0 x.1 x.2))
+said_by verb.Read words = tab_and_number most_number words >>= λ x. Some (line.Happens (event.Read x.0 x.1))
+said_by verb.Close words = tab_and_number most_number words >>= λ x. Some (line.Happens (event.Close x.0 x.1))
+said_by verb.Corrupt words = tab_alone words >>= λ t. Some (line.Happens (event.Corrupt t))
+said_by verb.Forge words = tab_and_forged words >>= λ x. Some (line.Happens (event.Forge x.0 x.1))
 said_by verb.Show words = none words >>= λ x. Some line.Show
 
 -- the first word is the verb; a line without words says nothing

@@ -85,22 +85,6 @@ played w line.Blank = record { world = w; written = [] }
 played w (line.Open t url) = opens_url false w t (partition_of url)
 played w (line.OpenTwo t top url) = opens_url true w t (partition_of_pair top url)
 played w line.StartAll = plays w (event.Start (living_tabs w.kernel))
-played w (line.Start ts) = plays w (event.Start ts)
-played w line.Stop = plays w event.Stop
-played w (line.Hello t) = plays w (event.Hello t)
-played w (line.Kill t) = plays w (event.Kill t)
-played w (line.Tell t) = plays w (event.Tell t)
-played w (line.Ask t mode name) = plays w (event.Ask t mode name)
-played w (line.Probe t mode name) = plays w (event.Probe t mode name)
-played w (line.Query t) = plays w (event.Query t)
-played w (line.Abort t k) = plays w (event.Abort t k)
-played w (line.Release t k) = plays w (event.Release t k)
-played w (line.Resend t) = plays w (event.Resend t)
 played w (line.Deliver name) = delivers w (named w name)
-played w (line.Channel t name) = plays w (event.Channel t name)
-played w (line.Post t c bytes) = plays w (event.Post t c bytes)
-played w (line.Read t c) = plays w (event.Read t c)
-played w (line.Close t c) = plays w (event.Close t c)
-played w (line.Corrupt t) = plays w (event.Corrupt t)
-played w (line.Forge t forged) = plays w (event.Forge t forged)
 played w line.Show = record { world = w; written = holdings_text (held_by_living w) }
+played w (line.Happens e) = plays w e

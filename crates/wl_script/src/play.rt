@@ -42,40 +42,9 @@ pub(crate) fn play(
             let living = Sequence::new(world.living().to_vec(alloc)?);
             happen(alloc, world, Event::Start(living), out)
         }
-        Line::Start(tabs) => happen(alloc, world, Event::Start(tabs), out),
-        Line::Stop => happen(alloc, world, Event::Stop, out),
-        Line::Hello { tab } => happen(alloc, world, Event::Hello { tab }, out),
-        Line::Kill { tab } => happen(alloc, world, Event::Kill { tab }, out),
-        Line::Tell { tab } => happen(alloc, world, Event::Tell { tab }, out),
-        Line::Ask { tab, mode, name } => happen(alloc, world, Event::Ask { tab, mode, name }, out),
-        Line::Probe { tab, mode, name } => {
-            happen(alloc, world, Event::Probe { tab, mode, name }, out)
-        }
-        Line::Query { tab } => happen(alloc, world, Event::Query { tab }, out),
-        Line::Abort { tab, number } => happen(alloc, world, Event::Abort { tab, number }, out),
-        Line::Release { tab, number } => happen(alloc, world, Event::Release { tab, number }, out),
-        Line::Resend { tab } => happen(alloc, world, Event::Resend { tab }, out),
         Line::Deliver { name } => deliver(alloc, world, name, out),
-        Line::Channel { tab, name } => happen(alloc, world, Event::Channel { tab, name }, out),
-        Line::Post {
-            tab,
-            channel,
-            bytes,
-        } => happen(
-            alloc,
-            world,
-            Event::Post {
-                tab,
-                channel,
-                bytes,
-            },
-            out,
-        ),
-        Line::Read { tab, channel } => happen(alloc, world, Event::Read { tab, channel }, out),
-        Line::Close { tab, channel } => happen(alloc, world, Event::Close { tab, channel }, out),
-        Line::Corrupt { tab } => happen(alloc, world, Event::Corrupt { tab }, out),
-        Line::Forge { tab, forged } => happen(alloc, world, Event::Forge { tab, forged }, out),
         Line::Show => show(world, out),
+        Line::Happens(event) => happen(alloc, world, event, out),
     }
 }
 

@@ -15,7 +15,7 @@ use wl_words::reading::{
     command_of, data_of, line_words, mode_of, name_of, nothing, number_of, one, tab_of, three, two,
     url_of,
 };
-use wl_world::event::Forged;
+use wl_world::event::{Event, Forged};
 
 /// What a line says, without its line feed.
 #[tactic(auto, unfolding(crate::specs::Lines::line_at))]
@@ -52,68 +52,74 @@ fn said(alloc: Global, verb: Verb, words: &[&[u8]]) -> Result<Line, Unread>
         Verb::Start => start(alloc, words),
         Verb::Stop => {
             nothing(words)?;
-            Ok(Line::Stop)
+            Ok(Line::Happens(Event::Stop))
         }
-        Verb::Hello => Ok(Line::Hello {
-            tab: tab_alone(words)?,
-        }),
-        Verb::Kill => Ok(Line::Kill {
-            tab: tab_alone(words)?,
-        }),
-        Verb::Tell => Ok(Line::Tell {
-            tab: tab_alone(words)?,
-        }),
+        Verb::Hello => {
+            let tab = tab_alone(words)?;
+            Ok(Line::Happens(Event::Hello { tab }))
+        }
+        Verb::Kill => {
+            let tab = tab_alone(words)?;
+            Ok(Line::Happens(Event::Kill { tab }))
+        }
+        Verb::Tell => {
+            let tab = tab_alone(words)?;
+            Ok(Line::Happens(Event::Tell { tab }))
+        }
         Verb::Ask => {
             let (tab, mode, name) = tab_mode_name(alloc, words)?;
-            Ok(Line::Ask { tab, mode, name })
+            Ok(Line::Happens(Event::Ask { tab, mode, name }))
         }
         Verb::Probe => {
             let (tab, mode, name) = tab_mode_name(alloc, words)?;
-            Ok(Line::Probe { tab, mode, name })
+            Ok(Line::Happens(Event::Probe { tab, mode, name }))
         }
-        Verb::Query => Ok(Line::Query {
-            tab: tab_alone(words)?,
-        }),
+        Verb::Query => {
+            let tab = tab_alone(words)?;
+            Ok(Line::Happens(Event::Query { tab }))
+        }
         Verb::Abort => {
             let (tab, number) = tab_and_command(words)?;
-            Ok(Line::Abort { tab, number })
+            Ok(Line::Happens(Event::Abort { tab, number }))
         }
         Verb::Release => {
             let (tab, number) = tab_and_command(words)?;
-            Ok(Line::Release { tab, number })
+            Ok(Line::Happens(Event::Release { tab, number }))
         }
-        Verb::Resend => Ok(Line::Resend {
-            tab: tab_alone(words)?,
-        }),
+        Verb::Resend => {
+            let tab = tab_alone(words)?;
+            Ok(Line::Happens(Event::Resend { tab }))
+        }
         Verb::Deliver => Ok(Line::Deliver {
             name: message_name(one(words)?)?,
         }),
         Verb::Channel => {
             let (tab, name) = tab_and_name(alloc, words)?;
-            Ok(Line::Channel { tab, name })
+            Ok(Line::Happens(Event::Channel { tab, name }))
         }
         Verb::Post => {
             let (tab, channel, bytes) = tab_channel_data(alloc, words)?;
-            Ok(Line::Post {
+            Ok(Line::Happens(Event::Post {
                 tab,
                 channel,
                 bytes,
-            })
+            }))
         }
         Verb::Read => {
             let (tab, channel) = tab_and_channel(words)?;
-            Ok(Line::Read { tab, channel })
+            Ok(Line::Happens(Event::Read { tab, channel }))
         }
         Verb::Close => {
             let (tab, channel) = tab_and_channel(words)?;
-            Ok(Line::Close { tab, channel })
+            Ok(Line::Happens(Event::Close { tab, channel }))
         }
-        Verb::Corrupt => Ok(Line::Corrupt {
-            tab: tab_alone(words)?,
-        }),
+        Verb::Corrupt => {
+            let tab = tab_alone(words)?;
+            Ok(Line::Happens(Event::Corrupt { tab }))
+        }
         Verb::Forge => {
             let (tab, forged) = tab_and_forged(alloc, words)?;
-            Ok(Line::Forge { tab, forged })
+            Ok(Line::Happens(Event::Forge { tab, forged }))
         }
         Verb::Show => {
             nothing(words)?;
@@ -206,8 +212,10 @@ fn start(alloc: Global, words: &[&[u8]]) -> Result<Line, Unread>
 {
     match words {
         [] => Ok(Line::StartAll),
-        [word] if *word == b"-".as_slice() => Ok(Line::Start(Sequence::new(Vec::new(alloc)))),
-        _ => Ok(Line::Start(tabs_of(alloc, words)?)),
+        [word] if *word == b"-".as_slice() => {
+            Ok(Line::Happens(Event::Start(Sequence::new(Vec::new(alloc)))))
+        }
+        _ => Ok(Line::Happens(Event::Start(tabs_of(alloc, words)?))),
     }
 }
 
