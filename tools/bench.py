@@ -19,6 +19,9 @@ Waiting: in one partition one tab holds a lock for which so many requests wait, 
 wants and gives it up, again and again. Prints for each count of waiting requests the processor's time of a command, and its ratio
 to that of the smallest count.
 
+Answers: one tab asks for a lock and gives it up, so many commands in all. Prints the processor's time of a command with its answer,
+start and end of the program included.
+
 Shared: several threads draw numbers from a board, look at a tab on it, or put parcels into an outbox that one more takes from.
 The same loops run over a `Mutex` in the same runs. Prints how many a second there were, the best of the runs, and the time as a
 ratio to that of the loop over the mutex, the middle one of the runs: below 1 is faster than the mutex.
@@ -35,15 +38,15 @@ name each. The tabs are opened and ask while no broker is up, so that they begin
 broker's start to that of the tabs' ends. What a tab sends in a round is two frames: the request, for whose answer it waits, and
 the release, for whose answer it does not. Prints how many locks a second were granted, to all tabs together, the best of the
 runs. Sixteen tabs of four origins play again with four lanes, on one shard and on four. Beside it in each run stands `relay.c`, a
-program in C with the same hops and threads, in which as many tabs each send a frame and wait for it as often; it is timed in the
-same way. Prints its round trips a second, the best of the runs, and the ratio
+program in C with the same hops, whose broker has a reader of its own and whose tabs have one thread, in which as many tabs each
+send a frame and wait for it as often; it is timed in the same way. Prints its round trips a second, the best of the runs, and the ratio
 of the first rate to the second, the middle one of the runs. Where there is no `cc` there is neither.
 
 Idle: 64 tabs of one origin wait for a lock that one of them holds, that one too, by a second request behind the others'. Each
 sends its request again whenever it has heard nothing for 20 milliseconds. Prints the processor's time of kernel, broker and tabs
 together over five seconds, as a share of one processor, and the same of a kernel and a broker without tabs. It needs `/proc`.
 
-Where an older program is given, reports and waiting also print how many times the time of the newer one the older one took.
+Where an older program is given, reports, waiting and answers also print how many times the time of the newer one the older one took.
 """
 
 import contextlib
@@ -65,6 +68,7 @@ REQUESTS = [16, 64, 256, 1_024]
 
 LISTED = [512, 1_024]
 WAITING = [64, 1_024, 32_768]
+ANSWERED = [200_000]
 COMMANDS = 20_000
 # Of the desk the fastest run counts; of what threads share the best rate and the middle ratio.
 RUNS = 7
@@ -254,10 +258,20 @@ def command_seconds(program, waiting):
         left -= here
         frames += [command(tab, number, request(b"a")) for number in range(here)]
     before = b"".join(frames)
-    turns = [command(2, 2 * turn, request(b"b")) + command(2, 2 * turn + 1, release(2 * turn)) for turn in range(COMMANDS // 2)]
     idle = desk_seconds(program, before, 1 + waiting)
-    whole = desk_seconds(program, before + b"".join(turns), 1 + waiting + COMMANDS)
+    whole = desk_seconds(program, before + turns_of(2, COMMANDS), 1 + waiting + COMMANDS)
     return max(whole - idle, 1e-6) / COMMANDS
+
+
+def turns_of(tab, commands):
+    """A tab that nobody disturbs asks for a lock and gives it up, again and again."""
+    turns = [command(tab, 2 * turn, request(b"b")) + command(tab, 2 * turn + 1, release(2 * turn)) for turn in range(commands // 2)]
+    return b"".join(turns)
+
+
+def answer_seconds(program, commands):
+    """Of one command and its answer, where one tab sends so many."""
+    return desk_seconds(program, start([]) + report(1) + turns_of(1, commands), commands) / commands
 
 
 def beside(what, counts, seconds, programs):
@@ -476,6 +490,7 @@ def main():
     recoveries(program)
     beside("reports, tabs listed ", LISTED, report_seconds, programs)
     beside("commands, waiting for another lock", WAITING, command_seconds, programs)
+    beside("commands with their answers", ANSWERED, answer_seconds, programs)
     subprocess.run([tables, "time"], check=True)
     shared(board)
     locked(lanes)

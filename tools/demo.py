@@ -65,8 +65,12 @@ def listed(body, entry):
 
 
 def meaning(body):
-    body.number(1)
-    kind = body.number(1)
+    version, kind = body.number(1), body.number(1)
+    if (version, kind) == (2, 2):
+        generation, base, part, parts = body.number(4), body.number(4), body.number(2), body.number(2)
+        return f"Report: generation {generation}, base {base}, part {part} of {parts}, locks: {listed(body, report_entry)}"
+    if (version, kind) == (2, 20):
+        return f"Welcome: tab {body.number(2)} under {body.long_text()} of {body.long_text()}"
     if kind == 1:
         return f"Command: generation {body.number(4)}, #{body.number(4)}: {operation(body)}"
     if kind == 2:

@@ -13,7 +13,7 @@ speak the socket protocol in Python and write as fast as they can, until the oth
     breaker   many short-lived tabs: frames as the others', and then noise, a length that no frame has, or half a frame
 
 Prints the rates of both origins, as locks a second and as a ratio to those without; the goal for the other origin is a half. A goal
-that is missed is printed as that and is no fault: the steps of one origin use up the generations of all. The hostile tab's own origin
+that is missed is printed as that and is no fault: nothing is promised of time. The hostile tab's own origin
 may wait as long as that tab lives (docs/SCRIPTS.md, "Tabs that are taken over"); so that tab is killed MERCY seconds after the
 other origin's end, and then its origin's tabs have to end too.
 

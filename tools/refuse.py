@@ -41,6 +41,8 @@ def run(tests, name, library, number):
         os.close(writing)
         with os.fdopen(reading, "rb") as told:
             count = told.read()
+    if not count and not ran.returncode:
+        return 1, 0, "how many allocations it made was not told"
     return ran.returncode, int(count or 0), ran.stderr.strip()[:SHOWN]
 
 

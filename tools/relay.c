@@ -1,5 +1,5 @@
-// A bare relay, to which the processes of `wlb` are compared: the same hops over the same kind of sockets, with the same threads,
-// and nothing else.
+// A bare relay, to which the processes of `wlb` are compared: the same hops over the same kind of sockets, and nothing else. Its
+// broker has a reader of its own, where the lanes of `wlb` take turns, and its tabs have one thread.
 //
 //     tab -> kernel's reader of the tab -> broker's reader -> lane
 //         -> kernel's reader of the broker -> kernel's writer of the tab -> tab

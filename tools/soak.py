@@ -3,8 +3,8 @@
 usage: soak.py MINUTES SEED PROGRAM
        soak.py --wrong hasty|forgetful SEED PROGRAM
 
-Kernels are run one after another until the minutes are over, each for some twenty seconds, with lanes and `--limit` drawn from
-the seed. In each, three origins have tabs that count: each round of such a tab asks for a lock of its origin, waits for it, adds
+Kernels are run one after another until the minutes are over, each for some twenty seconds, with lanes, shards and `--limit` drawn
+from the seed. In each, three origins have tabs that count: each round of such a tab asks for a lock of its origin, waits for it, adds
 one to the number in that lock's file, and gives it up. Meanwhile other tabs are opened that ask, probe, hold and wait, and never
 count; each of these is killed by SIGKILL at a random moment, its start included. So is the broker, again and again, some also
 while the tabs still report to it. Now and then the kernel's script stops the broker and starts it.
@@ -433,6 +433,7 @@ class Plan:
         self.stage, self.dice, self.rounds = stage, dice, rounds
         self.limit = dice.choice(LIMITS)
         self.lanes = dice.choice([1, 2, 4, 16])
+        self.shards = dice.choice([1, 1, 2, 16])
         self.counters = {}
         self.lines = []
         # Which tabs are to be killed, by their scripts.
@@ -585,7 +586,8 @@ def run(stage, dice, program, rounds, seconds, wrong=None):
     """Plays one kernel."""
     plan = Plan(stage, dice, rounds, seconds)
     wrapper = write_wrapper(stage, program, __file__, WITNESS, wrong)
-    words = [wrapper, "kernel", "--dir", ".", "--lanes", str(plan.lanes), "--shards", "1", "--limit", str(plan.limit), "KERNEL"]
+    counts = ["--lanes", str(plan.lanes), "--shards", str(plan.shards), "--limit", str(plan.limit)]
+    words = [wrapper, "kernel", "--dir", ".", *counts, "KERNEL"]
     begin = time.monotonic()
     with open(os.path.join(stage, "OUT"), "wb") as out, open(os.path.join(stage, "ERR"), "wb") as err:
         kernel = subprocess.Popen(
@@ -706,7 +708,7 @@ def play_one(seed, number, program, rounds, seconds, wrong=None):
 def tell(number, plan, outcome):
     killing = outcome.killing
     print(
-        f"run {number}: limit {plan.limit}, lanes {plan.lanes}: {outcome.seconds:.1f} s, killed {killing.brokers_killed} brokers and "
+        f"run {number}: limit {plan.limit}, lanes {plan.lanes}, shards {plan.shards}: {outcome.seconds:.1f} s, killed {killing.brokers_killed} brokers and "
         f"{len(killing.killed)} of {len(killing.tabs)} tabs, {killing.generation} generations, "
         f"{outcome.locks / outcome.seconds:.0f} locks a second",
         flush=True,
