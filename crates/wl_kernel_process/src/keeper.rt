@@ -8,6 +8,7 @@ use std::os::unix::net::UnixStream;
 use std::process::Child;
 use std::time::{Duration, Instant};
 use wl_frames::device::READ_LIMIT;
+use wl_frames::{Downward, Frame};
 use wl_process::{Host, Incoming, ProcessFault};
 use wl_process_rules::Restarts;
 
@@ -85,11 +86,15 @@ pub(crate) fn keep<R: Host>(rt: &R, alloc: Global, hub: &Hub, words: &BrokerWord
             return;
         }
         let begun = Instant::now(rt).ok();
-        if let Err(fault) = run_generation(rt, alloc, hub, words) {
-            hub.note_failure(rt, fault);
-        }
+        let has_answered = match run_generation(rt, alloc, hub, words) {
+            Ok(has_answered) => has_answered,
+            Err(fault) => {
+                hub.note_failure(rt, fault);
+                false
+            }
+        };
         if hub.is_starting(rt) {
-            restarts.end(milliseconds_since(rt, begun));
+            restarts.end(milliseconds_since(rt, begun), has_answered);
             hub.pause(rt, Duration::from_millis(restarts.pause()));
         }
     }
@@ -105,15 +110,15 @@ fn milliseconds_since<R: Host>(rt: &R, begun: Option<Instant>) -> u64 {
     }
 }
 
-/// Runs one generation to its end.
+/// Runs one generation to its end, and tells whether its broker has answered anything.
 fn run_generation<R: Host>(
     rt: &R,
     alloc: Global,
     hub: &Hub,
     words: &BrokerWords,
-) -> Result<(), ProcessFault> {
+) -> Result<bool, ProcessFault> {
     let Some((mut child, link)) = words.start_next(rt, hub)? else {
-        return Ok(());
+        return Ok(false);
     };
     let Ok(ending) = link.try_clone() else {
         end(&mut child);
@@ -128,35 +133,50 @@ fn run_generation<R: Host>(
     served
 }
 
-/// Starts the generation of a link, and passes on what comes over it, to its end.
-fn serve<R: Host>(rt: &R, alloc: Global, hub: &Hub, link: &UnixStream) -> Result<(), ProcessFault> {
+/// Starts the generation of a link, passes on what comes over it, to its end, and tells whether anything but hellos came.
+fn serve<R: Host>(
+    rt: &R,
+    alloc: Global,
+    hub: &Hub,
+    link: &UnixStream,
+) -> Result<bool, ProcessFault> {
     let writing = link.try_clone().map_err(ProcessFault::of_device)?;
     let generation = hub.install(rt, writing)?;
     hub.note_up(rt, generation);
-    let _end = read_broker(rt, alloc, hub, generation, link);
+    let has_answered = read_broker(rt, alloc, hub, generation, link);
     // Whoever waits to write to it waits no longer.
     let _ = link.shutdown(Shutdown::Both);
     hub.note_end_of_link(rt, generation);
     hub.uninstall(rt, generation);
-    Ok(())
+    Ok(has_answered)
 }
 
-/// Reads the link of the broker of a generation to its end or its first fault.
+/// Reads the link of the broker of a generation to its end or its first fault, and tells whether anything but hellos came.
 fn read_broker<R: Host>(
     rt: &R,
     alloc: Global,
     hub: &Hub,
     generation: u32,
     link: &UnixStream,
-) -> Result<(), ProcessFault> {
+) -> bool {
     let mut incoming = Incoming::new(alloc, link);
+    let mut has_answered = false;
     for _reads in 0..READ_LIMIT {
-        let Some(frames) = incoming.next()? else {
-            return Ok(());
+        let Ok(Some(frames)) = incoming.next() else {
+            return has_answered;
         };
         for frame in frames {
+            has_answered = has_answered || is_answer(&frame);
             hub.down(rt, generation, frame);
         }
     }
-    Err(ProcessFault::TooManyReads)
+    has_answered
+}
+
+/// Whether a broker says more by this frame than that it is up.
+fn is_answer(frame: &Frame) -> bool {
+    match frame {
+        Frame::Addressed(addressed) => !matches!(&addressed.inner, Downward::Hello(_)),
+        _ => false,
+    }
 }

@@ -1,12 +1,12 @@
-//! How long the kernel's keeper pauses before it starts the next broker: where brokers end at once again and again, as they do
-//! while memory is short, their generations are not to be used up meanwhile.
+//! How long the kernel's keeper pauses before it starts the next broker: where brokers end at once again and again and answer nothing,
+//! as they do while memory is short, their generations are not to be used up meanwhile.
 
-ghost use Rattle.std.specs.Prelude.{◌≡◌, ◌<◌, ◌≤◌, ◌+◌, ◌-◌, ◌*◌, ◌^◌, min};
+ghost use Rattle.std.specs.Prelude.{◌≡◌, ◌<◌, ◌≤◌, ◌+◌, ◌-◌, ◌*◌, ◌^◌, min, true, false};
 ghost use Rattle.wl_process_rules.specs.declared.restarts.TheConstants.{SHORT, FREE, STEP, LONGEST};
 
 use std::marker::Model;
 
-/// A broker that ran for fewer milliseconds than this has ended at once.
+/// A broker that ran for fewer milliseconds than this, and answered nothing, has ended at once.
 pub const SHORT: u64 = 50;
 
 /// How many brokers in a row may end at once before the keeper pauses.
@@ -40,12 +40,13 @@ impl Restarts {
         Restarts { in_a_row: 0 }
     }
 
-    /// A broker has ended by itself that ran for so many milliseconds.
-    pub fn end(&mut self, lasted: u64)
+    /// A broker has ended by itself that ran for so many milliseconds, and has answered something or nothing.
+    pub fn end(&mut self, lasted: u64, has_answered: bool)
         ensures long { SHORT ≤ lasted → self.new ≡ 0 }
-        ensures short { lasted < SHORT → self.new ≡ min (self.old + 1) (2 ^ 32 - 1) }
+        ensures answered { has_answered ≡ true → self.new ≡ 0 }
+        ensures at_once { lasted < SHORT → has_answered ≡ false → self.new ≡ min (self.old + 1) (2 ^ 32 - 1) }
     {
-        self.in_a_row = if lasted < SHORT {
+        self.in_a_row = if lasted < SHORT && !has_answered {
             self.in_a_row.saturating_add(1)
         } else {
             0
