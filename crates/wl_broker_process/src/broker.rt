@@ -24,8 +24,8 @@ use wl_workers::{Cause, Desk, Gate, Intake, LaneEnd, Outlet, OutletFault, lane};
 /// After how many works a lane writes what it has gathered, though it has more to take.
 const FLUSH_EVERY: u32 = 64;
 
-/// What a lane sends, gathered until it has nothing more to take, or has taken enough. The lock is the lane's own and never waited for; the link
-/// is shared by all lanes.
+/// What a lane sends, gathered until it has nothing more to take, or has taken enough. The lock is the lane's own and never waited
+/// for; the link is shared by all lanes.
 #[derive(Drop)]
 struct Outbound {
     alloc: Global,
@@ -88,8 +88,8 @@ struct LaneIntake<'a, 'l, J: Shards> {
     inbox: &'a Inbox<'l>,
     lane: usize,
     outbound: Arc<Outbound>,
-    /// How many works it took since it last wrote what was gathered.
-    since_flush: u32,
+    /// How often it asked for a work, counted round: at 0 it writes what was gathered first.
+    asked: u32,
     shards: u16,
     of: PhantomData<J>,
 }
@@ -107,8 +107,8 @@ impl<'a, 'l, J: Shards> Model for LaneIntake<'a, 'l, J> {
 impl<'a, 'l, J: Shards> LaneIntake<'a, 'l, J> {
     /// The next work, or None where the link is shut.
     fn wait<R: Wait>(&mut self, rt: &R) -> Option<Work> {
-        self.since_flush = self.since_flush.wrapping_add(1) % FLUSH_EVERY;
-        if self.since_flush != 0 {
+        self.asked = self.asked.wrapping_add(1) % FLUSH_EVERY;
+        if self.asked != 0 {
             if let Some(work) = self.inbox.take_now(rt, self.lane) {
                 return Some(work);
             }
@@ -198,7 +198,7 @@ fn job_of<'a, 'l, J: Shards>(
             inbox,
             lane: place,
             outbound: outbounds.0,
-            since_flush: 0,
+            asked: 0,
             shards,
             of: PhantomData,
         },

@@ -11,9 +11,7 @@ use std::time::Duration;
 use wl_frames::Frame;
 use wl_locked::{BookEvent, Work, deal};
 use wl_process::{Incoming, ProcessFault};
-
-/// How many works a lane may have before it and still be left to read the link next: a busy one would come to it late.
-const FEW: usize = 8;
+use wl_process_rules::Dealt;
 
 /// For how many milliseconds a lane waits until all others have a thread.
 const MEETING: u64 = 5_000;
@@ -36,15 +34,6 @@ enum Turn<'a> {
     Taken,
     /// Nothing more is read, and this is why.
     Over(Result<(), ProcessFault>),
-}
-
-/// For whom there was work in what was read.
-#[derive(Clone, Copy)]
-struct Dealt {
-    /// How many works are the reading lane's own.
-    own: usize,
-    /// How many works another lane has that comes for them now, the most of any; 0 where none does.
-    others: usize,
 }
 
 /// The link's reading end and the mailboxes of the lanes. The lock of the turn comes before those of the mailboxes.
@@ -190,11 +179,10 @@ impl<'a> Inbox<'a> {
         match dealt {
             Ok(dealt) => {
                 *turn = Turn::Free(incoming);
-                let leaves = (1..=FEW).contains(&dealt.others);
-                if dealt.own > FEW && !leaves {
+                if dealt.offers() {
                     self.offer_turn(rt, lane);
                 }
-                !leaves
+                !dealt.leaves()
             }
             Err(fault) => {
                 *turn = Turn::Over(Err(fault));

@@ -87,6 +87,8 @@ pub(crate) struct Opened {
     pub(crate) tab: u16,
     pub(crate) post: Arc<Post>,
     pub(crate) taking: Taking,
+    /// What tells the broker that the tab is dead, spelled while its opening can still be refused for want of memory.
+    pub(crate) death: Vec<u8>,
 }
 
 #[derive(Drop)]
@@ -150,6 +152,8 @@ impl Hub {
         let own = Origin::new(String::from_str(alloc, partition.text())?);
         let mut supervisor = self.supervisor.lock(rt);
         let (tab, number) = self.enter(rt, &mut supervisor, partition)?;
+        let mut death = Vec::new(alloc);
+        append(alloc, &mut death, &Frame::Dead(Dead { tab }))?;
         let (post, taking) = Post::new(alloc, number, tab)?;
         let post = Arc::new(alloc, post)?;
         self.ends.lock(rt).begin(tab)?;
@@ -164,7 +168,12 @@ impl Hub {
             post.put(rt, number, Frame::Hello(Hello { generation }));
         }
         drop(supervisor);
-        Ok(Opened { tab, post, taking })
+        Ok(Opened {
+            tab,
+            post,
+            taking,
+            death,
+        })
     }
 
     /// Draws a number, enters the tab in the table, and brings it to life on the board.
@@ -254,16 +263,13 @@ impl Hub {
         }
     }
 
-    /// A tab is dead: on the board, in the table, and for the broker. Its end is noted.
-    pub(crate) fn bury<R: Host>(&self, rt: &R, tab: u16, status: u8) {
+    /// A tab is dead: on the board, in the table, and for the broker, which these bytes tell. Its end is noted.
+    pub(crate) fn bury<R: Host>(&self, rt: &R, tab: u16, death: &[u8], status: u8) {
         if let Ok(seat) = self.seat_of(tab) {
             seat.lock(rt).mark_dead(tab);
         }
         self.supervisor.lock(rt).kill(tab);
-        let mut bytes = Vec::new(self.alloc);
-        if append(self.alloc, &mut bytes, &Frame::Dead(Dead { tab })).is_ok() {
-            self.write(rt, bytes.as_slice());
-        }
+        self.write(rt, death);
         let buried = self.posts.lock(rt).remove(&tab);
         if let Some(post) = buried {
             post.bell.unpark();

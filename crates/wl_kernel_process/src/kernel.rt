@@ -212,7 +212,12 @@ impl Kernel {
     /// Starts the process of a tab, and the threads of its link.
     fn start<R: Host>(&mut self, rt: R, opened: Opened, file: &str) -> Result<(), ProcessFault> {
         self.tabs.reserve(1)?;
-        let Opened { tab, post, taking } = opened;
+        let Opened {
+            tab,
+            post,
+            taking,
+            death,
+        } = opened;
         let directory = self.words.directory.as_str();
         let path = format!(in self.alloc; "{directory}/tab{tab}.sock")?;
         // A path that begins like an option is spelled in another way.
@@ -228,6 +233,7 @@ impl Kernel {
             tab,
             child: Mutex::new(started.child),
             link: started.link,
+            death,
         };
         let handle = TabHandle::new(rt, self.alloc, &self.hub, process, &post, taking)?;
         let is_served = handle.is_served();

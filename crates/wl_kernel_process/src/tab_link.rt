@@ -34,6 +34,8 @@ pub(crate) struct TabProcess {
     pub(crate) tab: u16,
     pub(crate) child: Mutex<Child>,
     pub(crate) link: Option<UnixStream>,
+    /// What tells the broker that the tab is dead.
+    pub(crate) death: Vec<u8>,
 }
 
 impl TabProcess {
@@ -49,8 +51,14 @@ impl TabProcess {
         }
     }
 
+    /// Ends what is left of the process, and buries the tab.
+    fn end_and_bury<R: Host>(&self, rt: &R, hub: &Hub, mercy: Mercy) {
+        let status = self.end(rt, mercy);
+        hub.bury(rt, self.tab, self.death.as_slice(), status);
+    }
+
     /// Ends what is left of the process, and gives its status.
-    pub(crate) fn end<R: Host>(&self, rt: &R, mercy: Mercy) -> u8 {
+    fn end<R: Host>(&self, rt: &R, mercy: Mercy) -> u8 {
         self.hang_up();
         if mercy == Mercy::Grace {
             self.wait_a_while(rt);
@@ -213,8 +221,7 @@ fn read_and_bury<R: Host>(rt: &R, alloc: Global, hub: &Hub, process: &TabProcess
         Ok(end) => mercy_at(end),
         Err(_) => Mercy::None,
     };
-    let status = process.end(rt, mercy);
-    hub.bury(rt, process.tab, status);
+    process.end_and_bury(rt, hub, mercy);
 }
 
 /// Writes what is put for a tab, until it is dead. Where its link takes no more, or memory is refused, the link is ended: the tab would
@@ -288,8 +295,7 @@ impl TabHandle {
             Ok(process) => process,
             Err(AllocFailed { value: process }) => {
                 process.kill(&rt);
-                let status = process.end(&rt, Mercy::None);
-                hub.bury(&rt, process.tab, status);
+                process.end_and_bury(&rt, hub, Mercy::None);
                 return Err(ProcessFault::Memory);
             }
         };
@@ -310,8 +316,7 @@ impl TabHandle {
             process.kill(&rt);
         }
         if reader.is_none() {
-            let status = process.end(&rt, Mercy::None);
-            hub.bury(&rt, process.tab, status);
+            process.end_and_bury(&rt, hub, Mercy::None);
         }
         Ok(TabHandle {
             process,

@@ -1,5 +1,5 @@
 //! What the processes decide by values alone: which tabs' processes run and how the others ended, how fast a tab may send, how long
-//! it waits, and how soon a broker is started again.
+//! it waits, how soon a broker is started again, and which of its lanes reads next.
 #![tactic(auto)]
 
 pub mod ends;
@@ -7,9 +7,11 @@ pub mod pace;
 pub mod patience;
 pub mod restarts;
 pub mod status;
+pub mod turns;
 
 pub use ends::Ends;
 pub use pace::{Load, Pace};
 pub use patience::{Next, Patience};
 pub use restarts::Restarts;
 pub use status::status_of;
+pub use turns::Dealt;
