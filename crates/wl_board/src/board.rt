@@ -1,6 +1,7 @@
 //! The board that threads share.
 
 ghost use Rattle.std.specs.Prelude.{◌≡◌, ◌≢◌, ◌+◌, ◌<◌, ◌≤◌, Err, IfOk, OnOk, OnErr, All, vec_len};
+ghost use Rattle.wl_board.specs.declared.board.TheConstants.{SEAT_LIMIT, STEP_LIMIT};
 ghost use Rattle.wl_board.specs.Rule.{Has, newcomer};
 ghost use Rattle.wl_board.specs.Steps.{sees, marks, draws_number, bears, bumps_to};
 ghost use Rattle.wl_board.specs.Seats.{Sitting};
@@ -32,8 +33,11 @@ const LIVING: u64 = 1;
 /// The word of a dead tab.
 const DEAD: u64 = 2;
 
+/// The most seats.
+pub const SEAT_LIMIT: u16 = 16;
+
 /// The most draws that a seat makes, and the most bumps.
-const STEP_LIMIT: u16 = 65_535;
+pub const STEP_LIMIT: u16 = 65_535;
 
 /// A counter of tab numbers, a word for each tab and a generation. The calls on a shared board take neither memory nor a
 /// lock: each is one atomic step.
@@ -57,7 +61,7 @@ impl Model for Board {
 impl Board {
     /// A board for tabs of the numbers 1 to `tabs`, and all its seats. No number is drawn, and the generation is 1.
     pub fn new(alloc: Global, tabs: u16, seats: u16) -> Result<(Board, Vec<Seat>), Memory>
-        requires { (1 ≤ seats) × (seats ≤ 16) }
+        requires { (1 ≤ seats) × (seats ≤ SEAT_LIMIT) }
         ensures tabs { IfOk result (λ r. r.0.tabs ≡ tabs) }
         ensures count { IfOk result (λ r. vec_len r.1 ≡ seats) }
         ensures seats { IfOk result (λ r. All (λ s. IsOf s r.0 × IsNew tabs s) r.1.items) }
@@ -73,7 +77,7 @@ impl Board {
 
     /// Splits the first place into the seats asked for.
     fn deal(&self, alloc: Global, mut first: Place, seats: u16) -> Result<Vec<Seat>, Memory>
-        requires count { (1 ≤ seats) × (seats ≤ 16) }
+        requires count { (1 ≤ seats) × (seats ≤ SEAT_LIMIT) }
         requires first { (first.table_id ≡ self.now.table) × (first.me.0 ≡ newcomer self.now.tabs 15) }
         ensures count { IfOk result (λ v. vec_len v ≡ seats) }
         ensures seats { IfOk result (λ v. All (λ s. IsOf s self.now × IsNew self.now.tabs s) v.items) }
@@ -105,12 +109,12 @@ impl Board {
         ensures unknown { IfOk result (λ t. ¬ Has t seat.old.view.drawn) }
         ensures drawn { IfOk result (λ t. seat.new.view ≡ draws_number seat.old.view t) }
         ensures ticket { IfOk result (λ t. Has t seat.new.view.drawn × (¬ Has t seat.new.view.born)) }
-        ensures allowed { OnOk result ((¬ HasMetEnd self.now.tabs seat.old.view) × (seat.old.view.draws < 65535)) }
+        ensures allowed { OnOk result ((¬ HasMetEnd self.now.tabs seat.old.view) × (seat.old.view.draws < STEP_LIMIT)) }
 
         // A refusal comes for its cause alone.
         ensures used_up { result ≡ Err DrawFault.TabsUsedUp → MeetsEnd self.now.tabs seat.old.view seat.new.view }
         ensures spent { result ≡ Err DrawFault.SeatSpent
-            → (¬ HasMetEnd self.now.tabs seat.old.view) × (seat.old.view.draws ≡ 65535) × (seat.new ≡ seat.old) }
+            → (¬ HasMetEnd self.now.tabs seat.old.view) × (seat.old.view.draws ≡ STEP_LIMIT) × (seat.new ≡ seat.old) }
     {
         let tabs = self.tabs;
         if seat.met_end {
@@ -185,8 +189,8 @@ impl Board {
         ensures later { IfOk result (λ g. generation_seen seat.old.view < g) }
         ensures counted { IfOk result (λ g. seat.old.view.bumps + 1 < g) }
         ensures bumped { IfOk result (λ g. seat.new.view ≡ bumps_to seat.old.view g) }
-        ensures allowed { OnOk result (seat.old.view.bumps < 65535) }
-        ensures spent { OnErr result ((seat.old.view.bumps ≡ 65535) × (seat.new ≡ seat.old)) }
+        ensures allowed { OnOk result (seat.old.view.bumps < STEP_LIMIT) }
+        ensures spent { OnErr result ((seat.old.view.bumps ≡ STEP_LIMIT) × (seat.new ≡ seat.old)) }
     {
         if seat.bumps == STEP_LIMIT {
             return Err(SeatSpent);

@@ -3,6 +3,7 @@
 ghost use Rattle.std.specs.Prelude.{◌≡◌, ◌+◌, ◌≤◌, [], true, false, IfOk, OnOk, IfErr, OnErr, IfSome, IfNone, All, vec_len};
 ghost use Rattle.crossbeam_queue.specs.Fifo.{Held};
 ghost use Rattle.crossbeam_queue.specs.Passes.{view, IsPassOf, ruled_capacity};
+ghost use Rattle.wl_outbox.specs.declared.outbox.TheConstants.{CAPACITY, PUTTER_LIMIT};
 ghost use Rattle.wl_outbox.specs.Rule.{opening};
 ghost use Rattle.wl_outbox.specs.Steps.{with_parcel, taker_of, putter_of, IsMoment};
 ghost use Rattle.wl_outbox.specs.Passes.{Shared, Handed, takes, IsOf, IsSamePass, IsFor};
@@ -17,8 +18,11 @@ use std::marker::{Brand, Model};
 use std::sync::Wait;
 use wl_frames::Memory;
 
-/// How many parcels it has room for.
-const CAPACITY: usize = 256;
+/// How many parcels an outbox has room for.
+pub const CAPACITY: usize = 256;
+
+/// The most passes that put into one.
+pub const PUTTER_LIMIT: u16 = 16;
 
 type Queue = RuledArrayQueue<Parcel, View, OutboxRule>;
 
@@ -33,13 +37,14 @@ pub struct Outbox {
 impl Model for Outbox {
     ghost use Rattle.std.specs.Prelude.{◌≡◌};
     ghost use Rattle.crossbeam_queue.specs.Passes.{ruled_capacity};
+    ghost use Rattle.wl_outbox.specs.declared.outbox.TheConstants.{CAPACITY};
     ghost use Rattle.wl_outbox.specs.Passes.{Shared};
 
     ghost Value = { Shared };
 
     ghost view = { λ o. record { queue = o.queue.table.shared.table_id; partition = o.partition; tab = o.tab } };
 
-    ghost invariant = { λ o. ruled_capacity o.queue ≡ 256 };
+    ghost invariant = { λ o. ruled_capacity o.queue ≡ CAPACITY };
 }
 
 impl Outbox {
@@ -50,7 +55,7 @@ impl Outbox {
         tab: u16,
         putters: u16,
     ) -> Result<(Outbox, Pass, Vec<Pass>), Memory>
-        requires { (1 ≤ putters) × (putters ≤ 16) }
+        requires { (1 ≤ putters) × (putters ≤ PUTTER_LIMIT) }
         ensures tab { IfOk result (λ r. (r.0.partition ≡ partition) × (r.0.tab ≡ tab)) }
         ensures taker { IfOk result (λ r. IsOf r.1 r.0 × (takes r.1 ≡ true) × (r.1.view.parcels ≡ [])) }
         ensures count { IfOk result (λ r. vec_len r.2 ≡ putters) }
@@ -99,7 +104,7 @@ impl Outbox {
         ensures put { OnOk result (pass.new.view ≡ with_parcel pass.old.view parcel) }
         ensures back { IfErr result (λ full. full.0 ≡ parcel) }
         // Nothing was put. The rule and what the pass knows allow a full queue; that it was full, no clause can say.
-        ensures full { OnErr result ((pass.new ≡ pass.old) × Held 256 (IsMoment pass.old.view)) }
+        ensures full { OnErr result ((pass.new ≡ pass.old) × Held CAPACITY (IsMoment pass.old.view)) }
     {
         self.queue
             .push_as::<Put, R>(rt, &mut pass.place, parcel)

@@ -2,6 +2,7 @@
 
 ghost use Rattle.std.specs.Prelude.{◌≡◌, ◌↔◌, ◌+◌, ◌<◌, ℕ, List, length, true, false, Err, OnOk};
 ghost use Rattle.std.specs.Io.KnownBytes.{Appends, IsAtEnd};
+ghost use Rattle.wl_frames.specs.declared.device.TheConstants.{READ_LIMIT};
 ghost use Rattle.wl_script.specs.declared.sim.SimFault.TheVariants.{Write as write_fault, Memory as memory};
 ghost use Rattle.wl_script.specs.Sim.{Runs};
 ghost use Rattle.wl_script.specs.SimSteps.{of_read, at_first, PlaysLine, Takes, Closes};
@@ -193,7 +194,7 @@ pub fn sim_run<R: Read, W: Write>(
     // A fault of a device comes exactly where that device failed.
     ensures read { (result ≡ Err SimFault.Read) ↔ (source.new.has_failed ≡ true) }
     ensures write { (result ≡ Err SimFault.Write) ↔ (sink.new.has_failed ≡ true) }
-    ensures limit { result ≡ Err SimFault.TooManyReads → source.new.reads ≡ 1000000 }
+    ensures limit { result ≡ Err SimFault.TooManyReads → source.new.reads ≡ READ_LIMIT }
 {
     let mut sim = Sim::new(alloc);
     let mut buffer = [0; PIECE_LEN];

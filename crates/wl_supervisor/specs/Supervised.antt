@@ -4,12 +4,9 @@ use Rattle.wl_frames.specs.declared.frame.Stamped.{Stamped}
 use Rattle.wl_frames.specs.declared.frame.Addressed.{Addressed}
 use Rattle.wl_broker.specs.Broker.{BrokerState, started, hellos, Taking, Drops, Does, taking, burial}
 use Rattle.wl_kernel.specs.Kernel.{KernelState, is_opened, is_living, may_stop, stopped, start_refusal, placed}
+use Rattle.wl_supervisor.specs.declared.supervisor.TheConstants.{LAST_GENERATION}
 use Rattle.wl_supervisor.specs.declared.supervisor.Supervisor.{Supervisor}
 use Rattle.wl_supervisor.specs.declared.supervisor.Supervisor.TheVariants.{Down, Up}
-
--- the last generation that there may be
-abbrev pub last_generation : ℕ
-last_generation = 65535
 
 abbrev pub kernel_of : Supervisor → KernelState
 kernel_of (Down kernel) = kernel

@@ -7,7 +7,8 @@ ghost use Rattle.wl_kernel.specs.Kernel.{no_tabs, number_for, open_refusal, open
 ghost use Rattle.wl_said.specs.declared.said.Said.TheVariants as said;
 ghost use Rattle.wl_supervisor.specs.declared.supervisor.Supervisor.TheVariants.{Down as down_state, Up as up_with};
 ghost use Rattle.wl_supervisor.specs.Supervising.{killing, stopping, starting, brought, telling, of_start, of_dropped, taken_said};
-ghost use Rattle.wl_supervisor.specs.Supervised.{kernel_of, broker_of, with_kernel, begun, greeted, halted, after_taking, outs_by_taking, after_burial, outs_by_burial, last_generation};
+ghost use Rattle.wl_supervisor.specs.Supervised.{kernel_of, broker_of, with_kernel, begun, greeted, halted, after_taking, outs_by_taking, after_burial, outs_by_burial};
+ghost use Rattle.wl_supervisor.specs.declared.supervisor.TheConstants.{LAST_GENERATION};
 
 use std::alloc::{AllocError, Global};
 use wl_broker::{Broker, Dropped, Outs};
@@ -18,7 +19,7 @@ use wl_said::{Reason, Refusal, Said};
 use wl_table::IndexedTable;
 
 /// The last generation that there may be.
-const LAST_GENERATION: u32 = 65_535;
+pub const LAST_GENERATION: u32 = 65_535;
 
 /// No broker runs, or one does. Its own drop spends the supervisor's state.
 pub enum Supervisor {
@@ -48,7 +49,7 @@ pub struct Outcome {
 impl Supervisor {
     /// No tabs, and no broker.
     pub fn new(alloc: Global) -> Supervisor
-        ensures { result ≡ down_state (no_tabs last_generation) }
+        ensures { result ≡ down_state (no_tabs LAST_GENERATION) }
     {
         Supervisor::Down(Down::new(alloc, LAST_GENERATION))
     }

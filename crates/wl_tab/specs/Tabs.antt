@@ -4,14 +4,11 @@ use Rattle.wl_broadcast.specs.Channels.{ChannelState, no_channels}
 use Rattle.wl_agent.specs.declared.status.Status.{Status}
 use Rattle.wl_agent.specs.declared.status.Status.TheVariants as status
 use Rattle.wl_agent.specs.Tab.{TabState, newborn}
-
--- how many commands a tab may issue
-abbrev pub command_limit : ℕ
-command_limit = 1000000
+use Rattle.wl_tab.specs.declared.locks.TheConstants.{COMMAND_LIMIT}
 
 -- a tab or a channel table without a row is as it was born
 abbrev pub tab_in : ℕ → Option TabState → TabState
-tab_in t None = newborn t command_limit
+tab_in t None = newborn t COMMAND_LIMIT
 tab_in t (Some a) = a
 
 abbrev pub channels_in : ℕ → Option ChannelState → ChannelState

@@ -2,7 +2,7 @@
 
 ghost use Rattle.std.specs.Prelude.{◌≡◌, ◌≢◌, ◌++◌, Some, None, Err, IfOk, OnOk, IfErr};
 ghost use Rattle.wl_agent.specs.Tab.{newborn, newborn_two, report_frames, command_frame, message_refusal, report_refusal, due, is_report_due};
-ghost use Rattle.wl_tab.specs.Tabs.{command_limit};
+ghost use Rattle.wl_tab.specs.declared.locks.TheConstants.{COMMAND_LIMIT};
 ghost use Rattle.wl_tab.specs.TabTokens.{holdings_of, holding_in};
 ghost use Rattle.std.specs.List.{filter_map};
 
@@ -20,7 +20,7 @@ use wl_agent::{Agent, MessageFault, Resend};
 use wl_frames::{Frame, Sequence};
 
 /// How many commands a tab may issue in its life.
-const COMMAND_LIMIT: u32 = 1_000_000;
+pub const COMMAND_LIMIT: u32 = 1_000_000;
 
 /// A tab's agent, with the token of each of its numbers that is not over. What a token can be told it is told at once.
 pub struct TabLocks {
@@ -79,7 +79,7 @@ pub enum Abortion {
 impl TabLocks {
     /// The locks of a tab that has issued nothing.
     pub(crate) fn new(alloc: Global, tab: u16) -> TabLocks
-        ensures { result ≡ newborn tab command_limit }
+        ensures { result ≡ newborn tab COMMAND_LIMIT }
     {
         TabLocks {
             alloc,
@@ -92,7 +92,7 @@ impl TabLocks {
 
     /// Those of a tab that may have more locks, and tells its reports in parts.
     pub fn new_two(alloc: Global, tab: u16) -> TabLocks
-        ensures { result ≡ newborn_two tab command_limit }
+        ensures { result ≡ newborn_two tab COMMAND_LIMIT }
     {
         TabLocks {
             alloc,

@@ -5,6 +5,7 @@ use Rattle.std.specs.List.{slice_split}
 use Rattle.std.specs.Borrow.{Bor}
 use Rattle.wl_draft.specs.declared.mode.Mode.{Mode}
 use Rattle.wl_draft.specs.declared.mode.Mode.TheVariants.{Shared, Exclusive}
+use Rattle.wl_words.specs.declared.reading.TheConstants.{LINE_LIMIT}
 use Rattle.wl_words.specs.Words.{unescaped}
 
 infixl 10 ◌>>=◌
@@ -21,10 +22,10 @@ abbrev pub begins_comment : List ℕ → Bool
 begins_comment [] = false
 begins_comment (b ∷ bs) = b == 35
 
--- a line has at most 65,536 bytes; an empty one and a comment say nothing
+-- a line over the limit has none; an empty one and a comment say nothing
 unfoldable pub line_words_at : List ℕ → Option (List (List ℕ))
 line_words_at text =
-    if nat_lt 65536 (length text) then None
+    if nat_lt LINE_LIMIT (length text) then None
     else if length text == 0 then Some []
     else if begins_comment text then Some []
     else Some (words_of text)

@@ -3,6 +3,7 @@
 ghost use Rattle.std.specs.Prelude.{◌≡◌, ◌≢◌, ◌↔◌, ℕ, List, [], ◌++◌, true, false, Err, IfOk, OnOk, OnErr, MatchResult};
 ghost use Rattle.std.specs.List.{AllByRecursion};
 ghost use Rattle.std.specs.Io.KnownBytes.{Appends, IsAtEnd};
+ghost use Rattle.wl_frames.specs.declared.device.TheConstants.{READ_LIMIT};
 ghost use Rattle.wl_frames.specs.Device.{WritesFront};
 ghost use Rattle.wl_frames.specs.Grammar.{IsWellFormed, IsAddressed};
 ghost use Rattle.wl_frames.specs.Stream.{IsPartial};
@@ -307,7 +308,7 @@ pub fn desk_run_on<T: LockTable, R: Read, W: Write>(
     // A fault of a device comes exactly where that device failed.
     ensures read { (result ≡ Err DeskFault.Read) ↔ (source.new.has_failed ≡ true) }
     ensures write { (result ≡ Err DeskFault.Write) ↔ (sink.new.has_failed ≡ true) }
-    ensures limit { result ≡ Err DeskFault.TooManyReads → source.new.reads ≡ 1000000 }
+    ensures limit { result ≡ Err DeskFault.TooManyReads → source.new.reads ≡ READ_LIMIT }
 {
     let mut feed = Feed::new(alloc);
     let mut desk = Desk::<T>::new();
@@ -343,7 +344,7 @@ pub fn desk_run<R: Read, W: Write>(
     // A fault of a device comes exactly where that device failed.
     ensures read { (result ≡ Err DeskFault.Read) ↔ (source.new.has_failed ≡ true) }
     ensures write { (result ≡ Err DeskFault.Write) ↔ (sink.new.has_failed ≡ true) }
-    ensures limit { result ≡ Err DeskFault.TooManyReads → source.new.reads ≡ 1000000 }
+    ensures limit { result ≡ Err DeskFault.TooManyReads → source.new.reads ≡ READ_LIMIT }
 {
     desk_run_on::<IndexedTable, R, W>(alloc, source, sink)
 }

@@ -1,6 +1,7 @@
 //! The kernel's reading end of a tab's link.
 
 ghost use Rattle.std.specs.Prelude.{◌≡◌, ◌≢◌, ◌↔◌, ◌≤◌, List, [], true, false, length, Err, MatchResult};
+ghost use Rattle.wl_frames.specs.declared.device.TheConstants.{READ_LIMIT};
 ghost use Rattle.wl_frames.specs.declared.frame.Frame.{Frame as TheFrame};
 ghost use Rattle.wl_frames.specs.Stream.{IsPartial};
 ghost use Rattle.wl_workers.specs.declared.tab_reader.ReadEnd.TheVariants.{Frame as frame_end};
@@ -125,7 +126,7 @@ fn read_all<R: Wait + Clock, S: Read, L: Lives, U: Uplink>(
     ensures end { NeedsEnd (ended result) (S.remaining source.new.reader) }
     ensures other { result ≢ Err ReadEnd.End }
     ensures failed { (result ≡ Err ReadEnd.Read) ↔ (source.new.has_failed ≡ true) }
-    ensures limit { result ≡ Err ReadEnd.TooManyReads → source.new.reads ≡ 1000000 }
+    ensures limit { result ≡ Err ReadEnd.TooManyReads → source.new.reads ≡ READ_LIMIT }
 {
     let mut feed = Feed::new(alloc);
     let mut buffer = [0; PIECE_LEN];
@@ -160,7 +161,7 @@ pub fn tab_reader<R: Wait + Clock, S: Read, L: Lives, U: Uplink>(
 
     // A fault of the reader comes exactly where it failed.
     ensures failed { (result ≡ ReadEnd.Read) ↔ (source.new.has_failed ≡ true) }
-    ensures limit { result ≡ ReadEnd.TooManyReads → source.new.reads ≡ 1000000 }
+    ensures limit { result ≡ ReadEnd.TooManyReads → source.new.reads ≡ READ_LIMIT }
 {
     match read_all(rt, alloc, tab, source, lives, uplink) {
         Ok(()) => ReadEnd::End,

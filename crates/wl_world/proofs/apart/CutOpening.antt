@@ -20,7 +20,7 @@ use Rattle.wl_bag.specs.declared.message.Message.{Message}
 use Rattle.wl_bag.specs.declared.message.Message.TheVariants.{Up, Down, Across}
 use Rattle.wl_bag.specs.Membership.{In}
 use Rattle.wl_bag.proofs.Membership.{apart, either}
-use Rattle.wl_tab.specs.Tabs.{command_limit}
+use Rattle.wl_tab.specs.declared.locks.TheConstants.{COMMAND_LIMIT}
 use Rattle.wl_world.specs.World.{WorldState, lives, with_kernel, opens, with_two, opens_two, kills}
 use Rattle.wl_world.specs.Apart.{was_opened_in, is_in, only, tab_at, kernel_for, up_for, world_for, part, is_own_open}
 use Rattle.wl_world.proofs.exclusion.OpenedTabs.{ended-opened}
@@ -275,8 +275,8 @@ new-known t q k a = ap is_some (new-opened t q k a)
 two-Orderly : (p : Pair) (v : WorldState) (t : ℕ) → opened v.kernel t ≡ true → Orderly p v → Orderly p (with_two t v)
 two-Orderly p v t e h = record {
   kernel = h.kernel;
-  tabs = λ x i. ⊎_elim (λ c. ap (λ (z : ℕ × TabState). opened v.kernel z.0) c ∙ e) (λ j. h.tabs x j) (put-cases t (newborn_two t command_limit) v.tabs i);
-  tabs_rise = Rises-put 0 t (newborn_two t command_limit) v.tabs (omega arith) h.tabs_rise;
+  tabs = λ x i. ⊎_elim (λ c. ap (λ (z : ℕ × TabState). opened v.kernel z.0) c ∙ e) (λ j. h.tabs x j) (put-cases t (newborn_two t COMMAND_LIMIT) v.tabs i);
+  tabs_rise = Rises-put 0 t (newborn_two t COMMAND_LIMIT) v.tabs (omega arith) h.tabs_rise;
   channels = h.channels;
   channels_rise = h.channels_rise;
   corrupt = h.corrupt;
@@ -285,10 +285,10 @@ two-Orderly p v t e h = record {
 }
 
 own-two : (p : Pair) (v : WorldState) (t : ℕ) → is_in p v.kernel t ≡ true → Orderly p v → part p (with_two t v) ≡ with_two t (part p v)
-own-two p v t e h = ap (λ z. record (part p v) { tabs = z }) (only-put_in (is_in p v.kernel) t (newborn_two t command_limit) 0 v.tabs e h.tabs_rise)
+own-two p v t e h = ap (λ z. record (part p v) { tabs = z }) (only-put_in (is_in p v.kernel) t (newborn_two t COMMAND_LIMIT) 0 v.tabs e h.tabs_rise)
 
 out-two : (p : Pair) (v : WorldState) (t : ℕ) → is_in p v.kernel t ≡ false → part p (with_two t v) ≡ part p v
-out-two p v t e = ap (λ z. record (part p v) { tabs = z }) (only-put_out (is_in p v.kernel) t (newborn_two t command_limit) v.tabs e)
+out-two p v t e = ap (λ z. record (part p v) { tabs = z }) (only-put_out (is_in p v.kernel) t (newborn_two t COMMAND_LIMIT) v.tabs e)
 
 -- the world in which the tab is opened, and has no row yet
 abbrev opening_world : WorldState → ℕ → Pair → WorldState

@@ -9,7 +9,7 @@ use Rattle.wl_broker.specs.Broker.{BrokerState, started, hellos, Drops, Does, ta
 use Rattle.wl_kernel.specs.declared.fault.OpenFault.{OpenFault}
 use Rattle.wl_kernel.specs.Kernel.{open_refusal, opened, is_living, killed, may_stop, stopped, placed}
 use Rattle.wl_bag.specs.declared.message.Message.{Message}
-use Rattle.wl_tab.specs.Tabs.{command_limit}
+use Rattle.wl_tab.specs.declared.locks.TheConstants.{COMMAND_LIMIT}
 use Rattle.wl_supervisor.specs.declared.supervisor.Supervisor.{Supervisor}
 use Rattle.wl_supervisor.specs.declared.supervisor.Supervisor.TheVariants.{Down, Up}
 use Rattle.wl_supervisor.specs.Supervised.{kernel_of, broker_of, with_kernel, begins as may_begin, begun, greeted, halted, after_taking, outs_by_taking, broker_after, outs_of, is_dead, after_burial, outs_by_burial}
@@ -34,7 +34,7 @@ pub opens-refused : (w : WorldState) (t : ℕ) (p : Pair) (f : OpenFault) → op
 opens-refused w t p f e = rw e refl
 
 -- a tab of the second kind has its row from its opening on
-pub opens_two-ok : (ts us : Table TabState) (cs : Table ChannelState) (s : Supervisor) (bag : List Message) (corrupt : List ℕ) (t : ℕ) (p : Pair) → open_refusal t p (kernel_of s) ≡ None → us ≡ put t (newborn_two t command_limit) ts → world_of us cs (with_kernel (opened t p (kernel_of s)) s) bag corrupt ≡ (opens_two (world_of ts cs s bag corrupt) t p).world
+pub opens_two-ok : (ts us : Table TabState) (cs : Table ChannelState) (s : Supervisor) (bag : List Message) (corrupt : List ℕ) (t : ℕ) (p : Pair) → open_refusal t p (kernel_of s) ≡ None → us ≡ put t (newborn_two t COMMAND_LIMIT) ts → world_of us cs (with_kernel (opened t p (kernel_of s)) s) bag corrupt ≡ (opens_two (world_of ts cs s bag corrupt) t p).world
 opens_two-ok ts us cs (Down k) bag corrupt t p e row = rw (e, row) refl
 opens_two-ok ts us cs (Up k b) bag corrupt t p e row = rw (e, row) refl
 

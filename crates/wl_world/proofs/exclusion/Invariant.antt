@@ -22,7 +22,7 @@ use Rattle.wl_bag.specs.declared.message.Sender.{Sender}
 use Rattle.wl_bag.specs.declared.message.Message.{Message}
 use Rattle.wl_bag.specs.declared.message.Message.TheVariants.{Up, Down}
 use Rattle.wl_bag.specs.Membership.{In}
-use Rattle.wl_tab.specs.Tabs.{command_limit}
+use Rattle.wl_tab.specs.declared.locks.TheConstants.{COMMAND_LIMIT}
 use Rattle.wl_world.specs.World.{WorldState, tab_of, lives, partition_of}
 use Rattle.wl_world.specs.Holdings.{IsHonest}
 use Rattle.wl_world.proofs.exclusion.HeldAfterSettling.{Compatible, Stands}
@@ -104,7 +104,7 @@ IsSaid x u = In u (report_bodies x.in_parts x.report)
 
 -- as a tab is born, of either kind
 abbrev pub IsBorn : ℕ → TabState → Type 0
-IsBorn t x = (in_parts : Bool) × (x ≡ born in_parts t command_limit)
+IsBorn t x = (in_parts : Bool) × (x ≡ born in_parts t COMMAND_LIMIT)
 
 -- what the broker keeps of a tab's report is of the one that the tab made on entering the generation
 abbrev pub KeepsOf : ℕ → TabState → Partial → Type 0

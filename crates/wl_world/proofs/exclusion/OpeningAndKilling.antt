@@ -15,7 +15,7 @@ use Rattle.wl_kernel.specs.declared.fault.OpenFault.TheVariants.{NumberTaken, To
 use Rattle.wl_kernel.specs.Kernel.{KernelState, OpenedTab, tab_in, is_opened, number_beside, open_refusal, opened, ended, killed, lives as lives_in, living_tabs, living_of, living_limit, partition_limit}
 use Rattle.wl_bag.specs.Membership.{In}
 use Rattle.wl_bag.proofs.Membership.{apart, either, In-nil}
-use Rattle.wl_tab.specs.Tabs.{command_limit}
+use Rattle.wl_tab.specs.declared.locks.TheConstants.{COMMAND_LIMIT}
 use Rattle.wl_world.specs.World.{WorldState, tab_of, lives, partition_of, opens, with_two, opens_two, kills, with_kernel}
 use Rattle.wl_world.specs.Holdings.{IsHonest}
 use Rattle.wl_world.proofs.exclusion.HeldAfterSettling.{Compatible-fewer}
@@ -186,9 +186,9 @@ born-sound t x e = subst (SoundTab t) (sym e.1) (record {
 })
 
 -- until it is opened nothing tells of which kind it is
-two-grown : (w : WorldState) (t : ℕ) → Sound w → was_opened w t ≡ false → Grown w (put t (newborn_two t command_limit) w.tabs) w.bag
+two-grown : (w : WorldState) (t : ℕ) → Sound w → was_opened w t ≡ false → Grown w (put t (newborn_two t COMMAND_LIMIT) w.tabs) w.bag
 two-grown w t s un =
-    let y = newborn_two t command_limit in
+    let y = newborn_two t COMMAND_LIMIT in
     let o = (s.unopened t un).1 in
     let none = ap (λ z. z.issued) o in
     record {
@@ -205,7 +205,7 @@ two-grown w t s un =
     }
 
 pub two-sound : (w : WorldState) (t : ℕ) → Sound w → was_opened w t ≡ false → Sound (with_two t w)
-two-sound w t s un = grown-sound w s (put t (newborn_two t command_limit) w.tabs) w.bag (two-grown w t s un)
+two-sound w t s un = grown-sound w s (put t (newborn_two t COMMAND_LIMIT) w.tabs) w.bag (two-grown w t s un)
 
 pub opens_two-sound : (w : WorldState) (t : ℕ) (p : Pair) → Sound w → Sound (after w (opens_two w t p))
 opens_two-sound w t p s =

@@ -15,7 +15,7 @@ use Rattle.wl_bag.specs.Messages.{is_sent}
 use Rattle.wl_bag.specs.Membership.{In}
 use Rattle.wl_bag.proofs.Membership.{apart, In-nil}
 use Rattle.wl_bag.proofs.Same.{is_sent-In}
-use Rattle.wl_tab.specs.Tabs.{command_limit}
+use Rattle.wl_tab.specs.declared.locks.TheConstants.{COMMAND_LIMIT}
 use Rattle.wl_world.specs.declared.event.Event.{Event}
 use Rattle.wl_world.specs.declared.event.Event.TheVariants as event
 use Rattle.wl_world.specs.World.{WorldState, empty_world, lives, channels_of, becomes, hears, comes_up, comes, buries, tells, deed, happens, run}
@@ -39,7 +39,7 @@ pub empty-sound : Sound empty_world
 empty-sound = record {
   positive = omega arith;
   current = refl;
-  tabs = λ t. born-sound t (newborn t command_limit) (false, refl);
+  tabs = λ t. born-sound t (newborn t COMMAND_LIMIT) (false, refl);
   entered = λ t. omega arith;
   unopened = λ t e. (false, refl);
   since = λ t. omega arith;

@@ -26,7 +26,8 @@ use Rattle.wl_bag.specs.Messages.{sent_all}
 use Rattle.wl_bag.specs.Membership.{In}
 use Rattle.wl_bag.proofs.Membership.{apart, either, In-nil, In-one, In-map_cases}
 use Rattle.wl_bag.proofs.Same.{sent_all-keeps, sent_all-cases}
-use Rattle.wl_tab.specs.Tabs.{told, command_limit}
+use Rattle.wl_tab.specs.declared.locks.TheConstants.{COMMAND_LIMIT}
+use Rattle.wl_tab.specs.Tabs.{told}
 use Rattle.wl_world.specs.declared.event.Forged.{Forged}
 use Rattle.wl_world.specs.World.{WorldState, tab_of, partition_of, Deed, nothing, where_allowed, acts, stamped, issues, asks, queries, aborts, releases, resends, becomes, across, report_if_entered, hears, with_kernel, opens, with_two, opens_two, kills, lives, channels_of, opens_channel, posts, reads, closes, is_corrupt, taken_over, corrupts, forgery, forges}
 use Rattle.wl_world.specs.Holdings.{IsHonest}
@@ -229,7 +230,7 @@ pub opens_two-quiet : (w : WorldState) (t : ℕ) (p : Pair) → Sound w → Base
 opens_two-quiet w t p s b =
     quiet-allowed w (not (is_some (open_refusal t p w.kernel))) (with_kernel (opened t p w.kernel) (with_two t w)) b
     (λ n. let un = not_opened w.kernel t p (not-true _ n) in
-    let y = newborn_two t command_limit in record {
+    let y = newborn_two t COMMAND_LIMIT in record {
       broker = refl;
       stable = each_opened (λ u o q. was_opened w u ≡ true → (is_some o ≡ true) × (q ≡ partition_of w u)) w.kernel t p un (λ q o. apart o un) (λ u d o. (o, refl));
       issued = each_tab (λ u z. Grows (tab_of w u).issued z.issued) t y w.tabs (Grows-same _ _ (sym (ap (λ z. z.issued) (s.unopened t un).1))) (λ u n. Grows-same _ _ refl);

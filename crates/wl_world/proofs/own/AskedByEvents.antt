@@ -19,7 +19,8 @@ use Rattle.wl_bag.specs.declared.message.Message.{Message}
 use Rattle.wl_bag.specs.declared.message.Message.TheVariants.{Up, Down, Across}
 use Rattle.wl_bag.specs.Messages.{is_sent}
 use Rattle.wl_bag.proofs.Membership.{apart, either}
-use Rattle.wl_tab.specs.Tabs.{command_limit, told}
+use Rattle.wl_tab.specs.declared.locks.TheConstants.{COMMAND_LIMIT}
+use Rattle.wl_tab.specs.Tabs.{told}
 use Rattle.wl_world.specs.declared.event.Event.{Event}
 use Rattle.wl_world.specs.declared.event.Event.TheVariants as event
 use Rattle.wl_world.specs.World.{WorldState, empty_world, with_two, tab_of, lives, Deed, nothing, where_allowed, acts, issues, asks, queries, aborts, releases, resends, becomes, report_if_entered, hears, follows, comes_up, comes, tells, stops, starts, greets, deed, happens, run}
@@ -155,7 +156,7 @@ greets-adds e w t None = none-added e w (nothing w) refl
 greets-adds e w t (Some b) = allowed-adds e w _ _ (λ u k lt. inl (lt, refl))
 
 two-adds : (e : Event) (w : WorldState) (t : ℕ) → (u : ℕ) → Adds e u (tab_of w u) (tab_of (with_two t w) u)
-two-adds e w t = each_tab (λ u z. Adds e u (tab_of w u) z) t (newborn_two t command_limit) w.tabs (λ k lt. absurd (omega arith)) (λ u n k lt. inl (lt, refl))
+two-adds e w t = each_tab (λ u z. Adds e u (tab_of w u) z) t (newborn_two t COMMAND_LIMIT) w.tabs (λ k lt. absurd (omega arith)) (λ u n k lt. inl (lt, refl))
 
 deed-adds : (e : Event) (w : WorldState) → Sound w → AddsBy e w (deed w e)
 unfolding deed

@@ -17,7 +17,8 @@ use Rattle.wl_bag.specs.declared.message.Message.{Message}
 use Rattle.wl_bag.specs.declared.message.Message.TheVariants.{Up, Down, Across}
 use Rattle.wl_bag.specs.Messages.{is_sent}
 use Rattle.wl_bag.proofs.Membership.{either}
-use Rattle.wl_tab.specs.Tabs.{command_limit, told}
+use Rattle.wl_tab.specs.declared.locks.TheConstants.{COMMAND_LIMIT}
+use Rattle.wl_tab.specs.Tabs.{told}
 use Rattle.wl_world.specs.declared.event.Event.{Event}
 use Rattle.wl_world.specs.declared.event.Event.TheVariants as event
 use Rattle.wl_world.specs.World.{WorldState, empty_world, with_two, tab_of, lives, Deed, nothing, where_allowed, acts, asks, queries, aborts, releases, resends, becomes, report_if_entered, hears, follows, comes_up, comes, tells, stops, starts, greets, deed, happens, run}
@@ -140,7 +141,7 @@ greets-keeps w t (Some b) = allowed-keeps w _ _ (λ u. refl)
 
 -- a tab that is opened with a row has its own number, as it had without one
 two-keeps : (w : WorldState) (t : ℕ) → IsNumbered w → (u : ℕ) → (tab_of (with_two t w) u).tab ≡ (tab_of w u).tab
-two-keeps w t own = each_tab (λ u z. z.tab ≡ (tab_of w u).tab) t (newborn_two t command_limit) w.tabs (sym (own t)) (λ u n. refl)
+two-keeps w t own = each_tab (λ u z. z.tab ≡ (tab_of w u).tab) t (newborn_two t COMMAND_LIMIT) w.tabs (sym (own t)) (λ u n. refl)
 
 deed-keeps : (w : WorldState) → IsNumbered w → (e : Event) → Keeps w (deed w e)
 unfolding deed
