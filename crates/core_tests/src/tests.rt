@@ -1,5 +1,7 @@
-//! One file a crate. A crate with tests is proved a second time with them, so they stand apart from what they test.
+//! One file a crate, and what they share. A crate with tests is proved a second time with them, so they stand apart from what they
+//! test.
 
+mod again;
 mod agent;
 mod broadcast;
 mod draft;

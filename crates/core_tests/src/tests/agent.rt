@@ -1,15 +1,15 @@
 //! A tab's locks. A call that is refused for memory is made again, and has to give the row's answer then: so these tests
 //! pass whichever allocation is refused.
 
+use super::again::{is_spelled, name, spelling};
 use std::alloc::{AllocError, Global};
 use std::process::Abort;
 use std::str;
 use wl_agent::{
     Agent, AgentFault, Asking, DeadAgent, Delivered, Foreign, HeldLock, LockInfo, MessageFault,
-    Mode, Name, Pending, Probe, ProbeSettled, QuerySettled, Resend, Settled, Snapshot, Token,
-    Unheard,
+    Mode, Pending, Probe, ProbeSettled, QuerySettled, Resend, Settled, Snapshot, Token, Unheard,
 };
-use wl_frames::{Answer, Frame, Hello, Outcome, Sequence, SnapshotEntry, encode};
+use wl_frames::{Answer, Frame, Hello, Outcome, Sequence, SnapshotEntry};
 
 /// How many commands a tab may issue, where a row does not say.
 const NUMBERS: u32 = 1_000_000;
@@ -132,9 +132,14 @@ fn heard(delivered: Delivered) -> Told {
     }
 }
 
+/// What a frame that comes is to the tab.
+fn taken_as(agent: &mut Agent, frame: Frame) -> Told {
+    heard(deliver(agent, &frame))
+}
+
 /// Delivers a frame, and asserts what it is to the tab.
 fn hears(rt: &impl Abort, agent: &mut Agent, frame: Frame, want: Told) {
-    assert!(rt; heard(deliver(agent, &frame)) == want);
+    assert!(rt; taken_as(agent, frame) == want);
 }
 
 fn hello(generation: u32) -> Frame {
@@ -161,54 +166,44 @@ fn part(number: u32, part: u16, parts: u16, entries: Vec<SnapshotEntry>) -> Fram
     })
 }
 
-fn entry(alloc: Global, held: bool, tab: u16, mode: Mode) -> Result<SnapshotEntry, AllocError> {
-    Ok(SnapshotEntry {
+fn entry(rt: &impl Abort, alloc: Global, held: bool, tab: u16, mode: Mode) -> SnapshotEntry {
+    SnapshotEntry {
         held,
         tab,
         mode,
-        name: Name::new(String::from_str(alloc, "a")?),
-    })
+        name: name(rt, alloc, "a"),
+    }
 }
 
 /// Tab 1 holds `a` alone, and tab 2 waits to share it.
-fn entries(alloc: Global) -> Result<Vec<SnapshotEntry>, AllocError> {
-    let mut entries = Vec::with_capacity(alloc, 2)?;
-    entries.push(entry(alloc, true, 1, Mode::Exclusive)?)?;
-    entries.push(entry(alloc, false, 2, Mode::Shared)?)?;
-    Ok(entries)
+fn entries(rt: &impl Abort, alloc: Global) -> Result<Vec<SnapshotEntry>, AllocError> {
+    let held = entry(rt, alloc, true, 1, Mode::Exclusive);
+    let waiting = entry(rt, alloc, false, 2, Mode::Shared);
+    Ok(vec![in alloc; held, waiting]?)
 }
 
 fn locks(rt: &impl Abort, alloc: Global) -> Vec<SnapshotEntry> {
-    match entries(alloc) {
+    match entries(rt, alloc) {
         Ok(entries) => entries,
-        Err(_) => entries(alloc).expect(rt, "memory is back"),
+        Err(_) => entries(rt, alloc).expect(rt, "memory is back"),
     }
 }
 
 // ---- what the tab sends
 
-fn spelling(rt: &impl Abort, alloc: Global, frame: &Frame) -> Vec<u8> {
-    assert!(rt; frame.is_well_formed());
-    match encode(alloc, frame) {
-        Ok(bytes) => bytes,
-        Err(_) => encode(alloc, frame).expect(rt, "memory is back"),
-    }
-}
-
-/// Asserts how a frame is spelled.
-fn spells(rt: &impl Abort, alloc: Global, frame: Frame, want: &[u8]) {
-    let bytes = spelling(rt, alloc, &frame);
-    assert_eq!(rt; bytes.as_slice(), want);
+/// What is left of these bytes behind the spelling of a frame.
+fn behind<'a>(rt: &impl Abort, alloc: Global, frame: &Frame, bytes: &'a [u8]) -> &'a [u8] {
+    let spelling = spelling(rt, alloc, frame);
+    bytes
+        .strip_prefix(spelling.as_slice())
+        .expect(rt, "what is wanted next")
 }
 
 /// Asserts how frames are spelled, one after another.
 fn spells_all(rt: &impl Abort, alloc: Global, frames: Sequence<Frame>, want: &[u8]) {
     let mut rest = want;
     for frame in frames.as_slice() {
-        let bytes = spelling(rt, alloc, frame);
-        rest = rest
-            .strip_prefix(bytes.as_slice())
-            .expect(rt, "what is wanted next");
+        rest = behind(rt, alloc, frame, rest);
     }
     assert!(rt; rest.is_empty());
 }
@@ -223,7 +218,7 @@ fn enters(rt: &impl Abort, alloc: Global, agent: &mut Agent, generation: u32, wa
 
 fn sends(rt: &impl Abort, alloc: Global, agent: &Agent, number: u32, want: &[u8]) {
     let frame = message(agent, number).expect(rt, "issued");
-    spells(rt, alloc, frame, want);
+    assert!(rt; is_spelled(rt, alloc, &frame, want));
 }
 
 fn reports(rt: &impl Abort, alloc: Global, agent: &Agent, want: &[u8]) {
@@ -339,14 +334,32 @@ fn refuses_report(rt: &impl Abort, agent: &Agent, want: MessageFault) {
     assert_eq!(rt; report(agent).err(), Some(want));
 }
 
-/// A tab of three numbers, of which a request keeps two and a query has one.
-fn full(rt: &impl Abort, alloc: Global) -> (Agent, Pending, Asking) {
+/// Issues a request, which has to have this number.
+fn requests(rt: &impl Abort, agent: &mut Agent, name: &str, number: u32) -> Pending {
+    let pending = request(agent, name, Mode::Exclusive).expect(rt, "issued");
+    assert_eq!(rt; pending.number(), number);
+    pending
+}
+
+/// Issues a query, which has to have this number.
+fn queries(rt: &impl Abort, agent: &mut Agent, number: u32) -> Asking {
+    let asking = query(agent).expect(rt, "issued");
+    assert_eq!(rt; asking.number(), number);
+    asking
+}
+
+/// A tab of three numbers, of which a request keeps two.
+fn almost_full(rt: &impl Abort, alloc: Global) -> (Agent, Pending) {
     let mut agent = Agent::new(alloc, 1, 3);
-    let pending = request(&mut agent, "a", Mode::Exclusive).expect(rt, "issued");
-    assert_eq!(rt; pending.number(), 0);
+    let pending = requests(rt, &mut agent, "a", 0);
     refuses_request(rt, &mut agent, AgentFault::NumbersUsedUp);
-    let asking = query(&mut agent).expect(rt, "issued");
-    assert_eq!(rt; asking.number(), 1);
+    (agent, pending)
+}
+
+/// That tab when a query has the third.
+fn full(rt: &impl Abort, alloc: Global) -> (Agent, Pending, Asking) {
+    let (mut agent, pending) = almost_full(rt, alloc);
+    let asking = queries(rt, &mut agent, 1);
     refuses_query(rt, &mut agent, AgentFault::NumbersUsedUp);
     (agent, pending, asking)
 }
@@ -498,17 +511,26 @@ fn fill(rt: &impl Abort, agent: &mut Agent, dead: &DeadAgent, first: u32, limit:
     }
 }
 
+/// Asserts what a request is answered.
+fn is_answered_by(
+    rt: &impl Abort,
+    agent: &mut Agent,
+    dead: &DeadAgent,
+    name: &str,
+    want: Result<u32, AgentFault>,
+) {
+    let answer = ask(agent, dead, name, Mode::Exclusive);
+    assert_eq!(rt; answer, want);
+}
+
 /// Names at the limit of their length, and after `-`.
 fn names(rt: &impl Abort, agent: &mut Agent, dead: &DeadAgent) {
     let letters = [b'a'; 256];
     let too_long = str::from_utf8(&letters).expect(rt, "a text");
     let longest = str::from_utf8(&letters[..255]).expect(rt, "a text");
-    let refused = ask(agent, dead, "-x", Mode::Exclusive);
-    assert_eq!(rt; refused, Err(AgentFault::NotSupported));
-    let issued = ask(agent, dead, longest, Mode::Exclusive);
-    assert_eq!(rt; issued, Ok(1));
-    let refused = ask(agent, dead, too_long, Mode::Exclusive);
-    assert_eq!(rt; refused, Err(AgentFault::NameTooLong));
+    is_answered_by(rt, agent, dead, "-x", Err(AgentFault::NotSupported));
+    is_answered_by(rt, agent, dead, longest, Ok(1));
+    is_answered_by(rt, agent, dead, too_long, Err(AgentFault::NameTooLong));
 }
 
 #[test]
@@ -516,8 +538,7 @@ fn refusals(rt: HostRuntime) {
     let alloc = rt.alloc();
     let dead = Agent::new(alloc, 9, 0).die();
     let mut agent = entered(&rt, alloc, 1);
-    let empty = request(&mut agent, "", Mode::Exclusive).expect(&rt, "issued");
-    assert_eq!(rt; empty.number(), 0);
+    let empty = requests(&rt, &mut agent, "", 0);
     names(&rt, &mut agent, &dead);
     fill(&rt, &mut agent, &dead, 2, 64);
     refuses_request(&rt, &mut agent, AgentFault::TooMany);
@@ -531,8 +552,7 @@ fn busy(rt: &impl Abort, alloc: Global) -> (Agent, Pending, Probe, Asking) {
     let (mut agent, pending) = granted(rt, alloc, Mode::Exclusive);
     let probe = probe(rt, &mut agent, "a", Mode::Shared);
     assert_eq!(rt; probe.number(), 1);
-    let asking = query(&mut agent).expect(rt, "issued");
-    assert_eq!(rt; asking.number(), 2);
+    let asking = queries(rt, &mut agent, 2);
     (agent, pending, probe, asking)
 }
 

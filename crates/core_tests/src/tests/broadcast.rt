@@ -1,18 +1,26 @@
-// A tab's channels. Each call that may answer for want of memory is made again where it does, and has to answer as if it
-// had not been refused: so these tests pass whichever allocation is refused.
+//! A tab's channels. Each call that may answer for want of memory is made again where it does, and has to answer as if it
+//! had not been refused: so these tests pass whichever allocation is refused.
+
+use super::again::{bytes, name};
 use bytes::Bytes;
-use std::alloc::{AllocError, Global};
+use std::alloc::Global;
 use std::process::Abort;
 use std::str;
 use wl_broadcast::{Channel, ChannelFault, Channels, Foreign, Hearing, Letter, Posted};
-use wl_frames::{Frame, Heard, Name};
+use wl_frames::{Frame, Heard};
+
+/// The call alone: a caller that sees none of its clauses is checked much sooner. So it is with each call below that has once in
+/// its name.
+fn open_once(channels: &mut Channels, name: &str) -> Result<Channel, ChannelFault> {
+    channels.open(name)
+}
 
 fn open(rt: &impl Abort, channels: &mut Channels, name: &str) -> Channel {
-    match channels.open(name) {
+    match open_once(channels, name) {
         Ok(channel) => channel,
         Err(fault) => {
             assert!(rt; fault == ChannelFault::Memory);
-            channels.open(name).expect(rt, "memory is back")
+            open_once(channels, name).expect(rt, "memory is back")
         }
     }
 }
@@ -31,12 +39,20 @@ fn close(rt: &impl Abort, channels: &mut Channels, channel: Channel) {
     }
 }
 
+fn post_once(
+    channels: &mut Channels,
+    channel: &Channel,
+    data: &[u8],
+) -> Result<Posted, ChannelFault> {
+    channels.post(channel, data)
+}
+
 fn post(rt: &impl Abort, channels: &mut Channels, channel: &Channel, data: &[u8]) -> Posted {
-    match channels.post(channel, data) {
+    match post_once(channels, channel, data) {
         Ok(posted) => posted,
         Err(fault) => {
             assert!(rt; fault == ChannelFault::Memory);
-            channels.post(channel, data).expect(rt, "memory is back")
+            post_once(channels, channel, data).expect(rt, "memory is back")
         }
     }
 }
@@ -53,32 +69,33 @@ fn is_post(frame: &Frame, number: u32) -> bool {
     }
 }
 
-fn name(alloc: Global, text: &str) -> Result<Name, AllocError> {
-    Ok(Name::new(String::from_str(alloc, text)?))
-}
-
 /// The post of another tab, of the data `x` to the name `n`.
 fn heard(rt: &impl Abort, alloc: Global, source: u16, number: u32) -> Frame {
-    let channel = match name(alloc, "n") {
-        Ok(channel) => channel,
-        Err(_) => name(alloc, "n").expect(rt, "memory is back"),
-    };
     Frame::Heard(Heard {
         source,
         number,
-        channel,
+        channel: name(rt, alloc, "n"),
         bytes: Bytes::from_static(b"x"),
     })
 }
 
+fn hear_once(channels: &mut Channels, frame: &Frame) -> Result<Hearing, ChannelFault> {
+    channels.heard(frame)
+}
+
 fn hear(rt: &impl Abort, channels: &mut Channels, frame: &Frame) -> Hearing {
-    match channels.heard(frame) {
+    match hear_once(channels, frame) {
         Ok(hearing) => hearing,
         Err(fault) => {
             assert!(rt; fault == ChannelFault::Memory);
-            channels.heard(frame).expect(rt, "memory is back")
+            hear_once(channels, frame).expect(rt, "memory is back")
         }
     }
+}
+
+/// How the post of tab 1 is heard.
+fn hear_post(rt: &impl Abort, alloc: Global, channels: &mut Channels, number: u32) -> Hearing {
+    hear(rt, channels, &heard(rt, alloc, 1, number))
 }
 
 fn is_new(hearing: &Hearing, takers: &[usize], filled: &[usize]) -> bool {
@@ -97,15 +114,12 @@ fn hears_new(
     takers: &[usize],
     filled: &[usize],
 ) -> bool {
-    let frame = heard(rt, alloc, 1, number);
-    is_new(&hear(rt, channels, &frame), takers, filled)
+    is_new(&hear_post(rt, alloc, channels, number), takers, filled)
 }
 
 /// Whether the post of tab 1 that comes is an old one.
 fn hears_old(rt: &impl Abort, alloc: Global, channels: &mut Channels, number: u32) -> bool {
-    let frame = heard(rt, alloc, 1, number);
-    let hearing = hear(rt, channels, &frame);
-    matches!(&hearing, Hearing::Old)
+    matches!(&hear_post(rt, alloc, channels, number), Hearing::Old)
 }
 
 /// Whether this was the post of the source and the number, with the data `x`.
@@ -113,18 +127,20 @@ fn is_letter(letter: &Letter, source: u16, number: u32) -> bool {
     letter.source == source && letter.number == number && letter.bytes.as_slice() == b"x".as_slice()
 }
 
+fn read_once(channels: &mut Channels, channel: &Channel) -> Result<Option<Letter>, ChannelFault> {
+    channels.read(channel)
+}
+
 /// Reads the channel's oldest post, which has to be this one.
 fn reads(channels: &mut Channels, channel: &Channel, source: u16, number: u32) -> bool {
-    let letter = channels.read(channel);
-    match &letter {
+    match &read_once(channels, channel) {
         Ok(Some(letter)) => is_letter(letter, source, number),
         _ => false,
     }
 }
 
 fn reads_nothing(channels: &mut Channels, channel: &Channel) -> bool {
-    let letter = channels.read(channel);
-    matches!(&letter, Ok(None))
+    matches!(&read_once(channels, channel), Ok(None))
 }
 
 fn is_refused<T>(answer: &Result<T, ChannelFault>, fault: ChannelFault) -> bool {
@@ -136,7 +152,7 @@ fn is_refused<T>(answer: &Result<T, ChannelFault>, fault: ChannelFault) -> bool 
 
 /// Whether the name is not opened, for this cause.
 fn refuses_name(rt: &impl Abort, channels: &mut Channels, name: &str, fault: ChannelFault) -> bool {
-    match channels.open(name) {
+    match open_once(channels, name) {
         Ok(channel) => {
             close(rt, channels, channel);
             false
@@ -152,15 +168,15 @@ fn refuses_post(
     data: &[u8],
     fault: ChannelFault,
 ) -> bool {
-    is_refused(&channels.post(channel, data), fault)
+    is_refused(&post_once(channels, channel, data), fault)
 }
 
 fn refuses_read(channels: &mut Channels, channel: &Channel, fault: ChannelFault) -> bool {
-    is_refused(&channels.read(channel), fault)
+    is_refused(&read_once(channels, channel), fault)
 }
 
 fn refuses_frame(channels: &mut Channels, frame: &Frame, fault: ChannelFault) -> bool {
-    is_refused(&channels.heard(frame), fault)
+    is_refused(&hear_once(channels, frame), fault)
 }
 
 /// A channel of another tab, which is given back and not closed.
@@ -171,19 +187,24 @@ fn given_back(rt: &impl Abort, channels: &mut Channels, channel: Channel) -> Cha
     }
 }
 
+/// Asserts that a post is taken by channel 1 alone, and that its frame is none that comes.
+fn posts_to_twin(rt: &impl Abort, channels: &mut Channels, sender: &Channel) {
+    let posted = post(rt, channels, sender, b"x");
+    assert!(rt; is_post(&posted.frame, 0));
+    assert!(rt; posted.took.as_slice() == [1].as_slice());
+    assert!(rt; posted.full.as_slice().is_empty());
+    assert!(rt; refuses_frame(channels, &posted.frame, ChannelFault::WrongKind));
+}
+
 #[test]
 fn broadcast(rt: HostRuntime) {
     let mut channels = Channels::new(rt.alloc(), 1);
     let sender = opened(&rt, &mut channels, "n", 0);
     let twin = opened(&rt, &mut channels, "n", 1);
-    let posted = post(&rt, &mut channels, &sender, b"x");
-    assert!(rt; is_post(&posted.frame, 0));
-    assert!(rt; posted.took.as_slice() == [1].as_slice());
-    assert!(rt; posted.full.as_slice().is_empty());
+    posts_to_twin(&rt, &mut channels, &sender);
     assert!(rt; reads(&mut channels, &twin, 1, 0));
     assert!(rt; reads_nothing(&mut channels, &twin));
     assert!(rt; reads_nothing(&mut channels, &sender));
-    assert!(rt; refuses_frame(&mut channels, &posted.frame, ChannelFault::WrongKind));
     close(&rt, &mut channels, sender);
     close(&rt, &mut channels, twin);
 }
@@ -226,18 +247,6 @@ fn broadcast_2(rt: HostRuntime) {
     close(&rt, &mut channels, channel);
 }
 
-fn repeated(alloc: Global, byte: u8, count: usize) -> Result<Vec<u8>, AllocError> {
-    vec![in alloc; byte; count]
-}
-
-/// The byte, so many times.
-fn bytes(rt: &impl Abort, alloc: Global, byte: u8, count: usize) -> Vec<u8> {
-    match repeated(alloc, byte, count) {
-        Ok(bytes) => bytes,
-        Err(_) => repeated(alloc, byte, count).expect(rt, "memory is back"),
-    }
-}
-
 #[test]
 fn limit_of_names(rt: HostRuntime) {
     let alloc = rt.alloc();
@@ -271,11 +280,16 @@ fn foreign_channel(rt: HostRuntime) {
     let mut channels = Channels::new(alloc, 1);
     let channel = opened(&rt, &mut channels, "n", 0);
     let mut others = Channels::new(alloc, 2);
-    assert!(rt; refuses_post(&mut others, &channel, b"x", ChannelFault::ForeignChannel));
-    assert!(rt; refuses_read(&mut others, &channel, ChannelFault::ForeignChannel));
-    assert!(rt; others.inbox(&channel) == Err(ChannelFault::ForeignChannel));
+    refuses_foreign(&rt, &mut others, &channel);
     let channel = given_back(&rt, &mut others, channel);
     close(&rt, &mut channels, channel);
+}
+
+/// Asserts that another tab has no such channel.
+fn refuses_foreign(rt: &impl Abort, others: &mut Channels, channel: &Channel) {
+    assert!(rt; refuses_post(others, channel, b"x", ChannelFault::ForeignChannel));
+    assert!(rt; refuses_read(others, channel, ChannelFault::ForeignChannel));
+    assert!(rt; others.inbox(channel) == Err(ChannelFault::ForeignChannel));
 }
 
 /// Opens 64 channels.

@@ -1,13 +1,14 @@
-//! Frames: an example of each kind as bytes and as a value, streams in pieces, faults, and the limits of the forms.
+//! Frames: an example of each kind as bytes and as a value, streams in pieces, faults, and the limits of the forms. A call that
+//! is refused memory is made again, and has to give the row's answer then: so these tests pass whichever allocation is refused.
 
+use super::again::{bytes, is_spelled, name};
 use bytes::Bytes;
 use std::alloc::{AllocError, Global};
 use std::process::Abort;
-use std::test::Fail;
 use wl_frames::{
     Addressed, Answer, Command, Dead, Downward, Entry, Feed, Frame, FrameFault, Heard, Hello, Mode,
     Name, Operation, Origin, Outcome, PairWelcome, Post, PushFault, Report, ReportPart, Sequence,
-    Snapshot, SnapshotEntry, Stamped, Start, Upward, encode, encode_into,
+    Snapshot, SnapshotEntry, Stamped, Start, Upward, encode_into,
 };
 
 /// The command 0 of generation 1: the lock `a` is requested, exclusive.
@@ -63,17 +64,20 @@ fn is_example(frame: &Frame) -> bool {
 
 fn is_first_command(frame: &Frame) -> bool {
     match frame {
-        Frame::Command(
-            Command {
-                generation: 1,
-                number: 0,
-                operation: Operation::Request {
-                    mode: Mode::Exclusive,
-                    if_available: false,
-                    name,
-                },
-            },
-        ) => name.as_str() == "a",
+        Frame::Command(command) => {
+            command.generation == 1 && command.number == 0 && is_first_operation(&command.operation)
+        }
+        _ => false,
+    }
+}
+
+fn is_first_operation(operation: &Operation) -> bool {
+    match operation {
+        Operation::Request {
+            mode,
+            if_available,
+            name,
+        } => *mode == Mode::Exclusive && !*if_available && name.as_str() == "a",
         _ => false,
     }
 }
@@ -192,65 +196,77 @@ fn is_addressed(addressed: &Addressed) -> bool {
     }
 }
 
-/// The frame is well formed, and spelled by these bytes; where memory is refused it is spelled again.
-fn spelled(rt: &impl Abort, alloc: Global, frame: &Frame, bytes: &[u8]) -> Result<(), Fail> {
-    assert!(rt; frame.is_well_formed());
-    let spelled = match encode(alloc, frame) {
-        Ok(spelled) => spelled,
-        Err(_) => encode(alloc, frame)?,
-    };
-    assert!(rt; spelled.as_slice() == bytes, "{bytes:?}");
-    Ok(())
+fn copy_of(rt: &impl Abort, alloc: Global, frame: &Frame) -> Frame {
+    match frame.copy(alloc) {
+        Ok(copy) => copy,
+        Err(_) => frame.copy(alloc).expect(rt, "memory is back"),
+    }
 }
 
-/// The frame is an example of its kind, and it and a copy of it are spelled by these bytes.
-fn expect_example(rt: &impl Abort, alloc: Global, frame: &Frame, bytes: &[u8]) -> Result<(), Fail> {
-    assert!(rt; is_example(frame), "{bytes:?}");
-    spelled(rt, alloc, frame, bytes)?;
-    let copy = match frame.copy(alloc) {
-        Ok(copy) => copy,
-        Err(_) => frame.copy(alloc)?,
-    };
-    spelled(rt, alloc, &copy, bytes)
+/// Whether a copy of the frame is spelled by these bytes.
+fn is_copy_spelled(rt: &impl Abort, alloc: Global, frame: &Frame, bytes: &[u8]) -> bool {
+    is_spelled(rt, alloc, &copy_of(rt, alloc, frame), bytes)
+}
+
+/// Whether the frame is an example of its kind, and it and a copy of it are spelled by these bytes.
+fn is_example_of(rt: &impl Abort, alloc: Global, frame: &Frame, bytes: &[u8]) -> bool {
+    is_example(frame)
+        && is_spelled(rt, alloc, frame, bytes)
+        && is_copy_spelled(rt, alloc, frame, bytes)
+}
+
+/// Asserts that the bytes are one frame, which is an example of its kind.
+fn expect_example(rt: &impl Abort, alloc: Global, bytes: &[u8]) {
+    let frames = frames_of(rt, alloc, bytes);
+    assert_eq!(rt; frames.len(), 1);
+    for frame in &frames {
+        assert!(rt; is_example_of(rt, alloc, frame, bytes), "{bytes:?}");
+    }
 }
 
 #[test]
-fn frames_of_each_kind(rt: HostRuntime) -> Result<(), Fail> {
+fn frames_of_each_kind(rt: HostRuntime) {
     for bytes in EXAMPLES.iter() {
-        let mut feed = Feed::new(rt.alloc());
-        let frames = pushed(&rt, &mut feed, bytes);
-        assert_eq!(rt; frames.len(), 1);
-        for frame in &frames {
-            expect_example(&rt, rt.alloc(), frame, bytes)?;
-        }
+        expect_example(&rt, rt.alloc(), bytes);
     }
-    Ok(())
 }
 
 /// Appends the encoding, and once more where memory was refused, since the bytes are as they were then.
-fn append(rt: &impl Abort, bytes: &mut Vec<u8>, frame: &Frame) -> Result<(), Fail> {
+fn append(rt: &impl Abort, bytes: &mut Vec<u8>, frame: &Frame) {
     assert!(rt; frame.is_well_formed());
     let before = bytes.len();
     if encode_into(bytes, frame).is_err() {
         assert_eq!(rt; bytes.len(), before);
-        encode_into(bytes, frame)?;
+        encode_into(bytes, frame).expect(rt, "memory is back");
     }
-    Ok(())
+}
+
+fn append_all(rt: &impl Abort, bytes: &mut Vec<u8>, frames: &[Frame]) {
+    for frame in frames {
+        append(rt, bytes, frame);
+    }
+}
+
+/// Asserts that the bytes are the first examples, so many of them.
+fn expect_examples(rt: &impl Abort, bytes: &[u8], count: usize) {
+    let mut rest = bytes;
+    for example in EXAMPLES.iter().take(count) {
+        rest = rest.strip_prefix(*example).expect(rt, "the next example");
+    }
+    assert!(rt; rest.is_empty());
 }
 
 #[test]
-fn frames_behind_each_other(rt: HostRuntime) -> Result<(), Fail> {
+fn frames_behind_each_other(rt: HostRuntime) {
     let mut bytes = Vec::new(rt.alloc());
-    let mut expected = Vec::new(rt.alloc());
-    for example in EXAMPLES.iter() {
-        let mut feed = Feed::new(rt.alloc());
-        for frame in &pushed(&rt, &mut feed, example) {
-            append(&rt, &mut bytes, frame)?;
-        }
-        expected.extend_from_slice(example)?;
-        assert!(rt; bytes.as_slice() == expected.as_slice());
+    for (place, example) in EXAMPLES.iter().enumerate() {
+        append_all(
+            &rt,
+            &mut bytes,
+            frames_of(&rt, rt.alloc(), example).as_slice(),
+        );
+        expect_examples(&rt, bytes.as_slice(), place + 1);
     }
-    Ok(())
 }
 
 // ---- streams in pieces
@@ -277,6 +293,11 @@ fn pushed(rt: &impl Abort, feed: &mut Feed, piece: &[u8]) -> Vec<Frame> {
         Ok(frames) => frames,
         Err(refused) => panic!(rt; "{} at {piece:?}", refused.fault),
     }
+}
+
+/// The frames of bytes that have no fault.
+fn frames_of(rt: &impl Abort, alloc: Global, bytes: &[u8]) -> Vec<Frame> {
+    pushed(rt, &mut Feed::new(alloc), bytes)
 }
 
 /// The frames are the command, so many times.
@@ -470,7 +491,7 @@ const REPORT: &[u8] = b"\x01\x02\x00\x00\x00\x01\x00\x00\x00\x64";
 const REPORT_PART: &[u8] = b"\x02\x02\x00\x00\x00\x01\x00\x00\x00\x64\x00\x00\x00\x01";
 
 /// The bytes of a report or part of so many entries, behind its length.
-fn report(alloc: Global, length: u8, front: &[u8], count: u8) -> Result<Vec<u8>, AllocError> {
+fn report_once(alloc: Global, length: u8, front: &[u8], count: u8) -> Result<Vec<u8>, AllocError> {
     let mut bytes = vec![in alloc; 0, 0, 1, length]?;
     bytes.extend_from_slice(front)?;
     bytes.extend_from_slice(&[0, count])?;
@@ -480,78 +501,100 @@ fn report(alloc: Global, length: u8, front: &[u8], count: u8) -> Result<Vec<u8>,
     Ok(bytes)
 }
 
-#[test]
-fn at_most_64_entries(rt: HostRuntime) -> Result<(), Fail> {
-    let alloc = rt.alloc();
-    for (front, most, one_more) in [(REPORT, 0xCC, 0xD3), (REPORT_PART, 0xD0, 0xD7)] {
-        let most = report(alloc, most, front, 64)?;
-        let one_more = report(alloc, one_more, front, 65)?;
-        let mut feed = Feed::new(alloc);
-        assert!(rt; pushed(&rt, &mut feed, &most).len() == 1);
-        fails(&rt, &mut feed, &one_more, 0, FrameFault::BadField);
+fn report(rt: &impl Abort, alloc: Global, length: u8, front: &[u8], count: u8) -> Vec<u8> {
+    match report_once(alloc, length, front, count) {
+        Ok(bytes) => bytes,
+        Err(_) => report_once(alloc, length, front, count).expect(rt, "memory is back"),
     }
-    Ok(())
+}
+
+/// Asserts that one frame may have 64 entries, and none 65.
+fn expect_limit(rt: &impl Abort, alloc: Global, front: &[u8], most: u8, one_more: u8) {
+    let mut feed = Feed::new(alloc);
+    let most = report(rt, alloc, most, front, 64);
+    assert!(rt; pushed(rt, &mut feed, most.as_slice()).len() == 1);
+    let one_more = report(rt, alloc, one_more, front, 65);
+    fails(rt, &mut feed, one_more.as_slice(), 0, FrameFault::BadField);
+}
+
+#[test]
+fn at_most_64_entries(rt: HostRuntime) {
+    expect_limit(&rt, rt.alloc(), REPORT, 0xCC, 0xD3);
+    expect_limit(&rt, rt.alloc(), REPORT_PART, 0xD0, 0xD7);
 }
 
 // ---- which frames are well formed
 
-fn name(alloc: Global, text: &str) -> Result<Name, AllocError> {
-    Ok(Name::new(String::from_str(alloc, text)?))
-}
-
-fn request(alloc: Global, text: &str) -> Result<Frame, AllocError> {
-    let operation = Operation::Request {
-        mode: Mode::Exclusive,
-        if_available: false,
-        name: name(alloc, text)?,
-    };
-    Ok(Frame::Command(Command {
-        generation: 1,
-        number: 0,
-        operation,
-    }))
-}
-
-fn post(alloc: Global, channel: &str, data: &[u8]) -> Result<Frame, AllocError> {
-    let channel = name(alloc, channel)?;
-    let bytes = Bytes::copy_from_slice(alloc, data)?;
-    Ok(Frame::Post(Post {
-        number: 1,
-        channel,
-        bytes,
-    }))
+fn is_formed(frame: Frame) -> bool {
+    frame.is_well_formed()
 }
 
 /// Whether the frame is well formed is what is wanted.
 fn expect_form(rt: &impl Abort, frame: Frame, want: bool) {
-    assert!(rt; frame.is_well_formed() == want);
+    assert!(rt; is_formed(frame) == want);
+}
+
+fn expect_name(rt: &impl Abort, alloc: Global, text: &str, want: bool) {
+    let operation = Operation::Request {
+        mode: Mode::Exclusive,
+        if_available: false,
+        name: name(rt, alloc, text),
+    };
+    let command = Command {
+        generation: 1,
+        number: 0,
+        operation,
+    };
+    expect_form(rt, Frame::Command(command), want);
+}
+
+fn data(rt: &impl Abort, alloc: Global, bytes: &[u8]) -> Bytes {
+    match Bytes::copy_from_slice(alloc, bytes) {
+        Ok(data) => data,
+        Err(_) => Bytes::copy_from_slice(alloc, bytes).expect(rt, "memory is back"),
+    }
+}
+
+fn expect_post(rt: &impl Abort, alloc: Global, channel: &str, bytes: &[u8], want: bool) {
+    let bytes = data(rt, alloc, bytes);
+    let post = Post {
+        number: 1,
+        channel: name(rt, alloc, channel),
+        bytes,
+    };
+    expect_form(rt, Frame::Post(post), want);
+}
+
+/// A text of so many letters is, or is not, a lock's and a channel's name.
+fn expect_long_name(rt: &impl Abort, alloc: Global, length: usize, want: bool) {
+    let letters = bytes(rt, alloc, b'x', length);
+    let text = str::from_utf8(letters.as_slice()).expect(rt, "a text");
+    expect_name(rt, alloc, text, want);
+    expect_post(rt, alloc, text, b"", want);
 }
 
 #[test]
-fn forms_of_names(rt: HostRuntime) -> Result<(), Fail> {
+fn forms_of_names(rt: HostRuntime) {
     let alloc = rt.alloc();
-    for length in 255..257 {
-        let text = "x".repeat(alloc, length)?;
-        expect_form(&rt, request(alloc, text.as_str())?, length == 255);
-        expect_form(&rt, post(alloc, text.as_str(), b"")?, length == 255);
-    }
-    expect_form(&rt, request(alloc, "")?, true);
-    expect_form(&rt, request(alloc, "-")?, false);
-    expect_form(&rt, request(alloc, "a-")?, true);
-    expect_form(&rt, post(alloc, "-", b"")?, true);
-    Ok(())
+    expect_long_name(&rt, alloc, 255, true);
+    expect_long_name(&rt, alloc, 256, false);
+    expect_name(&rt, alloc, "", true);
+    expect_name(&rt, alloc, "-", false);
+    expect_name(&rt, alloc, "a-", true);
+    expect_post(&rt, alloc, "-", b"", true);
+}
+
+fn expect_data(rt: &impl Abort, alloc: Global, length: usize, want: bool) {
+    let data = bytes(rt, alloc, 0, length);
+    expect_post(rt, alloc, "c", data.as_slice(), want);
 }
 
 #[test]
-fn forms_of_data_and_numbers(rt: HostRuntime) -> Result<(), Fail> {
-    let alloc = rt.alloc();
-    for length in 16384..16386 {
-        let data = vec![in alloc; 0u8; length]?;
-        expect_form(&rt, post(alloc, "c", &data)?, length == 16384);
-    }
+fn forms_of_data_and_numbers(rt: HostRuntime) {
+    expect_data(&rt, rt.alloc(), 16_384, true);
+    expect_data(&rt, rt.alloc(), 16_385, false);
     expect_form(&rt, Frame::Hello(Hello { generation: 0 }), false);
     expect_form(&rt, Frame::Dead(Dead { tab: 0 }), false);
-    Ok(())
 }
 
 fn part(alloc: Global, part: u16, parts: u16) -> Frame {
@@ -574,23 +617,41 @@ fn forms_of_parts(rt: HostRuntime) {
     expect_form(&rt, part(alloc, 0, 17), false);
 }
 
-fn pair_welcome(alloc: Global, top: &str, own: &str) -> Result<Frame, AllocError> {
-    Ok(Frame::PairWelcome(PairWelcome {
+fn origin_once(alloc: Global, text: &str) -> Result<Origin, AllocError> {
+    Ok(Origin::new(String::from_str(alloc, text)?))
+}
+
+fn origin(rt: &impl Abort, alloc: Global, text: &str) -> Origin {
+    match origin_once(alloc, text) {
+        Ok(origin) => origin,
+        Err(_) => origin_once(alloc, text).expect(rt, "memory is back"),
+    }
+}
+
+fn pair_welcome(rt: &impl Abort, alloc: Global, top: &str, own: &str) -> Frame {
+    let top = origin(rt, alloc, top);
+    Frame::PairWelcome(PairWelcome {
         tab: 1,
-        top: Origin::new(String::from_str(alloc, top)?),
-        own: Origin::new(String::from_str(alloc, own)?),
-    }))
+        top,
+        own: origin(rt, alloc, own),
+    })
+}
+
+/// A text is, or is not, an origin, at the top and below it.
+fn expect_origin(rt: &impl Abort, alloc: Global, text: &str, want: bool) {
+    expect_form(rt, pair_welcome(rt, alloc, text, ""), want);
+    expect_form(rt, pair_welcome(rt, alloc, "", text), want);
+}
+
+fn expect_long_origin(rt: &impl Abort, alloc: Global, length: usize, want: bool) {
+    let letters = bytes(rt, alloc, b'x', length);
+    let text = str::from_utf8(letters.as_slice()).expect(rt, "a text");
+    expect_origin(rt, alloc, text, want);
 }
 
 #[test]
-fn forms_of_origins(rt: HostRuntime) -> Result<(), Fail> {
-    let alloc = rt.alloc();
-    for length in 4096..4098 {
-        let text = "x".repeat(alloc, length)?;
-        expect_form(&rt, pair_welcome(alloc, text.as_str(), "")?, length == 4096);
-        expect_form(&rt, pair_welcome(alloc, "", text.as_str())?, length == 4096);
-    }
-    expect_form(&rt, pair_welcome(alloc, "é", "")?, false);
-    expect_form(&rt, pair_welcome(alloc, "", "é")?, false);
-    Ok(())
+fn forms_of_origins(rt: HostRuntime) {
+    expect_long_origin(&rt, rt.alloc(), 4_096, true);
+    expect_long_origin(&rt, rt.alloc(), 4_097, false);
+    expect_origin(&rt, rt.alloc(), "é", false);
 }

@@ -1,10 +1,12 @@
-// The kernel's rows. Each call that may answer for want of memory is made again where it does, with the kernel as it was:
-// so these tests pass whichever allocation is refused.
+//! The kernel's rows. Each call that may answer for want of memory is made again where it does, with the kernel as it was:
+//! so these tests pass whichever allocation is refused.
+
+use super::again::name;
 use bytes::Bytes;
 use std::alloc::{AllocError, Global};
 use std::process::Abort;
 use wl_frames::{
-    Addressed, Answer, Command, Downward, Frame, Hello, Name, Operation, Outcome, Post, ReportPart,
+    Addressed, Answer, Command, Downward, Frame, Hello, Operation, Outcome, Post, ReportPart,
     Sequence, Start, Upward,
 };
 use wl_kernel::{
@@ -40,6 +42,12 @@ fn partition_of(rt: &impl Abort, alloc: Global, top: Option<&str>, url: &str) ->
     }
 }
 
+/// The opening alone: a caller that sees none of its clauses is checked much sooner. So it is with each call below that has once
+/// in its name.
+fn open_once(tabs: &mut Tabs, tab: u16, partition: Partition) -> Result<u16, OpenFault> {
+    tabs.open(tab, partition)
+}
+
 /// Opens a tab, which has to be answered so.
 fn opens(
     rt: &impl Abort,
@@ -63,10 +71,10 @@ fn opens_under(
     expected: Result<u16, OpenFault>,
 ) {
     let before = state(tabs);
-    let mut answer = tabs.open(tab, partition_of(rt, alloc, top, url));
+    let mut answer = open_once(tabs, tab, partition_of(rt, alloc, top, url));
     if answer == Err(OpenFault::Memory) {
         assert!(rt; state(tabs) == before);
-        answer = tabs.open(tab, partition_of(rt, alloc, top, url));
+        answer = open_once(tabs, tab, partition_of(rt, alloc, top, url));
     }
     assert!(rt; answer == expected, "tab {tab}");
 }
@@ -74,7 +82,6 @@ fn opens_under(
 /// What a start answers.
 type Started = Result<(Up, Frame), (Down, StartFault)>;
 
-/// The start alone: a caller that sees none of its clauses is checked much sooner.
 fn start_once(down: Down, listed: &[u16]) -> Started {
     down.start(listed)
 }
@@ -93,8 +100,8 @@ fn start(rt: &impl Abort, down: Down, listed: &[u16]) -> Started {
 }
 
 /// Whether the frame starts a broker of the generation with these tabs and their partitions.
-fn is_start(frame: &Frame, generation: u32, list: &[(u16, u16)]) -> bool {
-    match frame {
+fn is_start(frame: Frame, generation: u32, list: &[(u16, u16)]) -> bool {
+    match &frame {
         Frame::Start(start) => start.generation == generation && start.list.as_slice() == list,
         _ => false,
     }
@@ -110,7 +117,7 @@ fn started(
 ) -> Up {
     match start(rt, down, listed) {
         Ok((up, frame)) => {
-            assert!(rt; is_start(&frame, generation, list));
+            assert!(rt; is_start(frame, generation, list));
             up
         }
         Err(_refused) => panic!(rt; "the start was refused"),
@@ -129,26 +136,25 @@ fn refused(rt: &impl Abort, down: Down, listed: &[u16], expected: StartFault) ->
     }
 }
 
+/// What a stop answers.
+type Stopped = Result<Down, (Up, GenerationsUsedUp)>;
+
+fn stop_once(up: Up) -> Stopped {
+    up.stop()
+}
+
 fn stopped(rt: &impl Abort, up: Up) -> Down {
-    match up.stop() {
+    match stop_once(up) {
         Ok(down) => down,
         Err(_refused) => panic!(rt; "the stop was refused"),
     }
 }
 
-fn name(alloc: Global, text: &str) -> Result<Name, AllocError> {
-    Ok(Name::new(String::from_str(alloc, text)?))
-}
-
 /// The post number 0 of a tab, of data `x` to the name `n`.
 fn post(rt: &impl Abort, alloc: Global) -> Frame {
-    let channel = match name(alloc, "n") {
-        Ok(channel) => channel,
-        Err(_) => name(alloc, "n").expect(rt, "memory is back"),
-    };
     Frame::Post(Post {
         number: 0,
-        channel,
+        channel: name(rt, alloc, "n"),
         bytes: Bytes::from_static(b"x"),
     })
 }
@@ -188,10 +194,24 @@ fn is_refused<T>(routed: &Result<T, RouteFault>, fault: RouteFault) -> bool {
     }
 }
 
+/// Where a broker's frame goes over the link of generation 1.
+type RoutedDown = Result<(u16, Frame), RouteFault>;
+
+fn down_once(up: &Up, frame: Frame) -> RoutedDown {
+    up.route_down(1, frame)
+}
+
+fn down_without_broker_once(down: &Down, frame: Frame) -> RoutedDown {
+    down.route_down(1, frame)
+}
+
+fn up_once(tabs: &Tabs, tab: u16, frame: Frame) -> Result<Routed, RouteFault> {
+    tabs.route_up(tab, frame)
+}
+
 /// Whether the broker of generation 1 reaches this tab with its granted answer.
 fn passes(up: &Up, tab: u16) -> bool {
-    let routed = up.route_down(1, granted(tab, 1));
-    match &routed {
+    match &down_once(up, granted(tab, 1)) {
         Ok((target, frame)) => *target == tab && is_granted(frame),
         Err(_) => false,
     }
@@ -199,17 +219,18 @@ fn passes(up: &Up, tab: u16) -> bool {
 
 /// Whether what a broker says over the link of generation 1 is refused so.
 fn refuses_down(up: &Up, frame: Frame, fault: RouteFault) -> bool {
-    is_refused(&up.route_down(1, frame), fault)
+    is_refused(&down_once(up, frame), fault)
 }
 
 /// Whether nothing passes while no broker runs.
 fn refuses_all(down: &Down) -> bool {
-    is_refused(&down.route_down(1, granted(1, 1)), RouteFault::StaleLink)
+    let routed = down_without_broker_once(down, granted(1, 1));
+    is_refused(&routed, RouteFault::StaleLink)
 }
 
 /// Whether what a tab sends is refused so.
 fn refuses_up(up: &Up, tab: u16, frame: Frame, fault: RouteFault) -> bool {
-    is_refused(&up.tabs().route_up(tab, frame), fault)
+    is_refused(&up_once(up.tabs(), tab, frame), fault)
 }
 
 /// Whether the frame is a tab's command, stamped so.
@@ -226,8 +247,7 @@ fn is_command(frame: &Frame, tab: u16, partition: u16) -> bool {
 
 /// Whether the tab's query goes to the broker under this partition number.
 fn is_stamped(tabs: &Tabs, tab: u16, partition: u16) -> bool {
-    let routed = tabs.route_up(tab, query());
-    match &routed {
+    match &up_once(tabs, tab, query()) {
         Ok(Routed::Broker(frame)) => is_command(frame, tab, partition),
         _ => false,
     }
@@ -239,11 +259,10 @@ fn routed_post(
     tabs: &Tabs,
     tab: u16,
 ) -> Result<Routed, RouteFault> {
-    let routed = tabs.route_up(tab, post(rt, alloc));
-    if is_refused(&routed, RouteFault::Memory) {
-        return tabs.route_up(tab, post(rt, alloc));
+    match up_once(tabs, tab, post(rt, alloc)) {
+        Err(RouteFault::Memory) => up_once(tabs, tab, post(rt, alloc)),
+        answer => answer,
     }
-    routed
 }
 
 /// Whether this is the post of the source, for the tab.
@@ -282,7 +301,7 @@ fn is_posted(rt: &impl Abort, alloc: Global, tabs: &Tabs, tab: u16, hearers: &[u
 
 /// The refusal to stop the last generation, which is this one.
 fn not_stopped(rt: &impl Abort, up: Up, generation: u32) -> Up {
-    match up.stop() {
+    match stop_once(up) {
         Ok(_down) => panic!(rt; "the last generation was stopped"),
         Err((up, GenerationsUsedUp)) => {
             assert!(rt; up.tabs().generation() == generation);
@@ -412,10 +431,11 @@ fn missing_tab(rt: HostRuntime) {
     up.end();
 }
 
+/// Whether a page has no partition, since its origin is opaque.
 fn is_opaque(alloc: Global, url: &str) -> bool {
-    let mut answer = partition(alloc, url).err();
+    let mut answer = read_partition(alloc, None, url).err();
     if answer == Some(OriginFault::Memory) {
-        answer = partition(alloc, url).err();
+        answer = read_partition(alloc, None, url).err();
     }
     answer == Some(OriginFault::Security)
 }
@@ -478,8 +498,7 @@ fn is_part(frame: &Frame, tab: u16, partition: u16) -> bool {
 
 /// Whether a part of the tab's report goes to the broker under this partition number.
 fn is_reported(alloc: Global, tabs: &Tabs, tab: u16, partition: u16) -> bool {
-    let routed = tabs.route_up(tab, part(alloc));
-    match &routed {
+    match &up_once(tabs, tab, part(alloc)) {
         Ok(Routed::Broker(frame)) => is_part(frame, tab, partition),
         _ => false,
     }
