@@ -1,8 +1,9 @@
-//! The manager. Each row is a list of calls, each with the pairs that it grants.
+//! The manager. Each row is a list of calls, each with the pairs that it grants, and of what is told of the manager between them.
+//! A call that is refused memory leaves the lists as they were, is made again, and has to give its row's answer then: so these
+//! tests pass whichever allocation is refused.
 
 use std::alloc::{AllocError, Global};
 use std::process::Abort;
-use std::test::Fail;
 use wl_draft::{Entry, Grant, Manager, Mode, Name, Row, Standing};
 
 /// An entry of a report: its number, whether it is held, its mode and its name.
@@ -22,8 +23,24 @@ enum Call {
     Restore(u16, &'static [Reported], bool),
 }
 
-/// A call with the clients and numbers that it grants.
-type Step = (Call, &'static [(u16, u32)]);
+/// A step of a row.
+#[derive(Clone, Copy)]
+enum Step {
+    /// A call with the clients and numbers that it grants.
+    Make(Call, &'static [(u16, u32)]),
+    /// Where a pair stands.
+    Stands(u16, u32, Standing),
+    /// Whether a pair can be granted.
+    Grantable(u16, u32, bool),
+    /// How many entries a client has.
+    Live(u16, usize),
+    /// How many requests wait.
+    Waiting(usize),
+    /// Whose exclusive locks are held and wait, under the number 0 and the name `a`.
+    Lists(&'static [u16], &'static [u16]),
+    /// How many locks are held and how many requests wait.
+    Counts(usize, usize),
+}
 
 fn name_of(alloc: Global, text: &str) -> Result<Name, AllocError> {
     Ok(Name::from(String::from_str(alloc, text)?))
@@ -91,49 +108,49 @@ fn are(granted: &[Grant], pairs: &[(u16, u32)]) -> bool {
             && grant.number == pair.1)
 }
 
-fn plays(
+/// Both lists of a manager.
+type Rows = (Vec<Row>, Vec<Row>);
+
+fn snapshot(manager: &Manager) -> Result<Rows, AllocError> {
+    manager.snapshot()
+}
+
+fn rows_of(rt: &impl Abort, manager: &Manager) -> Rows {
+    match snapshot(manager) {
+        Ok(rows) => rows,
+        Err(_) => snapshot(manager).expect(rt, "memory is back"),
+    }
+}
+
+/// Makes a call again that was refused memory, which left the lists as they were before.
+fn again(
     rt: &impl Abort,
     alloc: Global,
     manager: &mut Manager,
-    row: &[Step],
-) -> Result<(), AllocError> {
-    for (place, (each, pairs)) in row.iter().enumerate() {
-        let granted = make(rt, alloc, manager, *each)?;
-        assert!(rt; are(granted.as_slice(), pairs), "call {place}");
-    }
-    Ok(())
+    call: Call,
+    before: &Rows,
+) -> Vec<Grant> {
+    assert!(rt; rows_of(rt, manager) == *before);
+    make(rt, alloc, manager, call).expect(rt, "memory is back")
 }
 
-/// A probe behind the queue gets nothing, and one of another name is granted.
-const QUEUED: [Step; 5] = [
-    (Call::Request(1, Mode::Shared, "a"), &[(1, 0)]),
-    (Call::Request(2, Mode::Exclusive, "a"), &[]),
-    (Call::Request(3, Mode::Shared, "a"), &[]),
-    (Call::Probe(3, Mode::Shared, "a"), &[]),
-    (Call::Probe(2, Mode::Exclusive, "b"), &[(2, 1)]),
-];
+fn granted_by(rt: &impl Abort, alloc: Global, manager: &mut Manager, call: Call) -> Vec<Grant> {
+    let before = rows_of(rt, manager);
+    match make(rt, alloc, manager, call) {
+        Ok(granted) => granted,
+        Err(_) => again(rt, alloc, manager, call, &before),
+    }
+}
 
-/// Behind the aborted request the shared one moves up; the abort of a held lock releases it.
-const ABORTED: [Step; 3] = [
-    (Call::Abort(2, 0), &[(3, 0)]),
-    (Call::Request(4, Mode::Shared, "b"), &[]),
-    (Call::Abort(2, 1), &[(4, 0)]),
-];
-
-#[test]
-fn shared_exclusive_shared(rt: HostRuntime) -> Result<(), Fail> {
-    let alloc = rt.alloc();
-    let mut manager = Manager::new(alloc);
-    plays(&rt, alloc, &mut manager, &QUEUED)?;
-    assert_eq!(rt; manager.state(1, 0), Standing::Held);
-    assert_eq!(rt; manager.state(3, 0), Standing::Waiting);
-    assert_eq!(rt; manager.state(3, 1), Standing::Absent);
-    assert_eq!(rt; manager.live(2), 2);
-    assert_eq!(rt; manager.waiting(), 2);
-    assert!(rt; !manager.grantable(2, 0));
-    plays(&rt, alloc, &mut manager, &ABORTED)?;
-    assert_eq!(rt; manager.live(2), 0);
-    Ok(())
+/// Whether a call grants these pairs.
+fn grants(
+    rt: &impl Abort,
+    alloc: Global,
+    manager: &mut Manager,
+    call: Call,
+    pairs: &[(u16, u32)],
+) -> bool {
+    are(granted_by(rt, alloc, manager, call).as_slice(), pairs)
 }
 
 fn is_row(row: &Row, client: u16) -> bool {
@@ -143,143 +160,144 @@ fn is_row(row: &Row, client: u16) -> bool {
         && row.mode == Mode::Exclusive
 }
 
-const TWO_REQUESTS: [Step; 2] = [
-    (Call::Request(1, Mode::Exclusive, "a"), &[(1, 0)]),
-    (Call::Request(2, Mode::Exclusive, "a"), &[]),
+fn are_rows(rows: &[Row], clients: &[u16]) -> bool {
+    rows.len() == clients.len()
+        && rows
+            .iter()
+            .zip(clients)
+            .all(|(row, client)| is_row(row, *client))
+}
+
+fn are_lists(rows: &Rows, held: &[u16], waiting: &[u16]) -> bool {
+    are_rows(rows.0.as_slice(), held) && are_rows(rows.1.as_slice(), waiting)
+}
+
+fn counts(rows: &Rows) -> (usize, usize) {
+    (rows.0.len(), rows.1.len())
+}
+
+/// Whether a step goes as the row says.
+fn is_so(rt: &impl Abort, alloc: Global, manager: &mut Manager, step: Step) -> bool {
+    match step {
+        Step::Make(call, pairs) => grants(rt, alloc, manager, call, pairs),
+        Step::Stands(client, number, standing) => manager.state(client, number) == standing,
+        Step::Grantable(client, number, want) => manager.grantable(client, number) == want,
+        Step::Live(client, count) => manager.live(client) == count,
+        Step::Waiting(count) => manager.waiting() == count,
+        Step::Lists(held, waiting) => are_lists(&rows_of(rt, manager), held, waiting),
+        Step::Counts(held, waiting) => counts(&rows_of(rt, manager)) == (held, waiting),
+    }
+}
+
+/// Plays a row on a new manager.
+fn play(rt: &impl Abort, alloc: Global, row: &[Step]) {
+    let mut manager = Manager::new(alloc);
+    for (place, step) in row.iter().enumerate() {
+        assert!(rt; is_so(rt, alloc, &mut manager, *step), "step {place}");
+    }
+}
+
+/// A probe behind the queue gets nothing, and one of another name is granted. Behind the aborted request the shared one moves up;
+/// the abort of a held lock releases it.
+const SHARED_EXCLUSIVE_SHARED: [Step; 15] = [
+    Step::Make(Call::Request(1, Mode::Shared, "a"), &[(1, 0)]),
+    Step::Make(Call::Request(2, Mode::Exclusive, "a"), &[]),
+    Step::Make(Call::Request(3, Mode::Shared, "a"), &[]),
+    Step::Make(Call::Probe(3, Mode::Shared, "a"), &[]),
+    Step::Make(Call::Probe(2, Mode::Exclusive, "b"), &[(2, 1)]),
+    Step::Stands(1, 0, Standing::Held),
+    Step::Stands(3, 0, Standing::Waiting),
+    Step::Stands(3, 1, Standing::Absent),
+    Step::Live(2, 2),
+    Step::Waiting(2),
+    Step::Grantable(2, 0, false),
+    Step::Make(Call::Abort(2, 0), &[(3, 0)]),
+    Step::Make(Call::Request(4, Mode::Shared, "b"), &[]),
+    Step::Make(Call::Abort(2, 1), &[(4, 0)]),
+    Step::Live(2, 0),
 ];
 
 #[test]
-fn snapshot_has_both_lists(rt: HostRuntime) -> Result<(), Fail> {
-    let alloc = rt.alloc();
-    let mut manager = Manager::new(alloc);
-    plays(&rt, alloc, &mut manager, &TWO_REQUESTS)?;
-    let (held, waiting) = manager.snapshot()?;
-    assert_eq!(rt; (held.len(), waiting.len()), (1, 1));
-    assert!(rt; held.iter().all(|row| is_row(row, 1)));
-    assert!(rt; waiting.iter().all(|row| is_row(row, 2)));
-    Ok(())
+fn shared_exclusive_shared(rt: HostRuntime) {
+    play(&rt, rt.alloc(), &SHARED_EXCLUSIVE_SHARED);
+}
+
+const TWO_REQUESTS: [Step; 3] = [
+    Step::Make(Call::Request(1, Mode::Exclusive, "a"), &[(1, 0)]),
+    Step::Make(Call::Request(2, Mode::Exclusive, "a"), &[]),
+    Step::Lists(&[1], &[2]),
+];
+
+#[test]
+fn snapshot_has_both_lists(rt: HostRuntime) {
+    play(&rt, rt.alloc(), &TWO_REQUESTS);
 }
 
 /// Neither another number nor a waiting pair is released.
-const RELEASED: [Step; 10] = [
-    (Call::Request(0, Mode::Exclusive, "a"), &[(0, 0)]),
-    (Call::Request(1, Mode::Shared, "a"), &[]),
-    (Call::Request(2, Mode::Shared, "a"), &[]),
-    (Call::Request(3, Mode::Exclusive, "a"), &[]),
-    (Call::Request(4, Mode::Shared, "a"), &[]),
-    (Call::Release(0, 1), &[]),
-    (Call::Release(1, 0), &[]),
-    (Call::Release(0, 0), &[(1, 0), (2, 0)]),
-    (Call::Release(1, 0), &[]),
-    (Call::Release(2, 0), &[(3, 0)]),
+const RELEASED: [Step; 11] = [
+    Step::Make(Call::Request(0, Mode::Exclusive, "a"), &[(0, 0)]),
+    Step::Make(Call::Request(1, Mode::Shared, "a"), &[]),
+    Step::Make(Call::Request(2, Mode::Shared, "a"), &[]),
+    Step::Make(Call::Request(3, Mode::Exclusive, "a"), &[]),
+    Step::Make(Call::Request(4, Mode::Shared, "a"), &[]),
+    Step::Make(Call::Release(0, 1), &[]),
+    Step::Make(Call::Release(1, 0), &[]),
+    Step::Make(Call::Release(0, 0), &[(1, 0), (2, 0)]),
+    Step::Make(Call::Release(1, 0), &[]),
+    Step::Make(Call::Release(2, 0), &[(3, 0)]),
+    Step::Stands(4, 0, Standing::Waiting),
 ];
 
 #[test]
-fn release_hands_over(rt: HostRuntime) -> Result<(), Fail> {
-    let alloc = rt.alloc();
-    let mut manager = Manager::new(alloc);
-    plays(&rt, alloc, &mut manager, &RELEASED)?;
-    assert_eq!(rt; manager.state(4, 0), Standing::Waiting);
-    Ok(())
+fn release_hands_over(rt: HostRuntime) {
+    play(&rt, rt.alloc(), &RELEASED);
 }
 
-const RESTORED: [Step; 2] = [
-    (
-        Call::Restore(1, &[(7, true, Mode::Exclusive, "a")], false),
-        &[],
-    ),
-    (
-        Call::Restore(
-            2,
-            &[
-                (3, false, Mode::Shared, "a"),
-                (5, true, Mode::Shared, "b"),
-                (6, false, Mode::Shared, "b"),
-            ],
-            false,
-        ),
-        &[],
-    ),
+const HELD_A: [Reported; 1] = [(7, true, Mode::Exclusive, "a")];
+
+const OF_BOTH_NAMES: [Reported; 3] = [
+    (3, false, Mode::Shared, "a"),
+    (5, true, Mode::Shared, "b"),
+    (6, false, Mode::Shared, "b"),
 ];
 
-const ENDED: [Step; 2] = [
-    (Call::End(9, false), &[]),
-    (Call::End(1, true), &[(2, 3), (2, 6)]),
+const RESTORED: [Step; 9] = [
+    Step::Make(Call::Restore(1, &HELD_A, false), &[]),
+    Step::Make(Call::Restore(2, &OF_BOTH_NAMES, false), &[]),
+    Step::Stands(2, 5, Standing::Held),
+    Step::Waiting(2),
+    Step::Grantable(2, 6, true),
+    Step::Grantable(2, 3, false),
+    Step::Make(Call::End(9, false), &[]),
+    Step::Make(Call::End(1, true), &[(2, 3), (2, 6)]),
+    Step::Live(2, 3),
 ];
 
 #[test]
-fn restored_locks_wait_for_settling(rt: HostRuntime) -> Result<(), Fail> {
-    let alloc = rt.alloc();
-    let mut manager = Manager::new(alloc);
-    plays(&rt, alloc, &mut manager, &RESTORED)?;
-    assert_eq!(rt; manager.state(2, 5), Standing::Held);
-    assert_eq!(rt; manager.waiting(), 2);
-    assert!(rt; manager.grantable(2, 6));
-    assert!(rt; !manager.grantable(2, 3));
-    plays(&rt, alloc, &mut manager, &ENDED)?;
-    assert_eq!(rt; manager.live(2), 3);
-    Ok(())
+fn restored_locks_wait_for_settling(rt: HostRuntime) {
+    play(&rt, rt.alloc(), &RESTORED);
 }
+
+const HELD_AND_WAITING: [Reported; 2] = [
+    (0, true, Mode::Shared, "a"),
+    (1, false, Mode::Exclusive, "a"),
+];
 
 /// Each kind of call.
-const TURNS: [Step; 9] = [
-    (Call::Request(1, Mode::Shared, "a"), &[(1, 0)]),
-    (Call::Request(2, Mode::Exclusive, "a"), &[]),
-    (Call::Request(3, Mode::Shared, "a"), &[]),
-    (Call::Probe(3, Mode::Shared, "a"), &[]),
-    (Call::Abort(2, 0), &[(3, 0)]),
-    (Call::Probe(2, Mode::Shared, "a"), &[(2, 1)]),
-    (
-        Call::Restore(
-            4,
-            &[
-                (0, true, Mode::Shared, "a"),
-                (1, false, Mode::Exclusive, "a"),
-            ],
-            true,
-        ),
-        &[],
-    ),
-    (Call::Release(1, 0), &[]),
-    (Call::End(3, true), &[]),
+const TURNS: [Step; 10] = [
+    Step::Make(Call::Request(1, Mode::Shared, "a"), &[(1, 0)]),
+    Step::Make(Call::Request(2, Mode::Exclusive, "a"), &[]),
+    Step::Make(Call::Request(3, Mode::Shared, "a"), &[]),
+    Step::Make(Call::Probe(3, Mode::Shared, "a"), &[]),
+    Step::Make(Call::Abort(2, 0), &[(3, 0)]),
+    Step::Make(Call::Probe(2, Mode::Shared, "a"), &[(2, 1)]),
+    Step::Make(Call::Restore(4, &HELD_AND_WAITING, true), &[]),
+    Step::Make(Call::Release(1, 0), &[]),
+    Step::Make(Call::End(3, true), &[]),
+    Step::Counts(2, 1),
 ];
 
-/// The snapshot, asked for once more where memory was refused.
-fn rows_of(manager: &Manager) -> Result<(Vec<Row>, Vec<Row>), AllocError> {
-    match manager.snapshot() {
-        Ok(rows) => Ok(rows),
-        Err(_) => manager.snapshot(),
-    }
-}
-
-/// Makes a call; where memory is refused nothing has changed, and the call is made again.
-fn call_again(
-    rt: &impl Abort,
-    alloc: Global,
-    manager: &mut Manager,
-    each: Call,
-) -> Result<Vec<Grant>, AllocError> {
-    let before = rows_of(manager)?;
-    match make(rt, alloc, manager, each) {
-        Ok(granted) => Ok(granted),
-        Err(_) => {
-            assert_eq!(rt; rows_of(manager)?, before);
-            make(rt, alloc, manager, each)
-        }
-    }
-}
-
-// Passes whichever single allocation is refused.
 #[test]
-fn refused_memory_changes_nothing(rt: HostRuntime) -> Result<(), Fail> {
-    let alloc = rt.alloc();
-    let mut manager = Manager::new(alloc);
-    for (place, (each, pairs)) in TURNS.iter().enumerate() {
-        let granted = call_again(&rt, alloc, &mut manager, *each)?;
-        assert!(rt; are(granted.as_slice(), pairs), "call {place}");
-    }
-    let (held, waiting) = rows_of(&manager)?;
-    assert_eq!(rt; held.len(), 2);
-    assert_eq!(rt; waiting.len(), 1);
-    Ok(())
+fn refused_memory_changes_nothing(rt: HostRuntime) {
+    play(&rt, rt.alloc(), &TURNS);
 }
