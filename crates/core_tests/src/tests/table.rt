@@ -109,8 +109,8 @@ fn make<T: LockTable>(
     }
 }
 
-/// What a table answers of a pair, of its client, and of how many wait: where the pair stands, whether it can be granted, how many
-/// entries the client has, how many requests there are.
+/// What a table answers of a pair, of its client, and of how many wait: where the pair stands, whether it can be granted, how
+/// many entries the client has, how many requests there are.
 type Seen = (Standing, bool, usize, usize);
 
 fn seen<T: LockTable>(table: &T, client: u16, number: u32) -> Seen {
@@ -192,6 +192,42 @@ impl Both {
         }
     }
 
+    /// Makes a call on the indexed one. Where memory is refused its lists are still those of the plain one, which has not had the
+    /// call, and it is made again.
+    fn make_indexed(
+        &mut self,
+        rt: &impl Abort,
+        client: u16,
+        number: u32,
+        call: Call<'_>,
+    ) -> Result<Vec<Grant>, AllocError> {
+        match make(self.alloc, &mut self.indexed, client, number, call) {
+            Err(_) => {
+                self.compare(rt)?;
+                make(self.alloc, &mut self.indexed, client, number, call)
+            }
+            answer => answer,
+        }
+    }
+
+    /// Makes a call on the plain one. Where memory is refused it is made again, and then the lists of both agree.
+    fn make_plain(
+        &mut self,
+        rt: &impl Abort,
+        client: u16,
+        number: u32,
+        call: Call<'_>,
+    ) -> Result<Vec<Grant>, AllocError> {
+        match make(self.alloc, &mut self.plain, client, number, call) {
+            Err(_) => {
+                let granted = make(self.alloc, &mut self.plain, client, number, call)?;
+                self.compare(rt)?;
+                Ok(granted)
+            }
+            answer => answer,
+        }
+    }
+
     /// Makes a call on both, and answers what they granted.
     fn make(
         &mut self,
@@ -200,8 +236,8 @@ impl Both {
         number: u32,
         call: Call<'_>,
     ) -> Result<Vec<Grant>, AllocError> {
-        let indexed = make(self.alloc, &mut self.indexed, client, number, call)?;
-        let plain = make(self.alloc, &mut self.plain, client, number, call)?;
+        let indexed = self.make_indexed(rt, client, number, call)?;
+        let plain = self.make_plain(rt, client, number, call)?;
         assert_eq!(rt; plain.as_slice(), indexed.as_slice());
         Ok(indexed)
     }
@@ -538,6 +574,18 @@ fn is_row_of(rows: &[Row], client: u16) -> bool {
 
 // ---- random calls
 
+fn room_once(alloc: Global) -> Result<Vec<Reported>, AllocError> {
+    Vec::with_capacity(alloc, 3)
+}
+
+/// Room for a report, asked for again where memory was refused.
+fn room_for_three(alloc: Global) -> Result<Vec<Reported>, AllocError> {
+    match room_once(alloc) {
+        Err(_) => room_once(alloc),
+        room => room,
+    }
+}
+
 /// What a random run chooses next.
 #[derive(Drop)]
 struct Choices {
@@ -583,7 +631,7 @@ impl Choices {
 
     /// A report of at most three entries. A pair may stand in it twice.
     fn report(&mut self, alloc: Global, names: u64) -> Result<Vec<Reported>, AllocError> {
-        let mut report = Vec::new(alloc);
+        let mut report = room_for_three(alloc)?;
         for _ in 0..self.below(4) {
             report.push((self.number(), self.is_true(), self.mode(), self.name(names)))?;
         }
@@ -649,7 +697,15 @@ impl Game {
         let granted = self.both.make(rt, client, number, call)?;
         self.both.look(rt, client, number);
         self.granted = self.granted.saturating_add(granted.len());
-        self.holders.extend_from_slice(granted.as_slice())
+        self.keep(granted.as_slice())
+    }
+
+    /// Keeps who was granted a lock, also where memory is refused once.
+    fn keep(&mut self, granted: &[Grant]) -> Result<(), AllocError> {
+        match self.holders.extend_from_slice(granted) {
+            Err(_) => self.holders.extend_from_slice(granted),
+            kept => kept,
+        }
     }
 
     /// Many calls, and how many entries there are then.
