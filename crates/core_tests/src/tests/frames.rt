@@ -265,7 +265,7 @@ fn frames_behind_each_other(rt: HostRuntime) {
             &mut bytes,
             frames_of(&rt, rt.alloc(), example).as_slice(),
         );
-        expect_examples(&rt, bytes.as_slice(), place + 1);
+        expect_examples(&rt, bytes.as_slice(), place.saturating_add(1));
     }
 }
 
