@@ -1,14 +1,15 @@
 //! The board that threads share. A call that is refused for memory is made again: so these tests pass whichever allocation
 //! is refused.
 
-ghost use Rattle.std.specs.Prelude.{◌≡◌};
+ghost use Rattle.std.specs.Prelude.{◌≡◌, ◌≤◌};
 ghost use Rattle.wl_board.specs.Calls.{IsOf};
+ghost use Rattle.wl_board.specs.Rule.{Has};
 
 use std::alloc::Global;
 use std::process::Abort;
-use std::test::Fail;
 use std::thread;
-use wl_board::{Birth, Board, DrawFault, Life, Memory, Seat, SeatSpent};
+use std::thread::Threads;
+use wl_board::{Birth, Board, DrawFault, Life, Memory, Seat, SeatSpent, Ticket};
 
 /// A board with two seats.
 fn two_seats(rt: &impl Abort, alloc: Global, tabs: u16) -> (Board, Seat, Seat)
@@ -46,72 +47,152 @@ fn draw_all<R: Abort>(
 
 /// Lists one more number.
 fn list(rt: &impl Abort, numbers: &mut Vec<u16>, tab: u16) {
-    if numbers.reserve(1).is_err() {
-        numbers.reserve(1).expect(rt, "memory is back");
+    if numbers.push(tab).is_err() {
+        numbers.push(tab).expect(rt, "memory is back");
     }
-    numbers.push_reserved(tab);
+}
+
+/// Two threads draw so often each, and list the numbers.
+fn draw_in_two_threads<R: Threads + Abort + Sync>(
+    rt: &R,
+    alloc: Global,
+    board: &Board,
+    first: Seat,
+    second: Seat,
+    count: usize,
+) -> ((Seat, Vec<u16>), (Seat, Vec<u16>))
+    requires first { IsOf first board.now }
+    requires second { IsOf second board.now }
+    ensures first { IsOf result.0.0 board.now }
+    ensures second { IsOf result.1.0 board.now }
+{
+    thread::join(
+        rt,
+        move ||
+            requires { IsOf first board.now }
+            ensures { IsOf result.0 board.entry.now }
+        { draw_all(rt, alloc, board, first, count) },
+        move ||
+            requires { IsOf second board.now }
+            ensures { IsOf result.0 board.entry.now }
+        { draw_all(rt, alloc, board, second, count) },
+    )
+}
+
+/// Whether a seat finds the numbers used up.
+fn finds_none(board: &Board, seat: &mut Seat) -> bool
+    requires { IsOf seat.old board.now }
+    ensures { IsOf seat.new board.now }
+{
+    matches!(board.draw(seat), Err(DrawFault::TabsUsedUp))
+}
+
+/// Whether these are the numbers from 1 on.
+fn are_from_one(numbers: &[u16]) -> bool {
+    numbers
+        .iter()
+        .map(|tab| u64::from(*tab))
+        .eq(1..=numbers.len() as u64)
 }
 
 #[test]
 fn two_threads_draw_each_number_once(rt: HostRuntime) {
     let alloc = rt.alloc();
     let (board, first, second) = two_seats(&rt, alloc, 2_000);
-    let shared = &board;
-    let host = &rt;
-    let ((mut first, mut numbers), (mut second, more)) = thread::join(
-        &rt,
-        move ||
-            requires { IsOf first shared.now }
-            ensures { IsOf result.0 shared.entry.now }
-        { draw_all(host, alloc, shared, first, 1_000) },
-        move ||
-            requires { IsOf second shared.now }
-            ensures { IsOf result.0 shared.entry.now }
-        { draw_all(host, alloc, shared, second, 1_000) },
+    let ((mut first, mut numbers), (mut second, more)) = draw_in_two_threads(
+        &rt, alloc, &board, first, second, 1_000,
     );
     for tab in more {
         list(&rt, &mut numbers, tab);
     }
     numbers.as_mut_slice().sort_unstable();
     assert_eq!(&rt; numbers.len(), 2_000);
-    let mut next = 1u16;
-    for tab in numbers {
-        assert_eq!(&rt; tab, next);
-        next = next.wrapping_add(1);
-    }
-    assert!(&rt; matches!(board.draw(&mut first), Err(DrawFault::TabsUsedUp)));
-    assert!(&rt; matches!(board.draw(&mut second), Err(DrawFault::TabsUsedUp)));
+    assert!(&rt; are_from_one(numbers.as_slice()));
+    assert!(&rt; finds_none(&board, &mut first));
+    assert!(&rt; finds_none(&board, &mut second));
     // From then on without a step.
-    assert!(&rt; matches!(board.draw(&mut first), Err(DrawFault::TabsUsedUp)));
+    assert!(&rt; finds_none(&board, &mut first));
+}
+
+/// Draws a number, which is this one.
+fn draw(rt: &impl Abort, board: &Board, seat: &mut Seat, tab: u16) -> Ticket
+    requires { IsOf seat.old board.now }
+    ensures seat { IsOf seat.new board.now }
+    ensures drawn { Has result seat.new.view.drawn }
+    ensures unborn { ¬ Has result seat.new.view.born }
+{
+    let ticket = board.draw(seat).expect(rt, "a number");
+    assert_eq!(rt; ticket.tab(), tab);
+    ticket
+}
+
+/// Bears the tab of a number, and compares what becomes of it.
+fn bear(rt: &impl Abort, board: &Board, seat: &mut Seat, ticket: Ticket, birth: Birth)
+    requires seat { IsOf seat.old board.now }
+    requires drawn { Has ticket seat.old.view.drawn }
+    requires unborn { ¬ Has ticket seat.old.view.born }
+    ensures { IsOf seat.new board.now }
+{
+    assert_eq!(rt; board.birth(seat, ticket), birth);
+}
+
+/// Marks a tab dead.
+fn bury(board: &Board, seat: &mut Seat, tab: u16)
+    requires seat { IsOf seat.old board.now }
+    requires tab { (1 ≤ tab) × (tab ≤ board.now.tabs) }
+    ensures { IsOf seat.new board.now }
+{
+    board.mark_dead(seat, tab);
+}
+
+/// Looks whether a tab lives, and compares it.
+fn look(rt: &impl Abort, board: &Board, seat: &mut Seat, tab: u16, life: Life)
+    requires seat { IsOf seat.old board.now }
+    requires tab { (1 ≤ tab) × (tab ≤ board.now.tabs) }
+    ensures { IsOf seat.new board.now }
+{
+    assert_eq!(rt; board.look(seat, tab), life);
+}
+
+/// Reads the generation, and compares it.
+fn read_generation(rt: &impl Abort, board: &Board, seat: &mut Seat, generation: u64)
+    requires { IsOf seat.old board.now }
+    ensures { IsOf seat.new board.now }
+{
+    assert_eq!(rt; board.generation(seat), generation);
+}
+
+/// Bumps the generation, and compares the answer.
+fn bump(rt: &impl Abort, board: &Board, seat: &mut Seat, answer: Result<u64, SeatSpent>)
+    requires { IsOf seat.old board.now }
+    ensures { IsOf seat.new board.now }
+{
+    assert_eq!(rt; board.bump(seat), answer);
 }
 
 #[test]
-fn a_tab_marked_dead_is_not_born(rt: HostRuntime) -> Result<(), Fail> {
+fn a_tab_marked_dead_is_not_born(rt: HostRuntime) {
     let (board, mut a, mut b) = two_seats(&rt, rt.alloc(), 3);
-    let ticket = board.draw(&mut a)?;
-    assert_eq!(&rt; ticket.tab(), 1);
-    board.mark_dead(&mut b, 1);
-    assert_eq!(&rt; board.birth(&mut a, ticket), Birth::WasDead);
-    assert_eq!(&rt; board.look(&mut a, 1), Life::Dead);
-    Ok(())
+    let ticket = draw(&rt, &board, &mut a, 1);
+    bury(&board, &mut b, 1);
+    bear(&rt, &board, &mut a, ticket, Birth::WasDead);
+    look(&rt, &board, &mut a, 1, Life::Dead);
 }
 
 #[test]
-fn a_born_tab_lives_for_the_other_seat(rt: HostRuntime) -> Result<(), Fail> {
+fn a_born_tab_lives_for_the_other_seat(rt: HostRuntime) {
     let (board, mut a, mut b) = two_seats(&rt, rt.alloc(), 3);
-    let _first = board.draw(&mut b)?;
-    assert_eq!(&rt; board.generation(&mut a), 1);
-    let ticket = board.draw(&mut a)?;
-    assert_eq!(&rt; ticket.tab(), 2);
-    assert_eq!(&rt; board.look(&mut b, 2), Life::None);
-    assert_eq!(&rt; board.birth(&mut a, ticket), Birth::Born);
-    assert_eq!(&rt; board.look(&mut b, 2), Life::Living);
-    assert_eq!(&rt; board.bump(&mut b), Ok(2));
-    assert_eq!(&rt; board.generation(&mut b), 2);
-    assert_eq!(&rt; board.generation(&mut a), 2);
-    board.mark_dead(&mut a, 2);
-    assert_eq!(&rt; board.look(&mut b, 2), Life::Dead);
-    Ok(())
+    let _first = draw(&rt, &board, &mut b, 1);
+    read_generation(&rt, &board, &mut a, 1);
+    let ticket = draw(&rt, &board, &mut a, 2);
+    look(&rt, &board, &mut b, 2, Life::None);
+    bear(&rt, &board, &mut a, ticket, Birth::Born);
+    look(&rt, &board, &mut b, 2, Life::Living);
+    bump(&rt, &board, &mut b, Ok(2));
+    read_generation(&rt, &board, &mut b, 2);
+    read_generation(&rt, &board, &mut a, 2);
+    bury(&board, &mut a, 2);
+    look(&rt, &board, &mut b, 2, Life::Dead);
 }
 
 #[test]
@@ -121,8 +202,8 @@ fn a_seat_that_drew_all_is_spent(rt: HostRuntime) {
     let (mut a, numbers) = draw_all(&rt, alloc, &board, a, 65_535);
     assert_eq!(&rt; numbers.len(), 65_535);
     assert!(&rt; matches!(board.draw(&mut a), Err(DrawFault::SeatSpent)));
-    assert!(&rt; matches!(board.draw(&mut b), Err(DrawFault::TabsUsedUp)));
-    assert!(&rt; matches!(board.draw(&mut b), Err(DrawFault::TabsUsedUp)));
+    assert!(&rt; finds_none(&board, &mut b));
+    assert!(&rt; finds_none(&board, &mut b));
 }
 
 /// Makes all the bumps that a seat makes.
@@ -131,7 +212,7 @@ fn bump_all(rt: &impl Abort, board: &Board, seat: &mut Seat)
     ensures { IsOf seat.new board.now }
 {
     for past in 1u64..65_536 {
-        assert_eq!(rt; board.bump(seat), Ok(past + 1));
+        bump(rt, board, seat, Ok(past + 1));
     }
 }
 
@@ -139,6 +220,6 @@ fn bump_all(rt: &impl Abort, board: &Board, seat: &mut Seat)
 fn a_seat_that_made_all_bumps_is_spent(rt: HostRuntime) {
     let (board, mut a, mut b) = two_seats(&rt, rt.alloc(), 1);
     bump_all(&rt, &board, &mut a);
-    assert_eq!(&rt; board.bump(&mut a), Err(SeatSpent));
-    assert_eq!(&rt; board.bump(&mut b), Ok(65_537));
+    bump(&rt, &board, &mut a, Err(SeatSpent));
+    bump(&rt, &board, &mut b, Ok(65_537));
 }

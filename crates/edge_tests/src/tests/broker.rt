@@ -3,14 +3,14 @@
 
 ghost use Rattle.wl_frames.specs.Grammar.{TabsRiseFrom};
 
-use crate::tests::desk::bytes_of;
 use crate::tests::desk::rows::{DEATH_HANDS_OVER, HANDOVER, RESTART_WHILE_HELD, Row, SNAPSHOT};
+use crate::tests::desk::{append, bytes};
 use std::alloc::{AllocError, Global};
 use std::process::Abort;
-use std::test::Fail;
 use wl_broker::{Broker, Dropped, Outs};
 use wl_frames::{
-    Entry, Feed, Frame, Mode, Name, Report, ReportPart, Sequence, Stamped, Upward, encode,
+    Addressed, Entry, Feed, Frame, Mode, Name, Report, ReportPart, Sequence, Stamped, Upward,
+    encode,
 };
 use wl_table::IndexedTable;
 
@@ -19,26 +19,26 @@ type TestedBroker = Broker<IndexedTable>;
 /// A report in one part is a report.
 const ONE_PART: Row = Row {
     name: "one-part",
-    input: &[
-        "00000016 01 20 0001 0001 02 02 00000001 00000000 0000 0001 0000",
-        "00000015 01 20 0001 0001 01 01 00000001 00000000 01 02 00 0161",
-    ],
-    output: &["00000013 01 22 0001 01 11 00000001 00000001 00000000 02"],
+    input: "
+        00000016 01 20 0001 0001 02 02 00000001 00000000 0000 0001 0000
+        00000015 01 20 0001 0001 01 01 00000001 00000000 01 02 00 0161
+    ",
+    output: "00000013 01 22 0001 01 11 00000001 00000001 00000000 02",
 };
 
 /// The second part comes first and again, and the first one makes the tab join with the entries by part.
 const TWO_PARTS: Row = Row {
     name: "two-parts",
-    input: &[
-        "0000001E 01 20 0001 0001 02 02 00000002 00000002 0001 0002 0001 00000001 02 01 0161",
-        "0000001E 01 20 0001 0001 02 02 00000002 00000002 0001 0002 0001 00000001 02 01 0161",
-        "0000001E 01 20 0001 0001 02 02 00000002 00000002 0000 0002 0001 00000000 02 01 0161",
-    ],
-    output: &[
-        "0000000A 01 22 0001 01 10 00000002",
-        "00000013 01 22 0001 01 11 00000002 00000002 00000000 02",
-        "00000013 01 22 0001 01 11 00000002 00000002 00000001 02",
-    ],
+    input: "
+        0000001E 01 20 0001 0001 02 02 00000002 00000002 0001 0002 0001 00000001 02 01 0161
+        0000001E 01 20 0001 0001 02 02 00000002 00000002 0001 0002 0001 00000001 02 01 0161
+        0000001E 01 20 0001 0001 02 02 00000002 00000002 0000 0002 0001 00000000 02 01 0161
+    ",
+    output: "
+        0000000A 01 22 0001 01 10 00000002
+        00000013 01 22 0001 01 11 00000002 00000002 00000000 02
+        00000013 01 22 0001 01 11 00000002 00000002 00000001 02
+    ",
 };
 
 fn nothing(alloc: Global) -> Outs {
@@ -47,15 +47,16 @@ fn nothing(alloc: Global) -> Outs {
 
 /// A broker that is started, and again where memory was refused.
 fn start(
+    rt: &impl Abort,
     alloc: Global,
     generation: u32,
     list: &[(u16, u16)],
-) -> Result<(TestedBroker, Outs), AllocError>
+) -> (TestedBroker, Outs)
     requires { TabsRiseFrom 1 list.now }
 {
     match Broker::start(alloc, generation, list) {
-        Ok(started) => Ok(started),
-        Err(_) => Broker::start(alloc, generation, list),
+        Ok(started) => started,
+        Err(_) => Broker::start(alloc, generation, list).expect(rt, "memory is back"),
     }
 }
 
@@ -91,49 +92,72 @@ fn answer(rt: &impl Abort, alloc: Global, broker: &mut TestedBroker, frame: &Fra
     }
 }
 
-/// Appends the encodings of the broker's frames.
-fn write(rt: &impl Abort, alloc: Global, outs: Outs, written: &mut Vec<u8>) -> Result<(), Fail> {
-    for addressed in outs.into_vec() {
-        let frame = Frame::Addressed(addressed);
-        if !frame.is_well_formed() {
-            panic!(rt; "a frame is not well formed");
-        }
-        let bytes = encode(alloc, &frame)?;
-        written.extend_from_slice(bytes.as_slice())?;
-    }
-    Ok(())
+/// Appends the encoding of one of the broker's frames.
+fn write_one(rt: &impl Abort, alloc: Global, addressed: Addressed, written: &mut Vec<u8>) {
+    let frame = Frame::Addressed(addressed);
+    assert!(rt; frame.is_well_formed(), "a frame is not well formed");
+    let bytes = match encode(alloc, &frame) {
+        Ok(bytes) => bytes,
+        Err(_) => encode(alloc, &frame).expect(rt, "memory is back"),
+    };
+    append(rt, written, bytes.as_slice());
 }
 
-/// The frames of a row, all of which are whole.
-fn frames(alloc: Global, row: &Row) -> Result<Vec<Frame>, AllocError> {
-    let bytes = bytes_of(alloc, row.input)?;
-    let mut feed = Feed::new(alloc);
-    feed.push(bytes.as_slice()).map_err(|_| AllocError)
+/// Appends the encodings of the broker's frames.
+fn write(rt: &impl Abort, alloc: Global, outs: Outs, written: &mut Vec<u8>) {
+    for addressed in outs.into_vec() {
+        write_one(rt, alloc, addressed, written);
+    }
+}
+
+/// The frames that bytes spell, all of which are whole.
+fn frames_of(alloc: Global, bytes: &[u8]) -> Result<Vec<Frame>, AllocError> {
+    Feed::new(alloc).push(bytes).map_err(|_| AllocError)
+}
+
+/// The frames of a row; where memory is refused, once more.
+fn frames(rt: &impl Abort, alloc: Global, row: &Row) -> Vec<Frame> {
+    let bytes = bytes(rt, alloc, &[row.input]);
+    match frames_of(alloc, bytes.as_slice()) {
+        Ok(frames) => frames,
+        Err(_) => frames_of(alloc, bytes.as_slice()).expect(rt, "memory is back"),
+    }
 }
 
 /// Gives the broker the row's frames, and compares what it answers, its hellos first.
-fn plays(
-    rt: &impl Abort,
-    alloc: Global,
-    started: (TestedBroker, Outs),
-    row: &Row,
-) -> Result<(), Fail> {
+fn plays(rt: &impl Abort, alloc: Global, started: (TestedBroker, Outs), row: &Row) {
     let (mut broker, hellos) = started;
     let mut written = Vec::new(alloc);
-    write(rt, alloc, hellos, &mut written)?;
-    for frame in &frames(alloc, row)? {
+    write(rt, alloc, hellos, &mut written);
+    for frame in &frames(rt, alloc, row) {
         let outs = answer(rt, alloc, &mut broker, frame);
-        write(rt, alloc, outs, &mut written)?;
+        write(rt, alloc, outs, &mut written);
     }
-    let output = bytes_of(alloc, row.output)?;
+    let output = bytes(rt, alloc, &[row.output]);
     assert!(rt; written.as_slice() == output.as_slice(), "{}", row.name);
-    Ok(())
 }
 
 // ---- copies
 
 /// How many copies are told.
 const COPIES: usize = 3;
+
+/// What is told of a frame, in copies; where memory is refused, once more.
+fn told(
+    alloc: Global,
+    broker: &mut TestedBroker,
+    frame: &Frame,
+) -> Result<Option<Vec<Outs>>, AllocError> {
+    match frame {
+        Frame::Stamped(stamped) => match broker.take_copies(stamped, COPIES) {
+            Ok(copies) => Ok(Some(copies)),
+            Err(Dropped::Memory) => Err(AllocError),
+            Err(_) => Ok(None),
+        },
+        Frame::Dead(dead) => Ok(Some(broker.dead_copies(dead.tab, COPIES)?)),
+        _ => Ok(None),
+    }
+}
 
 /// The copy at this place of what is told of a frame: nothing where it is dropped, for a cause other than memory.
 fn copy(
@@ -143,16 +167,9 @@ fn copy(
     frame: &Frame,
     place: usize,
 ) -> Outs {
-    let copies = match frame {
-        Frame::Stamped(stamped) => match broker.take_copies(stamped, COPIES) {
-            Err(Dropped::Memory) => broker.take_copies(stamped, COPIES).ok(),
-            answer => answer.ok(),
-        },
-        Frame::Dead(dead) => match broker.dead_copies(dead.tab, COPIES) {
-            Err(_) => broker.dead_copies(dead.tab, COPIES).ok(),
-            answer => answer.ok(),
-        },
-        _ => None,
+    let copies = match told(alloc, broker, frame) {
+        Ok(copies) => copies,
+        Err(_) => told(alloc, broker, frame).expect(rt, "memory is back"),
     };
     match copies {
         Some(mut copies) => {
@@ -164,80 +181,84 @@ fn copy(
     }
 }
 
-/// Gives a broker the row's frames, and compares each copy of what it tells.
-fn plays_in_copies(rt: &impl Abort, alloc: Global, row: &Row) -> Result<(), Fail> {
-    let output = bytes_of(alloc, row.output)?;
-    for place in 0..COPIES {
-        let (mut broker, hellos) = start(alloc, 1, &[])?;
-        let mut written = Vec::new(alloc);
-        write(rt, alloc, hellos, &mut written)?;
-        for frame in &frames(alloc, row)? {
-            let outs = copy(rt, alloc, &mut broker, frame, place);
-            write(rt, alloc, outs, &mut written)?;
-        }
-        assert!(rt;
-            written.as_slice() == output.as_slice(),
-            "{} at {place}",
-            row.name
-        );
+/// Gives a broker the row's frames, and compares the copy at this place of what it tells.
+fn plays_in_copy(rt: &impl Abort, alloc: Global, row: &Row, place: usize) {
+    let (mut broker, hellos) = start(rt, alloc, 1, &[]);
+    let mut written = Vec::new(alloc);
+    write(rt, alloc, hellos, &mut written);
+    for frame in &frames(rt, alloc, row) {
+        let outs = copy(rt, alloc, &mut broker, frame, place);
+        write(rt, alloc, outs, &mut written);
     }
-    Ok(())
+    let output = bytes(rt, alloc, &[row.output]);
+    assert!(rt;
+        written.as_slice() == output.as_slice(),
+        "{} at {place}",
+        row.name
+    );
+}
+
+/// The same for each copy.
+fn plays_in_copies(rt: &impl Abort, alloc: Global, row: &Row) {
+    for place in 0..COPIES {
+        plays_in_copy(rt, alloc, row, place);
+    }
 }
 
 #[test]
-fn commands_are_told_in_copies(rt: HostRuntime) -> Result<(), Fail> {
-    plays_in_copies(&rt, rt.alloc(), &HANDOVER)
+fn commands_are_told_in_copies(rt: HostRuntime) {
+    plays_in_copies(&rt, rt.alloc(), &HANDOVER);
 }
 
 #[test]
-fn snapshots_are_told_in_copies(rt: HostRuntime) -> Result<(), Fail> {
-    plays_in_copies(&rt, rt.alloc(), &SNAPSHOT)
+fn snapshots_are_told_in_copies(rt: HostRuntime) {
+    plays_in_copies(&rt, rt.alloc(), &SNAPSHOT);
 }
 
 #[test]
-fn deaths_are_told_in_copies(rt: HostRuntime) -> Result<(), Fail> {
-    plays_in_copies(&rt, rt.alloc(), &DEATH_HANDS_OVER)
+fn deaths_are_told_in_copies(rt: HostRuntime) {
+    plays_in_copies(&rt, rt.alloc(), &DEATH_HANDS_OVER);
 }
 
 // ---- calls that are made again
 
 #[test]
-fn commands_are_taken_again(rt: HostRuntime) -> Result<(), Fail> {
+fn commands_are_taken_again(rt: HostRuntime) {
     let alloc = rt.alloc();
-    plays(&rt, alloc, start(alloc, 1, &[])?, &HANDOVER)
+    plays(&rt, alloc, start(&rt, alloc, 1, &[]), &HANDOVER);
 }
 
 #[test]
-fn reports_are_taken_again(rt: HostRuntime) -> Result<(), Fail> {
+fn reports_are_taken_again(rt: HostRuntime) {
     let alloc = rt.alloc();
-    let started = start(alloc, 2, &[(1, 1), (2, 1)])?;
-    plays(&rt, alloc, started, &RESTART_WHILE_HELD)
+    let started = start(&rt, alloc, 2, &[(1, 1), (2, 1)]);
+    plays(&rt, alloc, started, &RESTART_WHILE_HELD);
 }
 
 #[test]
-fn queries_are_taken_again(rt: HostRuntime) -> Result<(), Fail> {
+fn queries_are_taken_again(rt: HostRuntime) {
     let alloc = rt.alloc();
-    plays(&rt, alloc, start(alloc, 1, &[])?, &SNAPSHOT)
+    plays(&rt, alloc, start(&rt, alloc, 1, &[]), &SNAPSHOT);
 }
 
 #[test]
-fn deaths_are_told_again(rt: HostRuntime) -> Result<(), Fail> {
+fn deaths_are_told_again(rt: HostRuntime) {
     let alloc = rt.alloc();
-    plays(&rt, alloc, start(alloc, 1, &[])?, &DEATH_HANDS_OVER)
+    plays(&rt, alloc, start(&rt, alloc, 1, &[]), &DEATH_HANDS_OVER);
 }
 
 // ---- reports in parts
 
 #[test]
-fn one_part_is_a_report(rt: HostRuntime) -> Result<(), Fail> {
+fn one_part_is_a_report(rt: HostRuntime) {
     let alloc = rt.alloc();
-    plays(&rt, alloc, start(alloc, 1, &[])?, &ONE_PART)
+    plays(&rt, alloc, start(&rt, alloc, 1, &[]), &ONE_PART);
 }
 
 #[test]
-fn parts_are_taken_again(rt: HostRuntime) -> Result<(), Fail> {
+fn parts_are_taken_again(rt: HostRuntime) {
     let alloc = rt.alloc();
-    plays(&rt, alloc, start(alloc, 2, &[(1, 1)])?, &TWO_PARTS)
+    plays(&rt, alloc, start(&rt, alloc, 2, &[(1, 1)]), &TWO_PARTS);
 }
 
 fn stamped(tab: u16, partition: u16, inner: Upward) -> Stamped {
@@ -249,7 +270,7 @@ fn stamped(tab: u16, partition: u16, inner: Upward) -> Stamped {
 }
 
 /// A part of two of the report of generation 2, base 2, in which this number waits.
-fn part(alloc: Global, part: u16, number: u32) -> Result<Upward, AllocError> {
+fn part_of(alloc: Global, part: u16, number: u32) -> Result<Upward, AllocError> {
     let mut entries = Vec::new(alloc);
     entries.push(Entry {
         number,
@@ -264,6 +285,15 @@ fn part(alloc: Global, part: u16, number: u32) -> Result<Upward, AllocError> {
         parts: 2,
         entries: Sequence::new(entries),
     }))
+}
+
+/// The same, of tab 1; where memory is refused, once more.
+fn part_in(rt: &impl Abort, alloc: Global, partition: u16, part: u16, number: u32) -> Stamped {
+    let inner = match part_of(alloc, part, number) {
+        Ok(inner) => inner,
+        Err(_) => part_of(alloc, part, number).expect(rt, "memory is back"),
+    };
+    stamped(1, partition, inner)
 }
 
 /// A whole report of generation 2, base 2, without entries.
@@ -294,20 +324,19 @@ fn keeps(rt: &impl Abort, broker: &mut TestedBroker, stamped: &Stamped) {
 }
 
 #[test]
-fn parts_that_do_not_fit(rt: HostRuntime) -> Result<(), Fail> {
+fn parts_that_do_not_fit(rt: HostRuntime) {
     let alloc = rt.alloc();
-    let (mut broker, _hellos) = start(alloc, 2, &[(2, 1)])?;
-    let second = stamped(1, 1, part(alloc, 1, 0)?);
+    let (mut broker, _hellos) = start(&rt, alloc, 2, &[(2, 1)]);
+    let second = part_in(&rt, alloc, 1, 1, 0);
     keeps(&rt, &mut broker, &second);
     drops(&rt, &mut broker, &second, Dropped::PartTwice);
     let whole = stamped(1, 1, report(alloc));
     drops(&rt, &mut broker, &whole, Dropped::BadReport);
-    let not_below = stamped(1, 1, part(alloc, 0, 1)?);
+    let not_below = part_in(&rt, alloc, 1, 0, 1);
     drops(&rt, &mut broker, &not_below, Dropped::BadReport);
-    let elsewhere = stamped(1, 3, part(alloc, 0, 0)?);
+    let elsewhere = part_in(&rt, alloc, 3, 0, 0);
     drops(&rt, &mut broker, &elsewhere, Dropped::Misplaced);
     let outs = bury(&rt, &mut broker, 1);
-    assert!(rt; outs.as_slice().is_empty());
+    assert!(&rt; outs.as_slice().is_empty());
     drops(&rt, &mut broker, &second, Dropped::DeadTab);
-    Ok(())
 }
