@@ -1,8 +1,8 @@
 //! Clients of a kernel that know nothing but the bytes.
 
-use std::io::{Read, Write};
+use std::io;
+use std::io::{ErrorKind, Read, Write};
 use std::os::unix::net::UnixStream;
-use std::test::Fail;
 use wl_process::Host;
 
 /// A welcome of tab 1 with the origin `https://a.test`.
@@ -23,37 +23,47 @@ const REPORT_AND_REQUEST: [u8; 35] = [
 /// That the request is granted, of one command that was taken.
 const GRANTED: [u8; 19] = [0, 0, 0, 15, 1, 17, 0, 0, 0, 1, 0, 0, 0, 1, 0, 0, 0, 0, 2];
 
-fn expect(link: &UnixStream, bytes: &[u8]) -> Result<(), Fail> {
+/// Reads bytes, which have to be these.
+pub(crate) fn expect(link: &UnixStream, bytes: &[u8]) -> io::Result<()> {
     let mut from = link;
     let mut piece = [0u8; 64];
     let Some(wanted) = piece.get_mut(..bytes.len()) else {
-        return Err(Fail::new("too many bytes"));
+        return Err(ErrorKind::InvalidInput.into());
     };
     from.read_exact(wanted)?;
     if *wanted != *bytes {
-        return Err(Fail::new("other bytes"));
+        return Err(ErrorKind::InvalidData.into());
     }
     Ok(())
 }
 
-/// A tab that asks for a lock, is granted it, and goes.
-pub(crate) fn speak<R: Host>(rt: &R, socket: &str) -> Result<(), Fail> {
-    let link = rt.connect(socket)?;
-    expect(&link, &WELCOME)?;
-    let mut out = &link;
-    expect(&link, &HELLO)?;
+/// Asks for a lock, and is granted it.
+fn speak_over(link: &UnixStream) -> io::Result<()> {
+    expect(link, &WELCOME)?;
+    let mut out = link;
+    expect(link, &HELLO)?;
     out.write_all(&REPORT_AND_REQUEST)?;
     // The kernel's hello and the broker's may both come; the second is that of a tab that is listed.
-    expect(&link, &GRANTED)
+    expect(link, &GRANTED)
+}
+
+/// A tab that asks for a lock, is granted it, and goes.
+pub(crate) fn speak<R: Host>(rt: &R, socket: &str) -> io::Result<()> {
+    speak_over(&rt.connect(socket)?)
+}
+
+/// The same of a tab that first removes its socket's file, unless the kernel has.
+pub(crate) fn remove_and_speak<R: Host>(rt: &R, socket: &str) -> io::Result<()> {
+    let link = rt.connect(socket)?;
+    match rt.remove_file(socket) {
+        Err(error) if error.kind() != ErrorKind::NotFound => Err(error),
+        _ => speak_over(&link),
+    }
 }
 
 /// A tab that sends half a frame and goes.
-pub(crate) fn break_off<R: Host>(rt: &R, socket: &str) -> Result<(), Fail> {
+pub(crate) fn break_off<R: Host>(rt: &R, socket: &str) -> io::Result<()> {
     let link = rt.connect(socket)?;
     let mut out = &link;
-    let Some(half) = REPORT_AND_REQUEST.get(..8) else {
-        return Err(Fail::new("too few bytes"));
-    };
-    out.write_all(half)?;
-    Ok(())
+    out.write_all(&REPORT_AND_REQUEST[..8])
 }

@@ -1,10 +1,10 @@
 //! Tabs that are hostile: they forge what they send, or send what is no frame. They know nothing but the bytes.
 
 use std::alloc::{AllocError, Global};
+use std::io;
 use std::io::{Read, Write};
 use std::net::Shutdown;
 use std::os::unix::net::UnixStream;
-use std::test::Fail;
 use wl_process::Host;
 
 /// Each message is forged for every generation below this one. No flood is long enough to use them up.
@@ -88,14 +88,14 @@ fn talk_from(alloc: Global, number: u32) -> Result<Vec<u8>, AllocError> {
 }
 
 /// Whether all honest rounds of a counter are over.
-fn are_over<R: Host>(rt: &R, directory: &str, counter: &str) -> Result<bool, Fail> {
+fn are_over<R: Host>(rt: &R, directory: &str, counter: &str) -> io::Result<bool> {
     let path = format!(in rt.alloc(); "{directory}/{counter}")?;
     let text = rt.read_file(path.as_str())?;
     Ok(text.as_slice() == ROUNDS_OF_TWO.as_bytes())
 }
 
 /// Ends a link, and reads what still comes: one that is closed over unread bytes ends as a fault.
-fn leave(link: &UnixStream) -> Result<(), Fail> {
+fn leave(link: &UnixStream) -> io::Result<()> {
     link.shutdown(Shutdown::Both)?;
     let mut buffer = [0; 4096];
     let mut reader = link;
@@ -108,7 +108,7 @@ fn leave(link: &UnixStream) -> Result<(), Fail> {
 }
 
 /// Contends for the lock `f` in forged messages of all generations, until the tabs of its own origin are through.
-pub(crate) fn talk<R: Host>(rt: &R, socket: &str, directory: &str) -> Result<(), Fail> {
+pub(crate) fn talk<R: Host>(rt: &R, socket: &str, directory: &str) -> io::Result<()> {
     let link = rt.connect(socket)?;
     let mut out = &link;
     for write in 0..WRITES {
@@ -141,7 +141,7 @@ fn claims(alloc: Global) -> Result<Vec<u8>, AllocError> {
 }
 
 /// Claims the lock `f` of its origin, until the tabs of the other one are through.
-pub(crate) fn claim<R: Host>(rt: &R, socket: &str, directory: &str) -> Result<(), Fail> {
+pub(crate) fn claim<R: Host>(rt: &R, socket: &str, directory: &str) -> io::Result<()> {
     let link = rt.connect(socket)?;
     let mut out = &link;
     let claims = claims(rt.alloc())?;
@@ -155,7 +155,7 @@ pub(crate) fn claim<R: Host>(rt: &R, socket: &str, directory: &str) -> Result<()
 }
 
 /// Sends what is no frame behind what is one.
-pub(crate) fn rave<R: Host>(rt: &R, socket: &str) -> Result<(), Fail> {
+pub(crate) fn rave<R: Host>(rt: &R, socket: &str) -> io::Result<()> {
     let link: UnixStream = rt.connect(socket)?;
     let mut out = &link;
     let mut bytes = Vec::new(rt.alloc());

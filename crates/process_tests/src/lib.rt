@@ -7,34 +7,52 @@ mod foreign;
 #[cfg(test)]
 mod hostile;
 #[cfg(test)]
-mod pacing;
+mod links;
+#[cfg(test)]
+mod rules;
 #[cfg(test)]
 mod running;
+#[cfg(test)]
+mod stage;
 #[cfg(test)]
 mod tests;
 
 #[cfg(test)]
-use std::env;
-#[cfg(test)]
 use std::test::Fail;
+#[cfg(test)]
+use std::{env, io};
+#[cfg(test)]
+use wl_process::ProcessFault;
+
+/// The words of this process.
+#[cfg(test)]
+fn words(rt: &HostRuntime) -> io::Result<Vec<String>> {
+    Ok(env::args(rt)?.collect::<Vec<String>>(rt.alloc())?)
+}
+
+/// How a process ends that stands for the program.
+#[cfg(test)]
+fn ended(done: Result<(), ProcessFault>) -> Result<(), Fail> {
+    match done {
+        Ok(()) => Ok(()),
+        Err(fault) => Err(Fail::new(format_args!("wlb: {fault}"))),
+    }
+}
 
 #[cfg(test)]
 #[test]
 fn kernel(rt: HostRuntime) -> Result<(), Fail> {
-    let words = env::args(&rt)?.collect::<Vec<String>>(rt.alloc())?;
-    running::be_kernel(rt, words.as_slice())
+    ended(running::be_kernel(rt, words(&rt)?.as_slice()))
 }
 
 #[cfg(test)]
 #[test]
 fn broker(rt: HostRuntime) -> Result<(), Fail> {
-    let words = env::args(&rt)?.collect::<Vec<String>>(rt.alloc())?;
-    running::be_broker(rt, words.as_slice())
+    ended(running::be_broker(rt, words(&rt)?.as_slice()))
 }
 
 #[cfg(test)]
 #[test]
 fn tab(rt: HostRuntime) -> Result<(), Fail> {
-    let words = env::args(&rt)?.collect::<Vec<String>>(rt.alloc())?;
-    running::be_tab(rt, words.as_slice())
+    ended(running::be_tab(rt, words(&rt)?.as_slice()))
 }

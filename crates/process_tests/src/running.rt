@@ -1,7 +1,7 @@
 //! What the program does with its words.
 
 use crate::{foreign, hostile};
-use std::test::Fail;
+use std::io;
 use wl_broker_process::run_broker;
 use wl_kernel_process::{KernelWords, run_kernel};
 use wl_locked::{LANE_LIMIT, SHARD_LIMIT};
@@ -28,21 +28,8 @@ fn are_words(words: &[String]) -> bool {
     words.len() > 2
 }
 
-fn ended(fault: Result<(), ProcessFault>) -> Result<(), Fail> {
-    match fault {
-        Ok(()) => Ok(()),
-        Err(ProcessFault::Memory) => Err(Fail::new("wlb: Memory")),
-        Err(ProcessFault::Read) => Err(Fail::new("wlb: Read")),
-        Err(ProcessFault::Write) => Err(Fail::new("wlb: Write")),
-        Err(ProcessFault::Device) => Err(Fail::new("wlb: Device")),
-        Err(ProcessFault::Line(_)) => Err(Fail::new("wlb: line")),
-        Err(ProcessFault::LineFailed(_)) => Err(Fail::new("wlb: line failed")),
-        Err(_) => Err(Fail::new("wlb: fault")),
-    }
-}
-
 /// `kernel --dir DIR --lanes N --shards S --limit N SCRIPT`.
-pub(crate) fn be_kernel<R: Host>(rt: R, words: &[String]) -> Result<(), Fail> {
+pub(crate) fn be_kernel<R: Host>(rt: R, words: &[String]) -> Result<(), ProcessFault> {
     if !are_words(words) {
         return Ok(());
     }
@@ -55,51 +42,44 @@ pub(crate) fn be_kernel<R: Host>(rt: R, words: &[String]) -> Result<(), Fail> {
         script: String::from_str(alloc, text(words, 10))?,
         program: String::from_str(alloc, text(words, 0))?,
     };
-    ended(run_kernel(rt, alloc, words))
+    run_kernel(rt, alloc, words)
 }
 
 /// `broker --socket PATH --lanes N --shards S --limit N`.
-pub(crate) fn be_broker<R: Host>(rt: R, words: &[String]) -> Result<(), Fail> {
+pub(crate) fn be_broker<R: Host>(rt: R, words: &[String]) -> Result<(), ProcessFault> {
     if !are_words(words) {
         return Ok(());
     }
     let (lanes, shards) = (small(words, 5), small(words, 7));
-    if lanes == 0 || lanes > LANE_LIMIT {
-        return Err(Fail::new("wlb: lanes"));
+    if lanes == 0 || lanes > LANE_LIMIT || shards == 0 || shards > SHARD_LIMIT {
+        return Err(ProcessFault::Unexpected);
     }
-    if shards == 0 || shards > SHARD_LIMIT {
-        return Err(Fail::new("wlb: shards"));
+    let (socket, limit) = (text(words, 3), number(words, 9));
+    run_broker(rt, rt.alloc(), socket, lanes, shards, limit)
+}
+
+/// What a client does that is not the program, if a script's name means one.
+fn be_stranger<R: Host>(rt: &R, socket: &str, script: &str) -> Option<io::Result<()>> {
+    let (directory, name) = script.rsplit_once('/')?;
+    match name {
+        "FOREIGN" => Some(foreign::speak(rt, socket)),
+        "REMOVER" => Some(foreign::remove_and_speak(rt, socket)),
+        "HALF" => Some(foreign::break_off(rt, socket)),
+        "GARBAGE" => Some(hostile::rave(rt, socket)),
+        "TALKER" => Some(hostile::talk(rt, socket, directory)),
+        "CLAIMER" => Some(hostile::claim(rt, socket, directory)),
+        _ => None,
     }
-    ended(run_broker(
-        rt,
-        rt.alloc(),
-        text(words, 3),
-        lanes,
-        shards,
-        number(words, 9),
-    ))
 }
 
 /// `tab --socket PATH SCRIPT`.
-pub(crate) fn be_tab<R: Host>(rt: R, words: &[String]) -> Result<(), Fail> {
+pub(crate) fn be_tab<R: Host>(rt: R, words: &[String]) -> Result<(), ProcessFault> {
     if !are_words(words) {
         return Ok(());
     }
     let (socket, script) = (text(words, 3), text(words, 4));
-    if script.ends_with("/FOREIGN") {
-        return foreign::speak(&rt, socket);
+    match be_stranger(&rt, socket, script) {
+        Some(done) => done.map_err(ProcessFault::of_device),
+        None => run_tab(rt, rt.alloc(), socket, script),
     }
-    if script.ends_with("/HALF") {
-        return foreign::break_off(&rt, socket);
-    }
-    if script.ends_with("/GARBAGE") {
-        return hostile::rave(&rt, socket);
-    }
-    if let Some(directory) = script.strip_suffix("/TALKER") {
-        return hostile::talk(&rt, socket, directory);
-    }
-    if let Some(directory) = script.strip_suffix("/CLAIMER") {
-        return hostile::claim(&rt, socket, directory);
-    }
-    ended(run_tab(rt, rt.alloc(), socket, script))
 }
