@@ -24,7 +24,7 @@ use wl_frames::{
     Stamped, Upward,
 };
 use wl_locked::{
-    Blanks, BookEvent, CloseFault, Generation, History, LANE_LIMIT, LockedBroker, NotStepped,
+    Blanks, BookEvent, CloseFault, Generation, History, LANE_LIMIT, Lane, LockedBroker, NotStepped,
     Receipt, Reply, SHARD_LIMIT, ShardLane, Sharded, Shards, Work, deal,
 };
 use wl_table::IndexedTable;
@@ -84,7 +84,7 @@ pub(super) fn request(
 }
 
 /// Those of one tab: its report, and so often a request of a lock and the release of it.
-fn handing_over(alloc: Global, tab: u16, times: u32) -> Result<Events, AllocError> {
+fn events_of(alloc: Global, tab: u16, times: u32) -> Result<Events, AllocError> {
     let mut events = VecDeque::new(alloc);
     events.push_back(report(alloc, tab))?;
     for time in 0..times {
@@ -146,6 +146,14 @@ pub(super) fn dealt(
     works.into_iter().collect::<VecDeque<Work>>(alloc)
 }
 
+/// The works of two tabs over one shard, each of which has the lock so often.
+fn handing_over(alloc: Global, times: u32) -> Result<Vec<VecDeque<Work>>, AllocError> {
+    let mut scripts = Vec::new(alloc);
+    scripts.push(dealt(alloc, 1, events_of(alloc, 1, times)?)?)?;
+    scripts.push(dealt(alloc, 1, events_of(alloc, 2, times)?)?)?;
+    Ok(scripts)
+}
+
 /// Counts frames.
 #[derive(Drop)]
 pub(super) struct Counter {
@@ -181,7 +189,26 @@ struct Taken {
     history: History,
 }
 
-/// Has one lane take events, up to the first that is no step. No tab is listed.
+/// Has a lane take events, up to the first that is no step: the receipts, and why there was no more.
+fn take_events<J: Generation, R: Wait>(
+    rt: &R,
+    alloc: Global,
+    broker: &LockedBroker<J>,
+    lane: &mut Lane<J>,
+    events: Events,
+) -> Result<(Vec<Receipt>, Option<NotStepped>), AllocError> {
+    let mut receipts = Vec::new(alloc);
+    for event in events {
+        match broker.take(rt, lane, event) {
+            Ok(receipt) => receipts.push(receipt)?,
+            Err(NotStepped::Memory) => return Err(AllocError),
+            Err(reason) => return Ok((receipts, Some(reason))),
+        }
+    }
+    Ok((receipts, None))
+}
+
+/// The same with a broker of one lane. No tab is listed.
 fn take_named<J: Generation, R: Wait + Abort>(
     rt: &R,
     alloc: Global,
@@ -195,25 +222,12 @@ fn take_named<J: Generation, R: Wait + Abort>(
     requires limit { J.limit ≡ limit }
 {
     let (broker, mut lanes, _hellos) = LockedBroker::<J>::new(alloc, blank, 1, &[], limit, 1)?;
-    let mut lane = lanes.pop().expect(rt, "a lane");
-    let mut receipts = Vec::new(alloc);
-    let mut refused = None;
-    for event in events {
-        match broker.take(rt, &mut lane, event) {
-            Ok(receipt) => receipts.push(receipt)?,
-            Err(NotStepped::Memory) => return Err(AllocError),
-            Err(reason) => {
-                refused = Some(reason);
-                break;
-            }
-        }
-    }
-    lanes.push(lane)?;
-    let history = broker.close(lanes).expect(rt, "the steps of one lane");
+    let lane = lanes.get_mut(0).expect(rt, "a lane");
+    let (receipts, refused) = take_events(rt, alloc, &broker, lane, events)?;
     Ok(Taken {
         receipts,
         refused,
-        history,
+        history: broker.close(lanes).expect(rt, "the steps of one lane"),
     })
 }
 
@@ -234,14 +248,19 @@ fn are_in_place(receipts: &[Receipt]) -> bool {
         .eq(0..receipts.len() as u64)
 }
 
-fn use_up<R: Wait + Abort>(rt: &R, alloc: Global) -> Result<(), AllocError> {
+/// Two tabs' reports, and two commands.
+fn two_reports_and_commands(alloc: Global) -> Result<Events, AllocError> {
     let mut events = VecDeque::new(alloc);
     events.push_back(report(alloc, 1))?;
     events.push_back(report(alloc, 2))?;
     let asked = request(alloc, Mode::Exclusive, false, "a")?;
     events.push_back(command(1, 0, asked))?;
     events.push_back(command(1, 1, Operation::Query))?;
-    let taken = take_all(rt, alloc, 3, events)?;
+    Ok(events)
+}
+
+fn use_up<R: Wait + Abort>(rt: &R, alloc: Global) -> Result<(), AllocError> {
+    let taken = take_all(rt, alloc, 3, two_reports_and_commands(alloc)?)?;
     assert_eq!(rt; taken.receipts.len(), 3);
     assert!(rt; are_in_place(taken.receipts.as_slice()));
     assert_eq!(rt; taken.refused, Some(NotStepped::GenerationSpent));
@@ -272,18 +291,23 @@ pub(super) fn granted(alloc: Global) -> Result<Reply, AllocError> {
     Ok(Reply::Outs(Sequence::new(outs)))
 }
 
-fn take_four<R: Wait + Abort>(rt: &R, alloc: Global) -> Result<(), AllocError> {
+/// A tab's report, its request, and its death twice.
+fn request_and_deaths(alloc: Global) -> Result<Events, AllocError> {
     let mut events = VecDeque::new(alloc);
     events.push_back(report(alloc, 1))?;
     let asked = request(alloc, Mode::Exclusive, false, "a")?;
     events.push_back(command(1, 0, asked))?;
     events.push_back(BookEvent::Dead(1))?;
     events.push_back(BookEvent::Dead(1))?;
-    let taken = take_all(rt, alloc, 4, events)?;
+    Ok(events)
+}
+
+fn take_four<R: Wait + Abort>(rt: &R, alloc: Global) -> Result<(), AllocError> {
+    let granted = granted(alloc)?;
+    let taken = take_all(rt, alloc, 4, request_and_deaths(alloc)?)?;
     assert_eq!(rt; taken.refused, None);
     assert!(rt; are_in_place(taken.receipts.as_slice()));
     let nothing = Reply::Outs(Sequence::new(Vec::new(alloc)));
-    let granted = granted(alloc)?;
     let replies = [&nothing, &granted, &nothing, &nothing];
     assert!(rt;
         taken
@@ -457,22 +481,6 @@ pub(super) fn run_over<G: Gate + Sync, R: Threads + Wait + Clock + Abort + Sync>
     )
 }
 
-/// The same over one shard.
-fn run_all<G: Gate + Sync, R: Threads + Wait + Clock + Abort + Sync>(
-    rt: &R,
-    alloc: Global,
-    limit: u32,
-    scripts: Vec<Events>,
-    gate: &G,
-    handed: Handed,
-) -> Result<Ran, AllocError> {
-    let mut all = Vec::new(alloc);
-    for events in scripts {
-        all.push(dealt(alloc, 1, events)?)?;
-    }
-    run_over(rt, alloc, 1, limit, all, gate, handed)
-}
-
 /// The history of the only shard.
 fn only<R: Abort>(rt: &R, closed: Result<Vec<History>, (u16, CloseFault)>) -> History {
     let mut histories = closed.expect(rt, "the steps of all lanes");
@@ -491,10 +499,8 @@ fn run_two<R: Threads + Wait + Clock + Abort + Sync>(
     rt: &R,
     alloc: Global,
 ) -> Result<(), AllocError> {
-    let mut scripts = Vec::new(alloc);
-    scripts.push(handing_over(alloc, 1, 50)?)?;
-    scripts.push(handing_over(alloc, 2, 50)?)?;
-    let ran = run_all(rt, alloc, 202, scripts, &Open, Handed::All)?;
+    let scripts = handing_over(alloc, 50)?;
+    let ran = run_over(rt, alloc, 1, 202, scripts, &Open, Handed::All)?;
     assert_eq!(rt; ran.ends.as_slice(), [ended(101), ended(101)].as_slice());
     let history = only(rt, ran.closed);
     assert_eq!(rt; history.steps().len(), 202);
@@ -513,10 +519,8 @@ fn leave_out<R: Threads + Wait + Clock + Abort + Sync>(
     rt: &R,
     alloc: Global,
 ) -> Result<(), AllocError> {
-    let mut scripts = Vec::new(alloc);
-    scripts.push(handing_over(alloc, 1, 0)?)?;
-    scripts.push(handing_over(alloc, 2, 0)?)?;
-    let ran = run_all(rt, alloc, 9, scripts, &Open, Handed::First)?;
+    let scripts = handing_over(alloc, 0)?;
+    let ran = run_over(rt, alloc, 1, 9, scripts, &Open, Handed::First)?;
     assert_eq!(rt; ran.ends.as_slice(), [ended(1), ended(1)].as_slice());
     assert_eq!(rt; ran.closed.err(), Some((0, CloseFault::WrongCount)));
     Ok(())
@@ -548,6 +552,8 @@ struct Seen {
     lanes: [Calls; 2],
     /// Whether any call was not one `pass` and then one `answered` of one of the lanes.
     is_out_of_order: bool,
+    /// Whether a lane was held for too long: one that memory refused a thread runs after the other.
+    has_given_up: bool,
 }
 
 impl Seen {
@@ -559,6 +565,7 @@ impl Seen {
         Seen {
             lanes: [none, none],
             is_out_of_order: false,
+            has_given_up: false,
         }
     }
 
@@ -600,11 +607,17 @@ impl Gate for Turnstile {
     fn pass<R: Wait + Clock>(&self, rt: &R, lane: u16) -> bool {
         self.seen.lock(rt).stand(lane);
         for _turn in 0..TURNS {
-            if self.seen.lock(rt).lets_pass(lane) {
+            let seen = self.seen.lock(rt);
+            if seen.has_given_up {
+                return false;
+            }
+            if seen.lets_pass(lane) {
                 return true;
             }
+            drop(seen);
             thread::sleep(rt, Duration::from_millis(1));
         }
+        self.seen.lock(rt).has_given_up = true;
         false
     }
 
@@ -613,7 +626,28 @@ impl Gate for Turnstile {
     }
 }
 
+/// The works of the report of a tab, so often. The tab is alone in the partition of its number.
+fn reports(alloc: Global, shards: u16, tab: u16, times: u32) -> Result<VecDeque<Work>, AllocError>
+    requires { 0 < shards }
+{
+    let mut events = VecDeque::new(alloc);
+    for _time in 0..times {
+        events.push_back(report_in(alloc, tab, tab))?;
+    }
+    dealt(alloc, shards, events)
+}
+
 /// Lane 0 has a report, and lane 1 another one twice, each of a partition of its own.
+fn once_and_twice(alloc: Global, shards: u16) -> Result<Vec<VecDeque<Work>>, AllocError>
+    requires { 0 < shards }
+{
+    let mut scripts = Vec::new(alloc);
+    scripts.push(reports(alloc, shards, 1, 1)?)?;
+    scripts.push(reports(alloc, shards, 2, 2)?)?;
+    Ok(scripts)
+}
+
+/// Runs two lanes, each of which waits for the other one. Where one got no thread, that is for want of memory.
 fn run_gated<R: Threads + Wait + Clock + Abort + Sync>(
     rt: &R,
     alloc: Global,
@@ -621,21 +655,17 @@ fn run_gated<R: Threads + Wait + Clock + Abort + Sync>(
 ) -> Result<(), AllocError>
     requires { 0 < shards }
 {
-    let mut once = VecDeque::new(alloc);
-    once.push_back(report_in(alloc, 1, 1))?;
-    let mut twice = VecDeque::new(alloc);
-    twice.push_back(report_in(alloc, 2, 2))?;
-    twice.push_back(report_in(alloc, 2, 2))?;
-    let mut scripts = Vec::new(alloc);
-    scripts.push(dealt(alloc, shards, once)?)?;
-    scripts.push(dealt(alloc, shards, twice)?)?;
+    let scripts = once_and_twice(alloc, shards)?;
     let gate = Turnstile {
         seen: Mutex::new(Seen::new()),
     };
     let ran = run_over(rt, alloc, shards, 3, scripts, &gate, Handed::All)?;
+    let seen = gate.seen.into_inner();
+    if seen.has_given_up {
+        return Err(AllocError);
+    }
     assert_eq!(rt; ran.ends.as_slice(), [ended(1), ended(2)].as_slice());
     assert!(rt; ran.closed.is_ok());
-    let seen = gate.seen.into_inner();
     assert!(rt; !seen.is_out_of_order);
     let [first, second] = seen.lanes;
     assert_eq!(rt; (first.stood, first.answered), (1, 1));
@@ -705,10 +735,7 @@ fn random_events(dice: &mut Dice, alloc: Global, tab: u16) -> Result<Events, All
 }
 
 /// What a broker that no other thread has answers to an event.
-pub(super) fn answer(
-    broker: &mut Broker<IndexedTable>,
-    event: &BookEvent,
-) -> Result<Reply, AllocError> {
+fn answer(broker: &mut Broker<IndexedTable>, event: &BookEvent) -> Result<Reply, AllocError> {
     match event {
         BookEvent::Take(stamped) => match broker.take(stamped) {
             Ok(outs) => Ok(Reply::Outs(outs)),
@@ -719,28 +746,47 @@ pub(super) fn answer(
     }
 }
 
-fn run_sixteen<R: Threads + Wait + Clock + Abort + Sync>(
-    rt: &R,
-    alloc: Global,
-) -> Result<(), AllocError> {
-    let mut dice = Dice::new(20_261_123);
-    let mut scripts = Vec::new(alloc);
-    let mut given = 0usize;
-    for tab in 1..=LANE_LIMIT {
-        let events = random_events(&mut dice, alloc, tab)?;
-        given = given.wrapping_add(events.len());
-        scripts.push(events)?;
-    }
-    let ran = run_all(rt, alloc, 2_000, scripts, &Open, Handed::All)?;
-    assert!(rt; ran.ends.iter().all(|end| end.why == Cause::Ended));
-    let history = only(rt, ran.closed);
-    assert_eq!(rt; history.steps().len(), given);
+/// That a broker which no other thread has answers each step of a history as it was answered.
+pub(super) fn replay(rt: &impl Abort, alloc: Global, history: &History) -> Result<(), AllocError> {
     let (mut broker, _hellos) = Broker::<IndexedTable>::start(alloc, 1, &[])?;
     for step in history.steps() {
         let reply = answer(&mut broker, &step.event)?;
         assert!(rt; reply == step.reply);
     }
     Ok(())
+}
+
+/// The works of a tab in each lane, over one shard.
+fn random_scripts(alloc: Global) -> Result<Vec<VecDeque<Work>>, AllocError> {
+    let mut dice = Dice::new(20_261_123);
+    let mut scripts = Vec::new(alloc);
+    for tab in 1..=LANE_LIMIT {
+        let events = random_events(&mut dice, alloc, tab)?;
+        scripts.push(dealt(alloc, 1, events)?)?;
+    }
+    Ok(scripts)
+}
+
+/// How many works there are in all.
+pub(super) fn count(scripts: &[VecDeque<Work>]) -> usize {
+    let mut given = 0usize;
+    for script in scripts {
+        given = given.saturating_add(script.len());
+    }
+    given
+}
+
+fn run_sixteen<R: Threads + Wait + Clock + Abort + Sync>(
+    rt: &R,
+    alloc: Global,
+) -> Result<(), AllocError> {
+    let scripts = random_scripts(alloc)?;
+    let given = count(scripts.as_slice());
+    let ran = run_over(rt, alloc, 1, 2_000, scripts, &Open, Handed::All)?;
+    assert!(rt; ran.ends.iter().all(|end| end.why == Cause::Ended));
+    let history = only(rt, ran.closed);
+    assert_eq!(rt; history.steps().len(), given);
+    replay(rt, alloc, &history)
 }
 
 #[test]

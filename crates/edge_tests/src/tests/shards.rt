@@ -4,7 +4,8 @@ ghost use Rattle.std.specs.Prelude.{◌≡◌, []};
 ghost use Rattle.wl_locked.specs.Blanks.{HaveParts, AreNamed};
 
 use super::lanes::{
-    Events, Handed, Open, answer, command_in, dealt, random_operation, report_in, request, run_over,
+    Events, Handed, Open, command_in, count, dealt, random_operation, replay, report_in, request,
+    run_over,
 };
 use std::alloc::{AllocError, Global};
 use std::collections::VecDeque;
@@ -13,13 +14,11 @@ use std::process::Abort;
 use std::rt::Clock;
 use std::sync::Wait;
 use std::thread::Threads;
-use wl_broker::Broker;
 use wl_fakes::dice::Dice;
 use wl_frames::Mode;
 use wl_locked::{
     Blanks, BookEvent, LANE_LIMIT, NotStepped, Receipt, ShardLane, Sharded, Shards, Work,
 };
-use wl_table::IndexedTable;
 use wl_workers::Cause;
 
 // ---- two shards of two steps
@@ -183,10 +182,7 @@ fn run_sixteen<R: Threads + Wait + Clock + Abort + Sync>(
     alloc: Global,
 ) -> Result<(), AllocError> {
     let scripts = scripts(alloc)?;
-    let mut given = 0usize;
-    for script in scripts.iter() {
-        given = given.saturating_add(script.len());
-    }
+    let given = count(scripts.as_slice());
     let ran = run_over(rt, alloc, SHARDS, 4_000, scripts, &Open, Handed::All)?;
     assert!(rt; ran.ends.iter().all(|end| end.why == Cause::Ended));
     let histories = ran.closed.expect(rt, "the steps of all lanes");
@@ -194,11 +190,7 @@ fn run_sixteen<R: Threads + Wait + Clock + Abort + Sync>(
     let mut steps = 0usize;
     for history in histories.iter() {
         steps = steps.saturating_add(history.steps().len());
-        let (mut broker, _hellos) = Broker::<IndexedTable>::start(alloc, 1, &[])?;
-        for step in history.steps() {
-            let reply = answer(&mut broker, &step.event)?;
-            assert!(rt; reply == step.reply);
-        }
+        replay(rt, alloc, history)?;
     }
     assert_eq!(rt; steps, given);
     Ok(())
