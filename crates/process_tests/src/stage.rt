@@ -1,21 +1,8 @@
 //! A directory in which a kernel plays its script, with real children.
 
-use std::process::{Abort, Child, Command, Processes, Stdio, SystemProcess};
-use std::rt::{Env, Files};
-use std::{env, fs};
-
-/// What these tests need of the system.
-pub(crate) trait Machine: AllocGlobal
-    + Env
-    + Files
-    + Processes<Started = SystemProcess>
-    + Abort
-    + Copy {}
-
-impl<R> Machine for R
-where
-    R: AllocGlobal + Env + Files + Processes<Started = SystemProcess> + Abort + Copy,
-{}
+use std::alloc::{AllocError, Global};
+use std::process::{Abort, Child, Command, Stdio};
+use std::{env, fs, io};
 
 /// A directory with a kernel's script, the scripts of its tabs, and a counter.
 #[derive(Drop)]
@@ -33,109 +20,114 @@ pub(crate) struct Played {
 
 impl Stage {
     /// A new directory, in which `COUNTER` holds 0. In scripts the word DIR stands for it.
-    pub(crate) fn new(rt: &impl Machine, name: &str, script: &str) -> Stage {
-        let mut words = env::args(rt).expect(rt, "words");
-        let program = words.next().expect(rt, "the program's name");
-        let status = fs::read_to_string(rt, "/proc/self/stat").expect(rt, "a text");
-        let number = status.split(' ').next().expect(rt, "the process's number");
-        let directory = format!(in rt.alloc(); "{name}_{number}").expect(rt, "memory");
-        fs::create_dir(rt, directory.as_str()).expect(rt, "a directory");
+    pub(crate) fn new(rt: &HostRuntime, name: &str, script: &str) -> io::Result<Stage> {
+        let Some(program) = env::args(rt)?.next() else {
+            return Err(io::ErrorKind::NotFound.into());
+        };
+        let number = std::process::id(rt.process());
+        let directory = format!(in rt.alloc(); "{name}_{number}")?;
+        fs::create_dir(rt, directory.as_str())?;
         let stage = Stage { directory, program };
-        stage.write(rt, "KERNEL", script);
-        stage.write(rt, "COUNTER", "0\n");
-        stage
+        stage.write(rt, "KERNEL", script)?;
+        stage.write(rt, "COUNTER", "0\n")?;
+        Ok(stage)
     }
 
-    pub(crate) fn path(&self, rt: &impl Machine, name: &str) -> String {
-        format!(in rt.alloc(); "{}/{name}", self.directory.as_str()).expect(rt, "memory")
+    pub(crate) fn path(&self, rt: &HostRuntime, name: &str) -> io::Result<String> {
+        Ok(format!(in rt.alloc(); "{}/{name}", self.directory.as_str())?)
     }
 
     /// Writes a script.
-    pub(crate) fn write(&self, rt: &impl Machine, name: &str, text: &str) {
-        let path = self.path(rt, name);
-        let text = text.replace(rt.alloc(), "DIR", self.directory.as_str());
-        fs::write(rt, path.as_str(), text.expect(rt, "memory")).expect(rt, "a file");
+    pub(crate) fn write(&self, rt: &HostRuntime, name: &str, text: &str) -> io::Result<()> {
+        let path = self.path(rt, name)?;
+        let text = text.replace(rt.alloc(), "DIR", self.directory.as_str())?;
+        fs::write(rt, path.as_str(), text)
     }
 
     /// Starts a kernel with so many lanes, shards and steps a generation.
-    pub(crate) fn start(&self, rt: &impl Machine, lanes: &str, shards: &str, limit: &str) -> Child {
-        let script = self.path(rt, "KERNEL");
-        let words = [
-            "kernel",
-            "--dir",
-            self.directory.as_str(),
-            "--lanes",
-            lanes,
-            "--shards",
-            shards,
-            "--limit",
-            limit,
-            script.as_str(),
-        ];
-        start(rt, self.program.as_str(), &words)
+    pub(crate) fn start(
+        &self,
+        rt: &HostRuntime,
+        lanes: &str,
+        shards: &str,
+        limit: &str,
+    ) -> io::Result<Child> {
+        let script = self.path(rt, "KERNEL")?;
+        let mut command = Command::new(rt.alloc(), self.program.as_str())?;
+        command.arg("kernel")?;
+        put_word(&mut command, "--dir", self.directory.as_str())?;
+        put_word(&mut command, "--lanes", lanes)?;
+        put_word(&mut command, "--shards", shards)?;
+        put_word(&mut command, "--limit", limit)?;
+        command.arg(script.as_str())?;
+        command.stdin(Stdio::null()).stdout(Stdio::piped());
+        command.spawn(rt)
     }
 
     /// Plays the kernel's script to its end.
     pub(crate) fn play_over(
         &self,
-        rt: &impl Machine,
+        rt: &HostRuntime,
         lanes: &str,
         shards: &str,
         limit: &str,
-    ) -> Played {
-        wait_for(rt, self.start(rt, lanes, shards, limit))
+    ) -> io::Result<Played> {
+        wait_for(rt, self.start(rt, lanes, shards, limit)?)
     }
 
     /// The same with two lanes over one shard.
-    pub(crate) fn play(&self, rt: &impl Machine) -> Played {
+    pub(crate) fn play(&self, rt: &HostRuntime) -> io::Result<Played> {
         self.play_over(rt, "2", "1", "65536")
     }
 
     /// The text of a file.
-    pub(crate) fn read(&self, rt: &impl Machine, name: &str) -> String {
-        let path = self.path(rt, name);
-        fs::read_to_string(rt, path.as_str()).expect(rt, "a text")
+    pub(crate) fn read(&self, rt: &HostRuntime, name: &str) -> io::Result<String> {
+        let path = self.path(rt, name)?;
+        fs::read_to_string(rt, path.as_str())
+    }
+
+    /// What is in the counter.
+    pub(crate) fn counter(&self, rt: &HostRuntime) -> io::Result<String> {
+        self.read(rt, "COUNTER")
     }
 
     /// Whether a socket is left over.
-    pub(crate) fn has_sockets(&self, rt: &impl Machine) -> bool {
-        for entry in fs::read_dir(rt, self.directory.as_str()).expect(rt, "a directory") {
-            let entry = entry.expect(rt, "an entry");
-            if entry.file_name().ends_with(".sock") {
-                return true;
+    pub(crate) fn has_sockets(&self, rt: &HostRuntime) -> io::Result<bool> {
+        for entry in fs::read_dir(rt, self.directory.as_str())? {
+            if entry?.file_name().ends_with(".sock") {
+                return Ok(true);
             }
         }
-        false
+        Ok(false)
     }
 
-    pub(crate) fn clear(self, rt: &impl Machine) {
-        fs::remove_dir_all(rt, self.directory.as_str()).expect(rt, "the directory goes");
+    pub(crate) fn clear(self, rt: &HostRuntime) -> io::Result<()> {
+        fs::remove_dir_all(rt, self.directory.as_str())
     }
 }
 
-/// Starts a program with these words.
-fn start(rt: &impl Machine, program: &str, words: &[&str]) -> Child {
-    let mut command = Command::new(rt.alloc(), program).expect(rt, "memory");
-    for word in words {
-        command.arg(*word).expect(rt, "memory");
-    }
-    command.stdin(Stdio::null()).stdout(Stdio::piped());
-    command.spawn(rt).expect(rt, "a process")
+/// Appends a word and its value.
+fn put_word(command: &mut Command, word: &str, value: &str) -> Result<(), AllocError> {
+    command.arg(word)?;
+    command.arg(value)?;
+    Ok(())
 }
 
 /// What a kernel printed, once it has ended.
-pub(crate) fn wait_for(rt: &impl Machine, kernel: Child) -> Played {
-    let output = kernel.wait_with_output(rt.alloc()).expect(rt, "its output");
-    let text = std::str::from_utf8(output.stdout.as_slice()).expect(rt, "a text");
-    Played {
-        text: String::from_str(rt.alloc(), text).expect(rt, "memory"),
+pub(crate) fn wait_for(rt: &HostRuntime, kernel: Child) -> io::Result<Played> {
+    let output = kernel.wait_with_output(rt.alloc())?;
+    let Ok(text) = std::str::from_utf8(output.stdout.as_slice()) else {
+        return Err(io::ErrorKind::InvalidData.into());
+    };
+    Ok(Played {
+        text: String::from_str(rt.alloc(), text)?,
         is_success: output.status.success(),
-    }
+    })
 }
 
 impl Played {
-    /// That all of these stand in what was printed.
-    pub(crate) fn tells(&self, rt: &impl Machine, lines: &[&str]) {
+    /// Asserts that all of these stand in what was printed.
+    pub(crate) fn tells(&self, rt: &impl Abort, lines: &[&str]) {
         for line in lines {
             assert!(rt; self.text.contains(*line), "{}", self.text);
         }
@@ -151,24 +143,19 @@ impl Played {
 }
 
 /// The script of a tab of so many rounds.
-pub(crate) fn rounds(rt: &impl Machine, count: u32) -> String {
-    rounds_on(rt, count, "COUNTER")
+pub(crate) fn rounds(alloc: Global, count: u32) -> Result<String, AllocError> {
+    rounds_on(alloc, count, "COUNTER")
 }
 
 /// The same on another counter.
-pub(crate) fn rounds_on(rt: &impl Machine, count: u32, counter: &str) -> String {
-    let mut script = String::new(rt.alloc());
+pub(crate) fn rounds_on(alloc: Global, count: u32, counter: &str) -> Result<String, AllocError> {
+    let mut script = String::new(alloc);
     for round in 0..count {
         let number = round.saturating_mul(2);
-        let text = format!(in rt.alloc();
+        let text = format!(in alloc;
             "ask exclusive f\nwait {number}\nadd DIR/{counter}\nrelease {number}\n"
-        );
-        put(rt, &mut script, text.expect(rt, "memory").as_str());
+        )?;
+        script.push_str(text.as_str())?;
     }
-    script
-}
-
-/// Appends a text.
-pub(crate) fn put(rt: &impl Machine, script: &mut String, text: &str) {
-    script.push_str(text).expect(rt, "memory");
+    Ok(script)
 }
