@@ -15,10 +15,10 @@ TOLD = re.compile(r"^(?:rt: )?must-fail (\w+)/(\w+)\.edit: refused, as it must b
 AT = re.compile(r"(?:note: )?(?:\./)?(\S+?):(\d+):\d+: (.*)$")
 HEAD = """# The must-fail edits of the gate
 
-Each edit changes a line or a few of the code, or of a definition, so that it means something else, and the prover has to refuse it. Beside it stands the first goal
-that was told as unproved, in the last run that is recorded here: the function, and which of its goals. Where a lemma is named the
-edit shows less, since all that is seen is that this lemma does not fit any more. `tools/edits.py` makes this page of the gate's
-output.
+Each edit changes a line or a few of the code, or of a definition, so that it means something else, and the prover has to refuse
+it. Beside it stands the first goal that was told as unproved, in the last run that is recorded here: the function, and which of
+its goals. Where a lemma is named the edit shows less, since all that is seen is that this lemma does not fit any more.
+`tools/edits.py` makes this page of the gate's output.
 """
 
 
