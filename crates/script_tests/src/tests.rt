@@ -1,5 +1,6 @@
 //! One file a part.
 
+mod again;
 mod process_script;
 mod random;
 mod script;

@@ -1,22 +1,14 @@
 //! The lines of the scripts of kernel and tab, what the kernel prints, and the files that tabs count in. A call that is refused
 //! memory is made again: so these tests pass whichever allocation is refused.
 
+use super::again::{clear_front, name};
 use std::alloc::{AllocError, Global};
 use std::process::Abort;
-use std::test::Fail;
-use wl_frames::{Mode, Name};
+use wl_frames::Mode;
 use wl_process_script::{
     KernelLine, KernelReply, TabLine, count_of, put_count, read_kernel_line, read_tab_line,
 };
 use wl_words::Unread;
-
-fn name(alloc: Global, text: &str) -> Result<Name, AllocError> {
-    let spelled = match String::from_str(alloc, text) {
-        Ok(spelled) => spelled,
-        Err(_) => String::from_str(alloc, text)?,
-    };
-    Ok(Name::new(spelled))
-}
 
 /// What a line of a kernel's script says. Where memory is refused it is read again.
 fn kernel_line(alloc: Global, text: &[u8]) -> Result<KernelLine, Unread> {
@@ -34,74 +26,57 @@ fn tab_line(alloc: Global, text: &[u8]) -> Result<TabLine, Unread> {
     }
 }
 
-/// Whether a line is of another form, unless memory was refused.
-fn is_refused<L: Drop>(read: Result<L, Unread>) -> Result<bool, Unread> {
-    match read {
-        Ok(_) => Ok(false),
-        Err(Unread::Form) => Ok(true),
-        Err(Unread::Memory) => Err(Unread::Memory),
-    }
+/// Whether a line is of another form.
+fn is_refused<L: Drop>(read: Result<L, Unread>) -> bool {
+    matches!(&read, Err(Unread::Form))
 }
 
-fn is_kernel_line(
-    rt: &impl Abort,
-    alloc: Global,
-    text: &str,
-    line: KernelLine,
-) -> Result<(), Fail> {
-    let read = kernel_line(alloc, text.as_bytes())?;
+fn is_kernel_line(rt: &impl Abort, alloc: Global, text: &str, line: KernelLine) {
+    let read = kernel_line(alloc, text.as_bytes()).expect(rt, "a line");
     assert_eq!(rt; read, line, "of {text}");
-    Ok(())
 }
 
-fn opens(rt: &impl Abort, alloc: Global, text: &str, url: &str, file: &str) -> Result<(), Fail> {
-    let url = name(alloc, url)?;
-    let file = name(alloc, file)?;
-    is_kernel_line(rt, alloc, text, KernelLine::Open { url, file })
+fn opens(rt: &impl Abort, alloc: Global, text: &str, url: &str, file: &str) {
+    let url = name(rt, alloc, url);
+    let file = name(rt, alloc, file);
+    is_kernel_line(rt, alloc, text, KernelLine::Open { url, file });
 }
 
-fn opens_two(
-    rt: &impl Abort,
-    alloc: Global,
-    text: &str,
-    top: &str,
-    url: &str,
-    file: &str,
-) -> Result<(), Fail> {
-    let top = name(alloc, top)?;
-    let url = name(alloc, url)?;
-    let file = name(alloc, file)?;
-    is_kernel_line(rt, alloc, text, KernelLine::OpenTwo { top, url, file })
+fn opens_two(rt: &impl Abort, alloc: Global, text: &str, top: &str, url: &str, file: &str) {
+    let top = name(rt, alloc, top);
+    let url = name(rt, alloc, url);
+    let file = name(rt, alloc, file);
+    is_kernel_line(rt, alloc, text, KernelLine::OpenTwo { top, url, file });
 }
 
 #[test]
-fn kernel_lines(rt: HostRuntime) -> Result<(), Fail> {
-    is_kernel_line(&rt, rt.alloc(), "", KernelLine::Blank)?;
-    is_kernel_line(&rt, rt.alloc(), "# start", KernelLine::Blank)?;
-    is_kernel_line(&rt, rt.alloc(), "start", KernelLine::Start)?;
-    is_kernel_line(&rt, rt.alloc(), "stop", KernelLine::Stop)?;
-    is_kernel_line(&rt, rt.alloc(), "kill 1", KernelLine::Kill { tab: 1 })?;
+fn kernel_lines(rt: HostRuntime) {
+    is_kernel_line(&rt, rt.alloc(), "", KernelLine::Blank);
+    is_kernel_line(&rt, rt.alloc(), "# start", KernelLine::Blank);
+    is_kernel_line(&rt, rt.alloc(), "start", KernelLine::Start);
+    is_kernel_line(&rt, rt.alloc(), "stop", KernelLine::Stop);
+    is_kernel_line(&rt, rt.alloc(), "kill 1", KernelLine::Kill { tab: 1 });
     is_kernel_line(
         &rt,
         rt.alloc(),
         "kill 65535",
         KernelLine::Kill { tab: 65_535 },
-    )?;
+    );
     for (text, milliseconds) in [("pause 0", 0), ("pause 50", 50), ("pause 10000", 10_000)] {
-        is_kernel_line(&rt, rt.alloc(), text, KernelLine::Pause { milliseconds })?;
+        is_kernel_line(&rt, rt.alloc(), text, KernelLine::Pause { milliseconds });
     }
-    is_kernel_line(&rt, rt.alloc(), "join", KernelLine::Join)
+    is_kernel_line(&rt, rt.alloc(), "join", KernelLine::Join);
 }
 
 #[test]
-fn kernel_lines_that_open_tabs(rt: HostRuntime) -> Result<(), Fail> {
+fn kernel_lines_that_open_tabs(rt: HostRuntime) {
     opens(
         &rt,
         rt.alloc(),
         "open https://a.test/ TAB",
         "https://a.test/",
         "TAB",
-    )?;
+    );
     // Neither a URL nor a path has escapes.
     opens(
         &rt,
@@ -109,7 +84,7 @@ fn kernel_lines_that_open_tabs(rt: HostRuntime) -> Result<(), Fail> {
         "open data:,%20 a%20b/é",
         "data:,%20",
         "a%20b/é",
-    )?;
+    );
     let text = "open2 https://t.test/ https://a.test/ TAB";
     opens_two(
         &rt,
@@ -118,11 +93,11 @@ fn kernel_lines_that_open_tabs(rt: HostRuntime) -> Result<(), Fail> {
         "https://t.test/",
         "https://a.test/",
         "TAB",
-    )
+    );
 }
 
 #[test]
-fn other_kernel_lines(rt: HostRuntime) -> Result<(), Fail> {
+fn other_kernel_lines(rt: HostRuntime) {
     let cases = [
         " ",
         "\r",
@@ -164,50 +139,48 @@ fn other_kernel_lines(rt: HostRuntime) -> Result<(), Fail> {
     ];
     for text in cases {
         let read = kernel_line(rt.alloc(), text.as_bytes());
-        assert!(rt; is_refused(read)?, "of {text}");
+        assert!(rt; is_refused(read), "of {text}");
     }
     let not_utf8 = [b"open \xff TAB".as_slice(), b"open a \xff".as_slice()];
     for text in not_utf8 {
-        assert!(rt; is_refused(kernel_line(rt.alloc(), text))?);
+        assert!(rt; is_refused(kernel_line(rt.alloc(), text)));
     }
-    Ok(())
 }
 
-fn is_tab_line(rt: &impl Abort, alloc: Global, text: &str, line: TabLine) -> Result<(), Fail> {
-    let read = tab_line(alloc, text.as_bytes())?;
+fn is_tab_line(rt: &impl Abort, alloc: Global, text: &str, line: TabLine) {
+    let read = tab_line(alloc, text.as_bytes()).expect(rt, "a line");
     assert_eq!(rt; read, line, "of {text}");
-    Ok(())
 }
 
 #[test]
-fn tab_lines(rt: HostRuntime) -> Result<(), Fail> {
-    is_tab_line(&rt, rt.alloc(), "", TabLine::Blank)?;
-    is_tab_line(&rt, rt.alloc(), "#ask exclusive f", TabLine::Blank)?;
+fn tab_lines(rt: HostRuntime) {
+    is_tab_line(&rt, rt.alloc(), "", TabLine::Blank);
+    is_tab_line(&rt, rt.alloc(), "#ask exclusive f", TabLine::Blank);
     for (text, number) in [("wait 0", 0), ("wait 4294967295", u32::MAX)] {
-        is_tab_line(&rt, rt.alloc(), text, TabLine::Wait { number })?;
+        is_tab_line(&rt, rt.alloc(), text, TabLine::Wait { number });
     }
     is_tab_line(
         &rt,
         rt.alloc(),
         "release 18",
         TabLine::Release { number: 18 },
-    )?;
-    is_tab_line(&rt, rt.alloc(), "abort 2", TabLine::Abort { number: 2 })?;
-    is_tab_line(&rt, rt.alloc(), "query", TabLine::Query)
+    );
+    is_tab_line(&rt, rt.alloc(), "abort 2", TabLine::Abort { number: 2 });
+    is_tab_line(&rt, rt.alloc(), "query", TabLine::Query);
 }
 
 #[test]
-fn tab_lines_with_names(rt: HostRuntime) -> Result<(), Fail> {
+fn tab_lines_with_names(rt: HostRuntime) {
     let alloc = rt.alloc();
     for (text, mode, spelled) in [
         ("ask exclusive f", Mode::Exclusive, "f"),
         ("ask shared %", Mode::Shared, ""),
     ] {
-        let name = name(alloc, spelled)?;
-        is_tab_line(&rt, rt.alloc(), text, TabLine::Ask { mode, name })?;
+        let name = name(&rt, alloc, spelled);
+        is_tab_line(&rt, rt.alloc(), text, TabLine::Ask { mode, name });
     }
     let mode = Mode::Exclusive;
-    let name_asked = name(alloc, "a b")?;
+    let name_asked = name(&rt, alloc, "a b");
     is_tab_line(
         &rt,
         alloc,
@@ -216,13 +189,13 @@ fn tab_lines_with_names(rt: HostRuntime) -> Result<(), Fail> {
             mode,
             name: name_asked,
         },
-    )?;
-    let file = name(alloc, "COUNTER")?;
-    is_tab_line(&rt, rt.alloc(), "add COUNTER", TabLine::Add { file })
+    );
+    let file = name(&rt, alloc, "COUNTER");
+    is_tab_line(&rt, rt.alloc(), "add COUNTER", TabLine::Add { file });
 }
 
 #[test]
-fn other_tab_lines(rt: HostRuntime) -> Result<(), Fail> {
+fn other_tab_lines(rt: HostRuntime) {
     let cases = [
         " ",
         "ask",
@@ -262,14 +235,28 @@ fn other_tab_lines(rt: HostRuntime) -> Result<(), Fail> {
     ];
     for text in cases {
         let read = tab_line(rt.alloc(), text.as_bytes());
-        assert!(rt; is_refused(read)?, "of {text}");
+        assert!(rt; is_refused(read), "of {text}");
     }
-    assert!(rt; is_refused(tab_line(rt.alloc(), b"add \xff"))?);
-    Ok(())
+    assert!(rt; is_refused(tab_line(rt.alloc(), b"add \xff")));
+}
+
+/// The call alone, so that its callers see no clauses.
+fn put_once(reply: &KernelReply<'_>, out: &mut Vec<u8>) -> Result<(), AllocError> {
+    reply.put(out)
+}
+
+/// Whether a reply has this text. A call that memory ended has written a front of it, and is made again.
+fn prints(rt: &impl Abort, alloc: Global, reply: &KernelReply<'_>, text: &str) {
+    let mut out = Vec::new(alloc);
+    if put_once(reply, &mut out).is_err() {
+        clear_front(rt, &mut out, text);
+        put_once(reply, &mut out).expect(rt, "memory is back");
+    }
+    assert_eq!(rt; out.as_slice(), text.as_bytes(), "of {text}");
 }
 
 #[test]
-fn what_the_kernel_prints(rt: HostRuntime) -> Result<(), Fail> {
+fn what_the_kernel_prints(rt: HostRuntime) {
     let cases = [
         (KernelReply::Up(1), "up 1\n"),
         (KernelReply::AlreadyUp, "already up\n"),
@@ -309,19 +296,26 @@ fn what_the_kernel_prints(rt: HostRuntime) -> Result<(), Fail> {
         ),
     ];
     for (reply, text) in cases {
-        let mut out = Vec::new(rt.alloc());
-        if reply.put(&mut out).is_err() {
-            assert!(rt; text.as_bytes().starts_with(out.as_slice()), "of {text}");
-            out.clear();
-            reply.put(&mut out)?;
-        }
-        assert_eq!(rt; out.as_slice(), text.as_bytes(), "of {text}");
+        prints(&rt, rt.alloc(), &reply, text);
     }
-    Ok(())
+}
+
+fn put_count_once(out: &mut Vec<u8>, count: u32) -> Result<(), AllocError> {
+    put_count(out, count)
+}
+
+/// Whether a count has this text, with the same said of memory.
+fn counts_as(rt: &impl Abort, alloc: Global, count: u32, text: &str) {
+    let mut out = Vec::new(alloc);
+    if put_count_once(&mut out, count).is_err() {
+        clear_front(rt, &mut out, text);
+        put_count_once(&mut out, count).expect(rt, "memory is back");
+    }
+    assert_eq!(rt; out.as_slice(), text.as_bytes(), "of {count}");
 }
 
 #[test]
-fn counts(rt: HostRuntime) -> Result<(), Fail> {
+fn counts(rt: HostRuntime) {
     for (text, count) in [("0\n", 0), ("40\n", 40), ("999999\n", 999_999)] {
         assert_eq!(rt; count_of(text.as_bytes()), Some(count), "of {text}");
     }
@@ -345,13 +339,6 @@ fn counts(rt: HostRuntime) -> Result<(), Fail> {
         assert!(rt; count_of(text.as_bytes()).is_none(), "of {text}");
     }
     for (count, text) in [(0, "0\n"), (10, "10\n"), (1_000_000, "1000000\n")] {
-        let mut out = Vec::new(rt.alloc());
-        if put_count(&mut out, count).is_err() {
-            assert!(rt; text.as_bytes().starts_with(out.as_slice()), "of {count}");
-            out.clear();
-            put_count(&mut out, count)?;
-        }
-        assert_eq!(rt; out.as_slice(), text.as_bytes(), "of {count}");
+        counts_as(&rt, rt.alloc(), count, text);
     }
-    Ok(())
 }

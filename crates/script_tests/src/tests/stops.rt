@@ -2,14 +2,13 @@
 //! behind it, or one of the tabs is killed, and told to be dead or not. Whatever the lines behind it then say, the script is
 //! played to its end, and no list of what is held has two locks that conflict. The lists are those that `show` prints, and
 //! the origins of the tabs those that `open` prints, so this looks at the program from outside, as a reader of its output.
+//! What is refused memory is made again: so these tests pass whichever allocation is refused.
 
 use super::script::rows::Row;
-use super::script::{Play, play_of, play_of_refusals, rows};
+use super::script::{Play, play_of, play_of_refusals, rows, run};
 use std::alloc::{AllocError, Global};
 use std::process::Abort;
-use std::test::Fail;
-use wl_frames::device::{Sink, Source};
-use wl_script::sim::sim_run;
+use wl_script::sim::SimFault;
 
 // ---- what an output tells
 
@@ -110,8 +109,7 @@ impl<'a> Told<'a> {
     }
 }
 
-/// What a whole output tells.
-fn told_by(alloc: Global, output: &str) -> Result<Told<'_>, AllocError> {
+fn told_once(alloc: Global, output: &str) -> Result<Told<'_>, AllocError> {
     let mut told = Told::new(alloc);
     for line in output.lines() {
         told.take_line(line)?;
@@ -120,8 +118,28 @@ fn told_by(alloc: Global, output: &str) -> Result<Told<'_>, AllocError> {
     Ok(told)
 }
 
+/// What a whole output tells. Where memory is refused it is read again.
+fn told_by<'a>(rt: &impl Abort, alloc: Global, output: &'a str) -> Told<'a> {
+    match told_once(alloc, output) {
+        Ok(told) => told,
+        Err(_) => told_once(alloc, output).expect(rt, "memory is back"),
+    }
+}
+
+fn joined_once(alloc: Global, front: &str, rest: &str) -> Result<String, AllocError> {
+    format!(in alloc; "{front}{rest}")
+}
+
+/// Two texts as one.
+fn joined(rt: &impl Abort, alloc: Global, front: &str, rest: &str) -> String {
+    match joined_once(alloc, front, rest) {
+        Ok(text) => text,
+        Err(_) => joined_once(alloc, front, rest).expect(rt, "memory is back"),
+    }
+}
+
 #[test]
-fn conflicts_in_an_output(rt: HostRuntime) -> Result<(), Fail> {
+fn conflicts_in_an_output(rt: HostRuntime) {
     let opened = "opened 1 https://a.test\nopened 2 https://a.test\nopened 3 http://a.test\n";
     let cases = [
         ("1#0 exclusive a\n2#0 shared a\n", 1, 1),
@@ -140,12 +158,11 @@ fn conflicts_in_an_output(rt: HostRuntime) -> Result<(), Fail> {
         ),
     ];
     for (lists, count, conflicts) in cases {
-        let output = format!(in rt.alloc(); "{opened}{lists}")?;
-        let told = told_by(rt.alloc(), output.as_str())?;
+        let output = joined(&rt, rt.alloc(), opened, lists);
+        let told = told_by(&rt, rt.alloc(), output.as_str());
         assert_eq!(rt; told.lists, count, "in {lists}");
         assert_eq!(rt; told.conflicts, conflicts, "in {lists}");
     }
-    Ok(())
 }
 
 // ---- one run
@@ -203,8 +220,7 @@ impl Watched {
     }
 }
 
-/// The lines of a script with these behind the one at this place, and twice as many messages as it has lines at the end.
-fn with_put_in(
+fn with_put_in_once(
     alloc: Global,
     script: &str,
     place: usize,
@@ -219,6 +235,20 @@ fn with_put_in(
     }
     watched.deliver_all(alloc, script.lines().count().saturating_mul(2))?;
     Ok(watched)
+}
+
+/// The lines of a script with these behind the one at this place, and twice as many messages as it has lines at the end.
+fn with_put_in(
+    rt: &impl Abort,
+    alloc: Global,
+    script: &str,
+    place: usize,
+    put_in: &[&str],
+) -> Watched {
+    match with_put_in_once(alloc, script, place, put_in) {
+        Ok(watched) => watched,
+        Err(_) => with_put_in_once(alloc, script, place, put_in).expect(rt, "memory is back"),
+    }
 }
 
 /// How many runs there were, and how many locks they listed.
@@ -237,24 +267,57 @@ impl Tally {
     }
 }
 
-/// Plays a script to its end: it lists what is held behind each line, and never two locks that conflict.
-fn play(rt: &impl Abort, alloc: Global, watched: &Watched, name: &str) -> Result<Tally, Fail> {
-    let mut source = Source::new(watched.script.as_slice());
+/// Whether a run was refused memory: as a vector is written to, its writer fails for nothing else.
+fn is_refused(end: Result<(), SimFault>) -> bool {
+    end == Err(SimFault::Memory) || end == Err(SimFault::Write)
+}
+
+/// What is written for a script that is played to its end. A run that memory ended has written a front of it, and is made again.
+fn written_for(rt: &impl Abort, alloc: Global, script: &[u8], name: &str) -> Vec<u8> {
     let mut written = Vec::new(alloc);
-    let mut sink = Sink::new(&mut written);
-    let end = sim_run(alloc, &mut source, &mut sink);
+    let end = run(alloc, script, &mut written);
+    if !is_refused(end) {
+        assert_eq!(rt; end, Ok(()), "{name}");
+        return written;
+    }
+    let mut whole = Vec::new(alloc);
+    let end = run(alloc, script, &mut whole);
     assert_eq!(rt; end, Ok(()), "{name}");
+    assert!(rt; whole.as_slice().starts_with(written.as_slice()), "{name}");
+    whole
+}
+
+/// Plays a script to its end: it lists what is held behind each line, and never two locks that conflict.
+fn play(rt: &impl Abort, alloc: Global, watched: &Watched, name: &str) -> Tally {
+    let written = written_for(rt, alloc, watched.script.as_slice(), name);
     let output = str::from_utf8(written.as_slice()).expect(rt, "a text");
-    let told = told_by(alloc, output)?;
+    let told = told_by(rt, alloc, output);
     assert_eq!(rt; told.lists, watched.lists, "{name}");
     assert_eq!(rt; told.conflicts, 0, "{name}");
-    Ok(Tally {
+    Tally {
         runs: 1,
         locks: told.locks,
-    })
+    }
 }
 
 // ---- all runs
+
+fn run_name_once(
+    alloc: Global,
+    name: &str,
+    put_in: &[&str],
+    number: usize,
+) -> Result<String, AllocError> {
+    format!(in alloc; "{name}, {put_in:?} behind line {number}")
+}
+
+/// What a run is called.
+fn run_name(rt: &impl Abort, alloc: Global, name: &str, put_in: &[&str], number: usize) -> String {
+    match run_name_once(alloc, name, put_in, number) {
+        Ok(name) => name,
+        Err(_) => run_name_once(alloc, name, put_in, number).expect(rt, "memory is back"),
+    }
+}
 
 /// Puts these lines in behind each line of a script in turn.
 fn behind_each_line(
@@ -263,15 +326,14 @@ fn behind_each_line(
     script: &str,
     put_in: &[&str],
     name: &str,
-) -> Result<Tally, Fail> {
+) -> Tally {
     let mut tally = NO_RUN;
     for place in 0..script.lines().count() {
-        let number = place.saturating_add(1);
-        let name = format!(in alloc; "{name}, {put_in:?} behind line {number}")?;
-        let watched = with_put_in(alloc, script, place, put_in)?;
-        tally.add(play(rt, alloc, &watched, name.as_str())?);
+        let name = run_name(rt, alloc, name, put_in, place.saturating_add(1));
+        let watched = with_put_in(rt, alloc, script, place, put_in);
+        tally.add(play(rt, alloc, &watched, name.as_str()));
     }
-    Ok(tally)
+    tally
 }
 
 /// What is put in.
@@ -294,132 +356,102 @@ fn with_death(
     tab: &str,
     is_told: bool,
     name: &str,
-) -> Result<Tally, Fail> {
-    let kill = format!(in alloc; "kill {tab}")?;
+) -> Tally {
+    let kill = joined(rt, alloc, "kill ", tab);
     if is_told {
-        let tell = format!(in alloc; "tell {tab}")?;
+        let tell = joined(rt, alloc, "tell ", tab);
         behind_each_line(rt, alloc, script, &[kill.as_str(), tell.as_str()], name)
     } else {
         behind_each_line(rt, alloc, script, &[kill.as_str()], name)
     }
 }
 
-fn with_deaths(
-    rt: &impl Abort,
-    alloc: Global,
-    play: &Play,
-    is_told: bool,
-    name: &str,
-) -> Result<Tally, Fail> {
+fn with_deaths(rt: &impl Abort, alloc: Global, play: &Play, is_told: bool, name: &str) -> Tally {
     let script = str::from_utf8(play.script.as_slice()).expect(rt, "a text");
     let output = str::from_utf8(play.output.as_slice()).expect(rt, "a text");
-    let told = told_by(alloc, output)?;
+    let told = told_by(rt, alloc, output);
     let mut tally = NO_RUN;
     for (tab, _origin) in told.tabs.iter() {
-        tally.add(with_death(rt, alloc, script, tab, is_told, name)?);
+        tally.add(with_death(rt, alloc, script, tab, is_told, name));
     }
-    Ok(tally)
+    tally
 }
 
-fn with_lines(
-    rt: &impl Abort,
-    alloc: Global,
-    play: &Play,
-    lines: &[&str],
-    name: &str,
-) -> Result<Tally, Fail> {
+fn with_lines(rt: &impl Abort, alloc: Global, play: &Play, lines: &[&str], name: &str) -> Tally {
     let script = str::from_utf8(play.script.as_slice()).expect(rt, "a text");
     behind_each_line(rt, alloc, script, lines, name)
 }
 
 impl Tally {
-    fn play(
-        &mut self,
-        rt: &impl Abort,
-        alloc: Global,
-        play: &Play,
-        put_in: PutIn,
-        name: &str,
-    ) -> Result<(), Fail> {
+    fn play(&mut self, rt: &impl Abort, alloc: Global, play: &Play, put_in: PutIn, name: &str) {
         let more = match put_in {
-            PutIn::Restart => with_lines(rt, alloc, play, &["stop", "start"], name)?,
-            PutIn::StartWithoutTabs => with_lines(rt, alloc, play, &["stop", "start -"], name)?,
-            PutIn::Death => with_deaths(rt, alloc, play, false, name)?,
-            PutIn::ToldDeath => with_deaths(rt, alloc, play, true, name)?,
+            PutIn::Restart => with_lines(rt, alloc, play, &["stop", "start"], name),
+            PutIn::StartWithoutTabs => with_lines(rt, alloc, play, &["stop", "start -"], name),
+            PutIn::Death => with_deaths(rt, alloc, play, false, name),
+            PutIn::ToldDeath => with_deaths(rt, alloc, play, true, name),
         };
         self.add(more);
-        Ok(())
     }
 
-    fn row(
-        &mut self,
-        rt: &impl Abort,
-        alloc: Global,
-        row: &Row,
-        put_in: PutIn,
-    ) -> Result<(), Fail> {
-        let play = play_of(alloc, row)?;
-        self.play(rt, alloc, &play, put_in, row.name)
+    fn row(&mut self, rt: &impl Abort, alloc: Global, row: &Row, put_in: PutIn) {
+        let play = play_of(rt, alloc, row);
+        self.play(rt, alloc, &play, put_in, row.name);
     }
 
     /// The rows of queues and of messages that come twice or late.
-    fn queues(&mut self, rt: &impl Abort, alloc: Global, put_in: PutIn) -> Result<(), Fail> {
-        self.row(rt, alloc, &rows::SHARED_THEN_EXCLUSIVE, put_in)?;
-        self.row(rt, alloc, &rows::PROBE_BEHIND_QUEUE, put_in)?;
-        self.row(rt, alloc, &rows::ABORT_UNBLOCKS, put_in)?;
-        self.row(rt, alloc, &rows::RELEASE_HANDS_OVER, put_in)?;
-        self.row(rt, alloc, &rows::LATE_GRANT_AFTER_ABORT, put_in)?;
-        self.row(rt, alloc, &rows::REPEATED_REQUEST, put_in)
+    fn queues(&mut self, rt: &impl Abort, alloc: Global, put_in: PutIn) {
+        self.row(rt, alloc, &rows::SHARED_THEN_EXCLUSIVE, put_in);
+        self.row(rt, alloc, &rows::PROBE_BEHIND_QUEUE, put_in);
+        self.row(rt, alloc, &rows::ABORT_UNBLOCKS, put_in);
+        self.row(rt, alloc, &rows::RELEASE_HANDS_OVER, put_in);
+        self.row(rt, alloc, &rows::LATE_GRANT_AFTER_ABORT, put_in);
+        self.row(rt, alloc, &rows::REPEATED_REQUEST, put_in);
     }
 
     /// The rows of restarts, deaths, origins, refusals and snapshots.
-    fn others(&mut self, rt: &impl Abort, alloc: Global, put_in: PutIn) -> Result<(), Fail> {
-        self.row(rt, alloc, &rows::RESTART_WHILE_ASKED, put_in)?;
-        self.row(rt, alloc, &rows::RESTART_WHILE_HELD, put_in)?;
-        self.row(rt, alloc, &rows::DEATH_HANDS_OVER, put_in)?;
-        self.row(rt, alloc, &rows::OTHER_ORIGIN_UNBLOCKED, put_in)?;
-        self.row(rt, alloc, &rows::ORIGINS_APART, put_in)?;
-        self.row(rt, alloc, &rows::SNAPSHOT, put_in)?;
-        let refusals = play_of_refusals(alloc)?;
-        self.play(rt, alloc, &refusals, put_in, "refusals")
+    fn others(&mut self, rt: &impl Abort, alloc: Global, put_in: PutIn) {
+        self.row(rt, alloc, &rows::RESTART_WHILE_ASKED, put_in);
+        self.row(rt, alloc, &rows::RESTART_WHILE_HELD, put_in);
+        self.row(rt, alloc, &rows::DEATH_HANDS_OVER, put_in);
+        self.row(rt, alloc, &rows::OTHER_ORIGIN_UNBLOCKED, put_in);
+        self.row(rt, alloc, &rows::ORIGINS_APART, put_in);
+        self.row(rt, alloc, &rows::SNAPSHOT, put_in);
+        let refusals = play_of_refusals(rt, alloc);
+        self.play(rt, alloc, &refusals, put_in, "refusals");
     }
 }
 
-fn everywhere(rt: &impl Abort, alloc: Global, put_in: PutIn) -> Result<Tally, Fail> {
+fn everywhere(rt: &impl Abort, alloc: Global, put_in: PutIn) -> Tally {
     let mut tally = NO_RUN;
-    tally.queues(rt, alloc, put_in)?;
-    tally.others(rt, alloc, put_in)?;
-    Ok(tally)
+    tally.queues(rt, alloc, put_in);
+    tally.others(rt, alloc, put_in);
+    tally
 }
 
 #[test]
-fn a_restart_behind_each_line(rt: HostRuntime) -> Result<(), Fail> {
-    let tally = everywhere(&rt, rt.alloc(), PutIn::Restart)?;
+fn a_restart_behind_each_line(rt: HostRuntime) {
+    let tally = everywhere(&rt, rt.alloc(), PutIn::Restart);
     assert!(rt; tally.runs >= 300);
     assert!(rt; tally.locks >= 4_000);
-    Ok(())
 }
 
 #[test]
-fn a_start_without_tabs_behind_each_line(rt: HostRuntime) -> Result<(), Fail> {
-    let tally = everywhere(&rt, rt.alloc(), PutIn::StartWithoutTabs)?;
+fn a_start_without_tabs_behind_each_line(rt: HostRuntime) {
+    let tally = everywhere(&rt, rt.alloc(), PutIn::StartWithoutTabs);
     assert!(rt; tally.runs >= 300);
     assert!(rt; tally.locks >= 400);
-    Ok(())
 }
 
 #[test]
-fn a_death_behind_each_line(rt: HostRuntime) -> Result<(), Fail> {
-    let tally = everywhere(&rt, rt.alloc(), PutIn::Death)?;
+fn a_death_behind_each_line(rt: HostRuntime) {
+    let tally = everywhere(&rt, rt.alloc(), PutIn::Death);
     assert!(rt; tally.runs >= 740);
     assert!(rt; tally.locks >= 1_500);
-    Ok(())
 }
 
 #[test]
-fn a_told_death_behind_each_line(rt: HostRuntime) -> Result<(), Fail> {
-    let tally = everywhere(&rt, rt.alloc(), PutIn::ToldDeath)?;
+fn a_told_death_behind_each_line(rt: HostRuntime) {
+    let tally = everywhere(&rt, rt.alloc(), PutIn::ToldDeath);
     assert!(rt; tally.runs >= 740);
     assert!(rt; tally.locks >= 2_000);
-    Ok(())
 }

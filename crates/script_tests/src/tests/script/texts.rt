@@ -1,10 +1,12 @@
 // Words, lines that are refused, and the texts of messages. The rows have each form of a line.
+// A call that is refused memory is made again.
+use super::super::again::{append, bytes, clear_front, name};
 use bytes::Bytes;
 use std::alloc::{AllocError, Global};
-use std::test::Fail;
+use std::process::Abort;
 use wl_frames::{
-    Addressed, Answer, Command, Downward, Entry, Heard, Hello, Mode, Name, Operation, Outcome,
-    Report, Sequence, Snapshot, SnapshotEntry, Stamped, Upward,
+    Addressed, Answer, Command, Downward, Entry, Heard, Hello, Mode, Operation, Outcome, Report,
+    Sequence, Snapshot, SnapshotEntry, Stamped, Upward,
 };
 use wl_script::line::Line;
 use wl_script::reading::read_line;
@@ -12,8 +14,31 @@ use wl_script::replies::put_message;
 use wl_words::{Unread, put_word, unescape};
 use wl_world::message::{Message, Sender};
 
+/// The call alone, so that its callers see no clauses.
+fn put_word_once(out: &mut Vec<u8>, text: &str) -> Result<(), AllocError> {
+    put_word(out, text.as_bytes())
+}
+
+/// Whether a text has this word. A call that memory ended has written a front of it, and is made again.
+fn has_word(rt: &impl Abort, alloc: Global, text: &str, word: &str) {
+    let mut out = Vec::new(alloc);
+    if put_word_once(&mut out, text).is_err() {
+        clear_front(rt, &mut out, word);
+        put_word_once(&mut out, text).expect(rt, "memory is back");
+    }
+    assert_eq!(rt; out.as_slice(), word.as_bytes(), "of {text}");
+}
+
+/// The text whose word this is, read again where memory was refused.
+fn unescaped(alloc: Global, word: &str) -> Result<Vec<u8>, Unread> {
+    match unescape(alloc, word.as_bytes()) {
+        Err(Unread::Memory) => unescape(alloc, word.as_bytes()),
+        answer => answer,
+    }
+}
+
 #[test]
-fn words(rt: HostRuntime) -> Result<(), Fail> {
+fn words(rt: HostRuntime) {
     let cases = [
         ("", "%"),
         ("a", "a"),
@@ -25,16 +50,13 @@ fn words(rt: HostRuntime) -> Result<(), Fail> {
         ("é", "%C3%A9"),
     ];
     for (text, word) in cases {
-        let mut out = Vec::new(rt.alloc());
-        put_word(&mut out, text.as_bytes())?;
-        assert_eq!(rt; out.as_slice(), word.as_bytes(), "of {text}");
-        let back = unescape(rt.alloc(), word.as_bytes());
+        has_word(&rt, rt.alloc(), text, word);
+        let back = unescaped(rt.alloc(), word);
         assert!(rt;
             matches!(&back, Ok(bytes) if bytes.as_slice() == text.as_bytes()),
             "of {word}"
         );
     }
-    Ok(())
 }
 
 #[test]
@@ -42,7 +64,7 @@ fn other_spellings(rt: HostRuntime) {
     // No word; one digit; a byte that stands for itself; lower case; bytes that do not stand for themselves; `%` alone
     // within a word.
     for word in ["", "%2", "%41", "%c3%a9", "a b", "é", "a%", "%%", "%G0"] {
-        let read = unescape(rt.alloc(), word.as_bytes());
+        let read = unescaped(rt.alloc(), word);
         assert!(rt; matches!(&read, Err(Unread::Form)), "of {word}");
     }
 }
@@ -96,25 +118,75 @@ fn other_forms(rt: HostRuntime) {
 }
 
 #[test]
-fn a_line_of_65536_and_of_65537_bytes(rt: HostRuntime) -> Result<(), Fail> {
-    let mut text = Vec::new(rt.alloc());
-    for _ in 0..65_536 {
-        text.push(b'#')?;
-    }
+fn a_line_of_65536_and_of_65537_bytes(rt: HostRuntime) {
+    let mut text = bytes(&rt, rt.alloc(), b'#', 65_536);
     let line = read(rt.alloc(), text.as_slice());
     assert!(rt; matches!(&line, Ok(Line::Blank)));
-    text.push(b'#')?;
+    append(&rt, &mut text, b"#");
     let line = read(rt.alloc(), text.as_slice());
     assert!(rt; matches!(&line, Err(Unread::Form)));
-    Ok(())
 }
 
-fn name(alloc: Global, text: &str) -> Result<Name, AllocError> {
-    Ok(Name::new(String::from_str(alloc, text)?))
+fn put_message_once(out: &mut Vec<u8>, message: &Message) -> Result<(), AllocError> {
+    put_message(out, message)
+}
+
+/// Whether a message has this text. A call that memory ended has written a front of it, and is made again.
+fn has_text(rt: &impl Abort, alloc: Global, message: &Message, text: &str) {
+    let mut out = Vec::new(alloc);
+    if put_message_once(&mut out, message).is_err() {
+        clear_front(rt, &mut out, text);
+        put_message_once(&mut out, message).expect(rt, "memory is back");
+    }
+    assert_eq!(rt; out.as_slice(), text.as_bytes(), "of {text}");
+}
+
+fn waiting_once(rt: &impl Abort, alloc: Global) -> Result<Vec<Entry>, AllocError> {
+    let entry = Entry {
+        number: 0,
+        held: false,
+        mode: Mode::Exclusive,
+        name: name(rt, alloc, "a"),
+    };
+    Ok(vec![in alloc; entry]?)
+}
+
+/// The entries of a report: number 0 waits for exclusive a.
+fn waiting(rt: &impl Abort, alloc: Global) -> Sequence<Entry> {
+    let entries = match waiting_once(rt, alloc) {
+        Ok(entries) => entries,
+        Err(_) => waiting_once(rt, alloc).expect(rt, "memory is back"),
+    };
+    Sequence::new(entries)
+}
+
+fn locks_once(rt: &impl Abort, alloc: Global) -> Result<Vec<SnapshotEntry>, AllocError> {
+    let held = SnapshotEntry {
+        held: true,
+        tab: 1,
+        mode: Mode::Exclusive,
+        name: name(rt, alloc, "a"),
+    };
+    let waiting = SnapshotEntry {
+        held: false,
+        tab: 2,
+        mode: Mode::Shared,
+        name: name(rt, alloc, "a"),
+    };
+    Ok(vec![in alloc; held, waiting]?)
+}
+
+/// The entries of a snapshot: tab 1 holds exclusive a, and tab 2 waits to share it.
+fn locks(rt: &impl Abort, alloc: Global) -> Sequence<SnapshotEntry> {
+    let entries = match locks_once(rt, alloc) {
+        Ok(entries) => entries,
+        Err(_) => locks_once(rt, alloc).expect(rt, "memory is back"),
+    };
+    Sequence::new(entries)
 }
 
 #[test]
-fn upward(rt: HostRuntime) -> Result<(), Fail> {
+fn upward(rt: HostRuntime) {
     let alloc = rt.alloc();
     let sent = |inner| {
         Message::Up(Stamped {
@@ -130,14 +202,6 @@ fn upward(rt: HostRuntime) -> Result<(), Fail> {
             operation,
         }))
     };
-    let entries = vec![in alloc;
-        Entry {
-            number: 0,
-            held: false,
-            mode: Mode::Exclusive,
-            name: name(alloc, "a")?,
-        },
-    ]?;
     let cases = [
         (
             command(
@@ -145,7 +209,7 @@ fn upward(rt: HostRuntime) -> Result<(), Fail> {
                 Operation::Request {
                     mode: Mode::Shared,
                     if_available: false,
-                    name: name(alloc, "a")?,
+                    name: name(&rt, alloc, "a"),
                 },
             ),
             "2>b gen 1 #0 request shared a",
@@ -156,7 +220,7 @@ fn upward(rt: HostRuntime) -> Result<(), Fail> {
                 Operation::Request {
                     mode: Mode::Exclusive,
                     if_available: true,
-                    name: name(alloc, "")?,
+                    name: name(&rt, alloc, ""),
                 },
             ),
             "2>b gen 1 #0 probe exclusive %",
@@ -174,36 +238,19 @@ fn upward(rt: HostRuntime) -> Result<(), Fail> {
             sent(Upward::Report(Report {
                 generation: 2,
                 base: 1,
-                entries: Sequence::new(entries),
+                entries: waiting(&rt, alloc),
             })),
             "2>b report 2 base 1 #0 waiting exclusive a",
         ),
     ];
     for (message, text) in cases {
-        let mut out = Vec::new(rt.alloc());
-        put_message(&mut out, &message)?;
-        assert_eq!(rt; out.as_slice(), text.as_bytes(), "of {text}");
+        has_text(&rt, alloc, &message, text);
     }
-    Ok(())
 }
 
 #[test]
-fn downward(rt: HostRuntime) -> Result<(), Fail> {
+fn downward(rt: HostRuntime) {
     let alloc = rt.alloc();
-    let entries = vec![in alloc;
-        SnapshotEntry {
-            held: true,
-            tab: 1,
-            mode: Mode::Exclusive,
-            name: name(alloc, "a")?,
-        },
-        SnapshotEntry {
-            held: false,
-            tab: 2,
-            mode: Mode::Shared,
-            name: name(alloc, "a")?,
-        },
-    ]?;
     let sent = |sender, inner| Message::Down {
         sender,
         addressed: Addressed { tab: 1, inner },
@@ -242,33 +289,28 @@ fn downward(rt: HostRuntime) -> Result<(), Fail> {
                     number: 1,
                     part: 0,
                     parts: 1,
-                    entries: Sequence::new(entries),
+                    entries: locks(&rt, alloc),
                 }),
             ),
             "b>1 gen 1 #1 part 0 of 1 held 1 exclusive a waiting 2 shared a",
         ),
     ];
     for (message, text) in cases {
-        let mut out = Vec::new(rt.alloc());
-        put_message(&mut out, &message)?;
-        assert_eq!(rt; out.as_slice(), text.as_bytes(), "of {text}");
+        has_text(&rt, alloc, &message, text);
     }
-    Ok(())
 }
 
 #[test]
-fn across(rt: HostRuntime) -> Result<(), Fail> {
+fn across(rt: HostRuntime) {
+    let alloc = rt.alloc();
     let message = Message::Across {
         tab: 2,
         heard: Heard {
             source: 1,
             number: 1,
-            channel: name(rt.alloc(), "n")?,
-            bytes: Bytes::copy_from_slice(rt.alloc(), b"")?,
+            channel: name(&rt, alloc, "n"),
+            bytes: Bytes::new(),
         },
     };
-    let mut out = Vec::new(rt.alloc());
-    put_message(&mut out, &message)?;
-    assert_eq!(rt; out.as_slice(), b"1>2 post 1 n %".as_slice());
-    Ok(())
+    has_text(&rt, alloc, &message, "1>2 post 1 n %");
 }
