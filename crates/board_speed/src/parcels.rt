@@ -10,7 +10,7 @@ use std::sync::{Mutex, Wait};
 use std::thread::Threads;
 use std::time::Clock;
 use std::{io, thread};
-use wl_frames::{Frame, Hello};
+use wl_grammar::{Frame, Hello};
 use wl_outbox::{Full, Outbox, Parcel, Pass};
 
 /// Of the tab that the parcels are for.

@@ -2,7 +2,7 @@
 
 use std::alloc::{AllocError, Global};
 use std::collections::VecDeque;
-use wl_frames::{Command, Mode, Name, Operation, Report, Sequence, Stamped, Upward};
+use wl_grammar::{Command, Mode, Name, Operation, Report, Sequence, Stamped, Upward};
 use wl_locked::BookEvent;
 
 pub type Events = VecDeque<BookEvent>;

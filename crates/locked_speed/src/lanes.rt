@@ -13,7 +13,7 @@ use std::marker::{Brand, Model, PhantomData};
 use std::sync::Wait;
 use std::thread::Threads;
 use std::time::{Clock, Instant};
-use wl_frames::Frame;
+use wl_grammar::Frame;
 use wl_locked::{Blanks, LANE_LIMIT, Sharded, Shards, Work, shard_of};
 use wl_workers::{Gate, Intake, Job, Outlet, OutletFault, run_lanes};
 

@@ -1,10 +1,11 @@
 -- The counts that are kept beside the statuses.
 use Rattle.std.proofs.Common.{◌≡◌, ℕ, ◌+◌, ◌-◌, ◌≤◌, Bool, true, false, ◌||◌, Option, Some, None, refl, sym, ap, ◌∙◌, subst, arith}
-use Rattle.wl_draft.specs.Tables.{Table, find, put}
+use Rattle.wl_draft.specs.Tables.{Table, find, put, without_row}
+use Rattle.wl_draft.proofs.RisingTables.{Rises-put, Rises-filter}
 use Rattle.wl_agent.specs.declared.status.Status.{Status}
-use Rattle.wl_agent.specs.Tab.{is_live, keeps_number, is_querying, count_of, without_row}
+use Rattle.wl_agent.specs.Tab.{is_live, keeps_number, is_querying, count_of}
 use Rattle.wl_agent.specs.Kept.{IsCounted}
-use Rattle.wl_agent.proofs.Rows.{weight, passing-without, passing-put, passing-le, Rises-put, Rises-filter}
+use Rattle.wl_agent.proofs.Rows.{weight, passing-without, passing-put, passing-le}
 
 keeping_is_live : (s : Status) (b c : Bool) → keeps_number (Some s) ≡ b → is_querying (Some s) ≡ c → b ≡ true → (b || c) ≡ true
 keeping_is_live s true c e f h = refl

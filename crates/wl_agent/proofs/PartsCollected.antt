@@ -3,13 +3,13 @@ use Rattle.std.proofs.Common.{◌≡◌, ◌⊎◌, inl, inr, ⊎_elim, ℕ, ◌
 use Rattle.std.specs.List.{AllByRecursion}
 use Rattle.std.proofs.lemmas.List.Sums.{sum_by-cons, sum_by_push}
 use Rattle.std.proofs.lemmas.Bool.{false≢true, and_parts, or_cases, cases_lt, cases_Bool, eq-eqb, ne_eqb, eqb-true, lt-ltb, ltb-true}
-use Rattle.wl_draft.specs.Tables.{Table, has_row, put}
+use Rattle.wl_draft.specs.Tables.{Table, has_row, put, Rises}
 use Rattle.wl_draft.proofs.TableLemmas.{has_row-find, has_row-put}
-use Rattle.wl_frames.specs.declared.frame.Snapshot.{Snapshot as Part}
+use Rattle.wl_draft.proofs.RisingTables.{Rises-put, find_below}
+use Rattle.wl_grammar.specs.declared.frame.Snapshot.{Snapshot as Part}
 use Rattle.wl_agent.specs.Parts.{PartsState, no_parts, fits, with_part, is_whole}
-use Rattle.wl_agent.specs.Kept.{Rises}
 use Rattle.wl_agent.specs.Laws.{AreWhole, gathered}
-use Rattle.wl_agent.proofs.Rows.{Rises-put, find_below, AllRows-put}
+use Rattle.wl_agent.proofs.Rows.{AllRows-put}
 
 -- ---- tables whose numbers are below a bound
 

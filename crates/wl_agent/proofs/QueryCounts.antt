@@ -2,14 +2,15 @@
 use Rattle.std.proofs.Common.{◌≡◌, ℕ, ◌+◌, ◌-◌, ◌≤◌, Bool, true, false, Some, refl, sym, ap, ◌∙◌, subst, arith}
 use mir.Val.{bool_byte}
 use Rattle.wl_draft.specs.Tables.{Table, find, put}
-use Rattle.wl_frames.specs.declared.frame.Snapshot.{Snapshot as Part}
+use Rattle.wl_draft.proofs.RisingTables.{Rises-put}
+use Rattle.wl_grammar.specs.declared.frame.Snapshot.{Snapshot as Part}
 use Rattle.wl_agent.specs.declared.status.Status.{Status}
 use Rattle.wl_agent.specs.declared.status.Status.TheVariants.{Asked, Held, Querying, Whole, Lost}
 use Rattle.wl_agent.specs.Parts.{PartsState, with_part, is_whole}
 use Rattle.wl_agent.specs.Tab.{is_live, keeps_number, is_querying}
 use Rattle.wl_agent.specs.Delivery.{parts_of, with_part_come}
 use Rattle.wl_agent.specs.Kept.{IsCounted}
-use Rattle.wl_agent.proofs.Rows.{weight, passing-without, passing-put, Rises-put}
+use Rattle.wl_agent.proofs.Rows.{weight, passing-without, passing-put}
 
 querying_weighs : (s : Status) → is_querying (Some s) ≡ true → (weight is_live (Some s) ≡ 1) × (weight keeps_number (Some s) ≡ 0)
 querying_weighs Asked e = cc

@@ -5,18 +5,19 @@ use Rattle.std.proofs.lemmas.List.{length-take}
 use Rattle.std.proofs.lemmas.List.Elements.{All-from_recursion, recursion_from_All, All-append, All-take, All-drop}
 use Rattle.std.specs.Str.{IsUtf8}
 use Rattle.std.specs.List.{AllByRecursion, range_with_len}
+use Rattle.wl_limits.specs.declared.texts.TheConstants.{NAME_LIMIT}
 use Rattle.wl_draft.specs.declared.row.Entry.{Entry}
-use Rattle.wl_draft.specs.Tables.{Table}
-use Rattle.wl_frames.specs.declared.frame.Operation.{Operation}
-use Rattle.wl_frames.specs.declared.frame.Operation.TheVariants.{Request, Release, Abort, Query}
-use Rattle.wl_frames.specs.declared.frame.Report.{Report}
-use Rattle.wl_frames.specs.declared.frame.Frame.{Frame}
-use Rattle.wl_frames.specs.Grammar.{IsU32, IsGeneration, IsLockName, HasNoDash, IsOperation, IsEntry, RiseFrom, IsWellFormed}
+use Rattle.wl_draft.specs.Tables.{Table, Rises}
+use Rattle.wl_grammar.specs.declared.frame.Operation.{Operation}
+use Rattle.wl_grammar.specs.declared.frame.Operation.TheVariants.{Request, Release, Abort, Query}
+use Rattle.wl_grammar.specs.declared.frame.Report.{Report}
+use Rattle.wl_grammar.specs.declared.frame.Frame.{Frame}
+use Rattle.wl_grammar.specs.Grammar.{IsU32, IsGeneration, IsLockName, HasNoDash, IsOperation, IsEntry, RiseFrom, IsWellFormed}
 use Rattle.wl_agent.specs.declared.fault.AgentFault.TheVariants.{NotSupported, NameTooLong}
 use Rattle.wl_agent.specs.declared.status.Status.{Status}
 use Rattle.wl_agent.specs.declared.status.Status.TheVariants.{Asked, Held, Querying, Whole, Lost}
 use Rattle.wl_agent.specs.Tab.{TabState, enter, enter_first, enter_later, report_of, upward_frame, report_bodies, part_count, command_frame, ask_refusal, live_refusal, is_supported}
-use Rattle.wl_agent.specs.Kept.{Rises, IsTidy, IsTellable, IsSpoken, RowsFit, can_become, reports, entry_at, entries_of}
+use Rattle.wl_agent.specs.Kept.{IsTidy, IsTellable, IsSpoken, RowsFit, can_become, reports, entry_at, entries_of}
 use Rattle.wl_agent.proofs.Outcomes.{passed}
 use Rattle.wl_agent.proofs.ToldReports.{part_frame, told_in_parts, length-entries_of}
 
@@ -41,9 +42,9 @@ no_dash (b ∷ bs) e = λ same. both_ways (eqb b 45) (not-true (eqb b 45) e) (eq
 -- a name under which a lock is asked for
 pub name-spoken : (a : TabState) (name : List ℕ) → ask_refusal a name ≡ None → IsUtf8 name → IsLockName name
 name-spoken a name e text =
-    let dash = passed (not (is_supported name)) NotSupported (cond (ltb 255 (length name)) (Some NameTooLong) (live_refusal a 2)) e in
-    let short = passed (ltb 255 (length name)) NameTooLong (live_refusal a 2) dash.1 in
-    ((ltb-false 255 (length name) short.0, text), no_dash name (not-false (is_supported name) dash.0))
+    let dash = passed (not (is_supported name)) NotSupported (cond (ltb NAME_LIMIT (length name)) (Some NameTooLong) (live_refusal a 2)) e in
+    let short = passed (ltb NAME_LIMIT (length name)) NameTooLong (live_refusal a 2) dash.1 in
+    ((ltb-false NAME_LIMIT (length name) short.0, text), no_dash name (not-false (is_supported name) dash.0))
 
 pub message-spoken : (a : TabState) (k : ℕ) → IsGeneration a.entered → IsU32 k → AllByRecursion IsOperation a.issued → IsWellFormed (command_frame a k)
 message-spoken a k entered number commands =

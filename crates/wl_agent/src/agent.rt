@@ -2,6 +2,7 @@
 
 ghost use Rattle.std.specs.Prelude.{◌≡◌, ◌≤◌, length};
 ghost use Rattle.wl_agent.specs.Tab.{born, newborn, newborn_two, live_limit};
+ghost use Rattle.wl_limits.specs.declared.tabs.TheConstants.{COMMAND_LIMIT};
 
 pub mod delivering;
 pub mod ending;
@@ -13,7 +14,8 @@ pub mod settling;
 use crate::statuses::Statuses;
 use std::alloc::Global;
 use std::marker::Model;
-use wl_frames::{Operation, Report, Sequence};
+use wl_grammar::{Operation, Report, Sequence};
+use wl_limits::tabs::{LIVE_LIMIT, LIVE_LIMIT_IN_PARTS};
 
 /// A tab's locks, the numbers of its commands, and the generation that it has entered.
 #[derive(Drop)]
@@ -33,11 +35,6 @@ pub struct Agent {
     in_parts: bool,
 }
 
-/// The most numbers of a tab that are live at once, and of a tab that tells its reports in parts.
-const LIVE_LIMIT: usize = 64;
-
-const LIVE_LIMIT_IN_PARTS: usize = 1024;
-
 impl Model for Agent {
     ghost use Rattle.std.specs.Prelude.{vec_capacity};
     ghost use Rattle.wl_agent.specs.Tab.{TabState};
@@ -53,7 +50,7 @@ impl Model for Agent {
 impl Agent {
     /// The agent of a tab that has issued nothing, and may issue so many commands in its life. It tells each report at once.
     pub fn new(alloc: Global, tab: u16, numbers: u32) -> Agent
-        requires { numbers ≤ 1000000 }
+        requires { numbers ≤ COMMAND_LIMIT }
         ensures { result ≡ newborn tab numbers }
     {
         Agent::born(alloc, tab, numbers, false)
@@ -61,14 +58,14 @@ impl Agent {
 
     /// The agent of such a tab that tells its reports in parts, and so may have more numbers live at once.
     pub fn new_two(alloc: Global, tab: u16, numbers: u32) -> Agent
-        requires { numbers ≤ 1000000 }
+        requires { numbers ≤ COMMAND_LIMIT }
         ensures { result ≡ newborn_two tab numbers }
     {
         Agent::born(alloc, tab, numbers, true)
     }
 
     fn born(alloc: Global, tab: u16, numbers: u32, in_parts: bool) -> Agent
-        requires { numbers ≤ 1000000 }
+        requires { numbers ≤ COMMAND_LIMIT }
         ensures { result ≡ born in_parts tab numbers }
     {
         Agent {

@@ -6,7 +6,7 @@ ghost use Rattle.wl_agent.specs.Delivery.{told_command, told_lock, told_asked, t
 
 use crate::delivered::{Delivered, Unheard};
 use crate::status::Status;
-use wl_frames::{Operation, Outcome};
+use wl_grammar::{Operation, Outcome};
 
 pub(crate) fn told_command(
     number: u32,

@@ -1,6 +1,6 @@
 //! What comes of a frame.
 
-use wl_frames::{Frame, Sequence};
+use wl_grammar::{Frame, Sequence};
 
 /// What a frame was to the tab.
 #[derive(Drop)]

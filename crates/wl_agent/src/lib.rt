@@ -24,4 +24,4 @@ pub use token::{
     AbortFault, Asking, Foreign, HeldLock, Pending, Probe, ProbeSettled, QuerySettled, Settled,
     Token,
 };
-pub use wl_frames::{Memory, Mode, Name};
+pub use wl_grammar::{Memory, Mode, Name};

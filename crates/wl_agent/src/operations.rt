@@ -1,14 +1,14 @@
 //! What the commands of a tab are, by number.
 
 ghost use Rattle.std.specs.Prelude.{◌≡◌, ◌&&◌, true, get_or, length, nat_lt, Some, None, IfOk, if◌then◌else◌};
-ghost use Rattle.wl_frames.specs.declared.frame.Operation.TheVariants.{Query};
+ghost use Rattle.wl_grammar.specs.declared.frame.Operation.TheVariants.{Query};
 ghost use Rattle.wl_agent.specs.Tab.{is_request, is_probe, is_query};
 ghost use Rattle.wl_agent.specs.Kept.{can_become, reports, entry_at};
 
 use crate::status::Status;
 use std::alloc::{AllocError, Global};
 use wl_draft::Entry;
-use wl_frames::Operation;
+use wl_grammar::Operation;
 
 pub(crate) fn is_request_at(issued: &[Operation], number: u32) -> bool
     ensures { result ≡ is_request (get_or issued.now number Query) }

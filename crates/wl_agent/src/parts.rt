@@ -10,7 +10,7 @@ use crate::snapshot::{LockInfo, Snapshot};
 use std::alloc::{AllocError, Global};
 use std::collections::BTreeMap;
 use std::marker::Model;
-use wl_frames::{Sequence, SnapshotEntry};
+use wl_grammar::{Sequence, SnapshotEntry};
 
 /// The parts of a snapshot that have come. It is public for contracts alone, which see it as `PartsState`.
 #[derive(Drop)]
@@ -45,7 +45,7 @@ impl Parts {
     }
 
     /// Whether the part is one that is missing.
-    fn fits(&self, part: &wl_frames::Snapshot) -> bool
+    fn fits(&self, part: &wl_grammar::Snapshot) -> bool
         ensures { result ≡ fits part.now self.now }
     {
         (self.came.is_empty() || part.parts == self.count)
@@ -54,7 +54,7 @@ impl Parts {
     }
 
     /// Why a part is none that is missing.
-    pub(crate) fn refusal(&self, part: &wl_frames::Snapshot) -> Option<Unheard>
+    pub(crate) fn refusal(&self, part: &wl_grammar::Snapshot) -> Option<Unheard>
         ensures { result ≡ parts_refusal part.now self.now }
     {
         if self.fits(part) {
@@ -70,14 +70,14 @@ impl Parts {
     pub(crate) fn take(
         &mut self,
         alloc: Global,
-        part: &wl_frames::Snapshot,
+        part: &wl_grammar::Snapshot,
     ) -> Result<Option<Snapshot>, AllocError>
         requires { has_row self.old.came part.now.part ≡ false }
         ensures ok { OnOk result (self.new ≡ with_part part.now self.old) }
         ensures snapshot { IfOk result (λ s. s ≡ whole_of (with_part part.now self.old)) }
         ensures err { OnErr result (self.new ≡ self.old) }
     {
-        let wl_frames::Snapshot { entries, .. } = part.copy(alloc)?;
+        let wl_grammar::Snapshot { entries, .. } = part.copy(alloc)?;
         self.came.insert(part.part, entries)?;
         if self.came.len() != usize::from(part.parts) {
             self.count = part.parts;

@@ -3,12 +3,11 @@
 ghost use Rattle.std.specs.Prelude.{◌≡◌, ◌≤◌, IfOk, OnOk, length, map, take, drop};
 ghost use Rattle.wl_agent.specs.Tab.{upward_frame, report_bodies, part_count};
 ghost use Rattle.wl_agent.specs.Kept.{IsTellable};
+ghost use Rattle.wl_limits.specs.declared.tabs.TheConstants.{LIVE_LIMIT_IN_PARTS};
 
 use std::alloc::{AllocError, Global};
-use wl_frames::{Entry, Frame, Report, ReportPart, Sequence};
-
-/// How many entries a part of a report has, but for the last.
-const PART: usize = 64;
+use wl_grammar::{Entry, Frame, Report, ReportPart, Sequence};
+use wl_limits::frames::ENTRY_LIMIT;
 
 /// The frames that tell a report, by rising part.
 pub(crate) fn report_frames(
@@ -27,7 +26,7 @@ pub(crate) fn report_frames(
     let mut rest = report.entries.as_slice();
     let parts = part_count(rest);
     for part in 0..parts {
-        let (entries, later) = rest.split_at(PART.min(rest.len()));
+        let (entries, later) = rest.split_at(ENTRY_LIMIT.min(rest.len()));
         frames.push(Frame::ReportPart(ReportPart {
             generation: report.generation,
             base: report.base,
@@ -42,13 +41,13 @@ pub(crate) fn report_frames(
 
 /// How many parts a report has. One without entries is one part.
 fn part_count(entries: &[Entry]) -> u16
-    requires { length entries.now ≤ 1024 }
+    requires { length entries.now ≤ LIVE_LIMIT_IN_PARTS }
     ensures { result ≡ part_count entries.now }
 {
     if entries.is_empty() {
         1
     } else {
-        entries.len().div_ceil(PART) as u16
+        entries.len().div_ceil(ENTRY_LIMIT) as u16
     }
 }
 

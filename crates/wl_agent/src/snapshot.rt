@@ -1,6 +1,6 @@
 //! What a query is answered.
 
-use wl_frames::{Mode, Name, Sequence};
+use wl_grammar::{Mode, Name, Sequence};
 
 /// A lock of the tab's partition, or a request for one.
 #[derive(Debug, Drop)]

@@ -46,7 +46,7 @@ impl Status {
     pub(crate) fn take_part(
         &mut self,
         alloc: Global,
-        part: &wl_frames::Snapshot,
+        part: &wl_grammar::Snapshot,
     ) -> Result<bool, AllocError>
         requires querying { is_querying (Some self.old) ≡ true }
         requires missing { has_row (parts_of (Some self.old)).came part.now.part ≡ false }

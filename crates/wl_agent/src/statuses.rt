@@ -2,11 +2,12 @@
 
 ghost use Rattle.std.specs.Prelude.{◌≡◌, ◌<◌, ◌≤◌, ◌++◌, [], true, false, None, IsSome, IfOk, OnOk, OnErr, length};
 ghost use Rattle.std.specs.Option.{option_copied};
-ghost use Rattle.wl_draft.specs.Tables.{find, put, has_row};
+ghost use Rattle.wl_draft.specs.Tables.{find, put, has_row, without_row};
 ghost use Rattle.wl_agent.specs.Parts.{with_part, is_whole};
-ghost use Rattle.wl_agent.specs.Tab.{is_live, keeps_number, is_asked, is_held, is_querying, count_of, without_row, carried};
+ghost use Rattle.wl_agent.specs.Tab.{is_live, keeps_number, is_asked, is_held, is_querying, count_of, carried};
 ghost use Rattle.wl_agent.specs.Delivery.{parts_of, with_part_come};
 ghost use Rattle.wl_agent.specs.Kept.{RowsFit, entries_of, due_below};
+ghost use Rattle.wl_limits.specs.declared.tabs.TheConstants.{LIVE_LIMIT_IN_PARTS};
 
 use crate::operations::{is_probe_at, reported};
 use crate::status::Status;
@@ -14,7 +15,7 @@ use std::alloc::{AllocError, Global};
 use std::collections::BTreeMap;
 use std::marker::Model;
 use wl_draft::Entry;
-use wl_frames::Operation;
+use wl_grammar::Operation;
 
 /// What became of the numbers that are not over, with the counts that limit them.
 #[derive(Drop)]
@@ -93,7 +94,7 @@ impl Statuses {
     /// Puts the status of a number that has none.
     pub(crate) fn insert(&mut self, number: u32, status: Status) -> Result<(), AllocError>
         requires new { find self.old number ≡ None }
-        requires few { count_of is_live self.old < 1024 }
+        requires few { count_of is_live self.old < LIVE_LIMIT_IN_PARTS }
         ensures ok { OnOk result (self.new ≡ put number status self.old) }
         ensures err { OnErr result (self.new ≡ self.old) }
     {
@@ -108,7 +109,7 @@ impl Statuses {
     /// Puts another status of a number that has one, which takes no memory.
     pub(crate) fn set(&mut self, number: u32, status: Status)
         requires there { IsSome (find self.old number) }
-        requires few { count_of is_live self.old ≤ 1024 }
+        requires few { count_of is_live self.old ≤ LIVE_LIMIT_IN_PARTS }
         ensures { self.new ≡ put number status self.old }
     {
         match self.rows.get_mut(&number) {
@@ -144,7 +145,7 @@ impl Statuses {
     pub(crate) fn take_part(
         &mut self,
         alloc: Global,
-        part: &wl_frames::Snapshot,
+        part: &wl_grammar::Snapshot,
     ) -> Result<bool, AllocError>
         requires querying { is_querying (find self.old part.now.number) ≡ true }
         requires missing { has_row (parts_of (find self.old part.now.number)).came part.now.part ≡ false }

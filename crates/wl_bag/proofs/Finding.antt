@@ -8,7 +8,7 @@ use Rattle.wl_bag.specs.declared.message.Message.{Message}
 use Rattle.wl_bag.specs.Messages.{same_message, is_sent, sent, place_of, sending}
 use Rattle.wl_bag.specs.Keys.{key_of}
 use Rattle.wl_bag.specs.Index.{same_key, places_from, is_same, is_at}
-use Rattle.wl_bag.proofs.Membership.{apart}
+use Rattle.wl_draft.proofs.Membership.{apart}
 use Rattle.wl_bag.proofs.Same.{message-same}
 use Rattle.wl_bag.proofs.Indexing.{same_key-itself}
 

@@ -11,7 +11,7 @@ use Rattle.wl_bag.specs.declared.key.Key.{Key}
 use Rattle.wl_bag.specs.contracts.key.KeyOrd.TheImpl.Laws.{total-law}
 use Rattle.wl_bag.specs.Keys.{key_of}
 use Rattle.wl_bag.specs.Index.{key_order, same_key, places_at, places_from, IsIndexOf}
-use Rattle.wl_bag.proofs.Membership.{apart, either}
+use Rattle.wl_draft.proofs.Membership.{apart, either}
 
 equal-from_is_eq : (o : Ordering) → is_eq o ≡ true → o ≡ Equal
 equal-from_is_eq Less h = apart h refl

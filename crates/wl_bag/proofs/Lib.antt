@@ -1,4 +1,3 @@
-pub mod Membership
 pub mod Same
 mod SameFrames
 mod Indexing

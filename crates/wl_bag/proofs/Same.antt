@@ -2,22 +2,22 @@
 use Rattle.std.proofs.Common.{◌≡◌, ◌⊎◌, inl, inr, ⊎_elim, ℕ, true, ◌&&◌, List, [], ◌∷◌, ◌++◌, refl, sym, ap, ap₂, subst}
 use Rattle.std.specs.Prelude.{◌==◌, bytes_eq}
 use Rattle.std.proofs.lemmas.Bool.{and_parts, eqb-true}
-use Rattle.wl_frames.specs.declared.frame.Answer.{Answer}
-use Rattle.wl_frames.specs.declared.frame.Heard.{Heard}
-use Rattle.wl_frames.specs.declared.frame.Hello.{Hello}
-use Rattle.wl_frames.specs.declared.frame.Stamped.{Stamped}
-use Rattle.wl_frames.specs.declared.frame.Addressed.{Addressed}
-use Rattle.wl_frames.specs.declared.frame.Upward.{Upward}
-use Rattle.wl_frames.specs.declared.frame.Downward.{Downward}
-use Rattle.wl_frames.specs.declared.frame.Downward.TheVariants as down
+use Rattle.wl_grammar.specs.declared.frame.Answer.{Answer}
+use Rattle.wl_grammar.specs.declared.frame.Heard.{Heard}
+use Rattle.wl_grammar.specs.declared.frame.Hello.{Hello}
+use Rattle.wl_grammar.specs.declared.frame.Stamped.{Stamped}
+use Rattle.wl_grammar.specs.declared.frame.Addressed.{Addressed}
+use Rattle.wl_grammar.specs.declared.frame.Upward.{Upward}
+use Rattle.wl_grammar.specs.declared.frame.Downward.{Downward}
+use Rattle.wl_grammar.specs.declared.frame.Downward.TheVariants as down
 use Rattle.wl_bag.specs.declared.message.Sender.{Sender}
 use Rattle.wl_bag.specs.declared.message.Sender.TheVariants.{Kernel, Broker}
 use Rattle.wl_bag.specs.declared.message.Message.{Message}
 use Rattle.wl_bag.specs.declared.message.Message.TheVariants.{Up, Down, Across}
-use Rattle.wl_bag.specs.Membership.{In, Here, Later}
+use Rattle.wl_draft.specs.Membership.{In, Here, Later}
 use Rattle.wl_bag.specs.Messages.{same_heard, same_sender, same_message, is_sent, sent, sent_all}
 use Rattle.wl_bag.proofs.SameFrames.{names-same, stamped-same, addressed-same}
-use Rattle.wl_bag.proofs.Membership.{apart, either, In-nil, In-head, In-cons_cases, In-append_left, In-append_right, In-append_cases, In-one, list_any-In}
+use Rattle.wl_draft.proofs.Membership.{apart, either, In-nil, In-head, In-cons_cases, In-append_left, In-append_right, In-append_cases, In-one, list_any-In}
 
 heard-same : (x y : Heard) → same_heard x y ≡ true → x ≡ y
 heard-same x y h =

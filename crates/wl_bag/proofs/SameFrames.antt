@@ -10,37 +10,37 @@ use Rattle.wl_draft.specs.declared.mode.Mode.TheVariants.{Shared, Exclusive}
 use Rattle.wl_draft.specs.contracts.mode.ModePartialEq.TheImpl as mode
 use Rattle.wl_draft.specs.declared.row.Entry.{Entry}
 use Rattle.wl_draft.specs.contracts.row.EntryPartialEq.TheImpl as entry
-use Rattle.wl_frames.specs.declared.frame.Operation.{Operation}
-use Rattle.wl_frames.specs.declared.frame.Operation.TheVariants.{Request, Release, Abort, Query}
-use Rattle.wl_frames.specs.contracts.frame.OperationPartialEq.TheImpl as operation
-use Rattle.wl_frames.specs.declared.frame.Outcome.{Outcome}
-use Rattle.wl_frames.specs.declared.frame.Outcome.TheVariants.{Waiting, Granted, Gone, Taken}
-use Rattle.wl_frames.specs.contracts.frame.OutcomePartialEq.TheImpl as outcome
-use Rattle.wl_frames.specs.declared.frame.Command.{Command}
-use Rattle.wl_frames.specs.contracts.frame.CommandPartialEq.TheImpl as command
-use Rattle.wl_frames.specs.declared.frame.Report.{Report}
-use Rattle.wl_frames.specs.contracts.frame.ReportPartialEq.TheImpl as report
-use Rattle.wl_frames.specs.declared.frame.ReportPart.{ReportPart}
-use Rattle.wl_frames.specs.contracts.frame.ReportPartPartialEq.TheImpl as report_part
-use Rattle.wl_frames.specs.declared.frame.Answer.{Answer}
-use Rattle.wl_frames.specs.contracts.frame.AnswerPartialEq.TheImpl as answer
-use Rattle.wl_frames.specs.declared.frame.SnapshotEntry.{SnapshotEntry}
-use Rattle.wl_frames.specs.contracts.frame.SnapshotEntryPartialEq.TheImpl as row
-use Rattle.wl_frames.specs.declared.frame.Snapshot.{Snapshot}
-use Rattle.wl_frames.specs.contracts.frame.SnapshotPartialEq.TheImpl as snapshot
-use Rattle.wl_frames.specs.declared.frame.Hello.{Hello}
-use Rattle.wl_frames.specs.contracts.frame.HelloPartialEq.TheImpl as hello
-use Rattle.wl_frames.specs.declared.frame.Stamped.{Stamped}
-use Rattle.wl_frames.specs.contracts.frame.StampedPartialEq.TheImpl as stamped
-use Rattle.wl_frames.specs.declared.frame.Addressed.{Addressed}
-use Rattle.wl_frames.specs.contracts.frame.AddressedPartialEq.TheImpl as addressed
-use Rattle.wl_frames.specs.declared.frame.Upward.{Upward}
-use Rattle.wl_frames.specs.declared.frame.Upward.TheVariants as up
-use Rattle.wl_frames.specs.contracts.frame.UpwardPartialEq.TheImpl as upward
-use Rattle.wl_frames.specs.declared.frame.Downward.{Downward}
-use Rattle.wl_frames.specs.declared.frame.Downward.TheVariants as down
-use Rattle.wl_frames.specs.contracts.frame.DownwardPartialEq.TheImpl as downward
-use Rattle.wl_bag.proofs.Membership.{apart}
+use Rattle.wl_grammar.specs.declared.frame.Operation.{Operation}
+use Rattle.wl_grammar.specs.declared.frame.Operation.TheVariants.{Request, Release, Abort, Query}
+use Rattle.wl_grammar.specs.contracts.frame.OperationPartialEq.TheImpl as operation
+use Rattle.wl_grammar.specs.declared.frame.Outcome.{Outcome}
+use Rattle.wl_grammar.specs.declared.frame.Outcome.TheVariants.{Waiting, Granted, Gone, Taken}
+use Rattle.wl_grammar.specs.contracts.frame.OutcomePartialEq.TheImpl as outcome
+use Rattle.wl_grammar.specs.declared.frame.Command.{Command}
+use Rattle.wl_grammar.specs.contracts.frame.CommandPartialEq.TheImpl as command
+use Rattle.wl_grammar.specs.declared.frame.Report.{Report}
+use Rattle.wl_grammar.specs.contracts.frame.ReportPartialEq.TheImpl as report
+use Rattle.wl_grammar.specs.declared.frame.ReportPart.{ReportPart}
+use Rattle.wl_grammar.specs.contracts.frame.ReportPartPartialEq.TheImpl as report_part
+use Rattle.wl_grammar.specs.declared.frame.Answer.{Answer}
+use Rattle.wl_grammar.specs.contracts.frame.AnswerPartialEq.TheImpl as answer
+use Rattle.wl_grammar.specs.declared.frame.SnapshotEntry.{SnapshotEntry}
+use Rattle.wl_grammar.specs.contracts.frame.SnapshotEntryPartialEq.TheImpl as row
+use Rattle.wl_grammar.specs.declared.frame.Snapshot.{Snapshot}
+use Rattle.wl_grammar.specs.contracts.frame.SnapshotPartialEq.TheImpl as snapshot
+use Rattle.wl_grammar.specs.declared.frame.Hello.{Hello}
+use Rattle.wl_grammar.specs.contracts.frame.HelloPartialEq.TheImpl as hello
+use Rattle.wl_grammar.specs.declared.frame.Stamped.{Stamped}
+use Rattle.wl_grammar.specs.contracts.frame.StampedPartialEq.TheImpl as stamped
+use Rattle.wl_grammar.specs.declared.frame.Addressed.{Addressed}
+use Rattle.wl_grammar.specs.contracts.frame.AddressedPartialEq.TheImpl as addressed
+use Rattle.wl_grammar.specs.declared.frame.Upward.{Upward}
+use Rattle.wl_grammar.specs.declared.frame.Upward.TheVariants as up
+use Rattle.wl_grammar.specs.contracts.frame.UpwardPartialEq.TheImpl as upward
+use Rattle.wl_grammar.specs.declared.frame.Downward.{Downward}
+use Rattle.wl_grammar.specs.declared.frame.Downward.TheVariants as down
+use Rattle.wl_grammar.specs.contracts.frame.DownwardPartialEq.TheImpl as downward
+use Rattle.wl_draft.proofs.Membership.{apart}
 
 pub names-same : (xs ys : List ℕ) → bytes_eq xs ys ≡ true → xs ≡ ys
 names-same xs ys h = (bytes_eq-Decides xs ys).0 h

@@ -1,9 +1,9 @@
 -- What the bag looks messages up by.
 use Rattle.std.specs.Prelude.{ℕ}
-use Rattle.wl_frames.specs.declared.frame.Upward.{Upward}
-use Rattle.wl_frames.specs.declared.frame.Upward.TheVariants as up
-use Rattle.wl_frames.specs.declared.frame.Downward.{Downward}
-use Rattle.wl_frames.specs.declared.frame.Downward.TheVariants as down
+use Rattle.wl_grammar.specs.declared.frame.Upward.{Upward}
+use Rattle.wl_grammar.specs.declared.frame.Upward.TheVariants as up
+use Rattle.wl_grammar.specs.declared.frame.Downward.{Downward}
+use Rattle.wl_grammar.specs.declared.frame.Downward.TheVariants as down
 use Rattle.wl_bag.specs.declared.message.Message.{Message}
 use Rattle.wl_bag.specs.declared.message.Message.TheVariants.{Up, Down, Across}
 use Rattle.wl_bag.specs.declared.key.Key.{Key}

@@ -1,4 +1,3 @@
-pub mod Membership
 pub mod Messages
 pub mod Keys
 pub mod Index

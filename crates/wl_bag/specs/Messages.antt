@@ -1,9 +1,9 @@
 -- Messages, and the bag of all that were ever sent.
 use Rattle.std.specs.Prelude.{ℕ, List, [], ◌∷◌, ◌++◌, length, Bool, true, false, not, ◌&&◌, ◌==◌, if◌then◌else◌, bytes_eq, Option, position, unwrap_or}
 use Rattle.std.specs.List.{list_any}
-use Rattle.wl_frames.specs.declared.frame.Heard.{Heard}
-use Rattle.wl_frames.specs.contracts.frame.StampedPartialEq.TheImpl as stamped
-use Rattle.wl_frames.specs.contracts.frame.AddressedPartialEq.TheImpl as addressed
+use Rattle.wl_grammar.specs.declared.frame.Heard.{Heard}
+use Rattle.wl_grammar.specs.contracts.frame.StampedPartialEq.TheImpl as stamped
+use Rattle.wl_grammar.specs.contracts.frame.AddressedPartialEq.TheImpl as addressed
 use Rattle.wl_bag.specs.declared.message.Sender.{Sender}
 use Rattle.wl_bag.specs.declared.message.Sender.TheVariants.{Kernel, Broker}
 use Rattle.wl_bag.specs.declared.message.Message.{Message}

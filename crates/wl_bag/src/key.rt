@@ -4,7 +4,7 @@ ghost use Rattle.std.specs.Prelude.{◌≡◌};
 ghost use Rattle.wl_bag.specs.Keys.{key_of};
 
 use crate::message::Message;
-use wl_frames::{Downward, Upward};
+use wl_grammar::{Downward, Upward};
 
 /// The ends and the numbers of a message. Few messages have the same.
 #[derive(Clone, Copy, PartialEq, Eq, PartialOrd, Ord)]

@@ -3,7 +3,7 @@
 ghost use Rattle.std.specs.Prelude.{◌≡◌, IfOk};
 
 use std::alloc::{AllocError, Global};
-use wl_frames::{Addressed, Heard, Stamped};
+use wl_grammar::{Addressed, Heard, Stamped};
 
 /// Who sends a tab what comes from above.
 #[derive(Clone, Copy, Debug, PartialEq, Eq)]

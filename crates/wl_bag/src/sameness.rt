@@ -4,7 +4,7 @@ ghost use Rattle.std.specs.Prelude.{◌≡◌};
 ghost use Rattle.wl_bag.specs.Messages.{same_heard, same_message};
 
 use crate::message::Message;
-use wl_frames::Heard;
+use wl_grammar::Heard;
 
 pub(crate) fn same_message(one: &Message, other: &Message) -> bool
     ensures { result ≡ same_message one.now other.now }

@@ -1,6 +1,6 @@
 -- Each object has the name of a channel, whatever becomes of it.
 use Rattle.std.proofs.Common.{◌≡◌, ℕ, zero, suc, ◌+◌, ◌<◌, List, [], ◌∷◌, ◌++◌, length, Option, subst, sym, arith}
-use Rattle.wl_frames.specs.Grammar.{IsChannel}
+use Rattle.wl_grammar.specs.Grammar.{IsChannel}
 use Rattle.wl_broadcast.specs.declared.letter.Letter.{Letter}
 use Rattle.wl_broadcast.specs.Channels.{Object, new_object, delivered_from, changed_at, name_at}
 use Rattle.wl_broadcast.specs.OpenObjects.{AreChannels}

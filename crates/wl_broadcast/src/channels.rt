@@ -2,7 +2,7 @@
 
 ghost use Rattle.std.specs.Prelude.{◌≡◌, ◌≢◌, ◌==◌, ◌<◌, ◌^◌, ◌++◌, length, filter, not, true, None, Some, Err, IfOk, OnOk, IfErr, OnErr, IsTrue};
 ghost use Rattle.wl_draft.specs.Tables.{put};
-ghost use Rattle.wl_frames.specs.Grammar.{IsWellFormed};
+ghost use Rattle.wl_grammar.specs.Grammar.{IsWellFormed};
 ghost use Rattle.wl_broadcast.specs.OpenObjects.{all_seen, open_from, AreChannels};
 ghost use Rattle.wl_broadcast.specs.Channels.{no_channels, opened, delivered, posted, post_frame, name_at, taking, full, after_hearing, hearing_of, read_at, closed_at, inbox_at, first_of, is_own, is_old, is_news, open_refusal, post_refusal, own_refusal, heard_refusal};
 
@@ -15,13 +15,8 @@ use std::alloc::{AllocError, Global};
 use std::collections::BTreeMap;
 use std::marker::Model;
 use wl_draft::Name;
-use wl_frames::{Frame, Post, Sequence};
-
-/// The most bytes of a name.
-pub const NAME_LIMIT: usize = 255;
-
-/// The most bytes of a post.
-pub const DATA_LIMIT: usize = 16_384;
+use wl_grammar::{Frame, Post, Sequence};
+use wl_limits::texts::{DATA_LIMIT, NAME_LIMIT};
 
 /// The most channels of a tab that are open at once.
 pub const CHANNEL_LIMIT: usize = 64;

@@ -2,7 +2,7 @@ ghost use Rattle.std.specs.Prelude.{◌≡◌, IfOk};
 
 use bytes::Bytes;
 use std::alloc::AllocError;
-use wl_frames::{Frame, Sequence};
+use wl_grammar::{Frame, Sequence};
 
 /// A post as a channel object took it.
 #[derive(Clone, Debug, Drop)]

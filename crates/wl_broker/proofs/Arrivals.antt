@@ -4,7 +4,7 @@ use Rattle.std.specs.List.{list_all}
 use Rattle.std.proofs.lemmas.Bool.{and_parts, cases_eq, false≢true, eqb-true, eq-eqb, ne_eqb}
 use Rattle.wl_draft.specs.Tables.{Table, find, put}
 use Rattle.wl_draft.proofs.TableLemmas.{find-put_same, find-put_other}
-use Rattle.wl_frames.specs.Grammar.{TabsRiseFrom}
+use Rattle.wl_grammar.specs.Grammar.{TabsRiseFrom}
 use Rattle.wl_broker.specs.declared.seat.Seat.{Seat}
 use Rattle.wl_broker.specs.declared.seat.Seat.TheVariants.{Joined, Dead}
 use Rattle.wl_broker.specs.Broker.{has_come, listed_at}

@@ -2,18 +2,19 @@
 use Rattle.std.proofs.Common.{◌≡◌, ◌≢◌, ℕ, ◌+◌, Bool, true, false, List, [], ◌∷◌, ◌++◌, map, Some, None, IsSome, refl, sym, ap, ◌∙◌, append-nil}
 use Rattle.wl_draft.specs.declared.row.Row.{Row}
 use Rattle.wl_draft.specs.declared.row.Grant.{Grant}
-use Rattle.wl_draft.specs.Tables.{Table, at, find, put}
+use Rattle.wl_draft.specs.Tables.{Table, at, find, put, Rises}
 use Rattle.wl_draft.specs.Locks.{Locks, settle, settle_if, newly, newly_if, grants, without, ended, restored}
 use Rattle.wl_draft.proofs.TableLemmas.{find-put_same}
-use Rattle.wl_frames.specs.declared.frame.Operation.{Operation}
-use Rattle.wl_frames.specs.declared.frame.Operation.TheVariants.{Request, Release, Abort, Query}
-use Rattle.wl_frames.specs.declared.frame.Outcome.TheVariants.{Granted}
-use Rattle.wl_frames.specs.declared.frame.Addressed.{Addressed}
+use Rattle.wl_draft.proofs.RisingTables.{without_none}
+use Rattle.wl_grammar.specs.declared.frame.Operation.{Operation}
+use Rattle.wl_grammar.specs.declared.frame.Operation.TheVariants.{Request, Release, Abort, Query}
+use Rattle.wl_grammar.specs.declared.frame.Outcome.TheVariants.{Granted}
+use Rattle.wl_grammar.specs.declared.frame.Addressed.{Addressed}
 use Rattle.wl_broker.specs.declared.seat.Seat.{Seat}
 use Rattle.wl_broker.specs.declared.seat.Seat.TheVariants.{Joined, Dead}
 use Rattle.wl_broker.specs.Broker.{BrokerState, Partial, Whole, seat_of, limit_of, limit_in, without_partial, is_dead, listed_at, place_of, burial, Does, is_active, settled_at, newly_at, join, perform, drafted, first_answer, later_answer, answer_to, grants_to, has_come, next_in, buried_at, with_seat, manager_of, snapshot_to, snapshot_entries}
-use Rattle.wl_broker.specs.Kept.{PartitionState, state_of, no_partition, all_come, answer_of, grant_of, outcome_at, snapshot_of, snapshot_entry_of, broker_of, Rises}
-use Rattle.wl_broker.proofs.PartitionRows.{map_values, put-map_values, at-map_values, find_there, put_same, without_none}
+use Rattle.wl_broker.specs.Kept.{PartitionState, state_of, no_partition, all_come, answer_of, grant_of, outcome_at, snapshot_of, snapshot_entry_of, broker_of}
+use Rattle.wl_broker.proofs.PartitionRows.{map_values, put-map_values, at-map_values, find_there, put_same}
 use Rattle.wl_broker.proofs.Arrivals.{all_come-again}
 use Rattle.wl_broker.proofs.SettledLocks.{settle_same}
 

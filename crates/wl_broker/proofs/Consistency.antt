@@ -6,14 +6,15 @@ use Rattle.wl_draft.specs.declared.row.Standing.TheVariants.{Absent}
 use Rattle.wl_draft.specs.Tables.{Table, at, find, put}
 use Rattle.wl_draft.specs.Locks.{newly, settle, settle_if, standing, ended, restored}
 use Rattle.wl_draft.proofs.TableLemmas.{find-put, find-put_same, find-put_other}
-use Rattle.wl_frames.specs.Grammar.{TabsRiseFrom}
-use Rattle.wl_frames.specs.declared.frame.Operation.{Operation}
-use Rattle.wl_frames.specs.declared.frame.Operation.TheVariants.{Query}
+use Rattle.wl_draft.proofs.RisingTables.{Rises-put}
+use Rattle.wl_grammar.specs.Grammar.{TabsRiseFrom}
+use Rattle.wl_grammar.specs.declared.frame.Operation.{Operation}
+use Rattle.wl_grammar.specs.declared.frame.Operation.TheVariants.{Query}
 use Rattle.wl_broker.specs.declared.seat.Seat.{Seat}
 use Rattle.wl_broker.specs.declared.seat.Seat.TheVariants.{Joined, Dead}
 use Rattle.wl_broker.specs.Broker.{Partial, has_come, listed_at, elsewhere, drafted, all_below}
 use Rattle.wl_broker.specs.Kept.{PartitionState, state_of, no_partition, all_come, taken_in, was_taken, AllRows, IsPartition, IsConsistent, Had, broker_of}
-use Rattle.wl_broker.proofs.PartitionRows.{at-find, at_none, Rises-put, find_there, put_same}
+use Rattle.wl_broker.proofs.PartitionRows.{at-find, at_none, find_there, put_same}
 use Rattle.wl_broker.proofs.SettledLocks.{settle_same}
 use Rattle.wl_broker.proofs.Arrivals.{all_come-again, all_come-elsewhere, is_within}
 use Rattle.wl_broker.proofs.TakenRows.{AllRows-put, AllRows-settle_if, AllRows-drafted, AllRows-restored, AllRows-ended, new_pair}

@@ -1,6 +1,6 @@
 -- Copies of what is told.
 use Rattle.std.proofs.Common.{◌≡◌, ℕ, List, [], ◌∷◌, length, replicate, Some, sym, ap, ◌∙◌}
-use Rattle.wl_frames.specs.declared.frame.Addressed.{Addressed}
+use Rattle.wl_grammar.specs.declared.frame.Addressed.{Addressed}
 use Rattle.wl_broker.specs.Broker.{BrokerState, Taking, Drops, Does, copied, repeated}
 
 abbrev Told : Type 0

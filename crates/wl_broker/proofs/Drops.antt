@@ -2,8 +2,8 @@
 use Rattle.std.proofs.Common.{◌≡◌, ◌≢◌, ℕ, ◌<◌, ◌≤◌, Bool, true, false, not, cond, ◌&&◌, ◌||◌, eqb, nat_lt, nat_le, refl, ◌∷◌, [], arith}
 use Rattle.std.proofs.lemmas.Bool.{lt-ltb, le-ltb, ne_eqb}
 use Rattle.wl_draft.specs.Locks.{live}
-use Rattle.wl_frames.specs.declared.frame.Operation.{Operation}
-use Rattle.wl_frames.specs.declared.frame.Stamped.{Stamped}
+use Rattle.wl_grammar.specs.declared.frame.Operation.{Operation}
+use Rattle.wl_grammar.specs.declared.frame.Stamped.{Stamped}
 use Rattle.wl_broker.specs.declared.dropped.Dropped.TheVariants.{OldGeneration, LaterGeneration, NotJoined, Recovering, OutOfTurn, DeadTab, AlreadyJoined, HeldByNewcomer, BadReport, Misplaced, TooMany, PartTwice}
 use Rattle.wl_broker.specs.Broker.{BrokerState, Partial, Told, Does, Drops, IsTaken, seat_of, partial_of, manager_of, next_of, limit_of, is_joined, is_dead, is_active, is_listed, listed_at, is_misplaced, has_held, all_below, is_lock, generation_of, taking, take_inner, fits, is_there, with_told, is_whole, whole_of, keeping, join_if, take_told, take_command, join, perform, later_answer}
 

@@ -7,8 +7,8 @@ use Rattle.wl_draft.specs.declared.row.Row.{Row}
 use Rattle.wl_draft.specs.declared.row.Entry.{Entry}
 use Rattle.wl_draft.specs.declared.row.Grant.{Grant}
 use Rattle.wl_draft.specs.Locks.{Locks, newly, newly_if, grants, without, queued, probed, released, aborted, ended, restored, is_grantable, is_pair, row_of, rows_of, waiting_of}
-use Rattle.wl_frames.specs.declared.frame.Operation.{Operation}
-use Rattle.wl_frames.specs.declared.frame.Operation.TheVariants.{Request, Release, Abort, Query}
+use Rattle.wl_grammar.specs.declared.frame.Operation.{Operation}
+use Rattle.wl_grammar.specs.declared.frame.Operation.TheVariants.{Request, Release, Abort, Query}
 use Rattle.wl_broker.specs.Broker.{drafted}
 use Rattle.wl_broker.proofs.SettledLocks.{length-newly}
 

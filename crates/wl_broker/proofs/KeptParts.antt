@@ -7,11 +7,11 @@ use Rattle.std.proofs.lemmas.List.Folds.{list_all-append}
 use Rattle.wl_draft.specs.declared.row.Entry.{Entry}
 use Rattle.wl_draft.specs.Tables.{Table, find, has_row, put}
 use Rattle.wl_draft.proofs.TableLemmas.{find-put_other}
+use Rattle.wl_draft.proofs.RisingTables.{Rises-put, Rises-without, find-without, without_none}
 use Rattle.wl_broker.specs.declared.seat.Seat.{Seat}
 use Rattle.wl_broker.specs.declared.heading.Heading.{Heading}
 use Rattle.wl_broker.specs.Broker.{BrokerState, Partial, Told, partial_of, all_below, fits, is_there, came_in, with_told, is_whole, whole_of, without_partial, join, keeping, join_if, Does}
 use Rattle.wl_broker.specs.Kept.{PartitionState, broker_of, AwaitsParts, told, joining, is_kept, all_in_below}
-use Rattle.wl_broker.proofs.PartitionRows.{Rises-put, Rises-without, find-without, without_none}
 
 -- ---- of a tab that has come no part is kept
 

@@ -23,3 +23,4 @@ pub mod SpeechLists
 pub mod SpeechLocks
 pub mod TakenRows
 pub mod Takings
+pub mod Clients

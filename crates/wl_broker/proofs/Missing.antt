@@ -4,7 +4,7 @@ use Rattle.std.proofs.lemmas.Bool.{cond_both, eqb-true, eqb-false, ne_eqb, le-lt
 use Rattle.std.proofs.lemmas.List.{take_more, drop_more, take-append-drop, length-take-le}
 use Rattle.wl_draft.specs.Tables.{Table, at, find, put}
 use Rattle.wl_draft.proofs.TableLemmas.{find-put_same, find-put_other, at-put, at-find}
-use Rattle.wl_frames.specs.Grammar.{TabsRiseFrom}
+use Rattle.wl_grammar.specs.Grammar.{TabsRiseFrom}
 use Rattle.wl_broker.specs.declared.seat.Seat.{Seat}
 use Rattle.wl_broker.specs.declared.seat.Seat.TheVariants.{Joined, Dead}
 use Rattle.wl_broker.specs.Broker.{has_come, listed_at}

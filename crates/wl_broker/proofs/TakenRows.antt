@@ -12,8 +12,8 @@ use Rattle.wl_draft.specs.Locks.{Locks, newly, settle, settle_if, is_grantable, 
 use Rattle.wl_draft.specs.Settling.{Merges, none, left, right}
 use Rattle.wl_draft.proofs.Settled.{settle-MovesGrants}
 use Rattle.wl_draft.proofs.TableLemmas.{find-put_same, find-put_other}
-use Rattle.wl_frames.specs.declared.frame.Operation.{Operation}
-use Rattle.wl_frames.specs.declared.frame.Operation.TheVariants.{Request, Release, Abort, Query}
+use Rattle.wl_grammar.specs.declared.frame.Operation.{Operation}
+use Rattle.wl_grammar.specs.declared.frame.Operation.TheVariants.{Request, Release, Abort, Query}
 use Rattle.wl_broker.specs.declared.seat.Seat.{Seat}
 use Rattle.wl_broker.specs.Broker.{drafted, all_below}
 use Rattle.wl_broker.specs.Kept.{taken_in, was_taken, AllRows}

@@ -1,6 +1,6 @@
 -- What happens to a broker: messages come, and tabs are named dead.
 use Rattle.std.specs.Prelude.{ℕ, List, [], ◌∷◌}
-use Rattle.wl_frames.specs.declared.frame.Stamped.{Stamped}
+use Rattle.wl_grammar.specs.declared.frame.Stamped.{Stamped}
 use Rattle.wl_broker.specs.Broker.{BrokerState, Taking, Drops, Does, taking, burial}
 
 pub data Event : Type 0 where

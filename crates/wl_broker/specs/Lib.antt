@@ -1,6 +1,6 @@
 pub use Rattle.wl_draft.specs.Tables
 pub use Rattle.wl_draft.specs.Locks
-pub use Rattle.wl_frames.specs.Grammar
+pub use Rattle.wl_grammar.specs.Grammar
 pub mod Broker
 pub mod Events
 pub mod Grants

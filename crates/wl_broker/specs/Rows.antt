@@ -3,14 +3,14 @@ use Rattle.std.specs.Prelude.{◌≡◌, ℕ, List, [], ◌∷◌, ◌++◌, tru
 use Rattle.wl_draft.specs.declared.mode.Mode.{Mode}
 use Rattle.wl_draft.specs.declared.mode.Mode.TheVariants.{Shared, Exclusive}
 use Rattle.wl_draft.specs.declared.row.Entry.{Entry}
-use Rattle.wl_frames.specs.declared.frame.Operation.{Operation}
-use Rattle.wl_frames.specs.declared.frame.Operation.TheVariants.{Request, Release, Abort, Query}
-use Rattle.wl_frames.specs.declared.frame.Outcome.{Outcome}
-use Rattle.wl_frames.specs.declared.frame.Outcome.TheVariants.{Waiting, Granted, Gone, Taken}
-use Rattle.wl_frames.specs.declared.frame.SnapshotEntry.{SnapshotEntry}
-use Rattle.wl_frames.specs.declared.frame.Addressed.{Addressed}
-use Rattle.wl_frames.specs.declared.frame.Upward.TheVariants as up
-use Rattle.wl_frames.specs.declared.frame.Downward.TheVariants as down
+use Rattle.wl_grammar.specs.declared.frame.Operation.{Operation}
+use Rattle.wl_grammar.specs.declared.frame.Operation.TheVariants.{Request, Release, Abort, Query}
+use Rattle.wl_grammar.specs.declared.frame.Outcome.{Outcome}
+use Rattle.wl_grammar.specs.declared.frame.Outcome.TheVariants.{Waiting, Granted, Gone, Taken}
+use Rattle.wl_grammar.specs.declared.frame.SnapshotEntry.{SnapshotEntry}
+use Rattle.wl_grammar.specs.declared.frame.Addressed.{Addressed}
+use Rattle.wl_grammar.specs.declared.frame.Upward.TheVariants as up
+use Rattle.wl_grammar.specs.declared.frame.Downward.TheVariants as down
 use Rattle.wl_broker.specs.declared.dropped.Dropped.{Dropped}
 use Rattle.wl_broker.specs.declared.dropped.Dropped.TheVariants.{Recovering, OutOfTurn, DeadTab, AlreadyJoined, HeldByNewcomer, BadReport, Misplaced, PartTwice}
 use Rattle.wl_broker.specs.Broker.{BrokerState, started, Taking, Drops, Does, taking, burial}

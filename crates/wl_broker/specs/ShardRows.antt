@@ -2,10 +2,10 @@
 use Rattle.std.specs.Prelude.{◌≡◌, ℕ, List, [], ◌∷◌, true, false}
 use Rattle.wl_draft.specs.declared.mode.Mode.TheVariants.{Exclusive}
 use Rattle.wl_draft.specs.Locks.{row_of}
-use Rattle.wl_frames.specs.declared.frame.Operation.TheVariants.{Request}
-use Rattle.wl_frames.specs.declared.frame.Outcome.TheVariants.{Granted}
-use Rattle.wl_frames.specs.declared.frame.Stamped.{Stamped}
-use Rattle.wl_frames.specs.declared.frame.Upward.TheVariants as up
+use Rattle.wl_grammar.specs.declared.frame.Operation.TheVariants.{Request}
+use Rattle.wl_grammar.specs.declared.frame.Outcome.TheVariants.{Granted}
+use Rattle.wl_grammar.specs.declared.frame.Stamped.{Stamped}
+use Rattle.wl_grammar.specs.declared.frame.Upward.TheVariants as up
 use Rattle.wl_broker.specs.declared.seat.Seat.TheVariants.{Joined, Dead}
 use Rattle.wl_broker.specs.declared.dropped.Dropped.TheVariants.{Misplaced}
 use Rattle.wl_broker.specs.Broker.{BrokerState, Drops, taking, burial}

@@ -1,8 +1,8 @@
 -- The broker in shards: each partition belongs to one shard, and each shard has a broker of its own, which knows only the shard's.
 use Rattle.std.specs.Prelude.{◌≡◌, ℕ, ◌<◌, ◌%◌, List, [], ◌∷◌, ◌++◌, Bool, true, false, not, ◌||◌, ◌==◌, filter, Option, Some, None, IsPermutation, if◌then◌else◌}
 use Rattle.std.specs.List.{list_all, range_with_len, flat_map}
-use Rattle.wl_frames.specs.declared.frame.Stamped.{Stamped}
-use Rattle.wl_frames.specs.declared.frame.Addressed.{Addressed}
+use Rattle.wl_grammar.specs.declared.frame.Stamped.{Stamped}
+use Rattle.wl_grammar.specs.declared.frame.Addressed.{Addressed}
 use Rattle.wl_broker.specs.declared.seat.Seat.{Seat}
 use Rattle.wl_broker.specs.declared.seat.Seat.TheVariants.{Joined, Dead}
 use Rattle.wl_broker.specs.Broker.{BrokerState, started, hellos, place_of, Taking, Drops, Does, taking, burial}

@@ -5,6 +5,7 @@ ghost use Rattle.std.specs.Vec.{vec_len, vec_capacity};
 ghost use Rattle.std.specs.Vec.Iter.{into_iter_items};
 ghost use Rattle.wl_broker.specs.Broker.{hello_to, hellos, outcome_of, parts_of};
 ghost use Rattle.wl_broker.specs.Kept.{answer_of, grant_of, snapshot_entry_of, snapshot_of};
+ghost use Rattle.wl_limits.specs.declared.frames.TheConstants.{ENTRY_LIMIT};
 
 use crate::seat::Seat;
 use crate::seats::{next_in, seat_of};
@@ -12,10 +13,8 @@ use std::alloc::{AllocError, Global};
 use std::collections::BTreeMap;
 use std::vec::IntoIter;
 use wl_draft::{Grant, Row, Standing};
-use wl_frames::{Addressed, Answer, Downward, Hello, Outcome, Sequence, Snapshot, SnapshotEntry};
-
-/// How many entries a part of a snapshot has, but for the last.
-const PART: usize = 64;
+use wl_grammar::{Addressed, Answer, Downward, Hello, Outcome, Sequence, Snapshot, SnapshotEntry};
+use wl_limits::frames::{ENTRY_LIMIT, SNAPSHOT_PART_LIMIT};
 
 fn hello(generation: u32, tab: u16) -> Addressed
     ensures { result ≡ hello_to generation tab }
@@ -141,11 +140,11 @@ fn next_part(
     alloc: Global,
     rest: &mut IntoIter<SnapshotEntry>,
 ) -> Result<Vec<SnapshotEntry>, AllocError>
-    ensures part { IfOk result (λ v. v.items ≡ take 64 (into_iter_items rest.old)) }
-    ensures rest { OnOk result (into_iter_items rest.new ≡ drop 64 (into_iter_items rest.old)) }
+    ensures part { IfOk result (λ v. v.items ≡ take ENTRY_LIMIT (into_iter_items rest.old)) }
+    ensures rest { OnOk result (into_iter_items rest.new ≡ drop ENTRY_LIMIT (into_iter_items rest.old)) }
 {
     let mut part = Vec::new(alloc);
-    while part.len() < PART {
+    while part.len() < ENTRY_LIMIT {
         let Some(entry) = rest.next() else {
             return Ok(part);
         };
@@ -161,7 +160,7 @@ fn parts_of(entries: &[SnapshotEntry]) -> usize
     if entries.is_empty() {
         1
     } else {
-        entries.len().div_ceil(PART)
+        entries.len().div_ceil(ENTRY_LIMIT)
     }
 }
 
@@ -178,7 +177,7 @@ fn snapshot_parts(
 {
     let parts = parts_of(&entries);
     let mut outs = Vec::new(alloc);
-    if parts > usize::from(u16::MAX) {
+    if parts > usize::from(SNAPSHOT_PART_LIMIT) {
         outs.push(answer(generation, upto, tab, number, Outcome::Gone))?;
         return Ok(outs);
     }

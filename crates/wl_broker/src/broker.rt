@@ -1,9 +1,9 @@
 //! The broker.
 
 ghost use Rattle.std.specs.Prelude.{◌≡◌, ◌≢◌, ◌<◌, IfOk, IfErr, OnErr, ℕ, List, [], ◌∷◌, true, false, length, replicate};
-ghost use Rattle.wl_frames.specs.declared.frame.Addressed.{Addressed};
-ghost use Rattle.wl_frames.specs.declared.frame.Operation.TheVariants.{Query};
-ghost use Rattle.wl_frames.specs.Grammar.{TabsRiseFrom};
+ghost use Rattle.wl_grammar.specs.declared.frame.Addressed.{Addressed};
+ghost use Rattle.wl_grammar.specs.declared.frame.Operation.TheVariants.{Query};
+ghost use Rattle.wl_grammar.specs.Grammar.{TabsRiseFrom};
 ghost use Rattle.wl_broker.specs.declared.seat.Seat.TheVariants.{Joined, Dead};
 ghost use Rattle.wl_broker.specs.Broker.{started, hellos, taking, burial, Does, Drops, copied, repeated, IsTaken, is_active, is_dead, is_joined, seat_of, listed_at, elsewhere, is_misplaced, take_told, take_command, partial_of, fits, is_there, with_told, is_whole, join_if, keeping, join, perform, later_answer, next_of, buried_at, with_seat, all_below, manager_of};
 ghost use Rattle.wl_broker.specs.Kept.{Had, told, joining};
@@ -27,7 +27,7 @@ use crate::seats::{is_dead, is_joined, limit_in, next_in, put_back, seat_of, set
 use std::alloc::{AllocError, Global};
 use std::collections::BTreeMap;
 use std::marker::Model;
-use wl_frames::{Addressed, Entry, Operation, Sequence, Stamped, Upward};
+use wl_grammar::{Addressed, Entry, Operation, Sequence, Stamped, Upward};
 use wl_table::LockTable;
 
 /// What the broker sends, each frame with the tab that it is for.

@@ -15,7 +15,7 @@ use crate::partition::Partition;
 use std::alloc::{AllocError, Global};
 use std::collections::BTreeMap;
 use wl_draft::{Entry, Grant};
-use wl_frames::{Operation, Outcome};
+use wl_grammar::{Operation, Outcome};
 use wl_table::LockTable;
 
 /// The partition, if one has come to it.

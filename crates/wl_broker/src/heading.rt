@@ -4,13 +4,8 @@ ghost use Rattle.std.specs.Prelude.{◌≡◌};
 ghost use Rattle.wl_broker.specs.Broker.{at_once, in_part};
 ghost use Rattle.wl_broker.specs.Kept.{told};
 
-use wl_frames::{Report, ReportPart};
-
-/// How many locks a tab may have that told its report at once.
-const LOCK_LIMIT: u16 = 64;
-
-/// How many locks a tab may have that told its report in parts.
-const LOCK_LIMIT_IN_PARTS: u16 = 1024;
+use wl_grammar::{Report, ReportPart};
+use wl_limits::tabs::{LIVE_LIMIT, LIVE_LIMIT_IN_PARTS};
 
 /// Of how many parts of a report this is which, and how many locks its tab may have.
 #[derive(Clone, Copy)]
@@ -30,7 +25,7 @@ impl Heading {
             base: report.base,
             part: 0,
             parts: 1,
-            limit: LOCK_LIMIT,
+            limit: LIVE_LIMIT as u16,
         }
     }
 
@@ -41,7 +36,7 @@ impl Heading {
             base: part.base,
             part: part.part,
             parts: part.parts,
-            limit: LOCK_LIMIT_IN_PARTS,
+            limit: LIVE_LIMIT_IN_PARTS as u16,
         }
     }
 }

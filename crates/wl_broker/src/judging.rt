@@ -11,7 +11,7 @@ use crate::seat::Seat;
 use crate::seats::seated_at;
 use std::collections::BTreeMap;
 use wl_draft::Entry;
-use wl_frames::{Operation, Upward};
+use wl_grammar::{Operation, Upward};
 
 pub fn generation_of(inner: &Upward) -> u32
     ensures { result ≡ generation_of inner.now }

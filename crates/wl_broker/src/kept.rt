@@ -3,15 +3,15 @@
 ghost use Rattle.std.specs.Prelude.{◌≡◌, ◌<◌, ◌++◌, ◌==◌, ◌+◌, ◌^◌, [], true, false, Some, IfOk, OnOk, OnErr, length, nat_le};
 ghost use Rattle.std.specs.List.{list_all, flat_map};
 ghost use Rattle.std.specs.Option.{option_copied};
-ghost use Rattle.wl_draft.specs.Tables.{find, put, has_row};
+ghost use Rattle.wl_draft.specs.Tables.{find, put, has_row, Rises};
 ghost use Rattle.wl_broker.specs.Broker.{all_above, all_below, is_in_order, fits, kept_at, came_in, with_told, without_partial};
-ghost use Rattle.wl_broker.specs.Kept.{Rises, told, is_kept, all_in_below, end_of};
+ghost use Rattle.wl_broker.specs.Kept.{told, is_kept, all_in_below, end_of};
 
 use crate::heading::Heading;
 use std::alloc::{AllocError, Global};
 use std::collections::BTreeMap;
 use std::marker::Model;
-use wl_frames::{Entry, Sequence};
+use wl_grammar::{Entry, Sequence};
 
 /// The parts of a tab's report that have come. Each number is below the base.
 #[derive(Drop)]

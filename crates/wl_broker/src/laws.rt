@@ -1,7 +1,7 @@
 //! Laws over the broker's definition.
 
 ghost use Rattle.std.specs.Prelude.{ℕ, List};
-ghost use Rattle.wl_frames.specs.declared.frame.Stamped.{Stamped};
+ghost use Rattle.wl_grammar.specs.declared.frame.Stamped.{Stamped};
 ghost use Rattle.wl_broker.specs.Broker.{BrokerState};
 ghost use Rattle.wl_broker.specs.Laws.{IsListedOnce, TakesInOnePartition, BuriesInOnePartition, GrantsNothingWhileRecovering, BuriesInSilenceWhileRecovering, StaysActive, MovesItsOwn, KeepsCompatible, CountsCommands};
 ghost use Rattle.wl_broker.specs.Grants.{StartsSettled, TakesSettled, BuriesSettled, BuriesItsOwn, BuriesOnce, BuriesActive, TakesTelling, BuriesTelling};

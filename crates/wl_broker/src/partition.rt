@@ -12,7 +12,7 @@ use crate::broker::Outs;
 use std::alloc::{AllocError, Global};
 use std::marker::Model;
 use wl_draft::{Entry, Grant, Standing};
-use wl_frames::{Operation, Sequence};
+use wl_grammar::{Operation, Sequence};
 use wl_table::LockTable;
 
 /// The locks of one partition. While it is active they are settled.

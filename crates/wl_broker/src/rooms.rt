@@ -12,7 +12,7 @@ use std::alloc::{AllocError, Global};
 use std::collections::BTreeMap;
 use std::marker::Model;
 use wl_draft::Grant;
-use wl_frames::{Addressed, Sequence};
+use wl_grammar::{Addressed, Sequence};
 
 /// Empty lists, each with room for so many frames. What is said takes lists of its own that have room for just that, and
 /// one of these only where such a list is refused. So no change that was begun has to fail, and nobody who keeps what was

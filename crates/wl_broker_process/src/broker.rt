@@ -1,7 +1,7 @@
 //! The broker's process: lanes take turns at reading the link, each takes what is its own to the book, and writes what comes of it.
 
 ghost use Rattle.std.specs.Prelude.{◌≡◌, ◌<◌, ◌≤◌, IfOk};
-ghost use Rattle.wl_frames.specs.Grammar.{TabsRiseFrom};
+ghost use Rattle.wl_grammar.specs.Grammar.{TabsRiseFrom};
 ghost use Rattle.wl_locked.specs.Blanks.{HaveParts, AreNamed};
 ghost use Rattle.wl_locked.specs.declared.locked.TheConstants.{LANE_LIMIT};
 ghost use Rattle.wl_locked.specs.declared.shards.TheConstants.{SHARD_LIMIT};
@@ -15,10 +15,10 @@ use std::os::unix::net::UnixStream;
 use std::rt::Clock;
 use std::sync::{Arc, Mutex, Wait};
 use std::thread;
-use wl_frames::device::READ_LIMIT;
+use wl_frames::device::{BUNDLE_LEN, READ_LIMIT};
 use wl_frames::{Frame, Start};
 use wl_locked::{Blanks, NotStepped, Outs, Receipt, ShardLane, Sharded, Shards, Work};
-use wl_process::{BUNDLE_LEN, Host, Incoming, ProcessFault, append};
+use wl_process::{Host, Incoming, ProcessFault, append};
 use wl_workers::{Cause, Desk, Gate, Intake, LaneEnd, Outlet, OutletFault, lane};
 
 /// After how many works a lane writes what it has gathered, though it has more to take.

@@ -2,13 +2,13 @@
 use Rattle.std.proofs.Common.{◌≡◌, ℕ, List, ◌++◌, length, take, drop, Some, refl, sym, ap, ◌∙◌, arith}
 use Rattle.std.specs.Int.{w32}
 use Rattle.std.proofs.lemmas.List.{take_at, drop_at}
-use Rattle.wl_frames.specs.declared.frame.Frame.{Frame}
-use Rattle.wl_frames.specs.Grammar.{IsWellFormed, body, spelling}
+use Rattle.wl_grammar.specs.declared.frame.Frame.{Frame}
+use Rattle.wl_grammar.specs.Grammar.{IsWellFormed, body, spelling}
 use Rattle.wl_frames.specs.Reading.{number_at}
 use Rattle.wl_frames.proofs.Forms.{some_is}
 use Rattle.wl_frames.proofs.Fields.{u32_form}
 use Rattle.wl_frames.proofs.Frames.{one_frame}
-use Rattle.wl_frames.proofs.BodyLength.{body_length}
+use Rattle.wl_encoding.proofs.BodyLength.{body_length}
 
 -- the length and what stands behind it, read from the front of a spelling
 length_read : (f : Frame) (x : List ℕ) → IsWellFormed f → number_at w32 (spelling f ++ x) ≡ Some (length (body f), body f ++ x)

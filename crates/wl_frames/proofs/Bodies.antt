@@ -5,23 +5,23 @@ use Rattle.std.specs.List.{flat_map, AllByRecursion}
 use Rattle.std.proofs.lemmas.Bool.{ltb-true, ltb-false, lt-ltb, le-ltb, eqb-true, not-false, not_from_true}
 use Rattle.wl_draft.specs.declared.mode.Mode.{Mode}
 use Rattle.wl_draft.specs.declared.row.Entry.{Entry}
-use Rattle.wl_frames.specs.declared.frame.Operation.{Operation}
-use Rattle.wl_frames.specs.declared.frame.Operation.TheVariants as op
-use Rattle.wl_frames.specs.declared.frame.Outcome.TheVariants as outcome
-use Rattle.wl_frames.specs.declared.frame.Command.{Command}
-use Rattle.wl_frames.specs.declared.frame.Report.{Report}
-use Rattle.wl_frames.specs.declared.frame.ReportPart.{ReportPart}
-use Rattle.wl_frames.specs.declared.frame.Post.{Post}
-use Rattle.wl_frames.specs.declared.frame.Hello.{Hello}
-use Rattle.wl_frames.specs.declared.frame.Answer.{Answer}
-use Rattle.wl_frames.specs.declared.frame.SnapshotEntry.{SnapshotEntry}
-use Rattle.wl_frames.specs.declared.frame.Snapshot.{Snapshot}
-use Rattle.wl_frames.specs.declared.frame.Heard.{Heard}
-use Rattle.wl_frames.specs.declared.frame.Welcome.{Welcome}
-use Rattle.wl_frames.specs.declared.frame.PairWelcome.{PairWelcome}
-use Rattle.wl_frames.specs.declared.frame.Start.{Start}
-use Rattle.wl_frames.specs.declared.frame.Dead.{Dead}
-use Rattle.wl_frames.specs.Grammar.{u16, u32, IsU16, IsU32, IsGeneration, IsTab, spelled_mode, spelled_flag, spelled_held, short_text, long_text, IsChannel, IsLockName, IsData, IsOrigin, operation, IsOperation, entry, IsEntry, RiseFrom, snapshot_entry, IsSnapshotEntry, place, IsPlace, TabsRiseFrom, spelled_outcome, IsCommand, IsReport, IsReportPart, IsPost, IsHello, IsAnswer, IsSnapshot, IsHeard, IsWelcome, IsPairWelcome, IsStart, IsDead}
+use Rattle.wl_grammar.specs.declared.frame.Operation.{Operation}
+use Rattle.wl_grammar.specs.declared.frame.Operation.TheVariants as op
+use Rattle.wl_grammar.specs.declared.frame.Outcome.TheVariants as outcome
+use Rattle.wl_grammar.specs.declared.frame.Command.{Command}
+use Rattle.wl_grammar.specs.declared.frame.Report.{Report}
+use Rattle.wl_grammar.specs.declared.frame.ReportPart.{ReportPart}
+use Rattle.wl_grammar.specs.declared.frame.Post.{Post}
+use Rattle.wl_grammar.specs.declared.frame.Hello.{Hello}
+use Rattle.wl_grammar.specs.declared.frame.Answer.{Answer}
+use Rattle.wl_grammar.specs.declared.frame.SnapshotEntry.{SnapshotEntry}
+use Rattle.wl_grammar.specs.declared.frame.Snapshot.{Snapshot}
+use Rattle.wl_grammar.specs.declared.frame.Heard.{Heard}
+use Rattle.wl_grammar.specs.declared.frame.Welcome.{Welcome}
+use Rattle.wl_grammar.specs.declared.frame.PairWelcome.{PairWelcome}
+use Rattle.wl_grammar.specs.declared.frame.Start.{Start}
+use Rattle.wl_grammar.specs.declared.frame.Dead.{Dead}
+use Rattle.wl_grammar.specs.Grammar.{u16, u32, IsU16, IsU32, IsGeneration, IsTab, spelled_mode, spelled_flag, spelled_held, short_text, long_text, IsChannel, IsLockName, IsData, IsOrigin, operation, IsOperation, entry, IsEntry, RiseFrom, snapshot_entry, IsSnapshotEntry, place, IsPlace, TabsRiseFrom, spelled_outcome, IsCommand, IsReport, IsReportPart, IsPost, IsHello, IsAnswer, IsSnapshot, IsHeard, IsWelcome, IsPairWelcome, IsStart, IsDead}
 use Rattle.wl_frames.specs.Reading.{byte_at}
 use Rattle.wl_frames.specs.Bodies.{request_at, operation_fields_at, operation_at, command_at, entry_at, numbers_rise, rising_entries_at, report_at, pair_at, part_at, few_parts_at, report_part_at, post_at, heard_at, hello_at, outcomes, outcome_at, answer_at, snapshot_entry_at, snapshot_at, welcome_at, pair_welcome_at, place_at, tabs_rise, rising_places_at, start_at, dead_at}
 use Rattle.wl_frames.proofs.Forms.{IsBytes, Any, Takes, IsForm, bind_some, some_is, then_form, last_form, same_form, tested_form, within, wrapped_again}

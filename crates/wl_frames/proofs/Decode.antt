@@ -2,11 +2,11 @@
 use Rattle.std.proofs.Common.{◌≡◌, ℕ, ◌+◌, ◌-◌, ◌<◌, ◌≤◌, List, [], ◌∷◌, ◌++◌, length, get_or, take, drop, Option, Some, None, refl, sym, ap, subst, ◌∙◌, arith, inl, inr}
 use Rattle.std.proofs.lemmas.List.{append-nil, take_rest, nil_from_length, get_or-drop}
 use Rattle.wl_frames.specs.declared.fault.FrameFault.TheVariants.{BadVersion, BadKind, LeftOver}
-use Rattle.wl_frames.specs.declared.frame.Frame.{Frame}
+use Rattle.wl_grammar.specs.declared.frame.Frame.{Frame}
 use Rattle.wl_frames.specs.declared.reading.fault.ReadFault.{ReadFault}
 use Rattle.wl_frames.specs.declared.reading.fault.ReadFault.TheVariants as read_fault
 use Rattle.wl_frames.specs.declared.reading.kind.Kind.{Kind}
-use Rattle.wl_frames.specs.Grammar.{body, IsBody}
+use Rattle.wl_grammar.specs.Grammar.{body, IsBody}
 use Rattle.wl_frames.specs.Stream.{IsVersion, Begins, IsFaultOf}
 use Rattle.wl_frames.specs.Reading.{Fails, frame_fault, kind_at}
 use Rattle.wl_frames.specs.Bodies.{frame_at}

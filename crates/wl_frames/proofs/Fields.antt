@@ -11,7 +11,7 @@ use Rattle.std.proofs.lemmas.Nat.{be_bytes_2, be_bytes_4, from_be_bytes-to_be_by
 use Rattle.std.proofs.lemmas.Str.{IsUtf8-from_is_utf8, is_utf8-from_IsUtf8}
 use Rattle.std.proofs.lemmas.Str.Ascii.{IsAscii-nil, IsAscii-cons}
 use Rattle.wl_draft.specs.declared.mode.Mode.TheVariants.{Shared, Exclusive}
-use Rattle.wl_frames.specs.Grammar.{u16, u32, IsU16, IsU32, IsGeneration, IsTab, spelled_mode, spelled_flag, spelled_held, short_text, long_text, IsChannel, HasNoDash, IsLockName, IsData, IsOrigin}
+use Rattle.wl_grammar.specs.Grammar.{u16, u32, IsU16, IsU32, IsGeneration, IsTab, spelled_mode, spelled_flag, spelled_held, short_text, long_text, IsChannel, HasNoDash, IsLockName, IsData, IsOrigin}
 use Rattle.wl_frames.specs.Reading.{◌>>=◌, value_of, byte_at, number_at, generation_at, tab_at, coded_at, modes, mode_at, flags, flag_at, held_codes, held_at, taken_at, short_text_at, long_text_at, text_of, channel_at, has_dash, lock_text_of, lock_name_at, data_at, is_ascii, origin_text_of, origin_at, items_at, list_at}
 use Rattle.wl_frames.proofs.Forms.{IsBytes, Any, Takes, IsForm, bind_some, guard_some, some_is, same_form, tested_form, checked_form}
 

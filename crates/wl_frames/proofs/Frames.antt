@@ -4,17 +4,17 @@ use Rattle.std.specs.Prelude.{⊤}
 use Rattle.std.specs.List.{flat_map, AllByRecursion}
 use Rattle.std.proofs.lemmas.Bool.{eqb-true}
 use Rattle.std.proofs.lemmas.List.{append-nil}
-use Rattle.wl_frames.specs.declared.frame.Upward.{Upward}
-use Rattle.wl_frames.specs.declared.frame.Upward.TheVariants as up
-use Rattle.wl_frames.specs.declared.frame.Downward.{Downward}
-use Rattle.wl_frames.specs.declared.frame.Downward.TheVariants as down
-use Rattle.wl_frames.specs.declared.frame.Stamped.{Stamped}
-use Rattle.wl_frames.specs.declared.frame.Addressed.{Addressed}
-use Rattle.wl_frames.specs.declared.frame.Frame.{Frame}
-use Rattle.wl_frames.specs.declared.frame.Frame.TheVariants as frame
+use Rattle.wl_grammar.specs.declared.frame.Upward.{Upward}
+use Rattle.wl_grammar.specs.declared.frame.Upward.TheVariants as up
+use Rattle.wl_grammar.specs.declared.frame.Downward.{Downward}
+use Rattle.wl_grammar.specs.declared.frame.Downward.TheVariants as down
+use Rattle.wl_grammar.specs.declared.frame.Stamped.{Stamped}
+use Rattle.wl_grammar.specs.declared.frame.Addressed.{Addressed}
+use Rattle.wl_grammar.specs.declared.frame.Frame.{Frame}
+use Rattle.wl_grammar.specs.declared.frame.Frame.TheVariants as frame
 use Rattle.wl_frames.specs.declared.reading.kind.Kind.{Kind}
 use Rattle.wl_frames.specs.declared.reading.kind.Kind.TheVariants as kind
-use Rattle.wl_frames.specs.Grammar.{u16, u32, IsTab, short_text, long_text, operation, entry, snapshot_entry, place, spelled_outcome, command, report, report_part, post, hello, answer, snapshot, heard, welcome, pair_welcome, upward, IsUpward, downward, IsDownward, stamped, IsStamped, start, addressed, IsAddressed, dead, body, IsWellFormed, IsBody}
+use Rattle.wl_grammar.specs.Grammar.{u16, u32, IsTab, short_text, long_text, operation, entry, snapshot_entry, place, spelled_outcome, command, report, report_part, post, hello, answer, snapshot, heard, welcome, pair_welcome, upward, IsUpward, downward, IsDownward, stamped, IsStamped, start, addressed, IsAddressed, dead, body, IsWellFormed, IsBody}
 use Rattle.wl_frames.specs.Stream.{IsKind, command as is_command, report as is_report, post as is_post, hello as is_hello, answer as is_answer, snapshot as is_snapshot, heard as is_heard, welcome as is_welcome, stamped as is_stamped, start as is_start, addressed as is_addressed, dead as is_dead, report_part as is_report_part, pair_welcome as is_pair_welcome, is_envelope, Begins}
 use Rattle.wl_frames.specs.Reading.{◌>>=◌, byte_at, first_kinds, second_kinds, kinds_of, kind_at}
 use Rattle.wl_frames.specs.Bodies.{inner_kind_at, upward_fields_at, upward_at, stamped_at, downward_fields_at, downward_at, addressed_at, frame_at}

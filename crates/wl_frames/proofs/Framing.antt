@@ -1,9 +1,8 @@
 -- A frame at the front of a stream.
-use Rattle.std.proofs.Common.{◌≡◌, ℕ, ◌+◌, ◌<◌, List, ◌++◌, length, take, drop, refl, sym, ap, ◌∙◌, subst, arith, append_assoc}
-use Rattle.std.proofs.Math.Seq.{take-append_seam, drop-append_seam, drop-append-add}
+use Rattle.std.proofs.Common.{◌≡◌, ℕ, ◌<◌, List, ◌++◌, length, take, drop, sym, ap, ◌∙◌, subst, arith}
 use Rattle.std.proofs.lemmas.List.{length-append, take-append-drop}
-use Rattle.wl_frames.specs.declared.frame.Frame.{Frame}
-use Rattle.wl_frames.specs.Grammar.{u32, IsWellFormed, IsBody, body, spelling}
+use Rattle.wl_grammar.specs.declared.frame.Frame.{Frame}
+use Rattle.wl_grammar.specs.Grammar.{u32, IsWellFormed, IsBody, body, spelling}
 
 -- a length and a body of that length spell a frame
 pub spelled : (bytes rest front after : List ℕ) (n : ℕ) (f : Frame) → bytes ≡ u32 n ++ rest → front ≡ take n rest → after ≡ drop n rest → length front ≡ n → IsBody front f
@@ -19,13 +18,3 @@ spelled bytes rest front after n f whole front_is after_is len is_body =
 pub shorter : (bytes after : List ℕ) (f : Frame) → bytes ≡ spelling f ++ after → length after < length bytes
 unfolding spelling
 shorter bytes after f e = omega (arith, ap length e, length-append (body f) after)
-
--- a length that is written over four bytes behind the first ones
-pub length_set : (old zeros b now new counted : List ℕ) (start : ℕ) → start ≡ length old → length zeros ≡ 4
-    → now ≡ (old ++ zeros) ++ b → new ≡ take start now ++ counted ++ drop (start + 4) now → new ≡ old ++ counted ++ b
-length_set old zeros b now new counted start e z whole set =
-    let split : now ≡ old ++ (zeros ++ b) = whole ∙ append_assoc old zeros b in
-    let front : take start now ≡ old = rw (e, split) (take-append_seam old (zeros ++ b)) in
-    let rest : drop (start + 4) now ≡ b =
-    rw (e, split) (drop-append-add old (zeros ++ b) 4 ∙ rw (sym z) (drop-append_seam zeros b)) in
-    set ∙ rw (front, rest) refl

@@ -5,7 +5,6 @@ pub mod Bodies
 pub mod DeviceLemmas
 pub mod Frames
 pub mod Decode
-pub mod BodyLength
 pub mod Apart
 pub mod OneFrame
 pub mod Framing

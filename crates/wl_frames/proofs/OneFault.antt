@@ -1,11 +1,11 @@
 -- A body has one fault, or it is the body of a frame.
 use Rattle.std.proofs.Common.{◌≡◌, ℕ, List, [], ◌∷◌, ◌++◌, Bool, true, false, refl, sym, ap, ◌∙◌, subst, inl, inr}
 use Rattle.std.proofs.lemmas.List.{append-nil}
-use Rattle.wl_frames.specs.declared.frame.Frame.{Frame}
-use Rattle.wl_frames.specs.declared.frame.Frame.TheVariants as frame
+use Rattle.wl_grammar.specs.declared.frame.Frame.{Frame}
+use Rattle.wl_grammar.specs.declared.frame.Frame.TheVariants as frame
 use Rattle.wl_frames.specs.declared.fault.FrameFault.{FrameFault}
 use Rattle.wl_frames.specs.declared.fault.FrameFault.TheVariants.{BadLength, BadVersion, BadKind, BadField, LeftOver, Truncated, Memory, Failed}
-use Rattle.wl_frames.specs.Grammar.{IsBody, body, command, report, report_part, post, hello, answer, snapshot, heard, welcome, pair_welcome, stamped, start, addressed, dead}
+use Rattle.wl_grammar.specs.Grammar.{IsBody, body, command, report, report_part, post, hello, answer, snapshot, heard, welcome, pair_welcome, stamped, start, addressed, dead}
 use Rattle.wl_frames.specs.Stream.{IsVersion, IsKind, is_envelope, Begins, HasFault}
 use Rattle.wl_frames.proofs.OneFrame.{no_body_begins_another}
 

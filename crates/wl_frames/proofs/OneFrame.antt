@@ -2,8 +2,8 @@
 use Rattle.std.proofs.Common.{◌≡◌, ℕ, List, [], ◌∷◌, ◌++◌, false, refl, sym, ap, ◌∙◌}
 use Rattle.std.proofs.lemmas.Bool.{both_ways}
 use Rattle.std.proofs.lemmas.List.{append-nil}
-use Rattle.wl_frames.specs.declared.frame.Frame.{Frame}
-use Rattle.wl_frames.specs.Grammar.{IsWellFormed, body}
+use Rattle.wl_grammar.specs.declared.frame.Frame.{Frame}
+use Rattle.wl_grammar.specs.Grammar.{IsWellFormed, body}
 use Rattle.wl_frames.specs.Stream.{Begins, is_envelope}
 use Rattle.wl_frames.proofs.Forms.{some_is}
 use Rattle.wl_frames.proofs.Frames.{version_of, code_of, kind_of, fields, body_is, kind_at-code, begun, one_frame as one_frame_of}

@@ -1,33 +1,34 @@
 -- Reading the fields of each kind of frame, as a function on lists. These are helpers, as those of Reading are.
 use Rattle.std.specs.Prelude.{ℕ, ◌+◌, ◌==◌, nat_lt, Bool, true, false, not, List, [], ◌∷◌, length, Option, Some, None, if◌then◌else◌}
 use Rattle.std.specs.Int.{w16, w32}
+use Rattle.wl_limits.specs.declared.frames.TheConstants.{ENTRY_LIMIT, LIST_LIMIT, REPORT_PART_LIMIT}
 use Rattle.wl_draft.specs.declared.mode.Mode.{Mode}
 use Rattle.wl_draft.specs.declared.row.Entry.{Entry}
-use Rattle.wl_frames.specs.declared.frame.Operation.{Operation}
-use Rattle.wl_frames.specs.declared.frame.Operation.TheVariants as op
-use Rattle.wl_frames.specs.declared.frame.Outcome.{Outcome}
-use Rattle.wl_frames.specs.declared.frame.Outcome.TheVariants as outcome
-use Rattle.wl_frames.specs.declared.frame.Command.{Command}
-use Rattle.wl_frames.specs.declared.frame.Report.{Report}
-use Rattle.wl_frames.specs.declared.frame.ReportPart.{ReportPart}
-use Rattle.wl_frames.specs.declared.frame.Post.{Post}
-use Rattle.wl_frames.specs.declared.frame.Hello.{Hello}
-use Rattle.wl_frames.specs.declared.frame.Answer.{Answer}
-use Rattle.wl_frames.specs.declared.frame.SnapshotEntry.{SnapshotEntry}
-use Rattle.wl_frames.specs.declared.frame.Snapshot.{Snapshot}
-use Rattle.wl_frames.specs.declared.frame.Heard.{Heard}
-use Rattle.wl_frames.specs.declared.frame.Welcome.{Welcome}
-use Rattle.wl_frames.specs.declared.frame.PairWelcome.{PairWelcome}
-use Rattle.wl_frames.specs.declared.frame.Stamped.{Stamped}
-use Rattle.wl_frames.specs.declared.frame.Start.{Start}
-use Rattle.wl_frames.specs.declared.frame.Addressed.{Addressed}
-use Rattle.wl_frames.specs.declared.frame.Dead.{Dead}
-use Rattle.wl_frames.specs.declared.frame.Upward.{Upward}
-use Rattle.wl_frames.specs.declared.frame.Upward.TheVariants as up
-use Rattle.wl_frames.specs.declared.frame.Downward.{Downward}
-use Rattle.wl_frames.specs.declared.frame.Downward.TheVariants as down
-use Rattle.wl_frames.specs.declared.frame.Frame.{Frame}
-use Rattle.wl_frames.specs.declared.frame.Frame.TheVariants as frame
+use Rattle.wl_grammar.specs.declared.frame.Operation.{Operation}
+use Rattle.wl_grammar.specs.declared.frame.Operation.TheVariants as op
+use Rattle.wl_grammar.specs.declared.frame.Outcome.{Outcome}
+use Rattle.wl_grammar.specs.declared.frame.Outcome.TheVariants as outcome
+use Rattle.wl_grammar.specs.declared.frame.Command.{Command}
+use Rattle.wl_grammar.specs.declared.frame.Report.{Report}
+use Rattle.wl_grammar.specs.declared.frame.ReportPart.{ReportPart}
+use Rattle.wl_grammar.specs.declared.frame.Post.{Post}
+use Rattle.wl_grammar.specs.declared.frame.Hello.{Hello}
+use Rattle.wl_grammar.specs.declared.frame.Answer.{Answer}
+use Rattle.wl_grammar.specs.declared.frame.SnapshotEntry.{SnapshotEntry}
+use Rattle.wl_grammar.specs.declared.frame.Snapshot.{Snapshot}
+use Rattle.wl_grammar.specs.declared.frame.Heard.{Heard}
+use Rattle.wl_grammar.specs.declared.frame.Welcome.{Welcome}
+use Rattle.wl_grammar.specs.declared.frame.PairWelcome.{PairWelcome}
+use Rattle.wl_grammar.specs.declared.frame.Stamped.{Stamped}
+use Rattle.wl_grammar.specs.declared.frame.Start.{Start}
+use Rattle.wl_grammar.specs.declared.frame.Addressed.{Addressed}
+use Rattle.wl_grammar.specs.declared.frame.Dead.{Dead}
+use Rattle.wl_grammar.specs.declared.frame.Upward.{Upward}
+use Rattle.wl_grammar.specs.declared.frame.Upward.TheVariants as up
+use Rattle.wl_grammar.specs.declared.frame.Downward.{Downward}
+use Rattle.wl_grammar.specs.declared.frame.Downward.TheVariants as down
+use Rattle.wl_grammar.specs.declared.frame.Frame.{Frame}
+use Rattle.wl_grammar.specs.declared.frame.Frame.TheVariants as frame
 use Rattle.wl_frames.specs.declared.reading.kind.Kind.{Kind}
 use Rattle.wl_frames.specs.declared.reading.kind.Kind.TheVariants as kind
 use Rattle.wl_frames.specs.Reading.{◌>>=◌, byte_at, number_at, generation_at, tab_at, coded_at, mode_at, flag_at, held_at, channel_at, lock_name_at, data_at, origin_at, list_at, kind_at}
@@ -77,7 +78,7 @@ numbers_rise least (e ∷ es) = if nat_lt e.number least then false else numbers
 
 unfoldable pub rising_entries_at : List ℕ → Option (List Entry × List ℕ)
 rising_entries_at bytes = do
-  entries ← list_at entry_at 64 bytes
+  entries ← list_at entry_at ENTRY_LIMIT bytes
   if not (numbers_rise 0 entries.0) then None else Some entries
 
 unfoldable pub report_at : List ℕ → Option (Report × List ℕ)
@@ -104,7 +105,7 @@ part_at bytes = do
 unfoldable pub few_parts_at : List ℕ → Option ((ℕ × ℕ) × List ℕ)
 few_parts_at bytes = do
   part ← part_at bytes
-  if nat_lt 16 part.0.1 then None else Some part
+  if nat_lt REPORT_PART_LIMIT part.0.1 then None else Some part
 
 unfoldable pub report_part_at : List ℕ → Option (ReportPart × List ℕ)
 report_part_at bytes = do
@@ -165,7 +166,7 @@ snapshot_at bytes = do
   generation ← generation_at bytes
   number ← number_at w32 generation.1
   part ← part_at number.1
-  entries ← list_at snapshot_entry_at 64 part.1
+  entries ← list_at snapshot_entry_at ENTRY_LIMIT part.1
   Some (record { generation = generation.0; number = number.0; part = part.0.0; parts = part.0.1; entries = entries.0 }, entries.1)
 
 -- ---- what the kernel tells
@@ -195,7 +196,7 @@ tabs_rise least (p ∷ ps) = if nat_lt p.0 least then false else tabs_rise (p.0 
 
 unfoldable pub rising_places_at : List ℕ → Option (List (ℕ × ℕ) × List ℕ)
 rising_places_at bytes = do
-  places ← list_at place_at 1024 bytes
+  places ← list_at place_at LIST_LIMIT bytes
   if not (tabs_rise 1 places.0) then None else Some places
 
 unfoldable pub start_at : List ℕ → Option (Start × List ℕ)

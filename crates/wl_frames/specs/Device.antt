@@ -1,6 +1,7 @@
 -- A reader that counts its reads, a writer, and whether each has failed.
-use Rattle.std.specs.Prelude.{◌≡◌, ℕ, List, ◌++◌, Bool, false, Option}
+use Rattle.std.specs.Prelude.{ℕ, List, Bool, false, Option}
 use Rattle.std.specs.Io.KnownBytes.{Appends}
+use Rattle.wl_encoding.specs.Fronts.{IsFrontOf}
 
 pub record Reading (R : Type 0) : Type 0 where
   pub reader : R
@@ -16,10 +17,6 @@ fresh_reader reader = record { reader = reader; reads = 0; has_failed = false }
 
 abbrev pub fresh_writer : {W : Type 0} → W → Writing W
 fresh_writer writer = record { writer = writer; has_failed = false }
-
--- these bytes are a front of those
-abbrev pub IsFrontOf : List ℕ → List ℕ → Type 0
-IsFrontOf front bytes = (rest : List ℕ) × (bytes ≡ front ++ rest)
 
 -- a front of the bytes was written
 abbrev pub WritesFront : Option (List ℕ) → Option (List ℕ) → List ℕ → Type 0

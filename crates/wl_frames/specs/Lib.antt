@@ -1,6 +1,6 @@
 pub use Rattle.wl_draft.specs.Tables
 pub use Rattle.wl_draft.specs.Locks
-pub mod Grammar
+pub use Rattle.wl_grammar.specs.Grammar
 pub mod Stream
 pub mod Reading
 pub mod Bodies

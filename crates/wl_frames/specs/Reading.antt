@@ -4,6 +4,7 @@ use Rattle.std.specs.Prelude.{◌≡◌, ℕ, ◌==◌, nat_lt, Bool, true, fals
 use Rattle.std.specs.Int.{Width, w16, w32, byte_len, from_be_bytes}
 use Rattle.std.specs.List.{list_all}
 use Rattle.std.specs.Str.{is_utf8}
+use Rattle.wl_limits.specs.declared.texts.TheConstants.{DATA_LIMIT, ORIGIN_LIMIT}
 use Rattle.wl_draft.specs.declared.mode.Mode.{Mode}
 use Rattle.wl_draft.specs.declared.mode.Mode.TheVariants.{Shared, Exclusive}
 use Rattle.wl_frames.specs.declared.fault.FrameFault.{FrameFault}
@@ -118,7 +119,7 @@ lock_name_at bytes = do
   Some (name, text.1)
 
 unfoldable pub data_at : List ℕ → Option (List ℕ × List ℕ)
-data_at bytes = long_text_at 16384 bytes
+data_at bytes = long_text_at DATA_LIMIT bytes
 
 abbrev pub is_ascii : List ℕ → Bool
 is_ascii text = list_all (λ b. nat_lt b 128) text
@@ -128,7 +129,7 @@ origin_text_of text = if is_ascii text then Some text else None
 
 unfoldable pub origin_at : List ℕ → Option (List ℕ × List ℕ)
 origin_at bytes = do
-  text ← long_text_at 4096 bytes
+  text ← long_text_at ORIGIN_LIMIT bytes
   origin ← origin_text_of text.0
   Some (origin, text.1)
 

@@ -1,11 +1,12 @@
 -- The reading of a stream of bytes: the frames that begin it, up to a rest that is no whole frame or to the first fault.
 use Rattle.std.specs.Prelude.{◌≡◌, ◌≢◌, ◌⊎◌, ◌↔◌, ◌==◌, ℕ, ◌^◌, ◌<◌, ◌≤◌, List, [], ◌∷◌, ◌++◌, Bool, true, false, length, Result, Ok, Err, if◌then◌else◌}
 use Rattle.std.specs.List.{flat_map, AllByRecursion}
-use Rattle.wl_frames.specs.declared.frame.Frame.{Frame}
-use Rattle.wl_frames.specs.declared.frame.Frame.TheVariants as frame
+use Rattle.wl_grammar.specs.declared.frame.Frame.{Frame}
+use Rattle.wl_grammar.specs.declared.frame.Frame.TheVariants as frame
+use Rattle.wl_encoding.specs.Lengths.{IsLength}
 use Rattle.wl_frames.specs.declared.fault.FrameFault.{FrameFault}
 use Rattle.wl_frames.specs.declared.fault.FrameFault.TheVariants.{BadLength, BadVersion, BadKind, BadField, LeftOver, Truncated, Memory, Failed}
-use Rattle.wl_frames.specs.Grammar.{u32, IsWellFormed, body, spelling}
+use Rattle.wl_grammar.specs.Grammar.{u32, IsWellFormed, body, spelling}
 
 -- ---- what is wrong with a body
 
@@ -60,10 +61,6 @@ abbrev pub IsFaultOf : List ℕ → FrameFault → Type 0
 IsFaultOf bytes fault = (fault ≡ Memory) ⊎ HasFault bytes fault
 
 -- ---- what stands next in a stream
-
--- the length of a body
-abbrev pub IsLength : ℕ → Type 0
-IsLength n = (2 ≤ n) × (n ≤ 65536)
 
 -- no whole frame and no fault yet: a part of the length, or less of a body than the length says
 abbrev pub IsPartial : List ℕ → Type 0

@@ -3,6 +3,7 @@
 ghost use Rattle.std.specs.Prelude.{◌≡◌, ◌≤◌, ◌<◌, ◌+◌, length, take, true, false, Err, IfOk, OnOk, OnErr};
 ghost use Rattle.std.specs.Io.KnownBytes.{Consumes, IsAtEnd, Keeps, Appends};
 ghost use Rattle.wl_frames.specs.Device.{fresh_reader, fresh_writer, WritesFront};
+ghost use Rattle.wl_frames.specs.declared.device.TheConstants.{READ_LIMIT};
 
 use std::io::{Read, Write};
 use std::marker::Model;
@@ -10,6 +11,12 @@ use thiserror::Error;
 
 /// How many times a reader is read at most.
 pub const READ_LIMIT: u32 = 1_000_000;
+
+/// How many bytes are asked of a reader at once.
+pub const PIECE_LEN: usize = 4_096;
+
+/// How many bytes are gathered before they are written, where there is more to say.
+pub const BUNDLE_LEN: usize = 32_768;
 
 /// Why nothing was read.
 #[derive(Clone, Copy, Debug, PartialEq, Eq, Error)]
@@ -38,12 +45,13 @@ pub struct Source<R> {
 impl<R> Model for Source<R> {
     ghost use Rattle.wl_frames.specs.Device.{Reading};
     ghost use Rattle.std.specs.Prelude.{◌≤◌};
+    ghost use Rattle.wl_frames.specs.declared.device.TheConstants.{READ_LIMIT};
 
     ghost Value = { Reading R };
 
     ghost view = { λ s. record { reader = s.reader; reads = s.reads; has_failed = s.has_failed } };
 
-    ghost invariant = { λ s. s.reads ≤ 1000000 };
+    ghost invariant = { λ s. s.reads ≤ READ_LIMIT };
 }
 
 impl<R> Source<R> {
@@ -67,7 +75,7 @@ impl<R: Read> Source<R> {
         ensures end { IfOk result (λ n. n ≡ 0 → IsAtEnd (R.remaining self.new.reader)) }
         ensures counted { IfOk result (λ n. (self.new.reads ≡ self.old.reads + 1) × (self.new.has_failed ≡ self.old.has_failed)) }
         ensures failed { result ≡ Err ReadFault.Failed → (self.new.has_failed ≡ true) × Keeps (R.remaining self.old.reader) (R.remaining self.new.reader) }
-        ensures limit { result ≡ Err ReadFault.TooManyReads → (self.old.reads ≡ 1000000) × (self.new ≡ self.old) }
+        ensures limit { result ≡ Err ReadFault.TooManyReads → (self.old.reads ≡ READ_LIMIT) × (self.new ≡ self.old) }
         ensures within { self.new.reads ≤ 1000000 }
     {
         if self.reads >= READ_LIMIT {

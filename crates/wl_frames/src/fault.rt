@@ -1,7 +1,7 @@
 //! Why a stream could not be read.
 
-use crate::frame::Frame;
 use thiserror::Error;
+use wl_grammar::frame::Frame;
 
 /// What is wrong with a stream of frames, or why it could not be read on.
 #[derive(Clone, Copy, Debug, PartialEq, Eq, Error)]

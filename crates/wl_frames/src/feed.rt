@@ -2,20 +2,15 @@
 
 ghost use Rattle.std.specs.Prelude.{◌≡◌, ◌++◌, ◌<◌, ◌≤◌, ◌^◌, ◌⊎◌, [], length, drop, IfOk, IfErr, OnOk, MatchOption};
 ghost use Rattle.wl_frames.specs.declared.fault.FrameFault.TheVariants.{Memory};
-ghost use Rattle.wl_frames.specs.Grammar.{IsWellFormed, u32 as spelled_u32, spelling};
+ghost use Rattle.wl_grammar.specs.Grammar.{IsWellFormed, u32 as spelled_u32, spelling};
 ghost use Rattle.wl_frames.specs.Stream.{IsPartial, HasFaultNext, Reads, Rest, Fault, Takes, Refuses, at_start, end_of};
 
 use crate::fault::{FrameFault, PushFault};
-use crate::frame::Frame;
 use crate::reading::decode;
 use std::alloc::Global;
 use std::marker::Model;
-
-/// The least length of a body: its version and its kind.
-const MIN_BODY_LEN: usize = 2;
-
-/// The greatest length of a body.
-const MAX_BODY_LEN: usize = 65_536;
+use wl_grammar::frame::Frame;
+use wl_limits::frames::{BODY_LIMIT, LEAST_BODY};
 
 /// The length at the front of a stream, and what follows it; none before all its bytes are there.
 fn length_at(bytes: &[u8]) -> Option<(usize, &[u8])>
@@ -37,7 +32,7 @@ fn frame_at(alloc: Global, bytes: &[u8]) -> Result<Option<(Frame, &[u8])>, Frame
     let Some((len, rest)) = length_at(bytes) else {
         return Ok(None);
     };
-    if !(MIN_BODY_LEN..=MAX_BODY_LEN).contains(&len) {
+    if !(LEAST_BODY..=BODY_LIMIT).contains(&len) {
         return Err(FrameFault::BadLength);
     }
     if rest.len() < len {

@@ -1,9 +1,10 @@
 //! What the grammar promises of itself.
 
 ghost use Rattle.std.specs.Prelude.{◌≡◌, ◌++◌, ℕ, List, length};
-ghost use Rattle.wl_frames.specs.declared.frame.Frame.{Frame};
-ghost use Rattle.wl_frames.specs.Grammar.{IsWellFormed, IsBody, body, spelling};
-ghost use Rattle.wl_frames.specs.Stream.{IsLength, Reads, Rest, Stop};
+ghost use Rattle.wl_grammar.specs.declared.frame.Frame.{Frame};
+ghost use Rattle.wl_grammar.specs.Grammar.{IsWellFormed, IsBody, body, spelling};
+ghost use Rattle.wl_encoding.specs.Lengths.{IsLength};
+ghost use Rattle.wl_frames.specs.Stream.{Reads, Rest, Stop};
 
 /// Each frame has one spelling, and no spelling begins another.
 pub fn law_spelling()

@@ -1,7 +1,7 @@
 //! Reading the body of a frame.
 
 ghost use Rattle.std.specs.Prelude.{◌≤◌, length, IfOk, IfErr};
-ghost use Rattle.wl_frames.specs.Grammar.{IsBody};
+ghost use Rattle.wl_grammar.specs.Grammar.{IsBody};
 ghost use Rattle.wl_frames.specs.Stream.{IsFaultOf};
 
 mod bodies;
@@ -10,8 +10,8 @@ mod fields;
 mod kind;
 
 use crate::fault::FrameFault;
-use crate::frame::Frame;
 use std::alloc::Global;
+use wl_grammar::frame::Frame;
 
 /// The frame whose body the bytes are, or the first fault of the body. There are at least two bytes.
 pub fn decode(alloc: Global, body: &[u8]) -> Result<Frame, FrameFault>

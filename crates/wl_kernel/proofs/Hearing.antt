@@ -1,7 +1,7 @@
 -- Who hears a post.
 use Rattle.std.proofs.Common.{ℕ, List, [], ◌∷◌, Option, Some, None}
-use Rattle.wl_frames.specs.declared.frame.Frame.{Frame}
-use Rattle.wl_frames.specs.declared.frame.Post.{Post}
+use Rattle.wl_grammar.specs.declared.frame.Frame.{Frame}
+use Rattle.wl_grammar.specs.declared.frame.Post.{Post}
 use Rattle.wl_kernel.specs.Routes.{heard_of}
 
 -- the post for a member that was found and is not served yet

@@ -2,12 +2,12 @@
 use Rattle.std.proofs.Common.{◌≡◌, ◌≢◌, ℕ, Bool, List, [], ◌∷◌, length, map, filter, count_by, Some, Result, Ok, Err, OnErr, refl, sym, ap, ◌∙◌, subst, arith}
 use Rattle.std.proofs.lemmas.List.Sums.{length-filter}
 use Rattle.std.specs.List.{AllByRecursion}
-use Rattle.wl_frames.specs.declared.frame.Post.{Post}
-use Rattle.wl_frames.specs.declared.frame.Downward.{Downward}
-use Rattle.wl_frames.specs.declared.frame.Downward.TheVariants as down
-use Rattle.wl_frames.specs.declared.frame.Frame.{Frame}
-use Rattle.wl_frames.specs.declared.frame.Frame.TheVariants as frame
-use Rattle.wl_frames.specs.Grammar.{IsTab, IsPost, IsDownward, IsWellFormed}
+use Rattle.wl_grammar.specs.declared.frame.Post.{Post}
+use Rattle.wl_grammar.specs.declared.frame.Downward.{Downward}
+use Rattle.wl_grammar.specs.declared.frame.Downward.TheVariants as down
+use Rattle.wl_grammar.specs.declared.frame.Frame.{Frame}
+use Rattle.wl_grammar.specs.declared.frame.Frame.TheVariants as frame
+use Rattle.wl_grammar.specs.Grammar.{IsTab, IsPost, IsDownward, IsWellFormed}
 use Rattle.wl_kernel.specs.Routes.{heard_of, frame_of, routed_down}
 
 -- a post of a tab is heard as it was sent

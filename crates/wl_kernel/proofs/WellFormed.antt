@@ -3,7 +3,7 @@ use Rattle.std.proofs.Common.{◌≡◌, ℕ, ◌+◌, ◌≤◌, Bool, true, fa
 use Rattle.std.proofs.lemmas.Bool.Decides.{nat_tests}
 use Rattle.std.proofs.lemmas.List.{length-map}
 use Rattle.std.specs.List.{AllByRecursion}
-use Rattle.wl_frames.specs.Grammar.{IsPlace, TabsRiseFrom}
+use Rattle.wl_grammar.specs.Grammar.{IsPlace, TabsRiseFrom}
 use Rattle.wl_kernel.specs.declared.fault.StartFault.TheVariants.{TooManyListed, NotRising}
 use Rattle.wl_kernel.specs.Kernel.{KernelState, OpenedTab, tab_in, tab_of, is_opened, number_or, number_beside, partition_number, stranger, missing, absence, start_refusal, placed, rises_from, rises, list_limit}
 use Rattle.wl_kernel.specs.Kept.{AreTabs, Below, IsList}

@@ -4,7 +4,7 @@ ghost use Rattle.std.specs.Prelude.{◌≡◌, ◌≢◌, ◌==◌, [], IfOk, On
 ghost use Rattle.wl_kernel.specs.Routes.{generation_of, frame_of, heard_of};
 
 use std::alloc::{AllocError, Global};
-use wl_frames::{Downward, Frame, Heard, Post, Sequence};
+use wl_grammar::{Downward, Frame, Heard, Post, Sequence};
 
 /// Where a tab's frame goes.
 #[derive(Drop)]

@@ -2,7 +2,7 @@
 
 ghost use Rattle.std.specs.Prelude.{◌≡◌, ◌≢◌, ◌<◌, ◌≤◌, length, None, Some, Err, IfOk, OnOk, IfErr, OnErr, IsTrue, false};
 ghost use Rattle.std.specs.Borrow.{sem};
-ghost use Rattle.wl_frames.specs.Grammar.{IsTab, IsWellFormed};
+ghost use Rattle.wl_grammar.specs.Grammar.{IsTab, IsWellFormed};
 ghost use Rattle.wl_kernel.specs.Kernel.{no_tabs, start_refusal, start_frame, may_stop, stopped};
 ghost use Rattle.wl_kernel.specs.Routes.{route_down_refusal, routed_down};
 ghost use Rattle.wl_kernel.specs.Lending.{LendsDownTabs, LendsUpTabs};
@@ -11,7 +11,7 @@ use crate::fault::{GenerationsUsedUp, RouteFault, StartFault};
 use crate::tabs::Tabs;
 use std::alloc::Global;
 use std::marker::Model;
-use wl_frames::{Frame, Start};
+use wl_grammar::{Frame, Start};
 
 /// No broker runs. It is spent by `start`, or by `end`.
 pub struct Down {

@@ -1,8 +1,8 @@
 //! The tab table, which belongs to the supervisor.
 
 ghost use Rattle.std.specs.Prelude.{◌≡◌, ◌≢◌, ◌<◌, ◌≤◌, [], length, None, Some, Err, IfOk, OnOk, IfErr, OnErr, IfSome, IsTrue, true, false, option_map, if◌then◌else◌};
-ghost use Rattle.wl_frames.specs.Grammar.{IsTab, IsUpward, IsPost, IsWellFormed};
-ghost use Rattle.wl_frames.specs.declared.frame.Frame.TheVariants as frame;
+ghost use Rattle.wl_grammar.specs.Grammar.{IsTab, IsUpward, IsPost, IsWellFormed};
+ghost use Rattle.wl_grammar.specs.declared.frame.Frame.TheVariants as frame;
 ghost use Rattle.wl_kernel.specs.declared.routes.Routed.TheVariants.{Broker};
 ghost use Rattle.wl_kernel.specs.Kernel.{OpenedTab, no_tabs, tab_of, is_opened, is_living, living_tabs, living_of, partition_number, number_for, open_refusal, opened, kill_refusal, killed, start_refusal, placed, stranger, missing, is_from_before, rises, may_stop, stopped};
 ghost use Rattle.wl_kernel.specs.Routes.{tab_refusal, stamped, hearers, route_up_refusal, routed_up, TakesMemory, IsWellRouted, route_down_refusal, routed_down};
@@ -16,17 +16,10 @@ use crate::rows::{Found, TabRow};
 use std::alloc::{AllocError, Global};
 use std::collections::BTreeMap;
 use std::marker::Model;
-use wl_frames::{Frame, Post, Sequence, Stamped, Upward};
+use wl_grammar::{Frame, Post, Sequence, Stamped, Upward};
+use wl_limits::frames::LIST_LIMIT;
+use wl_limits::tabs::{LIVING_LIMIT, PARTITION_LIMIT};
 use wl_origin::Partition;
-
-/// The most tabs that live at once.
-pub const LIVING_LIMIT: usize = 1_024;
-
-/// The most tabs of one partition that live at once.
-pub const PARTITION_LIMIT: usize = 64;
-
-/// The most tabs that a broker is started with.
-pub const LIST_LIMIT: usize = 1_024;
 
 /// The tabs that were ever opened, and the generation of the broker that runs or is the next to run. It stands in `Down`
 /// or `Up`, which lend it.

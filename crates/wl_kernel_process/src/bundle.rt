@@ -8,7 +8,7 @@ use std::os::unix::net::UnixStream;
 use std::rt::Clock;
 use std::sync::Wait;
 use wl_board::Life;
-use wl_process::BUNDLE_LEN;
+use wl_frames::device::BUNDLE_LEN;
 use wl_workers::Lives;
 
 #[derive(Drop)]

@@ -17,18 +17,15 @@ use std::sync::{Arc, Condvar, Mutex, Wait};
 use wl_board::{Birth, Board};
 use wl_frames::{Dead, Frame, Hello, Origin, PairWelcome, Upward, Welcome, encode};
 use wl_kernel::{OpenFault, Routed};
+use wl_limits::brokers::LAST_GENERATION;
+use wl_limits::tabs::LAST_TAB;
 use wl_origin::Partition;
 use wl_process::{Host, ProcessFault, append};
 use wl_process_rules::Ends;
 use wl_workers::BoardSeat;
 
-/// How many tabs the board has, and how many seats.
-const TABS: u16 = 65_535;
-
+/// How many seats the board has.
 const SEATS: u16 = 16;
-
-/// The last generation of the broker.
-const LAST_GENERATION: u32 = 65_535;
 
 /// The current broker's link, for writing.
 #[derive(Drop)]
@@ -107,7 +104,7 @@ pub(crate) struct Hub {
 
 impl Hub {
     pub(crate) fn new(alloc: Global) -> Result<Hub, AllocError> {
-        let Ok((board, places)) = Board::new(alloc, TABS, SEATS) else {
+        let Ok((board, places)) = Board::new(alloc, LAST_TAB, SEATS) else {
             return Err(AllocError);
         };
         let board = Arc::new(alloc, board)?;

@@ -2,7 +2,7 @@
 use Rattle.std.proofs.Common.{◌≡◌, ◌≤◌, ◌<◌, ◌+◌, ℕ, suc, Bool, true, false, cond, List, [], ◌∷◌, ◌++◌, filter, drop, length, sym, ap, ◌∙◌, append_assoc, arith}
 use Rattle.std.specs.Prelude.{slice_index_or}
 use Rattle.std.proofs.Math.Seq.{drop-cons}
-use Rattle.wl_frames.specs.Grammar.{TabsRiseFrom}
+use Rattle.wl_grammar.specs.Grammar.{TabsRiseFrom}
 
 rises-from : (a b : ℕ) (ps : List (ℕ × ℕ)) → a ≤ b → TabsRiseFrom b ps → TabsRiseFrom a ps
 rises-from a b [] le h = tt

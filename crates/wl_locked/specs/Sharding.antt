@@ -2,7 +2,7 @@
 use Rattle.std.specs.Prelude.{◌≡◌, ◌<◌, ◌+◌, ◌==◌, ℕ, zero, suc, List, [], ◌∷◌, ◌++◌, length, map, slice_index_or, if◌then◌else◌, ◌≤◌, Option, None, Some, vec_capacity}
 use Rattle.wl_broker.specs.Broker.{BrokerState, started, hellos}
 use Rattle.wl_broker.specs.Shards.{shard_of, is_of, listed_of}
-use Rattle.wl_frames.specs.declared.frame.Addressed.{Addressed}
+use Rattle.wl_grammar.specs.declared.frame.Addressed.{Addressed}
 use Rattle.wl_locked.specs.declared.event.BookEvent.{BookEvent}
 use Rattle.wl_locked.specs.declared.event.BookEvent.TheVariants.{Take, Dead}
 use Rattle.wl_locked.specs.declared.work.Work.{Work}

@@ -1,7 +1,7 @@
 //! What the broker answers to an event, thrice: for the history, for the receipt that is handed out, and for the lane's own.
 
 ghost use Rattle.std.specs.Prelude.{◌≡◌, ◌≢◌, List, length, replicate, Err, IfOk, OnOk, OnErr};
-ghost use Rattle.wl_frames.specs.declared.frame.Addressed.{Addressed};
+ghost use Rattle.wl_grammar.specs.declared.frame.Addressed.{Addressed};
 ghost use Rattle.wl_locked.specs.Stepping.{stepped};
 
 use crate::event::{BookEvent, Reply};

@@ -2,7 +2,7 @@
 
 ghost use Rattle.std.specs.Prelude.{◌≡◌, ◌≢◌, ◌<◌, ◌≤◌, ◌++◌, [], ℕ, List, length, replicate, slice_index_or, IfErr, IfOk, OnOk, OnErr};
 ghost use Rattle.wl_locked.specs.declared.receipt.Step.{Step};
-ghost use Rattle.wl_frames.specs.Grammar.{TabsRiseFrom};
+ghost use Rattle.wl_grammar.specs.Grammar.{TabsRiseFrom};
 ghost use Rattle.wl_broker.specs.Broker.{hellos};
 ghost use Rattle.wl_broker.specs.Shards.{is_of, listed_of};
 ghost use Rattle.wl_locked.specs.Blanks.{HaveParts, AreNamed};
@@ -21,7 +21,7 @@ use std::alloc::{AllocError, Global};
 use std::sync::Wait;
 use std::sync::ledger::{Blank, Share};
 use wl_broker::Dropped;
-use wl_frames::Addressed;
+use wl_grammar::Addressed;
 
 /// A locked broker for each shard that there may be. Where there are fewer, the others have nothing to do.
 #[derive(Drop)]

@@ -4,7 +4,7 @@ ghost use Rattle.std.specs.Prelude.{◌≡◌, IfOk};
 
 use std::alloc::{AllocError, Global};
 use wl_broker::{Dropped, Outs};
-use wl_frames::Stamped;
+use wl_grammar::Stamped;
 
 /// What the broker is told.
 #[derive(Drop, PartialEq, Eq)]

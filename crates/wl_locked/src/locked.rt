@@ -1,7 +1,7 @@
 //! The broker behind its lock.
 
 ghost use Rattle.std.specs.Prelude.{◌≡◌, ◌≢◌, ◌<◌, ◌≤◌, ◌∷◌, ◌++◌, [], ℕ, List, length, map, replicate, IfOk, OnErr};
-ghost use Rattle.wl_frames.specs.Grammar.{TabsRiseFrom};
+ghost use Rattle.wl_grammar.specs.Grammar.{TabsRiseFrom};
 ghost use Rattle.wl_broker.specs.Broker.{started, hellos};
 ghost use Rattle.wl_locked.specs.declared.receipt.Step.{Step};
 ghost use Rattle.wl_locked.specs.History.{IsReplay, IsAnswer};

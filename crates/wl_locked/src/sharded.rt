@@ -1,7 +1,7 @@
 //! A broker in shards: partitions of different shards do not wait for each other.
 
 ghost use Rattle.std.specs.Prelude.{◌≡◌, ◌≢◌, ◌<◌, ◌≤◌, [], ℕ, List, length, replicate, slice_index_or, IfOk, IfErr, OnErr};
-ghost use Rattle.wl_frames.specs.Grammar.{TabsRiseFrom};
+ghost use Rattle.wl_grammar.specs.Grammar.{TabsRiseFrom};
 ghost use Rattle.wl_locked.specs.Blanks.{HaveParts, AreNamed};
 ghost use Rattle.wl_locked.specs.History.{IsAnswer};
 ghost use Rattle.wl_locked.specs.Sharding.{IsDealt, IsShardFault, IsShardHistory, hellos_below, opening_of, receipts_of, KeepsIn};

@@ -6,29 +6,30 @@ use Rattle.url.specs.declared.error.ParseError.TheVariants.{Overflow, OutOfMemor
 use Rattle.url.specs.Parts.{Parts}
 use Rattle.url.specs.Parser.{IsOutOfRoom, parse_url}
 use Rattle.url.specs.Origin.{Triple, origin_of}
+use Rattle.wl_limits.specs.declared.texts.TheConstants.{URL_LIMIT}
 use Rattle.wl_origin.specs.declared.fault.OriginFault.{OriginFault}
 use Rattle.wl_origin.specs.declared.fault.OriginFault.TheVariants.{BadUrl, Memory}
 use Rattle.wl_origin.specs.Fault.{fault_of}
 use Rattle.wl_origin.specs.Order.{paired}
-use Rattle.wl_origin.specs.Partition.{url_limit, origin_of_text, triple_of_origin, triple_of_parsed, paired_origins, partition_of, partition_of_pair}
+use Rattle.wl_origin.specs.Partition.{origin_of_text, triple_of_origin, triple_of_parsed, paired_origins, partition_of, partition_of_pair}
 
 abbrev bad_url : Result Triple OriginFault
 bad_url = Err BadUrl
 
 -- a text that is too long has none
-pub origin_of_text-long : (text : List ℕ) → url_limit < length text → origin_of_text text ≡ Err BadUrl
+pub origin_of_text-long : (text : List ℕ) → URL_LIMIT < length text → origin_of_text text ≡ Err BadUrl
 unfolding origin_of_text
-origin_of_text-long text long = rw (lt-ltb url_limit (length text) long)
+origin_of_text-long text long = rw (lt-ltb URL_LIMIT (length text) long)
 
 -- any other text is parsed
-pub origin_of_text-short : (text : List ℕ) → length text ≤ url_limit
+pub origin_of_text-short : (text : List ℕ) → length text ≤ URL_LIMIT
     → origin_of_text text ≡ triple_of_parsed (parse_url None text)
 unfolding origin_of_text
-origin_of_text-short text short = rw (le-ltb url_limit (length text) short)
+origin_of_text-short text short = rw (le-ltb URL_LIMIT (length text) short)
 
 -- a text that has one is not too long
-pub origin_of_text-fits : (text : List ℕ) (own : Triple) → origin_of_text text ≡ Ok own → length text ≤ url_limit
-origin_of_text-fits text own is = elim (cases_lt url_limit (length text)) [
+pub origin_of_text-fits : (text : List ℕ) (own : Triple) → origin_of_text text ≡ Ok own → length text ≤ URL_LIMIT
+origin_of_text-fits text own is = elim (cases_lt URL_LIMIT (length text)) [
   | inl long ↦
       let both : bad_url ≡ Ok own = sym (origin_of_text-long text long) ∙ is in
       absurd cc
@@ -36,7 +37,7 @@ origin_of_text-fits text own is = elim (cases_lt url_limit (length text)) [
 ]
 
 -- what it is parsed to decides
-pub origin_of_text-parsed : (text : List ℕ) (url : Parts) → length text ≤ url_limit → parse_url None text ≡ Ok url
+pub origin_of_text-parsed : (text : List ℕ) (url : Parts) → length text ≤ URL_LIMIT → parse_url None text ≡ Ok url
     → origin_of_text text ≡ triple_of_origin (origin_of url)
 origin_of_text-parsed text url short parsed =
     origin_of_text-short text short ∙ ap triple_of_parsed parsed
@@ -52,7 +53,7 @@ fault_of-out_of_room cause (inl e) = ap fault_of e
 fault_of-out_of_room cause (inr e) = ap fault_of e
 
 -- where the parser refuses, the text has no origin for that cause, or there was no room
-pub refused_parse : (text : List ℕ) (cause : ParseError) → length text ≤ url_limit
+pub refused_parse : (text : List ℕ) (cause : ParseError) → length text ≤ URL_LIMIT
     → (parse_url None text ≡ Err cause) ⊎ IsOutOfRoom cause
     → (fault_of cause ≡ Memory) ⊎ (origin_of_text text ≡ Err (fault_of cause))
 refused_parse text cause short (inl refused) = elim (bad_or_memory cause) [

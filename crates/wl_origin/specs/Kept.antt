@@ -2,7 +2,8 @@
 use Rattle.std.specs.Prelude.{◌≡◌, ◌≤◌, length, string_bytes}
 use Rattle.url.specs.Host.{owned_host}
 use Rattle.url.specs.Origin.{Triple}
-use Rattle.wl_origin.specs.Partition.{origin_limit, origin_text}
+use Rattle.wl_limits.specs.declared.texts.TheConstants.{ORIGIN_LIMIT}
+use Rattle.wl_origin.specs.Partition.{origin_text}
 use Rattle.wl_origin.specs.declared.triple.TupleOrigin.TheInside.{Inside}
 
 abbrev pub triple_of : Inside → Triple
@@ -11,4 +12,4 @@ triple_of p = (string_bytes p.scheme, owned_host p.host, p.port)
 -- the text is that of the triple, and not too long
 pub record KeepsText (p : Inside) : Type 0 where
   pub text : string_bytes p.text ≡ origin_text (triple_of p)
-  pub within : length (string_bytes p.text) ≤ origin_limit
+  pub within : length (string_bytes p.text) ≤ ORIGIN_LIMIT

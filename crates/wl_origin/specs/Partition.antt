@@ -4,16 +4,10 @@ use Rattle.std.specs.Prelude.{ℕ, List, Option, Some, None, Result, Ok, Err, na
 use Rattle.url.specs.Parts.{Parts}
 use Rattle.url.specs.Parser.{Parsed, parse_url}
 use Rattle.url.specs.Origin.{Triple, origin_of, ascii_serialization}
+use Rattle.wl_limits.specs.declared.texts.TheConstants.{ORIGIN_LIMIT, URL_LIMIT}
 use Rattle.wl_origin.specs.declared.fault.OriginFault.{OriginFault}
 use Rattle.wl_origin.specs.declared.fault.OriginFault.TheVariants.{BadUrl, Security}
 use Rattle.wl_origin.specs.Order.{Pair}
-
--- how many bytes the text of a URL may have, and that of an origin
-abbrev pub url_limit : ℕ
-url_limit = 2048
-
-abbrev pub origin_limit : ℕ
-origin_limit = 4096
 
 -- ---- origins
 
@@ -22,7 +16,7 @@ abbrev pub origin_text : Triple → List ℕ
 origin_text t = ascii_serialization (Some t)
 
 abbrev pub checked : Triple → Result Triple OriginFault
-checked t = if nat_lt origin_limit (length (origin_text t)) then Err BadUrl else Ok t
+checked t = if nat_lt ORIGIN_LIMIT (length (origin_text t)) then Err BadUrl else Ok t
 
 -- an opaque origin is refused
 abbrev pub triple_of_origin : Option Triple → Result Triple OriginFault
@@ -35,7 +29,7 @@ triple_of_parsed (Err e) = Err BadUrl
 
 -- the origin of a text, or why it has none
 unfoldable pub origin_of_text : List ℕ → Result Triple OriginFault
-origin_of_text text = if nat_lt url_limit (length text) then Err BadUrl else triple_of_parsed (parse_url None text)
+origin_of_text text = if nat_lt URL_LIMIT (length text) then Err BadUrl else triple_of_parsed (parse_url None text)
 
 -- ---- partitions
 

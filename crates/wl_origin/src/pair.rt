@@ -3,9 +3,10 @@ ghost use Rattle.std.specs.Ordering.{as_partial_cmp};
 ghost use Rattle.std.specs.Cmp.{partial_order_from_own_ties};
 ghost use Rattle.std.specs.Cmp.Rules.{comparing};
 ghost use Rattle.std.proofs.Common.{rules};
-ghost use Rattle.wl_origin.specs.Partition.{origin_limit, origin_text};
+ghost use Rattle.wl_origin.specs.Partition.{origin_text};
 ghost use Rattle.wl_origin.specs.Order.{pair_eq, pair_cmp};
 ghost use Rattle.wl_origin.specs.Ties.{pairs_tied};
+ghost use Rattle.wl_limits.specs.declared.texts.TheConstants.{ORIGIN_LIMIT};
 
 use crate::triple::TupleOrigin;
 use std::alloc::{AllocError, Global};
@@ -37,7 +38,7 @@ impl Partition {
     /// The own origin in ASCII, without a default port.
     pub fn text(&self) -> &str
         ensures value { result.now ≡ origin_text self.now.1 }
-        ensures within { length result.now ≤ origin_limit }
+        ensures within { length result.now ≤ ORIGIN_LIMIT }
     {
         self.own.text()
     }
@@ -45,7 +46,7 @@ impl Partition {
     /// The top-level origin in ASCII, without a default port.
     pub fn top_text(&self) -> &str
         ensures value { result.now ≡ origin_text self.now.0 }
-        ensures within { length result.now ≤ origin_limit }
+        ensures within { length result.now ≤ ORIGIN_LIMIT }
     {
         self.top.text()
     }

@@ -1,14 +1,13 @@
 ghost use Rattle.std.specs.Prelude.{◌≡◌, ◌⊎◌, ◌≤◌, length, IfOk, IfErr, Ok, Err};
-ghost use Rattle.wl_origin.specs.Partition.{url_limit, origin_of_text, partition_of, partition_of_pair};
+ghost use Rattle.wl_origin.specs.Partition.{origin_of_text, partition_of, partition_of_pair};
+ghost use Rattle.wl_limits.specs.declared.texts.TheConstants.{URL_LIMIT};
 
 use crate::fault::OriginFault;
 use crate::pair::Partition;
 use crate::triple::TupleOrigin;
 use std::alloc::Global;
 use url::Url;
-
-/// How many bytes the text of a URL may have.
-const URL_LIMIT: usize = 2048;
+use wl_limits::texts::URL_LIMIT;
 
 /// The partition of a page at the top: its URL's origin is the top-level one too. A refusal of memory is answered at once,
 /// also where a later step would refuse the URL.
@@ -16,7 +15,7 @@ pub fn partition(alloc: Global, url: &str) -> Result<Partition, OriginFault>
     ensures ok { IfOk result (λ p. partition_of url.now ≡ Ok p) }
     ensures refused { IfErr result
         (λ e. (e ≡ OriginFault.Memory) ⊎ (partition_of url.now ≡ Err e)) }
-    ensures memory { IfErr result (λ e. e ≡ OriginFault.Memory → length url.now ≤ url_limit) }
+    ensures memory { IfErr result (λ e. e ≡ OriginFault.Memory → length url.now ≤ URL_LIMIT) }
 {
     let own = origin_of(alloc, url)?;
     let top = own.copy(alloc)?;
@@ -29,7 +28,7 @@ pub fn partition_pair(alloc: Global, top: &str, own: &str) -> Result<Partition, 
     ensures ok { IfOk result (λ p. partition_of_pair top.now own.now ≡ Ok p) }
     ensures refused { IfErr result
         (λ e. (e ≡ OriginFault.Memory) ⊎ (partition_of_pair top.now own.now ≡ Err e)) }
-    ensures memory { IfErr result (λ e. e ≡ OriginFault.Memory → length top.now ≤ url_limit) }
+    ensures memory { IfErr result (λ e. e ≡ OriginFault.Memory → length top.now ≤ URL_LIMIT) }
 {
     let top_origin = origin_of(alloc, top)?;
     let own_origin = origin_of(alloc, own)?;
@@ -41,7 +40,7 @@ fn origin_of(alloc: Global, url: &str) -> Result<TupleOrigin, OriginFault>
     ensures ok { IfOk result (λ o. origin_of_text url.now ≡ Ok o) }
     ensures refused { IfErr result
         (λ e. (e ≡ OriginFault.Memory) ⊎ (origin_of_text url.now ≡ Err e)) }
-    ensures memory { IfErr result (λ e. e ≡ OriginFault.Memory → length url.now ≤ url_limit) }
+    ensures memory { IfErr result (λ e. e ≡ OriginFault.Memory → length url.now ≤ URL_LIMIT) }
 {
     if url.len() > URL_LIMIT {
         return Err(OriginFault::BadUrl);

@@ -5,17 +5,16 @@ ghost use Rattle.std.specs.Cmp.Rules.{comparing};
 ghost use Rattle.std.proofs.Common.{rules};
 ghost use Rattle.url.specs.Host.{owned_host};
 ghost use Rattle.url.specs.Origin.{origin_tuple};
-ghost use Rattle.wl_origin.specs.Partition.{origin_limit, origin_text, triple_of_origin};
+ghost use Rattle.wl_origin.specs.Partition.{origin_text, triple_of_origin};
 ghost use Rattle.wl_origin.specs.Order.{triple_eq, triple_cmp};
+ghost use Rattle.wl_limits.specs.declared.texts.TheConstants.{ORIGIN_LIMIT};
 
 use crate::fault::OriginFault;
 use std::alloc::{AllocError, Global};
 use std::cmp::Ordering;
 use std::marker::Model;
 use url::{Host, Origin};
-
-/// How many bytes the text of an origin may have.
-const ORIGIN_LIMIT: usize = 4096;
+use wl_limits::texts::ORIGIN_LIMIT;
 
 /// Scheme, host and port: what URLs of one origin have in common. Its ASCII text is kept beside them.
 #[derive(Debug, Drop)]
@@ -60,7 +59,7 @@ impl TupleOrigin {
     /// The origin in ASCII, without a default port.
     pub fn text(&self) -> &str
         ensures value { result.now ≡ origin_text self.now }
-        ensures within { length result.now ≤ origin_limit }
+        ensures within { length result.now ≤ ORIGIN_LIMIT }
     {
         self.text.as_str()
     }

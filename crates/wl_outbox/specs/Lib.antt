@@ -1,4 +1,4 @@
-pub use Rattle.wl_frames.specs.Grammar
+pub use Rattle.wl_grammar.specs.Grammar
 pub mod Merge
 pub mod MergeLaws
 pub mod Parcels

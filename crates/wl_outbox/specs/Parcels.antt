@@ -1,6 +1,6 @@
 -- A parcel as contracts see it.
 use Rattle.std.specs.Prelude.{ℕ}
-use Rattle.wl_frames.specs.declared.frame.Frame.{Frame}
+use Rattle.wl_grammar.specs.declared.frame.Frame.{Frame}
 
 -- a frame for a tab, which comes from the tab's partition
 pub record Packed : Type 0 where

@@ -14,4 +14,4 @@ pub use outbox::Outbox;
 pub use parcel::Parcel;
 pub use pass::Pass;
 pub use rule::{Role, View};
-pub use wl_frames::Memory;
+pub use wl_grammar::Memory;

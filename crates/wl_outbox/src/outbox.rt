@@ -16,7 +16,7 @@ use crossbeam_queue::RuledArrayQueue;
 use std::alloc::Global;
 use std::marker::{Brand, Model};
 use std::sync::Wait;
-use wl_frames::Memory;
+use wl_grammar::Memory;
 
 /// How many parcels an outbox has room for.
 pub const CAPACITY: usize = 256;

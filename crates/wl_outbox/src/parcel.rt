@@ -5,7 +5,7 @@ ghost use Rattle.wl_outbox.specs.Parcels.{packed};
 
 use crate::fault::CrossPartition;
 use std::marker::Model;
-use wl_frames::Frame;
+use wl_grammar::Frame;
 
 /// A frame on its way to a tab, from within the tab's partition.
 #[derive(Drop)]

@@ -40,10 +40,10 @@ pub enum ProcessFault {
 }
 
 /// The status of a process that refused what it was given.
-const REFUSED: u8 = 1;
+pub const REFUSED: u8 = 1;
 
 /// The status of a process that a device or memory failed.
-const DEVICE_OR_MEMORY: u8 = 3;
+pub const DEVICE_OR_MEMORY: u8 = 3;
 
 impl ProcessFault {
     /// The status with which a process ends for it: 1 for what was refused, 3 for a device or memory.

@@ -3,11 +3,8 @@
 use crate::fault::ProcessFault;
 use std::alloc::Global;
 use std::os::unix::net::UnixStream;
-use wl_frames::device::Source;
+use wl_frames::device::{PIECE_LEN, Source};
 use wl_frames::{Feed, Frame};
-
-/// How many bytes are read at once, at most.
-const PIECE_LEN: usize = 4096;
 
 /// The reading end of a link.
 #[derive(Drop)]

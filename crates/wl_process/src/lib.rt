@@ -11,4 +11,4 @@ pub use fault::ProcessFault;
 pub use host::Host;
 pub use incoming::Incoming;
 pub use script::{line_number, read_script};
-pub use sending::{BUNDLE_LEN, append};
+pub use sending::append;

@@ -2,9 +2,7 @@
 
 use crate::fault::ProcessFault;
 use crate::host::Host;
-
-/// How many bytes a line may have.
-const LINE_LIMIT: usize = 65_536;
+use wl_limits::scripts::LINE_LIMIT;
 
 /// The text of a script.
 pub fn read_script<R: Host>(rt: &R, path: &str) -> Result<Vec<u8>, ProcessFault> {

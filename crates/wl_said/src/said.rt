@@ -3,7 +3,7 @@
 use bytes::Bytes;
 use wl_agent::Snapshot;
 use wl_broadcast::Letter;
-use wl_frames::Sequence;
+use wl_grammar::Sequence;
 use wl_origin::Partition;
 
 /// What an event did, the messages apart.

@@ -6,9 +6,9 @@ use Rattle.std.proofs.lemmas.List.Elements.{All-get_or}
 use Rattle.std.proofs.Math.ListN.{get_or-eq_default}
 use Rattle.wl_frames.specs.declared.fault.FrameFault.{FrameFault}
 use Rattle.wl_frames.specs.declared.fault.FrameFault.TheVariants as faults
-use Rattle.wl_frames.specs.declared.frame.Frame.{Frame}
+use Rattle.wl_grammar.specs.declared.frame.Frame.{Frame}
 use Rattle.wl_frames.specs.declared.reading.kind.Kind.{Kind}
-use Rattle.wl_frames.specs.Grammar.{body, IsBody}
+use Rattle.wl_grammar.specs.Grammar.{body, IsBody}
 use Rattle.wl_frames.specs.Stream.{HasFault, IsFaultOf}
 use Rattle.wl_frames.specs.Reading.{◌>>=◌, kind_at}
 use Rattle.wl_frames.specs.Bodies.{inner_kind_at, frame_at, all_of}

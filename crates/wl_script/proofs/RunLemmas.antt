@@ -4,7 +4,7 @@ use Rattle.std.specs.Prelude.{◌==◌}
 use Rattle.std.proofs.lemmas.Bool.Decides.{nat_tests}
 use Rattle.std.proofs.lemmas.List.{take_more, drop_more}
 use Rattle.wl_world.specs.World.{WorldState}
-use Rattle.wl_frames.proofs.DeviceLemmas.{IsFrontOf-append, append-IsFrontOf}
+use Rattle.wl_encoding.proofs.Fronts.{IsFrontOf-append, append-IsFrontOf}
 use Rattle.wl_script.specs.declared.line.Line.{Line}
 use Rattle.wl_script.specs.declared.sim.SimFault.{SimFault}
 use Rattle.wl_script.specs.declared.sim.SimFault.TheVariants as sim

@@ -1,4 +1,4 @@
-pub use Rattle.wl_frames.specs.Grammar
+pub use Rattle.wl_grammar.specs.Grammar
 pub mod Forgeries
 pub mod Lines
 pub mod Texts

@@ -6,7 +6,7 @@ use Rattle.wl_world.specs.World.{WorldState, empty_world}
 use Rattle.wl_world.specs.Machine.{Machine}
 use Rattle.wl_frames.specs.declared.device.ReadFault.{ReadFault}
 use Rattle.wl_frames.specs.declared.device.ReadFault.TheVariants as read
-use Rattle.wl_frames.specs.Device.{IsFrontOf}
+use Rattle.wl_encoding.specs.Fronts.{IsFrontOf}
 use Rattle.wl_script.specs.declared.sim.SimFault.{SimFault}
 use Rattle.wl_script.specs.declared.sim.SimFault.TheVariants as sim
 use Rattle.wl_script.specs.Played.{Played}

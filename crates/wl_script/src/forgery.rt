@@ -10,11 +10,9 @@ use hex::FromHexError;
 use std::alloc::Global;
 use wl_frames::reading::decode;
 use wl_frames::{Frame, FrameFault, Upward};
+use wl_limits::frames::LEAST_BODY;
 use wl_words::Unread;
 use wl_world::event::Forged;
-
-/// The least length of a body: its version and its kind.
-const MIN_BODY_LEN: usize = 2;
 
 /// What is forged by a word.
 #[tactic(auto, unfolding(crate::specs::Forgeries::forged_at))]
@@ -51,7 +49,7 @@ fn has_lowercase(word: &[u8]) -> bool
 fn frame_of(alloc: Global, body: &[u8]) -> Result<Frame, Unread>
     ensures { Gives (λ frame. frame) result (body_at body.now) }
 {
-    if body.len() < MIN_BODY_LEN {
+    if body.len() < LEAST_BODY {
         return Err(Unread::Form);
     }
     match decode(alloc, body) {

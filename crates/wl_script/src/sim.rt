@@ -13,13 +13,10 @@ use std::alloc::{AllocError, AllocFailed, Global};
 use std::io::{Read, Write};
 use std::marker::Model;
 use thiserror::Error;
-use wl_frames::device::{READ_LIMIT, ReadFault, Sink, Source, WriteFault};
+use wl_frames::device::{PIECE_LEN, READ_LIMIT, ReadFault, Sink, Source, WriteFault};
+use wl_limits::scripts::LINE_LIMIT;
 use wl_words::Unread;
-use wl_words::reading::LINE_LIMIT;
 use wl_world::world::World;
-
-/// How many bytes are read at once, at most.
-const PIECE_LEN: usize = 4096;
 
 /// Why the sim ended before its script did.
 #[derive(Clone, Copy, Debug, PartialEq, Eq, Error)]

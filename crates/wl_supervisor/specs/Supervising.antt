@@ -1,8 +1,8 @@
 -- What is said of the supervisor: of deaths, starts and stops, and of what comes to the broker.
 use Rattle.std.specs.Prelude.{ℕ, List, not, option_map, Option, Some, None, if◌then◌else◌}
-use Rattle.wl_frames.specs.declared.frame.Stamped.{Stamped}
-use Rattle.wl_frames.specs.declared.frame.Upward.{Upward}
-use Rattle.wl_frames.specs.declared.frame.Upward.TheVariants as up
+use Rattle.wl_grammar.specs.declared.frame.Stamped.{Stamped}
+use Rattle.wl_grammar.specs.declared.frame.Upward.{Upward}
+use Rattle.wl_grammar.specs.declared.frame.Upward.TheVariants as up
 use Rattle.wl_broker.specs.declared.dropped.Dropped.{Dropped}
 use Rattle.wl_broker.specs.declared.dropped.Dropped.TheVariants as dropped
 use Rattle.wl_broker.specs.Broker.{BrokerState, seat_of, is_joined, Taking, Drops, Does, taking}

@@ -1,25 +1,23 @@
 //! The supervisor, with the broker that is up.
 
 ghost use Rattle.std.specs.Prelude.{◌≡◌, ◌≢◌, [], None, Some, IfOk, OnOk, IfErr, OnErr, is_some, if◌then◌else◌};
-ghost use Rattle.wl_frames.specs.Grammar.{TabsRiseFrom};
+ghost use Rattle.wl_grammar.specs.Grammar.{TabsRiseFrom};
 ghost use Rattle.wl_broker.specs.Broker.{started, hellos};
 ghost use Rattle.wl_kernel.specs.Kernel.{no_tabs, number_for, open_refusal, opened, is_living, killed};
 ghost use Rattle.wl_said.specs.declared.said.Said.TheVariants as said;
 ghost use Rattle.wl_supervisor.specs.declared.supervisor.Supervisor.TheVariants.{Down as down_state, Up as up_with};
 ghost use Rattle.wl_supervisor.specs.Supervising.{killing, stopping, starting, brought, telling, of_start, of_dropped, taken_said};
 ghost use Rattle.wl_supervisor.specs.Supervised.{kernel_of, broker_of, with_kernel, begun, greeted, halted, after_taking, outs_by_taking, after_burial, outs_by_burial};
-ghost use Rattle.wl_supervisor.specs.declared.supervisor.TheConstants.{LAST_GENERATION};
+ghost use Rattle.wl_limits.specs.declared.brokers.TheConstants.{LAST_GENERATION};
 
 use std::alloc::{AllocError, Global};
 use wl_broker::{Broker, Dropped, Outs};
-use wl_frames::{Frame, Sequence, Stamped, Start, Upward};
+use wl_grammar::{Frame, Sequence, Stamped, Start, Upward};
 use wl_kernel::{Down, GenerationsUsedUp, OpenFault, StartFault, Tabs, Up};
+use wl_limits::brokers::LAST_GENERATION;
 use wl_origin::Partition;
 use wl_said::{Reason, Refusal, Said};
 use wl_table::IndexedTable;
-
-/// The last generation that there may be.
-pub const LAST_GENERATION: u32 = 65_535;
 
 /// No broker runs, or one does. Its own drop spends the supervisor's state.
 pub enum Supervisor {

@@ -3,19 +3,19 @@ use Rattle.std.proofs.Common.{◌≡◌, ℕ, ◌+◌, ◌<◌, ◌≤◌, Bool,
 use Rattle.std.proofs.lemmas.Bool.{eq-eqb, eqb-true, lt-ltb}
 use Rattle.std.proofs.lemmas.List.{append-nil, append_assoc}
 use Rattle.std.specs.List.{AllByRecursion}
-use Rattle.wl_draft.specs.Tables.{Table, find}
-use Rattle.wl_frames.specs.declared.frame.Operation.{Operation}
-use Rattle.wl_frames.specs.declared.frame.Operation.TheVariants.{Request, Release, Abort, Query}
+use Rattle.wl_draft.specs.Tables.{Table, find, Rises, without_row}
+use Rattle.wl_draft.proofs.RisingTables.{Rises-from, find_below, without_none}
+use Rattle.wl_grammar.specs.declared.frame.Operation.{Operation}
+use Rattle.wl_grammar.specs.declared.frame.Operation.TheVariants.{Request, Release, Abort, Query}
 use Rattle.wl_agent.specs.declared.snapshot.Snapshot.{Snapshot}
 use Rattle.wl_agent.specs.declared.status.Status.{Status}
 use Rattle.wl_agent.specs.declared.status.Status.TheVariants.{Asked, Held, Querying, Whole, Lost}
 use Rattle.wl_agent.specs.declared.token.Token.TheVariants as token
 use Rattle.wl_agent.specs.Issued.{Issued}
 use Rattle.wl_agent.specs.Parts.{PartsState}
-use Rattle.wl_agent.specs.Tab.{TabState, status_of, operation_of, is_probe, without_row, ended, is_querying}
+use Rattle.wl_agent.specs.Tab.{TabState, status_of, operation_of, is_probe, ended, is_querying}
 use Rattle.wl_agent.specs.Tokens.{is_own, is_asking, told_query, told_by_status, after_query}
-use Rattle.wl_agent.specs.Kept.{Rises, RowsFit, Stands, can_become}
-use Rattle.wl_agent.proofs.Rows.{Rises-from, find_below, without_none}
+use Rattle.wl_agent.specs.Kept.{RowsFit, Stands, can_become}
 use Rattle.wl_tab.specs.declared.locks.kept.Kept.{Kept}
 use Rattle.wl_tab.specs.Tabs.{is_told, told}
 use Rattle.wl_tab.specs.TabTokens.{token_for, kept_as, kept_for}

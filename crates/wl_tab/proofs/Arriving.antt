@@ -1,14 +1,16 @@
 -- What a frame that comes to a tab makes of its rows: each goes on to what becomes of it.
 use Rattle.std.proofs.Common.{◌≡◌, ℕ, ◌+◌, ◌<◌, Bool, true, false, not, cond, eqb, ltb, List, [], ◌∷◌, filter, map, get_or, Option, Some, None, is_some, refl, sym, ap, ◌∙◌, subst, arith}
 use Rattle.std.proofs.lemmas.Bool.{ne_eqb, eqb-true, ltb-true}
-use Rattle.wl_draft.specs.Tables.{Table, find, put}
-use Rattle.wl_frames.specs.declared.frame.Operation.{Operation}
-use Rattle.wl_frames.specs.declared.frame.Operation.TheVariants.{Request, Release, Abort, Query}
-use Rattle.wl_frames.specs.declared.frame.Outcome.{Outcome}
-use Rattle.wl_frames.specs.declared.frame.Outcome.TheVariants as outcome
-use Rattle.wl_frames.specs.declared.frame.Answer.{Answer}
-use Rattle.wl_frames.specs.declared.frame.Snapshot.{Snapshot as Part}
-use Rattle.wl_frames.specs.declared.frame.Frame.{Frame}
+use Rattle.wl_draft.specs.Tables.{Table, find, put, Rises, without_row}
+use Rattle.wl_draft.proofs.Membership.{either}
+use Rattle.wl_draft.proofs.RisingTables.{find_below}
+use Rattle.wl_grammar.specs.declared.frame.Operation.{Operation}
+use Rattle.wl_grammar.specs.declared.frame.Operation.TheVariants.{Request, Release, Abort, Query}
+use Rattle.wl_grammar.specs.declared.frame.Outcome.{Outcome}
+use Rattle.wl_grammar.specs.declared.frame.Outcome.TheVariants as outcome
+use Rattle.wl_grammar.specs.declared.frame.Answer.{Answer}
+use Rattle.wl_grammar.specs.declared.frame.Snapshot.{Snapshot as Part}
+use Rattle.wl_grammar.specs.declared.frame.Frame.{Frame}
 use Rattle.wl_agent.specs.declared.delivered.Delivered.{Delivered}
 use Rattle.wl_agent.specs.declared.delivered.Delivered.TheVariants as told
 use Rattle.wl_agent.specs.declared.delivered.Unheard.TheVariants as unheard
@@ -16,11 +18,9 @@ use Rattle.wl_agent.specs.declared.snapshot.Snapshot.{Snapshot}
 use Rattle.wl_agent.specs.declared.status.Status.{Status}
 use Rattle.wl_agent.specs.declared.status.Status.TheVariants.{Asked, Held, Querying, Whole, Lost}
 use Rattle.wl_agent.specs.Parts.{PartsState, with_part, is_whole, snapshot_of}
-use Rattle.wl_agent.specs.Tab.{TabState, status_of, operation_of, is_issued, is_querying, is_probe, is_asked_probe, unless_asked, carried, without_row, ended, enter_first, enter_later}
+use Rattle.wl_agent.specs.Tab.{TabState, status_of, operation_of, is_issued, is_querying, is_probe, is_asked_probe, unless_asked, carried, ended, enter_first, enter_later}
 use Rattle.wl_agent.specs.Delivery.{delivery, noted, becomes, told_by_answer, told_command, told_lock, told_asked, told_end, told_query, told_asked_query, after_answer, after_part, part_refusal, parts_of, with_part_come}
-use Rattle.wl_agent.specs.Kept.{Rises}
-use Rattle.wl_agent.proofs.Rows.{find_below}
-use Rattle.wl_agent.proofs.Cases.{either, delivered_as, Fits, told_fits}
+use Rattle.wl_agent.proofs.Cases.{delivered_as, Fits, told_fits}
 use Rattle.wl_agent.proofs.Deliveries.{not-refused}
 use Rattle.wl_tab.specs.Tabs.{is_told}
 use Rattle.wl_tab.specs.TabTokens.{NoneTold}

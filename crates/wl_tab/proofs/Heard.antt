@@ -1,14 +1,16 @@
 -- What a delivery leaves with a tab whose tokens are kept, and what is said of it.
 use Rattle.std.proofs.Common.{◌≡◌, ℕ, ◌+◌, Bool, true, false, not, cond, eqb, ltb, List, [], ◌∷◌, map, get_or, Option, Some, None, is_some, refl, sym, ap, ◌∙◌, subst}
 use Rattle.std.specs.List.{cons_option}
-use Rattle.wl_draft.specs.Tables.{Table, find, put}
+use Rattle.wl_draft.specs.Tables.{Table, find, put, Rises}
 use Rattle.wl_draft.proofs.TableLemmas.{find-put_same}
-use Rattle.wl_frames.specs.declared.frame.Operation.{Operation}
-use Rattle.wl_frames.specs.declared.frame.Operation.TheVariants.{Query}
-use Rattle.wl_frames.specs.declared.frame.Answer.{Answer}
-use Rattle.wl_frames.specs.declared.frame.Snapshot.{Snapshot as Part}
-use Rattle.wl_frames.specs.declared.frame.Frame.{Frame}
-use Rattle.wl_frames.specs.declared.frame.Frame.TheVariants as frame
+use Rattle.wl_draft.proofs.Membership.{either}
+use Rattle.wl_draft.proofs.RisingTables.{Rises-filter}
+use Rattle.wl_grammar.specs.declared.frame.Operation.{Operation}
+use Rattle.wl_grammar.specs.declared.frame.Operation.TheVariants.{Query}
+use Rattle.wl_grammar.specs.declared.frame.Answer.{Answer}
+use Rattle.wl_grammar.specs.declared.frame.Snapshot.{Snapshot as Part}
+use Rattle.wl_grammar.specs.declared.frame.Frame.{Frame}
+use Rattle.wl_grammar.specs.declared.frame.Frame.TheVariants as frame
 use Rattle.wl_agent.specs.declared.delivered.Delivered.{Delivered}
 use Rattle.wl_agent.specs.declared.delivered.Delivered.TheVariants as told_as
 use Rattle.wl_agent.specs.declared.delivered.Unheard.{Unheard}
@@ -19,9 +21,8 @@ use Rattle.wl_agent.specs.declared.status.Status.TheVariants.{Asked, Held, Query
 use Rattle.wl_agent.specs.Parts.{with_part, is_whole, snapshot_of}
 use Rattle.wl_agent.specs.Tab.{report_frames, TabState, status_of, is_probe, is_asked_probe, is_querying, enter, enter_first, enter_later, ended}
 use Rattle.wl_agent.specs.Delivery.{delivery, noted, becomes, has_entered, of_other, told_by_answer, told_by_part, told_unless, after_answer, after_part, part_refusal, parts_of, with_part_come}
-use Rattle.wl_agent.specs.Kept.{Rises, RowsFit, Stands}
-use Rattle.wl_agent.proofs.Rows.{Rises-filter, AllRows-filter}
-use Rattle.wl_agent.proofs.Cases.{either}
+use Rattle.wl_agent.specs.Kept.{RowsFit, Stands}
+use Rattle.wl_agent.proofs.Rows.{AllRows-filter}
 use Rattle.wl_tab.specs.declared.locks.kept.Kept.{Kept}
 use Rattle.wl_said.specs.declared.said.Ended.{Ended}
 use Rattle.wl_said.specs.declared.said.Ended.TheVariants as end

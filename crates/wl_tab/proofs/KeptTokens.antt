@@ -6,18 +6,19 @@ use Rattle.std.proofs.lemmas.List.Quantifiers.{position-Some}
 use Rattle.std.proofs.Math.ListN.{get_or-append}
 use Rattle.std.proofs.Math.Seq.{get_or-append_seam}
 use Rattle.std.specs.List.{position, remove, list_any, filter_map, cons_option}
-use Rattle.wl_draft.specs.Tables.{Table, find, put}
-use Rattle.wl_frames.specs.declared.frame.Operation.{Operation}
-use Rattle.wl_frames.specs.declared.frame.Operation.TheVariants.{Request, Query}
+use Rattle.wl_draft.specs.Tables.{Table, find, put, Rises, without_row}
+use Rattle.wl_draft.proofs.RisingTables.{Rises-put, Rises-filter}
+use Rattle.wl_grammar.specs.declared.frame.Operation.{Operation}
+use Rattle.wl_grammar.specs.declared.frame.Operation.TheVariants.{Request, Query}
 use Rattle.wl_agent.specs.declared.status.Status.{Status}
 use Rattle.wl_agent.specs.declared.status.Status.TheVariants.{Asked, Held, Querying, Whole, Lost}
 use Rattle.wl_agent.specs.declared.token.Token.TheVariants as token
 use Rattle.wl_agent.specs.Issued.{Issued}
 use Rattle.wl_agent.specs.Parts.{no_parts}
 use Rattle.wl_draft.specs.declared.mode.Mode.{Mode}
-use Rattle.wl_agent.specs.Tab.{TabState, asked, queried, status_of, is_probe, without_row, issue, finish, operation_of, is_held, mode_of, name_of}
-use Rattle.wl_agent.specs.Kept.{Rises, RowsFit, Stands, can_become}
-use Rattle.wl_agent.proofs.Rows.{Rises-put, Rises-filter, AllRows-put, AllRows-filter, AllRows-weaker}
+use Rattle.wl_agent.specs.Tab.{TabState, asked, queried, status_of, is_probe, issue, finish, operation_of, is_held, mode_of, name_of}
+use Rattle.wl_agent.specs.Kept.{RowsFit, Stands, can_become}
+use Rattle.wl_agent.proofs.Rows.{AllRows-put, AllRows-filter, AllRows-weaker}
 use Rattle.wl_tab.specs.declared.locks.kept.Kept.{Kept}
 use Rattle.wl_tab.specs.Tabs.{is_told}
 use Rattle.wl_tab.specs.declared.holding.Holding.{Holding}

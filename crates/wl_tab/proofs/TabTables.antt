@@ -6,10 +6,10 @@ use Rattle.std.specs.Ordering.{nat_cmp}
 use Rattle.std.specs.BTreeMap.{is_at}
 use Rattle.std.specs.Map.{lookup, set_value, keys_of}
 use Rattle.std.specs.List.Sorted.{IsStrictlySortedBy}
-use Rattle.wl_draft.specs.Tables.{Table, find, put}
+use Rattle.wl_draft.specs.Tables.{Table, find, put, Rises}
 use Rattle.wl_draft.proofs.TableLemmas.{lookup-find}
-use Rattle.wl_agent.specs.Kept.{Rises}
-use Rattle.wl_agent.proofs.Rows.{written, written_same}
+use Rattle.wl_draft.proofs.RisingTables.{written_same}
+use Rattle.wl_agent.proofs.Rows.{written}
 
 -- keys that are sorted rise from row to row
 rises_from : {X : Type 0} (least : ℕ) (p : ℕ × X) (ps : Table X) → least ≤ p.0 → IsStrictlySortedBy nat_cmp (keys_of (p ∷ ps)) → Rises least (p ∷ ps)

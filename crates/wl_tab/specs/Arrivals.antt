@@ -1,9 +1,9 @@
 -- What is said of a frame that comes to a tab.
 use Rattle.std.specs.Prelude.{ℕ, List, [], ◌∷◌, ◌==◌, Option, Some, if◌then◌else◌}
 use Rattle.wl_draft.specs.Tables.{Table}
-use Rattle.wl_frames.specs.declared.frame.Frame.{Frame}
-use Rattle.wl_frames.specs.declared.frame.Frame.TheVariants as frame
-use Rattle.wl_frames.specs.declared.frame.Operation.{Operation}
+use Rattle.wl_grammar.specs.declared.frame.Frame.{Frame}
+use Rattle.wl_grammar.specs.declared.frame.Frame.TheVariants as frame
+use Rattle.wl_grammar.specs.declared.frame.Operation.{Operation}
 use Rattle.wl_agent.specs.declared.delivered.Delivered.{Delivered}
 use Rattle.wl_agent.specs.declared.delivered.Delivered.TheVariants as told
 use Rattle.wl_agent.specs.declared.delivered.Unheard.{Unheard}

@@ -1,10 +1,10 @@
 -- What is kept beside a tab's agent: the command and the token of each of its numbers that is not over.
 use Rattle.std.specs.Prelude.{◌≡◌, ◌==◌, ℕ, List, [], Bool, true, false, not, length, map, filter, get_or, is_some, Option, Some, None, if◌then◌else◌}
 use Rattle.std.specs.List.{AllByRecursion, filter_map}
-use Rattle.wl_draft.specs.Tables.{Table}
-use Rattle.wl_frames.specs.declared.frame.Frame.{Frame}
-use Rattle.wl_frames.specs.declared.frame.Operation.{Operation}
-use Rattle.wl_frames.specs.declared.frame.Operation.TheVariants.{Request, Query}
+use Rattle.wl_draft.specs.Tables.{Table, Rises}
+use Rattle.wl_grammar.specs.declared.frame.Frame.{Frame}
+use Rattle.wl_grammar.specs.declared.frame.Operation.{Operation}
+use Rattle.wl_grammar.specs.declared.frame.Operation.TheVariants.{Request, Query}
 use Rattle.wl_agent.specs.declared.delivered.Delivered.{Delivered}
 use Rattle.wl_agent.specs.declared.delivered.Delivered.TheVariants as told
 use Rattle.wl_agent.specs.declared.snapshot.Snapshot.{Snapshot}
@@ -14,7 +14,7 @@ use Rattle.wl_agent.specs.declared.token.Token.{Token}
 use Rattle.wl_agent.specs.declared.token.Token.TheVariants as token
 use Rattle.wl_agent.specs.Tab.{TabState, status_of, operation_of, is_asked, is_held, is_probe, mode_of, name_of}
 use Rattle.wl_agent.specs.Tokens.{is_own, is_pending, is_holding, held_lock, abort_refusal}
-use Rattle.wl_agent.specs.Kept.{Rises, RowsFit}
+use Rattle.wl_agent.specs.Kept.{RowsFit}
 use Rattle.wl_tab.specs.declared.holding.Holding.{Holding}
 use Rattle.wl_said.specs.declared.said.Ended.{Ended}
 use Rattle.wl_said.specs.declared.said.Ended.TheVariants as ended

@@ -4,7 +4,7 @@ use Rattle.wl_broadcast.specs.Channels.{ChannelState, no_channels}
 use Rattle.wl_agent.specs.declared.status.Status.{Status}
 use Rattle.wl_agent.specs.declared.status.Status.TheVariants as status
 use Rattle.wl_agent.specs.Tab.{TabState, newborn}
-use Rattle.wl_tab.specs.declared.locks.TheConstants.{COMMAND_LIMIT}
+use Rattle.wl_limits.specs.declared.tabs.TheConstants.{COMMAND_LIMIT}
 
 -- a tab or a channel table without a row is as it was born
 abbrev pub tab_in : ℕ → Option TabState → TabState

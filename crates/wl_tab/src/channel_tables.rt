@@ -12,7 +12,7 @@ use std::alloc::{AllocError, Global};
 use std::collections::BTreeMap;
 use wl_broadcast::{ChannelFault, Hearing, Letter, Posted};
 use wl_draft::Name;
-use wl_frames::Frame;
+use wl_grammar::Frame;
 
 /// A tab opens a channel object.
 pub fn open_at(

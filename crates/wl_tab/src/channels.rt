@@ -9,7 +9,7 @@ use std::alloc::{AllocError, Global};
 use std::marker::Model;
 use wl_broadcast::{Channel, ChannelFault, Channels, Foreign, Hearing, Letter, Posted};
 use wl_draft::Name;
-use wl_frames::Frame;
+use wl_grammar::Frame;
 
 /// A tab's channels. Callers name a channel by its number.
 pub struct TabChannels {

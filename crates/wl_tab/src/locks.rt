@@ -2,7 +2,7 @@
 
 ghost use Rattle.std.specs.Prelude.{◌≡◌, ◌≢◌, ◌++◌, Some, None, Err, IfOk, OnOk, IfErr};
 ghost use Rattle.wl_agent.specs.Tab.{newborn, newborn_two, report_frames, command_frame, message_refusal, report_refusal, due, is_report_due};
-ghost use Rattle.wl_tab.specs.declared.locks.TheConstants.{COMMAND_LIMIT};
+ghost use Rattle.wl_limits.specs.declared.tabs.TheConstants.{COMMAND_LIMIT};
 ghost use Rattle.wl_tab.specs.TabTokens.{holdings_of, holding_in};
 ghost use Rattle.std.specs.List.{filter_map};
 
@@ -17,10 +17,8 @@ use crate::locks::kept::Kept;
 use std::alloc::{AllocError, Global};
 use std::marker::Model;
 use wl_agent::{Agent, MessageFault, Resend};
-use wl_frames::{Frame, Sequence};
-
-/// How many commands a tab may issue in its life.
-pub const COMMAND_LIMIT: u32 = 1_000_000;
+use wl_grammar::{Frame, Sequence};
+use wl_limits::tabs::COMMAND_LIMIT;
 
 /// A tab's agent, with the token of each of its numbers that is not over. What a token can be told it is told at once.
 pub struct TabLocks {

@@ -14,7 +14,7 @@ use std::alloc::{AllocError, Global};
 use std::collections::BTreeMap;
 use wl_agent::AgentFault;
 use wl_draft::{Mode, Name};
-use wl_frames::Frame;
+use wl_grammar::Frame;
 use wl_said::Said;
 
 /// Puts a tab's first row.

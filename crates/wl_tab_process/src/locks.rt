@@ -8,9 +8,7 @@ use wl_agent::{
     Resend, Settled, Snapshot, Token,
 };
 use wl_frames::{Frame, Mode, Name};
-
-/// How many commands a tab may issue in its life.
-const COMMAND_LIMIT: u32 = 1_000_000;
+use wl_limits::tabs::COMMAND_LIMIT;
 
 /// A tab's agent, with the token of each of its numbers that is not over.
 pub(crate) struct Locks {

@@ -8,13 +8,10 @@ use std::net::Shutdown;
 use std::os::unix::net::UnixStream;
 use std::sync::Arc;
 use std::thread;
-use wl_frames::device::READ_LIMIT;
+use wl_frames::device::{PIECE_LEN, READ_LIMIT};
 use wl_process::{Host, Incoming, ProcessFault, line_number, read_script};
 use wl_process_script::{TabLine, count_of, put_count, read_tab_line};
 use wl_words::Unread;
-
-/// How many bytes are drained at once, at most.
-const PIECE_LEN: usize = 4096;
 
 /// Runs one tab's script over a socket of the kernel, to its end or the end of the link.
 pub fn run_tab<R: Host>(

@@ -1,7 +1,7 @@
 -- What an indexed table keeps true.
 use Rattle.std.specs.Prelude.{◌≡◌, []}
-use Rattle.wl_table.specs.Index.{IsIndexed}
-use Rattle.wl_table.specs.Nexts.{AreCandidates}
+use Rattle.wl_index.specs.Index.{IsIndexed}
+use Rattle.wl_index.specs.Nexts.{AreCandidates}
 use Rattle.wl_table.specs.declared.indexed_table.IndexedTable.TheInside.{Inside}
 
 pub record IsKept (t : Inside) : Type 0 where

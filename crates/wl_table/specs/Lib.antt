@@ -1,11 +1,4 @@
 pub use Rattle.wl_draft.specs.Tables
 pub use Rattle.wl_draft.specs.Locks
 pub mod PlainTables
-pub mod Orders
-pub mod Places
-pub mod Found
-pub mod Lines
-pub mod Clients
-pub mod Index
-pub mod Nexts
 pub mod Kept

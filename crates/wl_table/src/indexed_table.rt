@@ -1,14 +1,13 @@
 ghost use Rattle.std.specs.Prelude.{◌≡◌, [], ◌∷◌, true, IfOk, OnOk, OnErr};
 ghost use Rattle.wl_draft.specs.Locks.{is_grantable, row_of, grants, probed};
 
-use crate::candidates::Candidates;
-use crate::index::Index;
 use crate::lock_table::LockTable;
-use crate::restoring::rows_of;
 use std::alloc::{AllocError, Global};
 use std::marker::Model;
 use std::mem;
 use wl_draft::{Entry, Grant, Mode, Name, Row, Standing};
+use wl_index::restoring::rows_of;
+use wl_index::{Candidates, Index};
 
 /// A lock table with an index of its names and one of its clients: what a command costs does not grow with what others
 /// hold or wait for.
@@ -27,7 +26,7 @@ impl Model for IndexedTable {
 
     ghost Value = { Locks };
 
-    ghost use Rattle.wl_table.specs.Index.{locks_in};
+    ghost use Rattle.wl_index.specs.Index.{locks_in};
     ghost use Rattle.wl_table.specs.Kept.{IsKept};
 
     ghost view = { λ t. locks_in t.index.held.items t.index.waiting.items };

@@ -5,7 +5,8 @@ use Rattle.std.specs.List.{slice_split}
 use Rattle.std.specs.Borrow.{Bor}
 use Rattle.wl_draft.specs.declared.mode.Mode.{Mode}
 use Rattle.wl_draft.specs.declared.mode.Mode.TheVariants.{Shared, Exclusive}
-use Rattle.wl_words.specs.declared.reading.TheConstants.{LINE_LIMIT}
+use Rattle.wl_limits.specs.declared.scripts.TheConstants.{LINE_LIMIT}
+use Rattle.wl_limits.specs.declared.tabs.TheConstants.{LAST_TAB}
 use Rattle.wl_words.specs.Words.{unescaped}
 
 infixl 10 ◌>>=◌
@@ -88,11 +89,11 @@ most_command = 4294967295
 abbrev pub most_number : ℕ
 most_number = 18446744073709551615
 
--- a tab is 1 to 65,535
+-- a tab is 1 to the last one
 unfoldable pub tab_at : List ℕ → Option ℕ
 tab_at word = do
   n ← number_at most_number word
-  if nat_le 1 n && nat_le n 65535 then Some n else None
+  if nat_le 1 n && nat_le n LAST_TAB then Some n else None
 
 -- ---- other words
 

@@ -10,9 +10,7 @@ use bytes::Bytes;
 use std::alloc::{AllocError, Global};
 use std::str;
 use wl_draft::{Mode, Name};
-
-/// How many bytes a line may have, its line feed not counted.
-pub const LINE_LIMIT: usize = 65_536;
+use wl_limits::scripts::LINE_LIMIT;
 
 // ---- lines
 

@@ -4,24 +4,24 @@ use Rattle.std.specs.Option.{is_some}
 use Rattle.std.specs.List.{AllByRecursion}
 use Rattle.std.proofs.lemmas.List.{drop_more}
 use Rattle.std.proofs.lemmas.List.Concat.{flat_map-append}
-use Rattle.wl_frames.specs.declared.frame.Addressed.{Addressed}
-use Rattle.wl_frames.specs.declared.frame.Dead.{Dead}
-use Rattle.wl_frames.specs.declared.frame.Frame.{Frame}
-use Rattle.wl_frames.specs.declared.frame.Frame.TheVariants as frame
-use Rattle.wl_frames.specs.declared.frame.Stamped.{Stamped}
-use Rattle.wl_frames.specs.declared.frame.Start.{Start}
-use Rattle.wl_frames.specs.Grammar.{IsWellFormed, IsStart, IsStamped, IsDead, IsAddressed, spelling}
+use Rattle.wl_grammar.specs.declared.frame.Addressed.{Addressed}
+use Rattle.wl_grammar.specs.declared.frame.Dead.{Dead}
+use Rattle.wl_grammar.specs.declared.frame.Frame.{Frame}
+use Rattle.wl_grammar.specs.declared.frame.Frame.TheVariants as frame
+use Rattle.wl_grammar.specs.declared.frame.Stamped.{Stamped}
+use Rattle.wl_grammar.specs.declared.frame.Start.{Start}
+use Rattle.wl_grammar.specs.Grammar.{IsWellFormed, IsStart, IsStamped, IsDead, IsAddressed, spelling}
 use Rattle.wl_broker.specs.declared.dropped.Dropped.{Dropped}
 use Rattle.wl_broker.specs.declared.dropped.Dropped.TheVariants as dropped
 use Rattle.wl_broker.specs.Broker.{BrokerState, started, hellos, Taking, Does, Drops, taking, burial}
 use Rattle.wl_broker.specs.Speech.{IsSpellable}
 use Rattle.wl_workers.specs.declared.desk.DeskFault.{DeskFault}
 use Rattle.wl_workers.specs.declared.desk.DeskFault.TheVariants as desk
-use Rattle.wl_frames.specs.Device.{IsFrontOf}
+use Rattle.wl_encoding.specs.Fronts.{IsFrontOf}
 use Rattle.wl_workers.specs.Desk.{DeskState, Opening, Serving, Refused, taken, desk_step, desk_after, desk_outs, IsServing, IsRefused}
 use Rattle.wl_workers.specs.DeskSteps.{state_of, IsSpeaking, spelled, due, IsBegun, Steps, Spells, Deals}
 use Rattle.wl_broker.proofs.Speech.{spells_start, spells_taking, spells_burial}
-use Rattle.wl_frames.proofs.DeviceLemmas.{IsFrontOf-append, append-IsFrontOf, IsFrontOf-trans}
+use Rattle.wl_encoding.proofs.Fronts.{IsFrontOf-append, append-IsFrontOf, IsFrontOf-trans}
 
 -- ---- one frame
 

@@ -6,7 +6,7 @@ use Rattle.std.proofs.lemmas.List.{map-append}
 use Rattle.wl_broker.proofs.SpeechLists.{AllByRecursion-append}
 use Rattle.wl_board.specs.declared.tab.Life.{Life}
 use Rattle.wl_board.specs.declared.tab.Life.TheVariants as life
-use Rattle.wl_frames.specs.declared.frame.Frame.{Frame}
+use Rattle.wl_grammar.specs.declared.frame.Frame.{Frame}
 use Rattle.wl_frames.specs.declared.fault.FrameFault.{FrameFault}
 use Rattle.wl_frames.specs.declared.fault.FrameFault.TheVariants as fault
 use Rattle.wl_frames.specs.declared.device.ReadFault.{ReadFault}

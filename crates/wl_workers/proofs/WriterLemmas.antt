@@ -8,10 +8,11 @@ use Rattle.std.proofs.lemmas.List.Concat.{flat_map-append}
 use Rattle.wl_broker.proofs.SpeechLists.{AllByRecursion-append}
 use Rattle.wl_board.specs.declared.tab.Life.{Life}
 use Rattle.wl_board.specs.declared.tab.Life.TheVariants as life
-use Rattle.wl_frames.specs.declared.frame.Frame.{Frame}
-use Rattle.wl_frames.specs.Grammar.{IsWellFormed, spelling}
-use Rattle.wl_frames.specs.Device.{IsFrontOf, WritesFront}
-use Rattle.wl_frames.proofs.DeviceLemmas.{append-IsFrontOf}
+use Rattle.wl_grammar.specs.declared.frame.Frame.{Frame}
+use Rattle.wl_grammar.specs.Grammar.{IsWellFormed, spelling}
+use Rattle.wl_encoding.specs.Fronts.{IsFrontOf}
+use Rattle.wl_frames.specs.Device.{WritesFront}
+use Rattle.wl_encoding.proofs.Fronts.{append-IsFrontOf}
 use Rattle.wl_outbox.specs.Parcels.{Packed}
 use Rattle.wl_outbox.specs.MergeLaws.{IsPickedFrom, nothing, picks, leaves}
 use Rattle.wl_outbox.specs.Passes.{Handed, Shared, IsOf, IsSamePass, is_taking, takes}

@@ -1,12 +1,12 @@
 -- Helpers of the desk's private contracts: what one frame, one list of frames and one piece of the input do at a desk.
 use Rattle.std.specs.Prelude.{◌≡◌, ◌≢◌, ℕ, List, [], ◌∷◌, ◌++◌, false, Option, Some, None, Result, Ok, Err}
 use Rattle.std.specs.List.{flat_map}
-use Rattle.wl_frames.specs.declared.frame.Addressed.{Addressed}
-use Rattle.wl_frames.specs.declared.frame.Frame.{Frame}
-use Rattle.wl_frames.specs.declared.frame.Frame.TheVariants as frame
+use Rattle.wl_grammar.specs.declared.frame.Addressed.{Addressed}
+use Rattle.wl_grammar.specs.declared.frame.Frame.{Frame}
+use Rattle.wl_grammar.specs.declared.frame.Frame.TheVariants as frame
 use Rattle.wl_frames.specs.declared.fault.FrameFault.{FrameFault}
 use Rattle.wl_frames.specs.declared.fault.FrameFault.TheVariants as fault
-use Rattle.wl_frames.specs.Grammar.{spelling}
+use Rattle.wl_grammar.specs.Grammar.{spelling}
 use Rattle.wl_frames.specs.Stream.{Stop, Rest, Fault, Reads, Feeding}
 use Rattle.wl_broker.specs.Broker.{BrokerState}
 use Rattle.wl_broker.specs.Speech.{IsSpellable}
@@ -14,7 +14,7 @@ use Rattle.wl_workers.specs.declared.desk.DeskFault.{DeskFault}
 use Rattle.wl_workers.specs.declared.desk.DeskFault.TheVariants as desk
 use Rattle.wl_frames.specs.declared.device.ReadFault.{ReadFault}
 use Rattle.wl_frames.specs.declared.device.ReadFault.TheVariants as read
-use Rattle.wl_frames.specs.Device.{IsFrontOf}
+use Rattle.wl_encoding.specs.Fronts.{IsFrontOf}
 use Rattle.wl_workers.specs.Desk.{DeskState, Opening, Serving, Refused, desk_step, desk_after, desk_outs, IsServing, IsRefused, IsReadPart}
 
 -- ---- faults

@@ -1,4 +1,4 @@
-pub use Rattle.wl_frames.specs.Grammar
+pub use Rattle.wl_grammar.specs.Grammar
 pub use Rattle.wl_frames.specs.Stream
 pub use Rattle.wl_frames.specs.Device
 pub use Rattle.wl_broker.specs.Broker

@@ -4,8 +4,9 @@ use Rattle.std.specs.List.{AllByRecursion}
 use Rattle.std.specs.Io.KnownBytes.{Consumes, IsAtEnd}
 use Rattle.wl_board.specs.declared.tab.Life.{Life}
 use Rattle.wl_board.specs.declared.tab.Life.TheVariants as life
-use Rattle.wl_frames.specs.declared.frame.Frame.{Frame}
+use Rattle.wl_grammar.specs.declared.frame.Frame.{Frame}
 use Rattle.wl_frames.specs.declared.fault.FrameFault.TheVariants as fault
+use Rattle.wl_frames.specs.declared.device.TheConstants.{PIECE_LEN}
 use Rattle.wl_frames.specs.declared.device.ReadFault.{ReadFault}
 use Rattle.wl_frames.specs.declared.device.ReadFault.TheVariants as read
 use Rattle.wl_frames.specs.Stream.{Stop, Rest, Fault, Reads, Feeding}
@@ -50,7 +51,7 @@ IsProperFront front frames = (next : Frame) × (rest : List Frame) × (frames �
 
 -- all of the input but its last piece
 abbrev pub IsButLastPiece : List ℕ → List ℕ → Type 0
-IsButLastPiece part input = (piece : List ℕ) × (input ≡ part ++ piece) × (length piece ≤ 4096)
+IsButLastPiece part input = (piece : List ℕ) × (input ≡ part ++ piece) × (length piece ≤ PIECE_LEN)
 
 -- behind a rest of what was read before, the input was read as these frames, up to this end
 abbrev pub EndsAfter : List ℕ → List ℕ → List Frame → ReadEnd → Type 0

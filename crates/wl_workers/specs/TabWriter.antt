@@ -2,9 +2,9 @@
 use Rattle.std.specs.Prelude.{◌≡◌, ℕ, List, ◌++◌, Bool, true, false, map, Option}
 use Rattle.std.specs.List.{flat_map, AllByRecursion}
 use Rattle.std.specs.Io.KnownBytes.{Appends}
-use Rattle.wl_frames.specs.declared.frame.Frame.{Frame}
-use Rattle.wl_frames.specs.Grammar.{IsWellFormed, spelling}
-use Rattle.wl_frames.specs.Device.{IsFrontOf}
+use Rattle.wl_grammar.specs.declared.frame.Frame.{Frame}
+use Rattle.wl_grammar.specs.Grammar.{IsWellFormed, spelling}
+use Rattle.wl_encoding.specs.Fronts.{IsFrontOf}
 use Rattle.wl_outbox.specs.Parcels.{Packed}
 use Rattle.wl_outbox.specs.MergeLaws.{IsPickedFrom}
 

@@ -5,7 +5,7 @@ ghost use Rattle.std.specs.List.{AllByRecursion};
 ghost use Rattle.std.specs.Io.KnownBytes.{Appends, IsAtEnd};
 ghost use Rattle.wl_frames.specs.declared.device.TheConstants.{READ_LIMIT};
 ghost use Rattle.wl_frames.specs.Device.{WritesFront};
-ghost use Rattle.wl_frames.specs.Grammar.{IsWellFormed, IsAddressed};
+ghost use Rattle.wl_grammar.specs.Grammar.{IsWellFormed, IsAddressed};
 ghost use Rattle.wl_frames.specs.Stream.{IsPartial};
 ghost use Rattle.wl_workers.specs.declared.desk.DeskFault.TheVariants.{Write as write_fault, Memory as memory};
 ghost use Rattle.wl_workers.specs.Desk.{Opening, IsRefused, Runs};
@@ -16,15 +16,9 @@ use std::io::{Read, Write};
 use std::marker::Model;
 use thiserror::Error;
 use wl_broker::{Broker, Dropped, LockTable, Outs};
-use wl_frames::device::{READ_LIMIT, ReadFault, Sink, Source, WriteFault};
+use wl_frames::device::{BUNDLE_LEN, PIECE_LEN, READ_LIMIT, ReadFault, Sink, Source, WriteFault};
 use wl_frames::{Dead, Feed, Frame, FrameFault, Sequence, Stamped, Start, encode_into};
 use wl_table::IndexedTable;
-
-/// How many bytes are read at once, at most.
-const PIECE_LEN: usize = 4096;
-
-/// How many bytes are gathered before they are written anyway.
-const BUNDLE_LEN: usize = 32_768;
 
 /// Why the desk ended before its input did.
 #[derive(Clone, Copy, Debug, PartialEq, Eq, Error)]

@@ -2,7 +2,7 @@
 //! sends out.
 
 ghost use Rattle.std.specs.Prelude.{◌≡◌, [], ◌∷◌, OnOk, IfErr};
-ghost use Rattle.wl_frames.specs.declared.frame.Frame.TheVariants as frame;
+ghost use Rattle.wl_grammar.specs.declared.frame.Frame.TheVariants as frame;
 ghost use Rattle.wl_workers.specs.Told.{Grows};
 ghost use Rattle.wl_workers.specs.Lane.{as_frames, frames_of, all_put, PutsUpTo, IsUnsent, RunsLane};
 
@@ -88,7 +88,7 @@ pub enum OutletFault {
 /// Puts frames out, on their way to tabs.
 pub trait Outlet {
     ghost use Rattle.std.specs.Prelude.{List, [], ◌∷◌, Option, None, Result};
-    ghost use Rattle.wl_frames.specs.declared.frame.Frame.{Frame};
+    ghost use Rattle.wl_grammar.specs.declared.frame.Frame.{Frame};
     ghost use Rattle.wl_workers.specs.declared.lanes.OutletFault.{OutletFault};
     ghost use Rattle.wl_workers.specs.Told.{Grows};
 

@@ -1,8 +1,8 @@
 //! The kernel's reading end of a tab's link.
 
 ghost use Rattle.std.specs.Prelude.{◌≡◌, ◌≢◌, ◌↔◌, ◌≤◌, List, [], true, false, length, Err, MatchResult};
-ghost use Rattle.wl_frames.specs.declared.device.TheConstants.{READ_LIMIT};
-ghost use Rattle.wl_frames.specs.declared.frame.Frame.{Frame as TheFrame};
+ghost use Rattle.wl_frames.specs.declared.device.TheConstants.{PIECE_LEN, READ_LIMIT};
+ghost use Rattle.wl_grammar.specs.declared.frame.Frame.{Frame as TheFrame};
 ghost use Rattle.wl_frames.specs.Stream.{IsPartial};
 ghost use Rattle.wl_workers.specs.declared.tab_reader.ReadEnd.TheVariants.{Frame as frame_end};
 ghost use Rattle.wl_workers.specs.TabReader.{of_read, ended, dead_look, HandsUp, IsProperFront, EndsAfter, Passes, NeedsEnd, ReadsTab, Closes, IsPieceEnd};
@@ -13,11 +13,8 @@ use std::alloc::Global;
 use std::io::Read;
 use std::rt::Clock;
 use std::sync::Wait;
-use wl_frames::device::{READ_LIMIT, ReadFault, Source};
+use wl_frames::device::{PIECE_LEN, READ_LIMIT, ReadFault, Source};
 use wl_frames::{Feed, Frame, FrameFault};
-
-/// How many bytes are read at once, at most.
-const PIECE_LEN: usize = 4096;
 
 /// How the reading of a tab's link ended.
 #[derive(Clone, Copy, Debug, PartialEq, Eq)]
@@ -86,7 +83,7 @@ fn take_piece<R: Wait + Clock, L: Lives, U: Uplink>(
 ) -> Result<(), ReadEnd>
     requires feed { feed.old.has_failed ≡ false }
     requires rest { IsPartial feed.old.rest }
-    requires piece { length piece.now ≤ 4096 }
+    requires piece { length piece.now ≤ PIECE_LEN }
     ensures { MatchResult result
         (λ _. Passes tab (L.answered lives.old) (L.answered lives.new) (U.handed uplink.old) (U.handed uplink.new) feed.old.rest piece.now feed.new)
         (λ end. IsPieceEnd end × ((frames : List TheFrame) × EndsAfter feed.old.rest piece.now frames end

@@ -8,7 +8,7 @@ use wl_kernel::RouteFault;
 /// Takes the frames of tabs, and passes them on or refuses them.
 pub trait Uplink {
     ghost use Rattle.std.specs.Prelude.{ℕ, List, [], ◌∷◌, Option, None};
-    ghost use Rattle.wl_frames.specs.declared.frame.Frame.{Frame};
+    ghost use Rattle.wl_grammar.specs.declared.frame.Frame.{Frame};
     ghost use Rattle.wl_workers.specs.Told.{Grows};
 
     /// The frames that it was handed, each with its tab, the refused ones too, if it tells.

@@ -4,8 +4,8 @@ use Rattle.std.specs.Prelude.{◌==◌}
 use Rattle.std.proofs.lemmas.Bool.{eqb-true, cases_eq}
 use Rattle.wl_draft.specs.Tables.{Table, find, put}
 use Rattle.wl_draft.proofs.TableLemmas.{find-put_same, find-put_other}
-use Rattle.wl_bag.specs.Membership.{In, Later}
-use Rattle.wl_bag.proofs.Membership.{either, In-head}
+use Rattle.wl_draft.specs.Membership.{In, Later}
+use Rattle.wl_draft.proofs.Membership.{either, In-head}
 
 -- what holds of the new value at its number and of the others elsewhere holds everywhere
 pub each_found : {X : Type 0} (P : ℕ → Option X → Type 0) (k : ℕ) (x : X) (ps : Table X) → P k (Some x) → ((j : ℕ) → k ≢ j → P j (find ps j)) → (j : ℕ) → P j (find (put k x ps) j)
@@ -13,10 +13,3 @@ each_found P k x ps now elsewhere j = ⊎_elim
     (λ e. subst (λ z. P z (find (put k x ps) z)) e (subst (P k) (sym (find-put_same k x ps)) now))
     (λ n. subst (P j) (sym (find-put_other k x ps j (λ e. n (sym e)))) (elsewhere j n))
     (cases_eq k j)
-
-pub find-In : {X : Type 0} (ps : Table X) (k : ℕ) (x : X) → find ps k ≡ Some x → In (k, x) ps
-find-In [] k x = λ e. cc
-find-In (p ∷ ps) k x =
-    either (λ z. z ≡ Some x → In (k, x) (p ∷ ps)) (p.0 == k) (Some p.1) (find ps k)
-    (λ t e. let same : p.1 ≡ x = cc in In-head (sym (ap (λ z. (z, p.1)) (eqb-true p.0 k t) ∙ ap (λ z. (k, z)) same)))
-    (λ _ e. Later (find-In ps k x e))

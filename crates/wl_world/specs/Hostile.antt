@@ -1,11 +1,11 @@
 -- What a tab that was taken over cannot do, and who was not.
 use Rattle.std.specs.Prelude.{◌≡◌, ◌≢◌, ◌⊎◌, ℕ, List, Some}
 use Rattle.wl_draft.specs.Locks.{Locks, settle}
-use Rattle.wl_frames.specs.declared.frame.Stamped.{Stamped}
+use Rattle.wl_grammar.specs.declared.frame.Stamped.{Stamped}
 use Rattle.wl_broker.specs.Broker.{BrokerState, manager_of}
 use Rattle.wl_broker.specs.Laws.{SameOfOthers}
 use Rattle.wl_bag.specs.declared.message.Message.TheVariants.{Up}
-use Rattle.wl_bag.specs.Membership.{In}
+use Rattle.wl_draft.specs.Membership.{In}
 use Rattle.wl_world.specs.declared.event.Event.{Event}
 use Rattle.wl_world.specs.declared.event.Event.TheVariants as event
 use Rattle.wl_world.specs.World.{WorldState, empty_world, happens, run}

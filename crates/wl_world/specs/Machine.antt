@@ -2,7 +2,7 @@
 use Rattle.std.specs.Prelude.{◌≡◌, ◌⊎◌, ℕ, ◌<◌, List, [], ◌∷◌}
 use Rattle.std.specs.List.{AllByRecursion, flat_map}
 use Rattle.wl_kernel.specs.Kernel.{living_tabs}
-use Rattle.wl_bag.specs.Membership.{In}
+use Rattle.wl_draft.specs.Membership.{In}
 use Rattle.wl_tab.specs.declared.holding.Holding.{Holding}
 use Rattle.wl_tab.specs.TabTokens.{holdings_of}
 use Rattle.wl_world.specs.declared.event.Event.{Event}

@@ -1,9 +1,9 @@
 -- Only a helper: what a post reached, from the lists of its destinations, and what other tabs are sent of it.
 use Rattle.std.specs.Prelude.{ℕ, List, [], ◌∷◌, ◌++◌, map, take, drop, nat_lt, Option, Some, None}
 use Rattle.std.specs.List.{prefix_len}
-use Rattle.wl_frames.specs.declared.frame.Frame.{Frame}
-use Rattle.wl_frames.specs.declared.frame.Frame.TheVariants as frame
-use Rattle.wl_frames.specs.declared.frame.Heard.{Heard}
+use Rattle.wl_grammar.specs.declared.frame.Frame.{Frame}
+use Rattle.wl_grammar.specs.declared.frame.Frame.TheVariants as frame
+use Rattle.wl_grammar.specs.declared.frame.Heard.{Heard}
 use Rattle.wl_broadcast.specs.declared.letter.Posted.{Posted}
 use Rattle.wl_broadcast.specs.declared.letter.Hearing.{Hearing}
 use Rattle.wl_broadcast.specs.declared.letter.Hearing.TheVariants.{Old, New}

@@ -2,10 +2,10 @@
 use Rattle.std.specs.Prelude.{◌≡◌, ℕ, map, List, [], ◌∷◌, ◌++◌, Bool, true, false, ◌==◌, if◌then◌else◌}
 use Rattle.wl_kernel.specs.Kernel.{KernelState, partition_number}
 use Rattle.wl_draft.specs.Tables.{Table, find}
-use Rattle.wl_frames.specs.declared.frame.Frame.{Frame}
-use Rattle.wl_frames.specs.declared.frame.Frame.TheVariants as frame
-use Rattle.wl_frames.specs.declared.frame.Upward.{Upward}
-use Rattle.wl_frames.specs.declared.frame.Upward.TheVariants as up
+use Rattle.wl_grammar.specs.declared.frame.Frame.{Frame}
+use Rattle.wl_grammar.specs.declared.frame.Frame.TheVariants as frame
+use Rattle.wl_grammar.specs.declared.frame.Upward.{Upward}
+use Rattle.wl_grammar.specs.declared.frame.Upward.TheVariants as up
 use Rattle.wl_broadcast.specs.Channels.{ChannelState}
 use Rattle.wl_broadcast.specs.declared.fault.ChannelFault.{ChannelFault}
 use Rattle.wl_broadcast.specs.declared.fault.ChannelFault.TheVariants as fault

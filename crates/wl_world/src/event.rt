@@ -6,7 +6,7 @@ use bytes::Bytes;
 use std::alloc::{AllocError, Global};
 use wl_bag::Message;
 use wl_draft::{Mode, Name};
-use wl_frames::{Post, Sequence, Upward};
+use wl_grammar::{Post, Sequence, Upward};
 use wl_origin::Partition;
 
 /// One event. The loss of a message is a delivery that never comes.

@@ -1,7 +1,7 @@
 //! What an event is answered.
 
 pub use wl_bag::Sent;
-use wl_frames::Sequence;
+use wl_grammar::Sequence;
 pub use wl_said::{Ended, Reached, Reason, Refusal, Said};
 
 /// The whole answer to one event.

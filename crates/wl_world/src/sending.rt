@@ -8,7 +8,7 @@ ghost use Rattle.wl_world.specs.World.{from_broker};
 use std::alloc::{AllocError, Global};
 use wl_bag::{Message, Sender};
 use wl_broker::Outs;
-use wl_frames::{Frame, Sequence};
+use wl_grammar::{Frame, Sequence};
 use wl_kernel::{Routed, Tabs};
 use wl_tab::TabLocks;
 

@@ -14,7 +14,7 @@ use crate::reply::Reply;
 use std::alloc::{AllocError, Global};
 use std::marker::Model;
 use wl_bag::Message;
-use wl_frames::Sequence;
+use wl_grammar::Sequence;
 use wl_tab::Holding;
 
 /// A list of events, and what they made of the world. Its drop spends what it holds.

@@ -11,17 +11,13 @@ use std::process::ExitCode;
 use wl_broker_process::run_broker;
 use wl_frames::device::{Sink, Source};
 use wl_kernel_process::{KernelWords, run_kernel};
-use wl_process::ProcessFault;
+use wl_process::fault::{DEVICE_OR_MEMORY, ProcessFault, REFUSED};
 use wl_script::sim::{SimFault, sim_run};
 use wl_tab_process::run_tab;
 use wl_workers::{DeskFault, desk_run};
 
-/// What is wrong with the input; the command line; a device or memory.
-const REFUSED_INPUT: u8 = 1;
-
+/// The status where the command line is wrong.
 const USAGE: u8 = 2;
-
-const DEVICE_OR_MEMORY: u8 = 3;
 
 fn main(rt: HostRuntime) -> ExitCode {
     let alloc = rt.alloc();
@@ -125,14 +121,14 @@ fn failed(rt: &impl Eprint, fault: impl std::fmt::Display + Drop, status: u8) ->
 
 fn desk_status(fault: DeskFault) -> u8 {
     match fault {
-        DeskFault::Frame(_) | DeskFault::Unexpected | DeskFault::TooManyReads => REFUSED_INPUT,
+        DeskFault::Frame(_) | DeskFault::Unexpected | DeskFault::TooManyReads => REFUSED,
         DeskFault::Read | DeskFault::Write | DeskFault::Memory => DEVICE_OR_MEMORY,
     }
 }
 
 fn sim_status(fault: SimFault) -> u8 {
     match fault {
-        SimFault::Line(_) | SimFault::TooManyReads => REFUSED_INPUT,
+        SimFault::Line(_) | SimFault::TooManyReads => REFUSED,
         SimFault::Read | SimFault::Write | SimFault::Memory => DEVICE_OR_MEMORY,
     }
 }

@@ -1,7 +1,7 @@
 //! The broker. A frame that it refuses for memory it is given again, and has to answer as the row says then: so these tests
 //! pass whichever of its allocations is refused.
 
-ghost use Rattle.wl_frames.specs.Grammar.{TabsRiseFrom};
+ghost use Rattle.wl_grammar.specs.Grammar.{TabsRiseFrom};
 
 use crate::tests::desk::rows::{DEATH_HANDS_OVER, HANDOVER, RESTART_WHILE_HELD, Row, SNAPSHOT};
 use crate::tests::desk::{append, bytes};

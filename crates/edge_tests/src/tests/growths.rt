@@ -3,7 +3,7 @@
 
 ghost use Rattle.std.specs.Prelude.{◌≡◌, ◌<◌, ◌≤◌, []};
 ghost use Rattle.wl_broker.specs.Broker.{started};
-ghost use Rattle.wl_frames.specs.Grammar.{TabsRiseFrom};
+ghost use Rattle.wl_grammar.specs.Grammar.{TabsRiseFrom};
 ghost use Rattle.wl_locked.specs.declared.locked.TheConstants.{LANE_LIMIT};
 
 use std::alloc::{AllocError, Global};

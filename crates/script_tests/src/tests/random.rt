@@ -1,8 +1,8 @@
 //! Thousands of random events in one world: opens of both kinds, requests, releases, aborts, deliveries of any message of any
 //! age, deaths, stops and starts. After each event no two locks that are held conflict. In a second run some tabs are taken
 //! over and forge commands, reports, parts of reports and posts, and no two locks that the others hold conflict. It checks the
-//! definitions themselves, by what a person would look for. A run that memory ends is made anew, by the same choices: so these
-//! tests pass whichever allocation is refused.
+//! definitions themselves, by what a person would look for. A run that memory ends is made anew, by the same choices, so that
+//! any allocation may be refused.
 
 use bytes::Bytes;
 use std::alloc::{AllocError, Global};

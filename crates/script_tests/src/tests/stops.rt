@@ -2,7 +2,7 @@
 //! behind it, or one of the tabs is killed, and told to be dead or not. Whatever the lines behind it then say, the script is
 //! played to its end, and no list of what is held has two locks that conflict. The lists are those that `show` prints, and
 //! the origins of the tabs those that `open` prints, so this looks at the program from outside, as a reader of its output.
-//! What is refused memory is made again: so these tests pass whichever allocation is refused.
+//! What is refused memory is made again, so that any allocation may be refused.
 
 use super::script::rows::Row;
 use super::script::{Play, play_of, play_of_refusals, rows, run};

@@ -1,5 +1,5 @@
 // Rows of tabs, brokers and messages, each as a list of events that is given to `run`, and what living tabs hold after it. A
-// row that meets a want of memory is played anew: so these tests pass whichever allocation is refused.
+// row that meets a want of memory is played anew, so that any allocation may be refused.
 use std::alloc::{AllocError, Global};
 use std::process::Abort;
 use wl_draft::{Entry, Mode, Name};

@@ -4,7 +4,7 @@ ghost use Rattle.std.specs.Prelude.{◌≡◌, ◌≢◌, true, IfOk, OnOk, OnEr
 ghost use Rattle.wl_agent.specs.Tab.{enter};
 ghost use Rattle.wl_agent.specs.Delivery.{delivery, takes_memory, noted, acknowledged_by, has_entered, of_other, told_by_answer, told_by_part, after_answer, after_part, part_refusal, IsSendable};
 ghost use Rattle.wl_agent.specs.Kept.{CanFollow};
-ghost use Rattle.wl_frames.specs.declared.frame.Frame.TheVariants as frame;
+ghost use Rattle.wl_grammar.specs.declared.frame.Frame.TheVariants as frame;
 
 use crate::agent::Agent;
 use crate::answers::told_command;
@@ -12,7 +12,7 @@ use crate::delivered::{Delivered, Unheard};
 use crate::operations::is_query_at;
 use crate::status::Status;
 use std::alloc::AllocError;
-use wl_frames::{Answer, Frame, Hello, Snapshot};
+use wl_grammar::{Answer, Frame, Hello, Snapshot};
 
 impl Agent {
     /// Takes in a frame. A frame that is dropped for want of memory may be delivered again.

@@ -2,14 +2,14 @@
 
 ghost use Rattle.std.specs.Prelude.{◌≡◌, ◌<◌, ◌≤◌, length, IfOk, OnOk, OnErr};
 ghost use Rattle.std.specs.List.{AllByRecursion};
-ghost use Rattle.wl_frames.specs.Grammar.{IsWellFormed};
+ghost use Rattle.wl_grammar.specs.Grammar.{IsWellFormed};
 ghost use Rattle.wl_agent.specs.Tab.{enter, report_frames};
 ghost use Rattle.wl_agent.specs.Kept.{carried_tab, begun, IsTellable};
 
 use crate::agent::Agent;
 use crate::reporting::report_frames;
 use std::alloc::AllocError;
-use wl_frames::{Frame, Report, Sequence};
+use wl_grammar::{Frame, Report, Sequence};
 
 impl Agent {
     /// Enters a later generation, and gives the frames of its report.

@@ -1,7 +1,7 @@
 //! Requests, probes and queries.
 
 ghost use Rattle.std.specs.Prelude.{◌≡◌, ◌≢◌, ◌<◌, ◌≤◌, ◌+◌, true, false, length, Some, None, Err, IfOk, OnOk, IfErr, OnErr, if◌then◌else◌};
-ghost use Rattle.wl_frames.specs.Grammar.{IsOperation};
+ghost use Rattle.wl_grammar.specs.Grammar.{IsOperation};
 ghost use Rattle.wl_agent.specs.Tab.{asked, queried, issue, ask_refusal, query_refusal, live_refusal, is_supported, keeps_number, kept_numbers, live_numbers, live_limit};
 ghost use Rattle.wl_agent.specs.Kept.{can_become};
 
@@ -11,10 +11,8 @@ use crate::parts::Parts;
 use crate::status::Status;
 use crate::token::{Asking, Pending, Probe};
 use std::alloc::AllocError;
-use wl_frames::{Mode, Name, Operation};
-
-/// The most bytes of a name.
-const NAME_LIMIT: usize = 255;
+use wl_grammar::{Mode, Name, Operation};
+use wl_limits::texts::NAME_LIMIT;
 
 impl Agent {
     /// Asks for a lock.

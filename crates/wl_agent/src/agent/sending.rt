@@ -2,14 +2,14 @@
 
 ghost use Rattle.std.specs.Prelude.{◌≡◌, ◌≢◌, Some, None, Err, IfOk, OnOk, IfErr, OnErr};
 ghost use Rattle.std.specs.List.{AllByRecursion};
-ghost use Rattle.wl_frames.specs.Grammar.{IsWellFormed};
+ghost use Rattle.wl_grammar.specs.Grammar.{IsWellFormed};
 ghost use Rattle.wl_agent.specs.Tab.{command_frame, report_frames, message_refusal, report_refusal, due, is_report_due};
 
 use crate::agent::Agent;
 use crate::fault::MessageFault;
 use crate::reporting::report_frames;
 use std::alloc::AllocError;
-use wl_frames::{Command, Frame, Memory, Sequence};
+use wl_grammar::{Command, Frame, Memory, Sequence};
 
 /// What the tab sends again, since nothing may have come of it.
 #[derive(Debug, Drop)]

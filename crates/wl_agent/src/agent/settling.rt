@@ -1,7 +1,7 @@
 //! What tokens are told, and how they are spent.
 
 ghost use Rattle.std.specs.Prelude.{◌≡◌, true, false, length, Some, None, IfOk, OnOk, IfErr, OnErr};
-ghost use Rattle.wl_frames.specs.Grammar.{IsOperation};
+ghost use Rattle.wl_grammar.specs.Grammar.{IsOperation};
 ghost use Rattle.wl_agent.specs.Tab.{released, aborted, finish, keeps_number, status_of};
 ghost use Rattle.wl_agent.specs.Tokens.{is_pending, is_probing, is_holding, is_asking, is_own, told_pending, told_probe, told_query, after_query, abort_refusal};
 
@@ -11,7 +11,7 @@ use crate::status::Status;
 use crate::token::{
     AbortFault, Asking, Foreign, HeldLock, Pending, Probe, ProbeSettled, QuerySettled, Settled,
 };
-use wl_frames::Operation;
+use wl_grammar::Operation;
 
 impl Agent {
     /// Tells what became of a request. It takes no memory.

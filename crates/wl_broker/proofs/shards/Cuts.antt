@@ -3,118 +3,13 @@ use Rattle.std.proofs.Common.{◌≡◌, ◌⊎◌, inl, inr, ⊎_elim, ℕ, ◌
 use Rattle.std.specs.Prelude.{◌==◌, nat_lt}
 use Rattle.std.specs.List.{list_all}
 use Rattle.std.proofs.lemmas.Bool.{false≢true, cond_both, and_parts, cond-true, cond-false, eqb-true, ne_eqb, ltb-true, lt-ltb}
-use Rattle.wl_draft.specs.Tables.{Table, at, find, put}
+use Rattle.wl_draft.specs.Tables.{Table, at, find, put, Rises}
 use Rattle.wl_draft.proofs.TableLemmas.{at-find}
-use Rattle.wl_broker.specs.Kept.{Rises}
-use Rattle.wl_broker.proofs.PartitionRows.{Rises-filter, find_below}
-
--- ---- tests
-
-pub apart : {b : Bool} → {A : Type 0} → b ≡ true → b ≡ false → A
-apart e f = absurd (false≢true (sym f ∙ e))
-
--- a choice has what both sides have
-pub either : {A : Type 0} (P : A → Type 0) (b : Bool) (x y : A) → (b ≡ true → P x) → (b ≡ false → P y) → P (cond b x y)
-either P b x y f g = cond_both b x y P f g
-
--- a statement on a test, by cases
-pub by_test : (P : Bool → Type 0) (b : Bool) → (b ≡ true → P true) → (b ≡ false → P false) → P b
-by_test P true y n = y refl
-by_test P false y n = n refl
-
--- a choice by the same test of what a function makes of the two
-pub along : {A B : Type 0} (F : A → B) (c d : Bool) (x y : B) (u v : A) → c ≡ d → (d ≡ true → x ≡ F u) → (d ≡ false → y ≡ F v) → cond c x y ≡ F (cond d u v)
-along F c d x y u v e g h = ap (λ z. cond z x y) e ∙ by_test (λ z. cond z x y ≡ F (cond z u v)) d g h
-
--- ---- membership
-
-pub data In {X : Type 0} (x : X) : List X → Type 0 where
-  Here : {xs : List X} → In x (x ∷ xs)
-  Later : {y : X} {xs : List X} → In x xs → In x (y ∷ xs)
-
-pub In-nil : {X : Type 0} {x : X} → In x [] → ⊥
-In-nil h = elim h [ ]
-
-pub In-cons_cases : {X : Type 0} {x y : X} {ys : List X} → In x (y ∷ ys) → (x ≡ y) ⊎ In x ys
-In-cons_cases Here = inl refl
-In-cons_cases (Later h) = inr h
-
-pub In-head : {X : Type 0} {x y : X} {ys : List X} → x ≡ y → In x (y ∷ ys)
-In-head {x = x} {ys = ys} e = subst (λ z. In x (z ∷ ys)) e Here
-
-pub In-one : {X : Type 0} {x y : X} → In x (y ∷ []) → x ≡ y
-In-one h = ⊎_elim (λ e. e) (λ n. absurd (In-nil n)) (In-cons_cases h)
-
-pub In-append_left : {X : Type 0} {x : X} {xs : List X} (ys : List X) → In x xs → In x (xs ++ ys)
-In-append_left ys Here = Here
-In-append_left ys (Later h) = Later (In-append_left ys h)
-
-pub In-append_right : {X : Type 0} {x : X} (xs : List X) {ys : List X} → In x ys → In x (xs ++ ys)
-In-append_right [] h = h
-In-append_right (z ∷ zs) h = Later (In-append_right zs h)
-
-pub In-append_cases : {X : Type 0} {x : X} (xs ys : List X) → In x (xs ++ ys) → In x xs ⊎ In x ys
-In-append_cases [] ys h = inr h
-In-append_cases (z ∷ zs) ys h =
-    ⊎_elim (λ e. inl (In-head e)) (λ k. ⊎_elim (λ a. inl (Later a)) (λ b. inr b) (In-append_cases zs ys k)) (In-cons_cases h)
-
-pub In-map_cases : {X Y : Type 0} (f : X → Y) {y : Y} (xs : List X) → In y (map f xs) → (x : X) × In x xs × (y ≡ f x)
-In-map_cases f [] h = absurd (In-nil h)
-In-map_cases f (x ∷ xs) h =
-    ⊎_elim (λ e. (x, Here, e)) (λ k. let o = In-map_cases f xs k in (o.0, Later o.1, o.2)) (In-cons_cases h)
-
-pub In-filter_cases : {X : Type 0} (p : X → Bool) {x : X} (xs : List X) → In x (filter p xs) → In x xs × (p x ≡ true)
-In-filter_cases p [] h = absurd (In-nil h)
-In-filter_cases p {x = x} (y ∷ ys) h =
-    either (λ zs. In x zs → In x (y ∷ ys) × (p x ≡ true)) (p y) (y ∷ filter p ys) (filter p ys)
-    (λ e i. ⊎_elim (λ s. (In-head s, ap p s ∙ e)) (λ k. let o = In-filter_cases p ys k in (Later o.0, o.1)) (In-cons_cases i))
-    (λ _ i. let o = In-filter_cases p ys i in (Later o.0, o.1))
-    h
-
-pub list_all-In : {X : Type 0} (p : X → Bool) {x : X} (xs : List X) → list_all p xs ≡ true → In x xs → p x ≡ true
-list_all-In p [] h i = absurd (In-nil i)
-list_all-In p (y ∷ ys) h i =
-    ⊎_elim (λ e. ap p e ∙ (and_parts _ _ h).0) (λ k. list_all-In p ys (and_parts _ _ h).1 k) (In-cons_cases i)
-
-pub all-In : {X : Type 0} (p : X → Bool) (xs : List X) → ((x : X) → In x xs → p x ≡ true) → list_all p xs ≡ true
-all-In p [] h = refl
-all-In p (x ∷ xs) h = ap₂ ◌&&◌ (h x Here) (all-In p xs (λ y i. h y (Later i)))
-
--- ---- lists
-
-pub map-same : {X Y : Type 0} (g h : X → Y) (xs : List X) → ((x : X) → In x xs → g x ≡ h x) → map g xs ≡ map h xs
-map-same g h [] e = refl
-map-same g h (x ∷ xs) e = ap₂ ◌∷◌ (e x Here) (map-same g h xs (λ y i. e y (Later i)))
-
--- two tests in either order
-filter-swap_step : {X : Type 0} (b c : Bool) (x : X) (us vs : List X) (p q : X → Bool) → p x ≡ b → q x ≡ c → filter p vs ≡ filter q us → filter p (cond c (x ∷ vs) vs) ≡ filter q (cond b (x ∷ us) us)
-filter-swap_step true true x us vs p q e f h = cond-true _ _ _ e ∙ ap (λ ws. x ∷ ws) h ∙ sym (cond-true _ _ _ f)
-filter-swap_step true false x us vs p q e f h = h ∙ sym (cond-false _ _ _ f)
-filter-swap_step false true x us vs p q e f h = cond-false _ _ _ e ∙ h
-filter-swap_step false false x us vs p q e f h = h
-
-pub filter-swap : {X : Type 0} (p q : X → Bool) (xs : List X) → filter p (filter q xs) ≡ filter q (filter p xs)
-filter-swap p q [] = refl
-filter-swap p q (x ∷ xs) = filter-swap_step (p x) (q x) x (filter p xs) (filter q xs) p q refl refl (filter-swap p q xs)
+use Rattle.wl_draft.proofs.Membership.{either, In-cons_cases, In-head, by_test}
+use Rattle.wl_draft.specs.Membership.{In, Here, Later}
+use Rattle.wl_draft.proofs.RisingTables.{Rises-filter, find_below, put-below}
 
 -- ---- tables
-
-pub put-cases : {X : Type 0} {q : ℕ × X} (k : ℕ) (x : X) (ps : Table X) → In q (put k x ps) → (q ≡ (k, x)) ⊎ In q ps
-put-cases k x [] i = In-cons_cases i
-put-cases {q = q} k x (p ∷ ps) i =
-    either (λ zs. In q zs → (q ≡ (k, x)) ⊎ In q (p ∷ ps)) (p.0 == k) ((k, x) ∷ ps) (cond (nat_lt k p.0) ((k, x) ∷ p ∷ ps) (p ∷ put k x ps))
-    (λ _ j. ⊎_elim (λ e. inl e) (λ l. inr (Later l)) (In-cons_cases j))
-    (λ _. either (λ zs. In q zs → (q ≡ (k, x)) ⊎ In q (p ∷ ps)) (nat_lt k p.0) ((k, x) ∷ p ∷ ps) (p ∷ put k x ps)
-    (λ _ j. In-cons_cases j)
-    (λ _ j. ⊎_elim (λ e. inr (subst (λ z. In z (p ∷ ps)) (sym e) Here)) (λ l. ⊎_elim (λ e. inl e) (λ m. inr (Later m)) (put-cases k x ps l)) (In-cons_cases j)))
-    i
-
-pub find-In : {X : Type 0} (ps : Table X) (k : ℕ) (x : X) → find ps k ≡ Some x → In (k, x) ps
-find-In [] k x = λ e. cc
-find-In (p ∷ ps) k x =
-    either (λ z. z ≡ Some x → In (k, x) (p ∷ ps)) (p.0 == k) (Some p.1) (find ps k)
-    (λ t e. let same : p.1 ≡ x = cc in In-head (sym (ap (λ z. (z, p.1)) (eqb-true p.0 k t) ∙ ap (λ z. (k, z)) same)))
-    (λ _ e. Later (find-In ps k x e))
 
 -- the row that a look-up finds, if it is kept
 abbrev pub sieved : {X : Type 0} → (ℕ × X → Bool) → ℕ → Option X → Option X
@@ -148,12 +43,6 @@ at-sieved {X = X} f d k a ps r e =
     go : (o : Option X) → sieved (λ row. f row.0) k o ≡ o
     go None = refl
     go (Some x) = cond-true _ _ _ e
-
-put-below : {X : Type 0} (k : ℕ) (x : X) (ps : Table X) → Rises (k + 1) ps → put k x ps ≡ (k, x) ∷ ps
-put-below k x [] r = refl
-put-below k x (p ∷ ps) r =
-    let l : k + 1 ≤ p.0 = r.0 in
-    cond-false _ _ _ (ne_eqb p.0 k (λ e. omega arith)) ∙ cond-true _ _ _ (lt-ltb k p.0 (omega arith))
 
 -- a row that is kept may be put before the cut or after it
 pub put-kept : {X : Type 0} (keep : ℕ × X → Bool) (k : ℕ) (x : X) (a : ℕ) (ps : Table X) → keep (k, x) ≡ true → Rises a ps → filter keep (put k x ps) ≡ put k x (filter keep ps)

@@ -4,9 +4,10 @@ use Rattle.std.specs.Prelude.{◌==◌}
 use Rattle.std.specs.List.{list_all, range_with_len, flat_map}
 use Rattle.std.proofs.lemmas.Bool.{cond-true, cond-false, eqb-true, eqb-false, ne_eqb, and_parts}
 use Rattle.std.proofs.lemmas.List.Elements.{filter-append}
+use Rattle.wl_draft.proofs.Membership.{by_test, In-nil, In-cons_cases, In-append_left, In-append_right, In-append_cases}
+use Rattle.wl_draft.specs.Membership.{In, Here, Later}
 use Rattle.wl_broker.specs.Events.{Event, Comes, Dies}
 use Rattle.wl_broker.specs.Shards.{shard_of, is_of, is_for, events_of, places, deaths_in, AreOfShards, InOneOrder}
-use Rattle.wl_broker.proofs.shards.Cuts.{by_test, In, Here, Later, In-nil, In-cons_cases, In-append_left, In-append_right, In-append_cases}
 use Rattle.wl_broker.proofs.shards.Runs.{home_in, ComesHome, all_home, stands-once, one-of_these}
 
 -- ---- a shard's events up to the first death, and behind it

@@ -8,13 +8,14 @@ use Rattle.std.proofs.lemmas.Bool.{cond-false, eqb-true, eqb-false, eq-eqb, ne_e
 use Rattle.std.proofs.lemmas.List.{map-append}
 use Rattle.std.proofs.lemmas.List.Sorted.{IsPermutation-refl, IsPermutation-sym, IsPermutation-cons, IsPermutation-trans, IsPermutation-middle, IsPermutation-append_right, IsPermutation-map}
 use Rattle.wl_draft.specs.Tables.{at}
-use Rattle.wl_frames.specs.declared.frame.Stamped.{Stamped}
-use Rattle.wl_frames.specs.declared.frame.Addressed.{Addressed}
+use Rattle.wl_draft.proofs.Membership.{apart, either, by_test, In-nil, In-cons_cases, In-head, In-one, In-append_left, In-append_right, In-append_cases, list_all-In, all-In}
+use Rattle.wl_draft.specs.Membership.{In, Here, Later}
+use Rattle.wl_grammar.specs.declared.frame.Stamped.{Stamped}
+use Rattle.wl_grammar.specs.declared.frame.Addressed.{Addressed}
 use Rattle.wl_broker.specs.declared.seat.Seat.TheVariants.{Dead}
 use Rattle.wl_broker.specs.Broker.{BrokerState, started, hello_to, hellos, is_dead, seat_of, place_of, with_seat, buried_at, Taking, Drops, Does, taking, burial}
 use Rattle.wl_broker.specs.Events.{Event, Comes, Dies, broker_after, happens, run}
 use Rattle.wl_broker.specs.Shards.{shard_of, is_of, is_for, events_of, seen_at, taking_at, stands_in, named_by, places, stands_once, StandsOnce, one_broker, shard_broker, SeenAtEachShard, AnsweredByItsShard, DeathsSentByShards, DeathsSentByOneShard, HellosOfShards}
-use Rattle.wl_broker.proofs.shards.Cuts.{apart, either, by_test, In, Here, Later, In-nil, In-cons_cases, In-head, In-one, In-append_left, In-append_right, In-append_cases, list_all-In, all-In}
 use Rattle.wl_broker.proofs.shards.Homes.{Homes, started-Homes, burial-Homes}
 use Rattle.wl_broker.proofs.shards.Steps.{own-taking, out-taking, taking-Homes, buries-alike}
 

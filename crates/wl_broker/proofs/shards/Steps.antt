@@ -6,16 +6,20 @@ use Rattle.std.proofs.lemmas.Bool.{eqb-true, cond-true, cond-false}
 use Rattle.wl_draft.specs.declared.row.Row.{Row}
 use Rattle.wl_draft.specs.Tables.{put, find}
 use Rattle.wl_draft.specs.Locks.{Locks, no_locks, settle_if, newly_if, live, standing as standing_of, without, restored, ended}
-use Rattle.wl_frames.specs.declared.frame.Operation.{Operation}
-use Rattle.wl_frames.specs.declared.frame.Operation.TheVariants.{Request, Release, Abort, Query}
-use Rattle.wl_frames.specs.declared.frame.Outcome.{Outcome}
-use Rattle.wl_frames.specs.declared.frame.Outcome.TheVariants.{Granted, Gone, Taken}
-use Rattle.wl_frames.specs.declared.frame.SnapshotEntry.{SnapshotEntry}
-use Rattle.wl_frames.specs.declared.frame.Addressed.{Addressed}
-use Rattle.wl_frames.specs.declared.frame.Stamped.{Stamped}
-use Rattle.wl_frames.specs.declared.frame.Upward.{Upward}
-use Rattle.wl_frames.specs.declared.frame.Upward.TheVariants as up
-use Rattle.wl_frames.specs.declared.frame.Downward.TheVariants as down
+use Rattle.wl_draft.proofs.Membership.{apart, either, by_test, along, map-same, filter-swap}
+use Rattle.wl_draft.specs.Membership.{In, Here, Later}
+use Rattle.wl_draft.proofs.RisingTables.{find-In}
+use Rattle.wl_broker.proofs.Clients.{Own, Own-filter, restored-Stands, drafted-Stands, ended-Stands}
+use Rattle.wl_grammar.specs.declared.frame.Operation.{Operation}
+use Rattle.wl_grammar.specs.declared.frame.Operation.TheVariants.{Request, Release, Abort, Query}
+use Rattle.wl_grammar.specs.declared.frame.Outcome.{Outcome}
+use Rattle.wl_grammar.specs.declared.frame.Outcome.TheVariants.{Granted, Gone, Taken}
+use Rattle.wl_grammar.specs.declared.frame.SnapshotEntry.{SnapshotEntry}
+use Rattle.wl_grammar.specs.declared.frame.Addressed.{Addressed}
+use Rattle.wl_grammar.specs.declared.frame.Stamped.{Stamped}
+use Rattle.wl_grammar.specs.declared.frame.Upward.{Upward}
+use Rattle.wl_grammar.specs.declared.frame.Upward.TheVariants as up
+use Rattle.wl_grammar.specs.declared.frame.Downward.TheVariants as down
 use Rattle.wl_broker.specs.declared.seat.Seat.{Seat}
 use Rattle.wl_broker.specs.declared.seat.Seat.TheVariants.{Joined, Dead}
 use Rattle.wl_broker.specs.declared.dropped.Dropped.TheVariants.{OldGeneration, LaterGeneration, NotJoined, Recovering, OutOfTurn, DeadTab, AlreadyJoined, HeldByNewcomer, BadReport, Misplaced, TooMany, PartTwice}
@@ -23,8 +27,8 @@ use Rattle.wl_broker.specs.Broker.{BrokerState, seat_of, manager_of, is_joined, 
 use Rattle.wl_broker.specs.Events.{broker_after}
 use Rattle.wl_broker.specs.Shards.{listed_of, is_seen, seen_at, taking_at, stands_in}
 use Rattle.wl_broker.proofs.Takings.{Takes, joins, keeps, repeats, performs, taking-Takes}
-use Rattle.wl_broker.proofs.shards.Cuts.{apart, either, by_test, along, In, Here, Later, find-In, map-same, filter-swap, sieved, find-sieved, at-sieved, put-kept, put-lost, filter-spare}
-use Rattle.wl_broker.proofs.shards.Homes.{Own, Own-filter, restored-Stands, drafted-Stands, ended-Stands, newly_at-Own, AtHome, Homes, Placed, manager_of-AtHome, with_seat-Homes, settled_at-Homes, with_told-home, place_of-Placed, Takes-Homes}
+use Rattle.wl_broker.proofs.shards.Cuts.{sieved, find-sieved, at-sieved, put-kept, put-lost, filter-spare}
+use Rattle.wl_broker.proofs.shards.Homes.{newly_at-Own, AtHome, Homes, Placed, manager_of-AtHome, with_seat-Homes, settled_at-Homes, with_told-home, place_of-Placed, Takes-Homes}
 
 -- what is kept
 abbrev seat_test : (ℕ → Bool) → ℕ × Seat → Bool

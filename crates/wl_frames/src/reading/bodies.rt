@@ -10,18 +10,15 @@ use super::fields::{
     mode_of, origin_of, tab_of, u16_of, u32_of,
 };
 use super::kind::{Kind, kind_of};
-use crate::frame::{
-    Addressed, Answer, Command, Dead, Downward, Frame, Heard, Hello, MOST_REPORT_PARTS, Operation,
-    Outcome, PairWelcome, Post, Report, ReportPart, Snapshot, SnapshotEntry, Stamped, Start,
-    Upward, Welcome,
-};
-use crate::sequence::Sequence;
 use std::alloc::Global;
 use wl_draft::{Entry, Mode, Name};
-
-const MOST_ENTRIES: u16 = 64;
-
-const MOST_PLACES: u16 = 1_024;
+use wl_grammar::frame::{
+    Addressed, Answer, Command, Dead, Downward, Frame, Heard, Hello, Operation, Outcome,
+    PairWelcome, Post, Report, ReportPart, Snapshot, SnapshotEntry, Stamped, Start, Upward,
+    Welcome,
+};
+use wl_grammar::sequence::Sequence;
+use wl_limits::frames::{ENTRY_LIMIT, LIST_LIMIT, REPORT_PART_LIMIT};
 
 #[tactic(auto, unfolding(crate::specs::Bodies::request_at))]
 fn request_of(alloc: Global, bytes: &[u8]) -> Result<((Mode, bool, Name), &[u8]), ReadFault>
@@ -120,7 +117,7 @@ fn numbers_rise(entries: &[Entry]) -> bool
 fn entries_of(alloc: Global, bytes: &[u8]) -> Result<(Sequence<Entry>, &[u8]), ReadFault>
     ensures { Gives (λ x. (x.0, x.1.now)) result (rising_entries_at bytes.now) }
 {
-    let (entries, rest) = list_of(alloc, MOST_ENTRIES, bytes)?;
+    let (entries, rest) = list_of(alloc, ENTRY_LIMIT, bytes)?;
     if !numbers_rise(entries.as_slice()) {
         return Err(ReadFault::Field);
     }
@@ -163,7 +160,7 @@ fn few_parts_of(bytes: &[u8]) -> Result<((u16, u16), &[u8]), ReadFault>
     ensures { Gives (λ x. (x.0, x.1.now)) result (few_parts_at bytes.now) }
 {
     let ((part, parts), rest) = part_of(bytes)?;
-    if MOST_REPORT_PARTS < parts {
+    if REPORT_PART_LIMIT < parts {
         return Err(ReadFault::Field);
     }
     Ok(((part, parts), rest))
@@ -275,7 +272,7 @@ fn snapshot_of(alloc: Global, bytes: &[u8]) -> Result<(Snapshot, &[u8]), ReadFau
     let (generation, rest) = generation_of(bytes)?;
     let (number, rest) = u32_of(rest)?;
     let ((part, parts), rest) = part_of(rest)?;
-    let (entries, rest) = list_of(alloc, MOST_ENTRIES, rest)?;
+    let (entries, rest) = list_of(alloc, ENTRY_LIMIT, rest)?;
     Ok((
         Snapshot {
             generation,
@@ -419,7 +416,7 @@ fn tabs_rise(places: &[(u16, u16)]) -> bool
 fn places_of(alloc: Global, bytes: &[u8]) -> Result<(Sequence<(u16, u16)>, &[u8]), ReadFault>
     ensures { Gives (λ x. (x.0, x.1.now)) result (rising_places_at bytes.now) }
 {
-    let (places, rest) = list_of(alloc, MOST_PLACES, bytes)?;
+    let (places, rest) = list_of(alloc, LIST_LIMIT, bytes)?;
     if !tabs_rise(places.as_slice()) {
         return Err(ReadFault::Field);
     }

@@ -5,16 +5,13 @@ ghost use Rattle.std.specs.Int.{w16, w32};
 ghost use Rattle.wl_frames.specs.Reading.{Gives, byte_at, number_at, generation_at, tab_at, mode_at, flag_at, held_at, taken_at, short_text_at, long_text_at, text_of, channel_at, lock_name_at, data_at, origin_text_of, origin_at, items_at, list_at};
 
 use super::fault::ReadFault;
-use crate::origin::Origin;
-use crate::sequence::Sequence;
 use bytes::Bytes;
 use std::alloc::Global;
 use std::str;
 use wl_draft::{Mode, Name};
-
-const MOST_DATA: u16 = 16_384;
-
-const MOST_ORIGIN: u16 = 4_096;
+use wl_grammar::origin::Origin;
+use wl_grammar::sequence::Sequence;
+use wl_limits::texts::{DATA_LIMIT, ORIGIN_LIMIT};
 
 pub fn byte_of(bytes: &[u8]) -> Result<(u8, &[u8]), ReadFault>
     ensures { Gives (λ x. (x.0, x.1.now)) result (byte_at bytes.now) }
@@ -125,14 +122,15 @@ fn short_text_of(bytes: &[u8]) -> Result<(&[u8], &[u8]), ReadFault>
 }
 
 #[tactic(auto, unfolding(crate::specs::Reading::long_text_at))]
-fn long_text_of(most: u16, bytes: &[u8]) -> Result<(&[u8], &[u8]), ReadFault>
+fn long_text_of(most: usize, bytes: &[u8]) -> Result<(&[u8], &[u8]), ReadFault>
     ensures { Gives (λ x. (x.0.now, x.1.now)) result (long_text_at most bytes.now) }
 {
     let (len, rest) = u16_of(bytes)?;
+    let len = usize::from(len);
     if most < len {
         return Err(ReadFault::Field);
     }
-    taken_of(len as usize, rest)
+    taken_of(len, rest)
 }
 
 fn name_of(alloc: Global, text: &[u8]) -> Result<Name, ReadFault>
@@ -165,7 +163,7 @@ pub fn lock_name_of(alloc: Global, bytes: &[u8]) -> Result<(Name, &[u8]), ReadFa
 pub fn data_of(alloc: Global, bytes: &[u8]) -> Result<(Bytes, &[u8]), ReadFault>
     ensures { Gives (λ x. (x.0, x.1.now)) result (data_at bytes.now) }
 {
-    let (data, rest) = long_text_of(MOST_DATA, bytes)?;
+    let (data, rest) = long_text_of(DATA_LIMIT, bytes)?;
     Ok((Bytes::copy_from_slice(alloc, data)?, rest))
 }
 
@@ -183,7 +181,7 @@ fn origin_text_of(alloc: Global, text: &[u8]) -> Result<Origin, ReadFault>
 pub fn origin_of(alloc: Global, bytes: &[u8]) -> Result<(Origin, &[u8]), ReadFault>
     ensures { Gives (λ x. (x.0, x.1.now)) result (origin_at bytes.now) }
 {
-    let (text, rest) = long_text_of(MOST_ORIGIN, bytes)?;
+    let (text, rest) = long_text_of(ORIGIN_LIMIT, bytes)?;
     Ok((origin_text_of(alloc, text)?, rest))
 }
 
@@ -212,13 +210,13 @@ fn items_of<T: Item>(alloc: Global, count: u16, bytes: &[u8]) -> Result<(Vec<T>,
 #[tactic(auto, unfolding(crate::specs::Reading::list_at))]
 pub fn list_of<T: Item>(
     alloc: Global,
-    most: u16,
+    most: usize,
     bytes: &[u8],
 ) -> Result<(Sequence<T>, &[u8]), ReadFault>
     ensures { Gives (λ x. (x.0, x.1.now)) result (list_at T.item_at most bytes.now) }
 {
     let (count, rest) = u16_of(bytes)?;
-    if most < count {
+    if most < usize::from(count) {
         return Err(ReadFault::Field);
     }
     let (items, rest) = items_of(alloc, count, rest)?;

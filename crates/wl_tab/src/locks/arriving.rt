@@ -11,7 +11,7 @@ use crate::locks::kept::Kept;
 use crate::locks::settling::settle_all;
 use std::alloc::{AllocError, Global};
 use wl_agent::{Delivered, Snapshot, Unheard};
-use wl_frames::{Frame, Sequence};
+use wl_grammar::{Frame, Sequence};
 use wl_said::{Ended, Reason, Said};
 
 impl TabLocks {

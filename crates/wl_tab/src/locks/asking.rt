@@ -1,7 +1,7 @@
 //! Requests, probes and queries, whose tokens are kept.
 
 ghost use Rattle.std.specs.Prelude.{◌≡◌, ◌≢◌, true, false, length, Some, None, IfOk, OnOk, IfErr, OnErr};
-ghost use Rattle.wl_frames.specs.declared.frame.Operation.TheVariants.{Request};
+ghost use Rattle.wl_grammar.specs.declared.frame.Operation.TheVariants.{Request};
 ghost use Rattle.wl_agent.specs.Tab.{asked, queried, ask_refusal, query_refusal};
 
 use crate::locks::TabLocks;
@@ -9,7 +9,7 @@ use crate::locks::kept::Kept;
 use std::alloc::{AllocError, Global};
 use wl_agent::{AgentFault, Token};
 use wl_draft::{Mode, Name};
-use wl_frames::Operation;
+use wl_grammar::Operation;
 
 impl TabLocks {
     /// Asks for a lock, and gives the command's number. The room for its token is made first.

@@ -7,7 +7,7 @@ ghost use Rattle.wl_tab.specs.TabTokens.{number_of, is_lock, holding_in, ended_b
 use crate::holding::Holding;
 use std::alloc::{AllocError, Global};
 use wl_agent::Token;
-use wl_frames::Operation;
+use wl_grammar::Operation;
 use wl_said::Ended;
 
 /// A number that is not over: its command, and its token.

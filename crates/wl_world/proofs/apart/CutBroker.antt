@@ -7,26 +7,27 @@ use Rattle.std.proofs.lemmas.List.Elements.{filter-append}
 use Rattle.wl_draft.specs.declared.row.Row.{Row}
 use Rattle.wl_draft.specs.Tables.{put}
 use Rattle.wl_draft.specs.Locks.{Locks, no_locks, settle_if, newly_if, live, standing as standing_of, without, restored, ended}
-use Rattle.wl_frames.specs.declared.frame.Operation.{Operation}
-use Rattle.wl_frames.specs.declared.frame.Operation.TheVariants.{Request, Release, Abort, Query}
-use Rattle.wl_frames.specs.declared.frame.Outcome.{Outcome}
-use Rattle.wl_frames.specs.declared.frame.Outcome.TheVariants.{Granted, Gone, Taken}
-use Rattle.wl_frames.specs.declared.frame.SnapshotEntry.{SnapshotEntry}
-use Rattle.wl_frames.specs.declared.frame.Addressed.{Addressed}
-use Rattle.wl_frames.specs.declared.frame.Stamped.{Stamped}
-use Rattle.wl_frames.specs.declared.frame.Upward.{Upward}
-use Rattle.wl_frames.specs.declared.frame.Upward.TheVariants as up
-use Rattle.wl_frames.specs.declared.frame.Downward.TheVariants as down
+use Rattle.wl_broker.proofs.Clients.{Own, Stands, restored-Stands, drafted-Stands, ended-Stands}
+use Rattle.wl_grammar.specs.declared.frame.Operation.{Operation}
+use Rattle.wl_grammar.specs.declared.frame.Operation.TheVariants.{Request, Release, Abort, Query}
+use Rattle.wl_grammar.specs.declared.frame.Outcome.{Outcome}
+use Rattle.wl_grammar.specs.declared.frame.Outcome.TheVariants.{Granted, Gone, Taken}
+use Rattle.wl_grammar.specs.declared.frame.SnapshotEntry.{SnapshotEntry}
+use Rattle.wl_grammar.specs.declared.frame.Addressed.{Addressed}
+use Rattle.wl_grammar.specs.declared.frame.Stamped.{Stamped}
+use Rattle.wl_grammar.specs.declared.frame.Upward.{Upward}
+use Rattle.wl_grammar.specs.declared.frame.Upward.TheVariants as up
+use Rattle.wl_grammar.specs.declared.frame.Downward.TheVariants as down
 use Rattle.wl_broker.specs.declared.seat.Seat.{Seat}
 use Rattle.wl_broker.specs.declared.seat.Seat.TheVariants.{Joined, Dead}
 use Rattle.wl_broker.specs.declared.dropped.Dropped.TheVariants.{OldGeneration, LaterGeneration, NotJoined, Recovering, OutOfTurn, DeadTab, AlreadyJoined, HeldByNewcomer, BadReport, Misplaced, TooMany, PartTwice}
 use Rattle.wl_broker.specs.Broker.{BrokerState, seat_of, manager_of, is_joined, is_dead, has_come, next_in, next_of, is_active, with_seat, settled_at, newly_at, answer_to, grants_to, outcome_of, snapshot_entries, parts_of, snapshot_part, snapshot_to, first_answer, later_answer, listed_at, is_listed, elsewhere, seated_at, or_else, has_held, all_below, is_lock, limit_in, limit_of, last_number, is_misplaced, place_of, generation_of, drafted, Taking, Drops, Does, join, perform, Partial, Told, Whole, partial_of, kept_at, at_once, in_part, fits, is_there, with_told, is_whole, whole_of, keeping, join_if, take_told, take_command, take_inner, taking, buried_at, burial}
-use Rattle.wl_bag.specs.Membership.{In, Here, Later}
-use Rattle.wl_bag.proofs.Membership.{apart, either}
+use Rattle.wl_draft.specs.Membership.{In, Here, Later}
+use Rattle.wl_draft.proofs.Membership.{apart, either, by_test, along, filter-swap, map-same}
 use Rattle.wl_world.specs.Apart.{only, broker_for}
-use Rattle.wl_world.proofs.apart.Cuts.{by_test, along, filter-all, filter-nothing, filter-swap, filter-spare, map-same, find-only, at-only, only-put_in, only-put_out}
+use Rattle.wl_world.proofs.apart.Cuts.{filter-all, filter-nothing, filter-spare, find-only, at-only, only-put_in, only-put_out}
 use Rattle.wl_world.proofs.apart.CutMail.{outs_for}
-use Rattle.wl_world.proofs.apart.OnePartition.{Own, Stands, restored-Stands, drafted-Stands, ended-Stands, Mates, Fits, first-told, later-told, grants-told, manager_of-Stands, with_seat-Fits, newly_at-Own, without-Own, Placed, place_of-Placed, settles, buries}
+use Rattle.wl_world.proofs.apart.OnePartition.{Mates, Fits, first-told, later-told, grants-told, manager_of-Stands, with_seat-Fits, newly_at-Own, without-Own, Placed, place_of-Placed, settles, buries}
 
 -- what is done, as the partition has it
 abbrev pub taking_for : (ℕ → Bool) → Taking → Taking

@@ -6,8 +6,8 @@ use Rattle.std.specs.List.{list_any}
 use Rattle.std.proofs.lemmas.List.Elements.{filter-append}
 use Rattle.std.proofs.lemmas.Bool.Decides.{nat_tests}
 use Rattle.wl_origin.specs.Order.{Pair}
-use Rattle.wl_frames.specs.declared.frame.Addressed.{Addressed}
-use Rattle.wl_frames.specs.declared.frame.Stamped.{Stamped}
+use Rattle.wl_grammar.specs.declared.frame.Addressed.{Addressed}
+use Rattle.wl_grammar.specs.declared.frame.Stamped.{Stamped}
 use Rattle.wl_broker.specs.Broker.{BrokerState, started, hellos, hello_to, taking, burial}
 use Rattle.wl_kernel.specs.declared.fault.StartFault.TheVariants.{TooManyListed, NotRising}
 use Rattle.wl_kernel.specs.Kernel.{KernelState, OpenedTab, any_tab, is_of, is_opened, put_in, living_in, living_tabs, living_of, list_limit, rises_from, rises, is_listed, is_older, is_from_before, first_such, stranger, missing, absence, start_refusal, placed, partition_number, may_stop, stopped}
@@ -16,13 +16,13 @@ use Rattle.wl_bag.specs.declared.message.Sender.TheVariants.{Kernel}
 use Rattle.wl_bag.specs.declared.message.Message.{Message}
 use Rattle.wl_bag.specs.declared.message.Message.TheVariants.{Down}
 use Rattle.wl_bag.specs.Messages.{sent_all}
-use Rattle.wl_bag.specs.Membership.{In, Here, Later}
-use Rattle.wl_bag.proofs.Membership.{apart, either, In-nil, In-one, In-cons_cases, In-map_cases, In-filter_cases, In-append_cases}
+use Rattle.wl_draft.specs.Membership.{In, Here, Later}
+use Rattle.wl_draft.proofs.Membership.{apart, either, In-nil, In-one, In-cons_cases, In-map_cases, In-filter_cases, In-append_cases, by_test, map-same}
 use Rattle.wl_bag.proofs.Same.{sent_all-cases}
 use Rattle.wl_world.specs.World.{WorldState, Deed, nothing, where_allowed, lives, from_broker, comes_up, follows, buries as buries_tab, tells, stops, begins, starts, greets, taken_over, corrupts}
 use Rattle.wl_world.specs.Apart.{is_in, only, tab_at, mail, kernel_for, broker_for, up_for, part, stops_now, starts_now}
 use Rattle.wl_world.proofs.exclusion.ActsWithinAGeneration.{after}
-use Rattle.wl_world.proofs.apart.Cuts.{by_test, any-filter, filter-map, map-same}
+use Rattle.wl_world.proofs.apart.Cuts.{any-filter, filter-map}
 use Rattle.wl_world.proofs.apart.CutMail.{mail-sent_all, sends-in, sends-out, mail-outs}
 use Rattle.wl_world.proofs.apart.CutKernel.{side, own-tab, own-number, own-living, living-part, In-living, In-put_in}
 use Rattle.wl_world.proofs.apart.OnePartition.{Mates, taking-Fits, burial-Fits, buries}

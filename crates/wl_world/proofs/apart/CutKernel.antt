@@ -9,10 +9,10 @@ use Rattle.wl_kernel.specs.Kernel.{KernelState, OpenedTab, tab_in, tab_of, lives
 use Rattle.wl_kernel.specs.Kept.{AreTabs}
 use Rattle.wl_kernel.specs.Routes.{hearers, hearers_beside}
 use Rattle.wl_kernel.proofs.OpenedTabs.{ended_of, tab_in-ended}
-use Rattle.wl_bag.specs.Membership.{In, Here, Later}
-use Rattle.wl_bag.proofs.Membership.{apart, either, In-cons_cases, In-filter_cases}
+use Rattle.wl_draft.specs.Membership.{In, Here, Later}
+use Rattle.wl_draft.proofs.Membership.{apart, either, In-cons_cases, In-filter_cases, by_test}
 use Rattle.wl_world.specs.Apart.{was_opened_in, is_in, kernel_for}
-use Rattle.wl_world.proofs.apart.Cuts.{by_test, map-own}
+use Rattle.wl_world.proofs.apart.Cuts.{map-own}
 
 -- ---- tabs by their numbers
 

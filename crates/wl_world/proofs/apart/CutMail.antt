@@ -2,15 +2,15 @@
 use Rattle.std.proofs.Common.{◌≡◌, ℕ, Bool, true, false, cond, List, [], ◌∷◌, ◌++◌, map, filter, refl, sym, ap, ◌∙◌, append-nil}
 use Rattle.std.proofs.lemmas.Bool.{or_left, cond-true, cond-false}
 use Rattle.std.proofs.lemmas.List.Elements.{filter-append}
-use Rattle.wl_frames.specs.declared.frame.Addressed.{Addressed}
+use Rattle.wl_grammar.specs.declared.frame.Addressed.{Addressed}
 use Rattle.wl_bag.specs.declared.message.Message.{Message}
 use Rattle.wl_bag.specs.Messages.{same_message, is_sent, sent, sent_all}
-use Rattle.wl_bag.specs.Membership.{In}
-use Rattle.wl_bag.proofs.Membership.{In-one}
+use Rattle.wl_draft.specs.Membership.{In}
+use Rattle.wl_draft.proofs.Membership.{In-one, by_test}
 use Rattle.wl_bag.proofs.Same.{is_sent-In}
 use Rattle.wl_world.specs.World.{from_broker}
 use Rattle.wl_world.specs.Apart.{tab_at, mail}
-use Rattle.wl_world.proofs.apart.Cuts.{by_test, any-filter, filter-all, filter-nothing, filter-map}
+use Rattle.wl_world.proofs.apart.Cuts.{any-filter, filter-all, filter-nothing, filter-map}
 
 -- messages that are the same have the same tab
 same-tab : (m x : Message) → same_message m x ≡ true → tab_at m ≡ tab_at x

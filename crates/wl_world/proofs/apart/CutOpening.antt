@@ -1,7 +1,7 @@
 -- Tabs are opened and killed: the events that change who is in a partition.
 use Rattle.std.proofs.Common.{◌≡◌, ⊎_elim, ℕ, Bool, true, false, cond, not, ◌&&◌, ◌||◌, eqb, List, [], ◌∷◌, ◌++◌, length, map, filter, Option, Some, None, is_some, refl, sym, ap, ◌∙◌, subst, append-nil, arith}
 use Rattle.std.specs.Prelude.{◌==◌, nat_le}
-use Rattle.wl_agent.proofs.Rows.{Rises-put}
+use Rattle.wl_draft.proofs.RisingTables.{Rises-put, put-cases}
 use Rattle.wl_agent.specs.Tab.{TabState, newborn_two}
 use Rattle.std.proofs.lemmas.Bool.{and_parts, or_cases, or_parts, or_from, cond-true, cond-false, eq-eqb}
 use Rattle.std.proofs.lemmas.Bool.Decides.{nat_tests}
@@ -18,14 +18,14 @@ use Rattle.wl_kernel.specs.Kernel.{KernelState, OpenedTab, tab_of as opened_tab,
 use Rattle.wl_kernel.proofs.OpenedTabs.{tabs-push, tabs-ended, tab_in-push, tab_in-push_kept, open_is_allowed}
 use Rattle.wl_bag.specs.declared.message.Message.{Message}
 use Rattle.wl_bag.specs.declared.message.Message.TheVariants.{Up, Down, Across}
-use Rattle.wl_bag.specs.Membership.{In}
-use Rattle.wl_bag.proofs.Membership.{apart, either}
-use Rattle.wl_tab.specs.declared.locks.TheConstants.{COMMAND_LIMIT}
+use Rattle.wl_draft.specs.Membership.{In}
+use Rattle.wl_draft.proofs.Membership.{apart, either}
+use Rattle.wl_limits.specs.declared.tabs.TheConstants.{COMMAND_LIMIT}
 use Rattle.wl_world.specs.World.{WorldState, lives, with_kernel, opens, with_two, opens_two, kills}
 use Rattle.wl_world.specs.Apart.{was_opened_in, is_in, only, tab_at, kernel_for, up_for, world_for, part, is_own_open}
 use Rattle.wl_world.proofs.exclusion.OpenedTabs.{ended-opened}
 use Rattle.wl_world.proofs.exclusion.ActsWithinAGeneration.{after}
-use Rattle.wl_world.proofs.apart.Cuts.{filter-same, put-cases, only-put_in, only-put_out}
+use Rattle.wl_world.proofs.apart.Cuts.{filter-same, only-put_in, only-put_out}
 use Rattle.wl_world.proofs.apart.CutKernel.{own-tab, own-living, living-part, living_of-part, killed-part, killed-in, killed-others, none-part}
 use Rattle.wl_world.proofs.apart.OnePartition.{Mates, Seated, Managed}
 use Rattle.wl_world.proofs.apart.ToldApart.{opened, opened-tab, in-opened, Posted, FitsUp, OrderlyFor, Orderly}

@@ -3,24 +3,12 @@ use Rattle.std.proofs.Common.{◌≡◌, ◌⊎◌, inl, inr, ⊎_elim, ℕ, ◌
 use Rattle.std.specs.Prelude.{◌==◌, nat_lt}
 use Rattle.std.specs.List.{list_any}
 use Rattle.std.proofs.lemmas.Bool.{cond-true, cond-false, eqb-true, ne_eqb, ltb-true, lt-ltb}
-use Rattle.wl_draft.specs.Tables.{Table, at, find, put}
+use Rattle.wl_draft.specs.Tables.{Table, at, find, put, Rises}
 use Rattle.wl_draft.proofs.TableLemmas.{at-find}
-use Rattle.wl_agent.specs.Kept.{Rises}
-use Rattle.wl_agent.proofs.Rows.{Rises-filter}
-use Rattle.wl_bag.specs.Membership.{In, Here, Later}
-use Rattle.wl_bag.proofs.Membership.{apart, either, In-cons_cases, In-filter_cases}
+use Rattle.wl_draft.specs.Membership.{In, Here, Later}
+use Rattle.wl_draft.proofs.Membership.{apart, either, In-cons_cases, In-filter_cases, by_test}
+use Rattle.wl_draft.proofs.RisingTables.{Rises-filter, put-below}
 use Rattle.wl_world.specs.Apart.{only}
-
--- ---- tests
-
--- a statement on a test, by cases
-pub by_test : (P : Bool → Type 0) (b : Bool) → (b ≡ true → P true) → (b ≡ false → P false) → P b
-by_test P true y n = y refl
-by_test P false y n = n refl
-
--- a choice by the same test of what a function makes of the two
-pub along : {A B : Type 0} (F : A → B) (c d : Bool) (x y : B) (u v : A) → c ≡ d → (d ≡ true → x ≡ F u) → (d ≡ false → y ≡ F v) → cond c x y ≡ F (cond d u v)
-along F c d x y u v e g h = ap (λ z. cond z x y) e ∙ by_test (λ z. cond z x y ≡ F (cond z u v)) d g h
 
 -- ---- lists
 
@@ -47,10 +35,6 @@ pub filter-map : {X Y : Type 0} (p : Y → Bool) (h : X → Y) (xs : List X) →
 filter-map p h [] = refl
 filter-map p h (x ∷ xs) = filter-map_step (p (h x)) h x (filter (λ x. p (h x)) xs) (filter p (map h xs)) (filter-map p h xs)
 
-pub map-same : {X Y : Type 0} (g h : X → Y) (xs : List X) → ((x : X) → In x xs → g x ≡ h x) → map g xs ≡ map h xs
-map-same g h [] e = refl
-map-same g h (x ∷ xs) e = ap₂ ◌∷◌ (e x Here) (map-same g h xs (λ y i. e y (Later i)))
-
 pub map-own : {X : Type 0} (h : X → X) (xs : List X) → ((x : X) → In x xs → h x ≡ x) → map h xs ≡ xs
 map-own h [] e = refl
 map-own h (x ∷ xs) e = ap₂ ◌∷◌ (e x Here) (map-own h xs (λ y i. e y (Later i)))
@@ -63,17 +47,6 @@ any-filter p q h (x ∷ xs) =
     (λ _. ap (λ z. p x || z) (any-filter p q h xs))
     (λ n. any-filter p q h xs ∙ by_test (λ v. list_any p xs ≡ (v || list_any p xs)) (p x) (λ s. apart (h x s) n) (λ _. refl))
 
--- two tests in either order
-filter-swap_step : {X : Type 0} (b c : Bool) (x : X) (us vs : List X) (p q : X → Bool) → p x ≡ b → q x ≡ c → filter p vs ≡ filter q us → filter p (cond c (x ∷ vs) vs) ≡ filter q (cond b (x ∷ us) us)
-filter-swap_step true true x us vs p q e f h = cond-true _ _ _ e ∙ ap (λ ws. x ∷ ws) h ∙ sym (cond-true _ _ _ f)
-filter-swap_step true false x us vs p q e f h = h ∙ sym (cond-false _ _ _ f)
-filter-swap_step false true x us vs p q e f h = cond-false _ _ _ e ∙ h
-filter-swap_step false false x us vs p q e f h = h
-
-pub filter-swap : {X : Type 0} (p q : X → Bool) (xs : List X) → filter p (filter q xs) ≡ filter q (filter p xs)
-filter-swap p q [] = refl
-filter-swap p q (x ∷ xs) = filter-swap_step (p x) (q x) x (filter p xs) (filter q xs) p q refl refl (filter-swap p q xs)
-
 -- ---- tables
 
 -- without the row of a number that is cut away
@@ -84,16 +57,6 @@ filter-spare f t (p ∷ ps) e =
     (λ s _. filter-spare f t ps e ∙ sym (cond-false _ _ _ (ap f (eqb-true p.0 t s) ∙ e)))
     (λ _ _. ap (λ zs. cond (f p.0) (p ∷ zs) zs) (filter-spare f t ps e))
     refl
-
-pub put-cases : {X : Type 0} {q : ℕ × X} (k : ℕ) (x : X) (ps : Table X) → In q (put k x ps) → (q ≡ (k, x)) ⊎ In q ps
-put-cases k x [] i = In-cons_cases i
-put-cases {q = q} k x (p ∷ ps) i =
-    either (λ zs. In q zs → (q ≡ (k, x)) ⊎ In q (p ∷ ps)) (p.0 == k) ((k, x) ∷ ps) (cond (nat_lt k p.0) ((k, x) ∷ p ∷ ps) (p ∷ put k x ps))
-    (λ _ j. ⊎_elim (λ e. inl e) (λ l. inr (Later l)) (In-cons_cases j))
-    (λ _. either (λ zs. In q zs → (q ≡ (k, x)) ⊎ In q (p ∷ ps)) (nat_lt k p.0) ((k, x) ∷ p ∷ ps) (p ∷ put k x ps)
-    (λ _ j. In-cons_cases j)
-    (λ _ j. ⊎_elim (λ e. inr (subst (λ z. In z (p ∷ ps)) (sym e) Here)) (λ l. ⊎_elim (λ e. inl e) (λ m. inr (Later m)) (put-cases k x ps l)) (In-cons_cases j)))
-    i
 
 pub find-only : {X : Type 0} (f : ℕ → Bool) (k : ℕ) (ps : Table X) → f k ≡ true → find (only f ps) k ≡ find ps k
 find-only f k [] e = refl
@@ -111,12 +74,6 @@ find-only_out f k (p ∷ ps) e =
 
 pub at-only : {X : Type 0} (f : ℕ → Bool) (d : X) (k : ℕ) (ps : Table X) → f k ≡ true → at d (only f ps) k ≡ at d ps k
 at-only f d k ps e = at-find d (only f ps) k ∙ ap (λ z. unwrap_or z d) (find-only f k ps e) ∙ sym (at-find d ps k)
-
-put-below : {X : Type 0} (k : ℕ) (x : X) (ps : Table X) → Rises (k + 1) ps → put k x ps ≡ (k, x) ∷ ps
-put-below k x [] r = refl
-put-below k x (p ∷ ps) r =
-    let l : k + 1 ≤ p.0 = r.0 in
-    cond-false _ _ _ (ne_eqb p.0 k (λ e. omega arith)) ∙ cond-true _ _ _ (lt-ltb k p.0 (omega arith))
 
 pub only-put_out : {X : Type 0} (f : ℕ → Bool) (k : ℕ) (x : X) (ps : Table X) → f k ≡ false → only f (put k x ps) ≡ only f ps
 only-put_out f k x [] e = cond-false _ _ _ e

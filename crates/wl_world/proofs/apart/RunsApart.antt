@@ -7,14 +7,14 @@ use Rattle.wl_kernel.specs.Routes.{frame_of}
 use Rattle.wl_bag.specs.declared.message.Message.{Message}
 use Rattle.wl_bag.specs.declared.message.Message.TheVariants.{Up, Down, Across}
 use Rattle.wl_bag.specs.Messages.{is_sent}
-use Rattle.wl_bag.proofs.Membership.{In-nil}
+use Rattle.wl_draft.proofs.Membership.{In-nil, by_test}
 use Rattle.wl_bag.proofs.Same.{is_sent-In}
 use Rattle.wl_world.specs.declared.event.Event.{Event}
 use Rattle.wl_world.specs.declared.event.Event.TheVariants as event
 use Rattle.wl_world.specs.World.{WorldState, empty_world, Deed, where_allowed, comes, deed, happens, run}
 use Rattle.wl_world.specs.Apart.{is_in, mail, tab_at, up_for, world_for, part, IsAlone, stops_now, starts_now, is_own_open, when, kept, followed_by, projected, happens_if, DroppedLeavesAlone, KeptDoesAlike, RunsApartForAll}
 use Rattle.wl_world.proofs.exclusion.ActsWithinAGeneration.{after}
-use Rattle.wl_world.proofs.apart.Cuts.{by_test, filter-twice}
+use Rattle.wl_world.proofs.apart.Cuts.{filter-twice}
 use Rattle.wl_world.proofs.apart.CutMail.{mail-is_sent}
 use Rattle.wl_world.proofs.apart.CutKernel.{in-part}
 use Rattle.wl_world.proofs.apart.ToldApart.{opened, Posted, Orderly, TabAct, does, does-Orderly, own-does, out-does}

@@ -2,28 +2,28 @@
 use Rattle.std.proofs.Common.{◌≡◌, ⊎_elim, ℕ, Bool, true, false, List, map, Option, Some, None, is_some, refl, sym, ap, ap₂, ◌∙◌, subst, arith}
 use Rattle.std.specs.Prelude.{◌==◌}
 use Rattle.std.proofs.lemmas.Bool.{eqb-true}
+use Rattle.wl_draft.specs.Tables.{Rises}
+use Rattle.wl_draft.proofs.RisingTables.{Rises-put, put-cases}
 use Rattle.wl_origin.specs.Order.{Pair, pair_eq}
 use Rattle.wl_origin.proofs.OrderLemmas.{pair_eq-decides}
 use Rattle.wl_broker.specs.Broker.{BrokerState, Taking, Drops, Does}
 use Rattle.wl_broadcast.specs.Channels.{ChannelState}
 use Rattle.wl_agent.specs.Tab.{TabState}
-use Rattle.wl_agent.specs.Kept.{Rises}
-use Rattle.wl_agent.proofs.Rows.{Rises-put}
 use Rattle.wl_kernel.specs.Kernel.{KernelState, OpenedTab, tab_of as opened_tab, is_living, is_of, number_beside, partition_number}
 use Rattle.wl_kernel.specs.Kept.{AreTabs}
 use Rattle.wl_kernel.specs.Routes.{hearers}
 use Rattle.wl_bag.specs.declared.message.Message.{Message}
 use Rattle.wl_bag.specs.declared.message.Message.TheVariants.{Up, Down, Across}
 use Rattle.wl_bag.specs.Messages.{sent_all}
-use Rattle.wl_bag.specs.Membership.{In}
-use Rattle.wl_bag.proofs.Membership.{apart, either, In-map_cases}
+use Rattle.wl_draft.specs.Membership.{In}
+use Rattle.wl_draft.proofs.Membership.{apart, either, In-map_cases, by_test}
 use Rattle.wl_bag.proofs.Same.{sent_all-cases}
 use Rattle.wl_tab.specs.Tabs.{tab_in, channels_in}
 use Rattle.wl_world.specs.World.{WorldState, tab_of, channels_of, lives, is_corrupt, partition_of, Deed, nothing, where_allowed, acts, becomes, from_broker, follows}
 use Rattle.wl_world.specs.Apart.{was_opened_in, is_in, mail, tab_at, broker_for, up_for, part}
 use Rattle.wl_world.proofs.exclusion.CoverExcludes.{living_opened}
 use Rattle.wl_world.proofs.exclusion.ActsWithinAGeneration.{after}
-use Rattle.wl_world.proofs.apart.Cuts.{by_test, any-filter, find-only, put-cases, only-put_in, only-put_out}
+use Rattle.wl_world.proofs.apart.Cuts.{any-filter, find-only, only-put_in, only-put_out}
 use Rattle.wl_world.proofs.apart.CutMail.{mail-sent_all, sends-in, sends-out, mail-outs}
 use Rattle.wl_world.proofs.apart.CutKernel.{found, finds, side, own-number, own-living, own-hearers, hearers-side, hearers-opened, first-of}
 use Rattle.wl_world.proofs.apart.OnePartition.{Mates, Fits, FitsTaking}

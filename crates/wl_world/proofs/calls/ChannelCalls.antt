@@ -3,8 +3,8 @@ use Rattle.std.proofs.Common.{◌≡◌, ℕ, zero, suc, arith, is_some, ◌∷�
 use Rattle.std.proofs.lemmas.Bool.{cases_eq, eq-eqb, ltb-false, le-ltb}
 use Rattle.wl_draft.specs.Tables.{Table, find, put}
 use Rattle.wl_draft.proofs.TableLemmas.{find-put_same, find-put_other}
-use Rattle.wl_frames.specs.declared.frame.Heard.{Heard}
-use Rattle.wl_frames.specs.declared.frame.Frame.TheVariants as frame
+use Rattle.wl_grammar.specs.declared.frame.Heard.{Heard}
+use Rattle.wl_grammar.specs.declared.frame.Frame.TheVariants as frame
 use Rattle.wl_broadcast.specs.declared.fault.ChannelFault.TheVariants as fault
 use Rattle.wl_broadcast.specs.Channels.{Object, ChannelState, after_hearing, heard, is_old, is_open_at, is_own, post_refusal, posted, read_at, post_limit, name_at}
 use Rattle.wl_broadcast.proofs.Numbered.{is_open_at-suc}

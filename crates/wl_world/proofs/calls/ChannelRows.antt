@@ -1,9 +1,9 @@
 -- A call on a tab's channels, over the parts of the world.
 use Rattle.std.proofs.Common.{◌≡◌, ℕ, List, [], Bool, cond, false, true, Some, None, Result, Ok, Err, OnOk, OnErr, IfErr, refl, sym, ap, ◌∙◌, subst}
 use Rattle.wl_draft.specs.Tables.{Table, find, put}
-use Rattle.wl_frames.specs.declared.frame.Frame.{Frame}
-use Rattle.wl_frames.specs.declared.frame.Frame.TheVariants as frame
-use Rattle.wl_frames.specs.declared.frame.Heard.{Heard}
+use Rattle.wl_grammar.specs.declared.frame.Frame.{Frame}
+use Rattle.wl_grammar.specs.declared.frame.Frame.TheVariants as frame
+use Rattle.wl_grammar.specs.declared.frame.Heard.{Heard}
 use Rattle.wl_broadcast.specs.declared.letter.Posted.{Posted}
 use Rattle.wl_broadcast.specs.declared.letter.Hearing.{Hearing}
 use Rattle.wl_broadcast.specs.declared.letter.Hearing.TheVariants.{Old, New}

@@ -1,9 +1,9 @@
 -- A tab's post as the kernel passes it on is what the other tabs are sent.
 use Rattle.std.proofs.Common.{◌≡◌, ℕ, List, [], ◌∷◌, map, refl, ap, ◌∙◌}
 use Rattle.std.specs.List.{filter_map}
-use Rattle.wl_frames.specs.declared.frame.Frame.{Frame}
-use Rattle.wl_frames.specs.declared.frame.Frame.TheVariants as frame
-use Rattle.wl_frames.specs.declared.frame.Heard.{Heard}
+use Rattle.wl_grammar.specs.declared.frame.Frame.{Frame}
+use Rattle.wl_grammar.specs.declared.frame.Frame.TheVariants as frame
+use Rattle.wl_grammar.specs.declared.frame.Heard.{Heard}
 use Rattle.wl_kernel.specs.Kernel.{KernelState}
 use Rattle.wl_kernel.specs.Routes.{routed_up, heard_of, hearers}
 use Rattle.wl_kernel.specs.declared.routes.Routed.TheVariants.{Tabs}

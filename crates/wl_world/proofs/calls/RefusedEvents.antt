@@ -3,11 +3,11 @@ use Rattle.std.proofs.Common.{◌≡◌, ℕ, ◌-◌, is_some, Bool, true, fals
 use Rattle.std.proofs.lemmas.Bool.{and_right, cases_eq}
 use Rattle.wl_draft.specs.Tables.{Table, find, put}
 use Rattle.wl_draft.proofs.TableLemmas.{find-put_same, find-put_other}
-use Rattle.wl_frames.specs.declared.frame.Frame.{Frame}
-use Rattle.wl_frames.specs.declared.frame.Stamped.{Stamped}
-use Rattle.wl_frames.specs.declared.frame.Heard.{Heard}
-use Rattle.wl_frames.specs.declared.frame.Upward.{Upward}
-use Rattle.wl_frames.specs.declared.frame.Upward.TheVariants as up
+use Rattle.wl_grammar.specs.declared.frame.Frame.{Frame}
+use Rattle.wl_grammar.specs.declared.frame.Stamped.{Stamped}
+use Rattle.wl_grammar.specs.declared.frame.Heard.{Heard}
+use Rattle.wl_grammar.specs.declared.frame.Upward.{Upward}
+use Rattle.wl_grammar.specs.declared.frame.Upward.TheVariants as up
 use Rattle.wl_broker.specs.Broker.{BrokerState, seat_of, is_joined, Taking, Drops, Does, taking}
 use Rattle.wl_agent.specs.declared.delivered.Delivered.{Delivered}
 use Rattle.wl_agent.specs.declared.delivered.Delivered.TheVariants as told

@@ -2,13 +2,13 @@
 use Rattle.std.proofs.Common.{◌≡◌, ℕ, List, [], Bool, true, false, Option, refl, sym, ap, ◌∙◌}
 use Rattle.wl_draft.specs.Tables.{Table, find, put}
 use Rattle.wl_draft.proofs.TableLemmas.{find-put_same}
-use Rattle.wl_frames.specs.declared.frame.Frame.{Frame}
+use Rattle.wl_grammar.specs.declared.frame.Frame.{Frame}
 use Rattle.wl_broadcast.specs.Channels.{ChannelState}
 use Rattle.wl_agent.specs.declared.delivered.Delivered.{Delivered}
 use Rattle.wl_agent.specs.declared.delivered.Delivered.TheVariants as d
 use Rattle.wl_agent.specs.Tab.{TabState}
 use Rattle.wl_agent.specs.Delivery.{delivery}
-use Rattle.wl_frames.specs.declared.frame.Heard.{Heard}
+use Rattle.wl_grammar.specs.declared.frame.Heard.{Heard}
 use Rattle.wl_said.specs.declared.said.Said.{Said}
 use Rattle.wl_bag.specs.declared.message.Message.{Message}
 use Rattle.wl_bag.specs.declared.message.Message.TheVariants.{Across}

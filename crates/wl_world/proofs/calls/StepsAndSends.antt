@@ -1,6 +1,6 @@
 -- A run with one more event; no event but for its sends touches the bag.
 use Rattle.std.proofs.Common.{◌≡◌, ℕ, List, [], ◌∷◌, ◌++◌, Bool, true, false, Option, Some, None, refl, ap, ◌∙◌}
-use Rattle.wl_frames.specs.declared.frame.Stamped.{Stamped}
+use Rattle.wl_grammar.specs.declared.frame.Stamped.{Stamped}
 use Rattle.wl_broker.specs.Broker.{BrokerState, Taking, Drops, Does, taking}
 use Rattle.wl_said.specs.declared.said.Said.{Said}
 use Rattle.wl_bag.specs.declared.message.Message.{Message}

@@ -5,23 +5,22 @@ use Rattle.std.proofs.lemmas.Bool.{and_parts, eqb-false, not-true}
 use Rattle.std.proofs.lemmas.List.{get_or_append_left, get_or_push}
 use Rattle.wl_draft.specs.declared.mode.Mode.{Mode}
 use Rattle.wl_draft.specs.declared.row.Row.{Row}
-use Rattle.wl_draft.specs.Tables.{Table, find, put}
+use Rattle.wl_draft.specs.Tables.{Table, find, put, Rises, without_row}
 use Rattle.wl_draft.specs.Locks.{held_of, waiting_of}
-use Rattle.wl_frames.specs.declared.frame.Operation.{Operation}
-use Rattle.wl_frames.specs.declared.frame.Operation.TheVariants.{Request, Release, Abort, Query}
+use Rattle.wl_draft.proofs.RisingTables.{Rises-put, Rises-filter}
+use Rattle.wl_grammar.specs.declared.frame.Operation.{Operation}
+use Rattle.wl_grammar.specs.declared.frame.Operation.TheVariants.{Request, Release, Abort, Query}
 use Rattle.wl_broker.specs.Broker.{is_lock}
-use Rattle.wl_broker.specs.Kept.{Rises}
-use Rattle.wl_broker.proofs.PartitionRows.{Rises-put}
 use Rattle.wl_agent.specs.declared.status.Status.{Status}
 use Rattle.wl_agent.specs.declared.status.Status.TheVariants.{Asked, Querying}
 use Rattle.wl_agent.specs.Parts.{no_parts}
-use Rattle.wl_agent.specs.Tab.{TabState, report_bodies, status_of, operation_of, numbers_of, is_asked, is_held, without_row, issue, finish, asked, queried, aborted, released, ask_refusal, query_refusal, due, is_due, is_report_due}
+use Rattle.wl_agent.specs.Tab.{TabState, report_bodies, status_of, operation_of, numbers_of, is_asked, is_held, issue, finish, asked, queried, aborted, released, ask_refusal, query_refusal, due, is_due, is_report_due}
 use Rattle.wl_agent.specs.Tokens.{is_pending, is_holding}
 use Rattle.wl_kernel.specs.Routes.{hearers}
 use Rattle.wl_bag.specs.declared.message.Message.{Message}
 use Rattle.wl_bag.specs.Messages.{sent_all}
-use Rattle.wl_bag.specs.Membership.{In}
-use Rattle.wl_bag.proofs.Membership.{apart, either, In-nil, In-append_cases, In-one, In-map_cases, In-filter_cases}
+use Rattle.wl_draft.specs.Membership.{In}
+use Rattle.wl_draft.proofs.Membership.{apart, either, In-nil, In-append_cases, In-one, In-map_cases, In-filter_cases}
 use Rattle.wl_bag.proofs.Same.{sent_all-keeps, sent_all-cases}
 use Rattle.wl_tab.specs.Tabs.{tab_in}
 use Rattle.wl_world.specs.declared.event.Forged.{Forged}
@@ -33,7 +32,7 @@ use Rattle.wl_world.proofs.exclusion.Invariant.{Sound, SoundTab, was_opened, IsB
 use Rattle.wl_world.proofs.exclusion.ToldParts.{In-range}
 use Rattle.wl_world.proofs.exclusion.CoverExcludes.{living_opened, asked_alive, held_alive}
 use Rattle.wl_world.proofs.exclusion.GrownTabs.{tab_at, Grows, row-grows, FromTab, said-body, Grown, grown-sound}
-use Rattle.wl_world.proofs.exclusion.HeardNumbers.{Kept, without_row-fewer, Rises-filter, Fewer-held, filtered-fewer}
+use Rattle.wl_world.proofs.exclusion.HeardNumbers.{Kept, without_row-fewer, Fewer-held, filtered-fewer}
 
 -- the world after a deed
 abbrev pub after : WorldState → Deed → WorldState

@@ -5,15 +5,15 @@ use Rattle.std.specs.List.{range_with_len}
 use Rattle.wl_draft.specs.declared.row.Row.{Row}
 use Rattle.wl_draft.specs.declared.row.Standing.TheVariants as standing
 use Rattle.wl_draft.specs.Locks.{Locks, has_pair, standing as standing_of}
-use Rattle.wl_frames.specs.declared.frame.Operation.{Operation}
-use Rattle.wl_frames.specs.declared.frame.Operation.TheVariants.{Request, Release, Abort, Query}
-use Rattle.wl_frames.specs.declared.frame.Outcome.TheVariants.{Granted, Gone}
-use Rattle.wl_frames.specs.declared.frame.SnapshotEntry.{SnapshotEntry}
-use Rattle.wl_frames.specs.declared.frame.Addressed.{Addressed}
+use Rattle.wl_grammar.specs.declared.frame.Operation.{Operation}
+use Rattle.wl_grammar.specs.declared.frame.Operation.TheVariants.{Request, Release, Abort, Query}
+use Rattle.wl_grammar.specs.declared.frame.Outcome.TheVariants.{Granted, Gone}
+use Rattle.wl_grammar.specs.declared.frame.SnapshotEntry.{SnapshotEntry}
+use Rattle.wl_grammar.specs.declared.frame.Addressed.{Addressed}
 use Rattle.wl_broker.specs.Broker.{BrokerState, manager_of, outcome_of, answer_to, grants_to, snapshot_entries, parts_of, snapshot_part, snapshot_to, settled_at, newly_at, first_answer, later_answer, Taking}
 use Rattle.wl_bag.specs.Messages.{sent_all}
-use Rattle.wl_bag.specs.Membership.{In}
-use Rattle.wl_bag.proofs.Membership.{either, In-append_cases, In-one, In-map_cases}
+use Rattle.wl_draft.specs.Membership.{In}
+use Rattle.wl_draft.proofs.Membership.{either, In-append_cases, In-one, In-map_cases}
 use Rattle.wl_world.specs.World.{WorldState, with_broker, from_broker, follows}
 use Rattle.wl_world.proofs.exclusion.HeldAfterSettling.{has_pair-true}
 use Rattle.wl_world.proofs.exclusion.Invariant.{Sound, generation}

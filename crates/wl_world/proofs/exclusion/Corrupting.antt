@@ -5,7 +5,7 @@ use Rattle.std.specs.List.{list_any}
 use Rattle.std.proofs.lemmas.Bool.{or_parts, or_from, ne_eqb}
 use Rattle.wl_draft.specs.declared.row.Row.{Row}
 use Rattle.wl_broker.specs.Broker.{BrokerState}
-use Rattle.wl_bag.proofs.Membership.{either}
+use Rattle.wl_draft.proofs.Membership.{either}
 use Rattle.wl_world.specs.World.{WorldState, lives, nothing, taken_over, corrupts}
 use Rattle.wl_world.specs.Holdings.{IsHonest}
 use Rattle.wl_world.proofs.exclusion.HeldAfterSettling.{Compatible-fewer}

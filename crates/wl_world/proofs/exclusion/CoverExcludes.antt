@@ -7,7 +7,7 @@ use Rattle.wl_agent.specs.Tab.{status_of, is_held, is_asked}
 use Rattle.wl_agent.specs.declared.status.Status.{Status}
 use Rattle.wl_kernel.specs.Kernel.{OpenedTab, number_or, number_beside, lives as lives_in}
 use Rattle.wl_kernel.specs.Kernel.{tab_of as opened_tab}
-use Rattle.wl_bag.proofs.Membership.{apart}
+use Rattle.wl_draft.proofs.Membership.{apart}
 use Rattle.wl_world.specs.World.{WorldState, tab_of, lives, partition_of}
 use Rattle.wl_world.specs.Holdings.{IsHonest, IsHolding, Exclusion, partition_in}
 use Rattle.wl_world.proofs.exclusion.Invariant.{Sound, Covered, Claim, stands, reported, carried, generation, broker_of, came, row_at, Alive}

@@ -2,12 +2,12 @@
 use Rattle.std.proofs.Common.{◌≡◌, ◌≢◌, inl, inr, ⊎_elim, ℕ, true, false, Option, Some, None, List, [], map, refl, ap, ◌∙◌}
 use Rattle.wl_draft.specs.declared.row.Row.{Row}
 use Rattle.wl_draft.specs.Locks.{ended}
-use Rattle.wl_frames.specs.declared.frame.Addressed.{Addressed}
+use Rattle.wl_grammar.specs.declared.frame.Addressed.{Addressed}
 use Rattle.wl_broker.specs.declared.seat.Seat.{Seat}
 use Rattle.wl_broker.specs.declared.seat.Seat.TheVariants.{Dead}
 use Rattle.wl_broker.specs.Broker.{BrokerState, seat_of, manager_of, is_joined, is_dead, has_come, place_of, with_seat, newly_at, buried_at, burial}
 use Rattle.wl_bag.specs.Messages.{sent_all}
-use Rattle.wl_bag.proofs.Membership.{apart, either, In-nil}
+use Rattle.wl_draft.proofs.Membership.{apart, either, In-nil}
 use Rattle.wl_world.specs.World.{WorldState, tab_of, lives, with_broker, from_broker, buries}
 use Rattle.wl_world.specs.Holdings.{IsHonest}
 use Rattle.wl_world.proofs.Tables.{each_found}

@@ -4,17 +4,17 @@ use Rattle.std.specs.Prelude.{◌==◌, nat_lt}
 use Rattle.std.proofs.lemmas.Bool.{eqb-true, eqb-false, ltb-true}
 use Rattle.wl_draft.specs.declared.row.Row.{Row}
 use Rattle.wl_draft.specs.declared.row.Entry.{Entry}
-use Rattle.wl_draft.specs.Tables.{Table, find, put}
+use Rattle.wl_draft.specs.Tables.{Table, find, put, Rises}
 use Rattle.wl_draft.specs.Locks.{held_of, waiting_of}
-use Rattle.wl_frames.specs.declared.frame.Command.{Command}
-use Rattle.wl_frames.specs.declared.frame.Upward.{Upward}
-use Rattle.wl_frames.specs.declared.frame.Hello.{Hello}
-use Rattle.wl_frames.specs.declared.frame.Frame.TheVariants as frame
-use Rattle.wl_frames.specs.declared.frame.Upward.TheVariants as up
-use Rattle.wl_frames.specs.declared.frame.Downward.{Downward}
-use Rattle.wl_frames.specs.declared.frame.Downward.TheVariants as down
+use Rattle.wl_draft.proofs.RisingTables.{Rises-filter}
+use Rattle.wl_grammar.specs.declared.frame.Command.{Command}
+use Rattle.wl_grammar.specs.declared.frame.Upward.{Upward}
+use Rattle.wl_grammar.specs.declared.frame.Hello.{Hello}
+use Rattle.wl_grammar.specs.declared.frame.Frame.TheVariants as frame
+use Rattle.wl_grammar.specs.declared.frame.Upward.TheVariants as up
+use Rattle.wl_grammar.specs.declared.frame.Downward.{Downward}
+use Rattle.wl_grammar.specs.declared.frame.Downward.TheVariants as down
 use Rattle.wl_broker.specs.Broker.{BrokerState, Partial, Told, manager_of, partial_of, told_of, generation_of}
-use Rattle.wl_broker.specs.Kept.{Rises}
 use Rattle.wl_agent.specs.declared.delivered.Unheard.TheVariants as unheard
 use Rattle.wl_agent.specs.declared.delivered.Delivered.{Delivered}
 use Rattle.wl_agent.specs.declared.delivered.Delivered.TheVariants as heard
@@ -24,8 +24,8 @@ use Rattle.wl_agent.specs.Delivery.{delivery}
 use Rattle.wl_bag.specs.declared.message.Sender.{Sender}
 use Rattle.wl_bag.specs.declared.message.Message.{Message}
 use Rattle.wl_bag.specs.Messages.{sent_all}
-use Rattle.wl_bag.specs.Membership.{In}
-use Rattle.wl_bag.proofs.Membership.{apart, either, In-nil, In-map_cases}
+use Rattle.wl_draft.specs.Membership.{In}
+use Rattle.wl_draft.proofs.Membership.{apart, either, In-nil, In-map_cases}
 use Rattle.wl_bag.proofs.Same.{sent_all-keeps, sent_all-cases, up-same}
 use Rattle.wl_tab.specs.Tabs.{is_told, told}
 use Rattle.wl_world.specs.World.{WorldState, tab_of, lives, partition_of, acts, report_if_entered, hears}
@@ -34,7 +34,7 @@ use Rattle.wl_world.proofs.exclusion.ToldParts.{body-told, no-command}
 use Rattle.wl_world.proofs.exclusion.HeldAfterSettling.{Compatible-fewer}
 use Rattle.wl_world.proofs.exclusion.Invariant.{Sound, SoundTab, Covered, Claim, Counts, stands, reported, carried, generation, broker_of, limit, limit_in, came, has_joined, was_opened, IsBorn, IsSaid, KeepsOf, opening, Alive, HasGrant, IsKnown, row_at, Lists, up_message, down_message}
 use Rattle.wl_world.proofs.exclusion.CoverExcludes.{living_opened, held_alive, came-entered}
-use Rattle.wl_world.proofs.exclusion.HeardNumbers.{Rises-filter, Fewer-alive, Fewer-held, Fewer-trans, carried-fewer, carried-rises, told-fewer, same-kept, told-kept}
+use Rattle.wl_world.proofs.exclusion.HeardNumbers.{Fewer-alive, Fewer-held, Fewer-trans, carried-fewer, carried-rises, told-fewer, same-kept, told-kept}
 use Rattle.wl_world.proofs.exclusion.ActsWithinAGeneration.{after, each_tab, heard-sound}
 use Rattle.wl_world.proofs.exclusion.EnteringReports.{reported_entries, report-held, report-waits, report-has}
 

@@ -6,8 +6,8 @@ use Rattle.wl_draft.specs.declared.row.Row.{Row}
 use Rattle.wl_draft.specs.declared.row.Entry.{Entry}
 use Rattle.wl_draft.specs.Locks.{row_of, held_of, waiting_of}
 use Rattle.wl_agent.specs.Tab.{TabState, status_of, numbers_of, is_held, entry_of, is_reported}
-use Rattle.wl_bag.specs.Membership.{In, Here, Later}
-use Rattle.wl_bag.proofs.Membership.{In-map, In-map_cases, In-filter, In-filter_cases}
+use Rattle.wl_draft.specs.Membership.{In, Here, Later}
+use Rattle.wl_draft.proofs.Membership.{In-map, In-map_cases, In-filter, In-filter_cases}
 use Rattle.wl_world.proofs.exclusion.Invariant.{row_at, IsKnown}
 use Rattle.wl_world.proofs.exclusion.ActsWithinAGeneration.{In-numbers}
 

@@ -3,16 +3,16 @@ use Rattle.std.proofs.Common.{ap₂, ◌≡◌, ◌⊎◌, inl, inr, ⊎_elim, �
 use Rattle.wl_draft.specs.declared.row.Row.{Row}
 use Rattle.wl_draft.specs.Tables.{Table, find}
 use Rattle.wl_draft.specs.Locks.{held_of}
-use Rattle.wl_frames.specs.declared.frame.Operation.{Operation}
-use Rattle.wl_frames.specs.declared.frame.Operation.TheVariants.{Query}
-use Rattle.wl_frames.specs.declared.frame.Command.{Command}
-use Rattle.wl_frames.specs.declared.frame.Upward.{Upward}
-use Rattle.wl_frames.specs.declared.frame.Upward.TheVariants as up
+use Rattle.wl_grammar.specs.declared.frame.Operation.{Operation}
+use Rattle.wl_grammar.specs.declared.frame.Operation.TheVariants.{Query}
+use Rattle.wl_grammar.specs.declared.frame.Command.{Command}
+use Rattle.wl_grammar.specs.declared.frame.Upward.{Upward}
+use Rattle.wl_grammar.specs.declared.frame.Upward.TheVariants as up
 use Rattle.wl_broker.specs.Broker.{BrokerState, Partial, Told, manager_of, told_of, generation_of}
 use Rattle.wl_agent.specs.Tab.{TabState, report_bodies, status_of, operation_of, is_held}
 use Rattle.wl_bag.specs.declared.message.Message.{Message}
 use Rattle.wl_bag.specs.declared.message.Message.TheVariants.{Up, Down, Across}
-use Rattle.wl_bag.specs.Membership.{In}
+use Rattle.wl_draft.specs.Membership.{In}
 use Rattle.wl_tab.specs.Tabs.{tab_in}
 use Rattle.wl_world.specs.World.{WorldState, tab_of, partition_of}
 use Rattle.wl_world.specs.Holdings.{IsHonest}

@@ -2,61 +2,28 @@
 use Rattle.std.proofs.Common.{◌≡◌, ◌≢◌, ◌⊎◌, inl, inr, ⊎_elim, ℕ, ◌+◌, ◌≤◌, Bool, true, false, not, List, [], ◌∷◌, map, filter, Option, Some, None, is_some, refl, sym, ap, ◌∙◌, arith}
 use Rattle.std.specs.Prelude.{◌==◌}
 use Rattle.std.proofs.lemmas.Bool.{eq-eqb, not-true, ne_eqb, cond-true, cond-false}
-use Rattle.wl_draft.specs.Tables.{Table, find}
-use Rattle.wl_frames.specs.declared.frame.Operation.{Operation}
-use Rattle.wl_frames.specs.declared.frame.Operation.TheVariants.{Request, Release, Abort, Query}
-use Rattle.wl_frames.specs.declared.frame.Outcome.{Outcome}
-use Rattle.wl_frames.specs.declared.frame.Outcome.TheVariants as outcome
-use Rattle.wl_frames.specs.declared.frame.Answer.{Answer}
-use Rattle.wl_frames.specs.declared.frame.Snapshot.{Snapshot as Part}
-use Rattle.wl_broker.specs.Kept.{Rises}
-use Rattle.wl_broker.proofs.PartitionRows.{Rises-put}
+use Rattle.wl_draft.specs.Tables.{Table, find, Rises, without_row}
+use Rattle.wl_draft.proofs.RisingTables.{Rises-put, find-In, Rises-filter, Rises-map, In-find}
+use Rattle.wl_grammar.specs.declared.frame.Operation.{Operation}
+use Rattle.wl_grammar.specs.declared.frame.Operation.TheVariants.{Request, Release, Abort, Query}
+use Rattle.wl_grammar.specs.declared.frame.Outcome.{Outcome}
+use Rattle.wl_grammar.specs.declared.frame.Outcome.TheVariants as outcome
+use Rattle.wl_grammar.specs.declared.frame.Answer.{Answer}
+use Rattle.wl_grammar.specs.declared.frame.Snapshot.{Snapshot as Part}
 use Rattle.wl_agent.specs.declared.delivered.Unheard.TheVariants as unheard
 use Rattle.wl_agent.specs.declared.delivered.Delivered.TheVariants as heard
 use Rattle.wl_agent.specs.declared.status.Status.{Status}
 use Rattle.wl_agent.specs.declared.status.Status.TheVariants.{Asked, Held, Querying, Whole, Lost}
 use Rattle.wl_agent.specs.Parts.{PartsState, with_part, is_whole, snapshot_of}
-use Rattle.wl_agent.specs.Tab.{TabState, status_of, operation_of, is_issued, is_held, keeps_number, without_row, ended, is_asked_probe, unless_asked, carried}
+use Rattle.wl_agent.specs.Tab.{TabState, status_of, operation_of, is_issued, is_held, keeps_number, ended, is_asked_probe, unless_asked, carried}
 use Rattle.wl_agent.specs.Delivery.{noted, becomes, told_asked, told_lock, told_end, told_asked_query, told_query, told_command, told_by_answer, part_refusal, parts_of, with_part_come, after_answer, after_part}
-use Rattle.wl_bag.specs.Membership.{In}
-use Rattle.wl_bag.proofs.Membership.{apart, either, In-nil, In-cons_cases, In-map_cases, In-filter_cases}
+use Rattle.wl_draft.specs.Membership.{In}
+use Rattle.wl_draft.proofs.Membership.{apart, either, In-nil, In-cons_cases, In-map_cases, In-filter_cases}
 use Rattle.wl_tab.specs.Tabs.{is_told, told}
-use Rattle.wl_world.proofs.Tables.{find-In, each_found}
+use Rattle.wl_world.proofs.Tables.{each_found}
 use Rattle.wl_world.proofs.exclusion.Invariant.{Alive}
 
 -- ---- tables by rising number
-
-Rises-less : {X : Type 0} (m n : ℕ) (ps : Table X) → m ≤ n → Rises n ps → Rises m ps
-Rises-less m n [] le r = tt
-Rises-less m n (p ∷ ps) le r = ((let o : n ≤ p.0 = r.0 in omega arith), r.1)
-
-pub Rises-filter : {X : Type 0} (test : ℕ × X → Bool) (m : ℕ) (ps : Table X) → Rises m ps → Rises m (filter test ps)
-Rises-filter test m [] r = tt
-Rises-filter test m (p ∷ ps) r =
-    either (Rises m) (test p) (p ∷ filter test ps) (filter test ps)
-    (λ _. (r.0, Rises-filter test (p.0 + 1) ps r.1))
-    (λ _. Rises-less m (p.0 + 1) (filter test ps) (let o : m ≤ p.0 = r.0 in omega arith) (Rises-filter test (p.0 + 1) ps r.1))
-
-Rises-map : {X Y : Type 0} (f : X → Y) (m : ℕ) (ps : Table X) → Rises m ps → Rises m (map (λ p. (p.0, f p.1)) ps)
-Rises-map f m [] r = tt
-Rises-map f m (p ∷ ps) r = (r.0, Rises-map f (p.0 + 1) ps r.1)
-
-In-below : {X : Type 0} (m k : ℕ) (x : X) (ps : Table X) → Rises m ps → In (k, x) ps → m ≤ k
-In-below m k x [] r i = absurd (In-nil i)
-In-below m k x (p ∷ ps) r i = ⊎_elim
-    (λ e. let same : k ≡ p.0 = ap (λ z. z.0) e in let o : m ≤ p.0 = r.0 in omega arith)
-    (λ j. let o : m ≤ p.0 = r.0 in let q : p.0 + 1 ≤ k = In-below (p.0 + 1) k x ps r.1 j in omega arith)
-    (In-cons_cases i)
-
--- each row is the one that is found
-pub In-find : {X : Type 0} (m k : ℕ) (x : X) (ps : Table X) → Rises m ps → In (k, x) ps → find ps k ≡ Some x
-In-find m k x [] r i = absurd (In-nil i)
-In-find m k x (p ∷ ps) r i = ⊎_elim
-    (λ e. cond-true _ _ _ (eq-eqb p.0 k (sym (ap (λ z. z.0) e))) ∙ sym (ap (λ z. Some z.1) e))
-    (λ j. let q : p.0 + 1 ≤ k = In-below (p.0 + 1) k x ps r.1 j in
-    let n : p.0 ≢ k = λ e. omega arith in
-    cond-false _ _ _ (ne_eqb p.0 k n) ∙ In-find (p.0 + 1) k x ps r.1 j)
-    (In-cons_cases i)
 
 pub find-filter : {X : Type 0} (test : ℕ × X → Bool) (ps : Table X) → Rises 0 ps → (k : ℕ) (x : X) → find (filter test ps) k ≡ Some x → (find ps k ≡ Some x) × (test (k, x) ≡ true)
 find-filter test ps r k x e =
@@ -110,7 +77,7 @@ carried-fewer issued rows r k s e l =
     ap (find rows) number ∙ (In-find 0 o.0.0 o.0.1 rows r j ∙ ap Some (sym (unless-same o.0.1 (ap (λ z. keeps_number (Some z)) (sym same) ∙ l)) ∙ sym same))
 
 pub carried-rises : (issued : List Operation) (rows : Table Status) → Rises 0 rows → Rises 0 (carried issued rows)
-carried-rises issued rows r = Rises-map unless_asked 0 _ (Rises-filter (λ row. not (is_asked_probe issued row)) 0 rows r)
+carried-rises issued rows r = Rises-map (λ p. unless_asked p.1) 0 _ (Rises-filter (λ row. not (is_asked_probe issued row)) 0 rows r)
 
 pub told-fewer : (rows : Table Status) → Rises 0 rows → Fewer (filter (λ row. not (is_told row.1)) rows) rows
 told-fewer rows r = filtered-fewer (λ row. not (is_told row.1)) rows r

@@ -7,8 +7,8 @@ use Rattle.wl_draft.specs.declared.mode.Mode.{Mode}
 use Rattle.wl_draft.specs.declared.mode.Mode.TheVariants.{Shared, Exclusive}
 use Rattle.wl_draft.specs.declared.row.Row.{Row}
 use Rattle.wl_draft.specs.Locks.{Locks, conflict, is_free, is_grantable, granted, left_waiting, newly, settle, is_pair, has_pair, without, without_client}
-use Rattle.wl_bag.specs.Membership.{In, Later}
-use Rattle.wl_bag.proofs.Membership.{apart, either, In-nil, In-cons_cases, In-head, In-append_left, In-append_right, In-append_cases, In-one, In-filter, In-filter_cases, list_any-In, list_all-In}
+use Rattle.wl_draft.specs.Membership.{In, Later}
+use Rattle.wl_draft.proofs.Membership.{apart, either, In-nil, In-cons_cases, In-head, In-append_left, In-append_right, In-append_cases, In-one, In-filter, In-filter_cases, list_any-In, list_all-In}
 
 -- the rows are not of one number of one client
 abbrev pub Unlike : Row → Row → Type 0

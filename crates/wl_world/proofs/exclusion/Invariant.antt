@@ -2,18 +2,18 @@
 use Rattle.std.proofs.Common.{◌≡◌, ◌≢◌, ◌⊎◌, ℕ, suc, ◌<◌, ◌≤◌, Bool, true, false, List, [], length, Option, Some, None}
 use Rattle.wl_draft.specs.declared.row.Row.{Row}
 use Rattle.wl_draft.specs.Locks.{row_of, held_of, waiting_of}
-use Rattle.wl_frames.specs.declared.frame.Operation.{Operation}
-use Rattle.wl_frames.specs.declared.frame.Operation.TheVariants.{Release, Abort}
-use Rattle.wl_frames.specs.declared.frame.Outcome.TheVariants.{Granted}
-use Rattle.wl_frames.specs.declared.frame.Command.{Command}
-use Rattle.wl_frames.specs.declared.frame.Answer.{Answer}
-use Rattle.wl_frames.specs.declared.frame.Hello.{Hello}
-use Rattle.wl_frames.specs.declared.frame.Upward.{Upward}
-use Rattle.wl_frames.specs.declared.frame.Upward.TheVariants as up
-use Rattle.wl_frames.specs.declared.frame.Downward.{Downward}
-use Rattle.wl_frames.specs.declared.frame.Downward.TheVariants as down
+use Rattle.wl_draft.specs.Tables.{Rises}
+use Rattle.wl_grammar.specs.declared.frame.Operation.{Operation}
+use Rattle.wl_grammar.specs.declared.frame.Operation.TheVariants.{Release, Abort}
+use Rattle.wl_grammar.specs.declared.frame.Outcome.TheVariants.{Granted}
+use Rattle.wl_grammar.specs.declared.frame.Command.{Command}
+use Rattle.wl_grammar.specs.declared.frame.Answer.{Answer}
+use Rattle.wl_grammar.specs.declared.frame.Hello.{Hello}
+use Rattle.wl_grammar.specs.declared.frame.Upward.{Upward}
+use Rattle.wl_grammar.specs.declared.frame.Upward.TheVariants as up
+use Rattle.wl_grammar.specs.declared.frame.Downward.{Downward}
+use Rattle.wl_grammar.specs.declared.frame.Downward.TheVariants as down
 use Rattle.wl_broker.specs.Broker.{BrokerState, Partial, Told, started, seat_of, manager_of, partial_of, is_joined, is_dead, has_come, is_lock, told_of, generation_of}
-use Rattle.wl_broker.specs.Kept.{Rises}
 use Rattle.wl_agent.specs.declared.status.Status.{Status}
 use Rattle.wl_agent.specs.Tab.{TabState, born, report_bodies, status_of, operation_of, name_of, mode_of, is_held, keeps_number}
 use Rattle.wl_kernel.specs.Kernel.{OpenedTab, is_opened}
@@ -21,8 +21,8 @@ use Rattle.wl_kernel.specs.Kernel.{tab_of as opened_tab}
 use Rattle.wl_bag.specs.declared.message.Sender.{Sender}
 use Rattle.wl_bag.specs.declared.message.Message.{Message}
 use Rattle.wl_bag.specs.declared.message.Message.TheVariants.{Up, Down}
-use Rattle.wl_bag.specs.Membership.{In}
-use Rattle.wl_tab.specs.declared.locks.TheConstants.{COMMAND_LIMIT}
+use Rattle.wl_draft.specs.Membership.{In}
+use Rattle.wl_limits.specs.declared.tabs.TheConstants.{COMMAND_LIMIT}
 use Rattle.wl_world.specs.World.{WorldState, tab_of, lives, partition_of}
 use Rattle.wl_world.specs.Holdings.{IsHonest}
 use Rattle.wl_world.proofs.exclusion.HeldAfterSettling.{Compatible, Stands}

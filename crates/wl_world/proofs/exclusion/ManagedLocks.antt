@@ -7,8 +7,8 @@ use Rattle.wl_draft.specs.Tables.{Table, at, put}
 use Rattle.wl_draft.specs.Locks.{Locks, no_locks, settle, settle_if, newly_if, held_of}
 use Rattle.wl_draft.proofs.TableLemmas.{at-put_same, at-put_other}
 use Rattle.wl_broker.specs.Broker.{BrokerState, seat_of, has_come, manager_of, is_active, settled_at, newly_at}
-use Rattle.wl_bag.specs.Membership.{In}
-use Rattle.wl_bag.proofs.Membership.{apart, either, In-nil, list_all-In}
+use Rattle.wl_draft.specs.Membership.{In}
+use Rattle.wl_draft.proofs.Membership.{apart, either, In-nil, list_all-In}
 use Rattle.wl_world.specs.World.{WorldState, tab_of, lives, partition_of, with_broker}
 use Rattle.wl_world.specs.Holdings.{IsHonest}
 use Rattle.wl_world.proofs.exclusion.HeldAfterSettling.{Compatible, Compatible-fewer, HeldOf, Stands, settle-Compatible, settle-keeps, settle-newly, settle-stands}

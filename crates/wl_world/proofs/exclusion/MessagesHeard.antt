@@ -4,14 +4,14 @@ use Rattle.std.specs.Prelude.{nat_lt}
 use Rattle.std.proofs.lemmas.Bool.{eqb-true, and_parts}
 use Rattle.wl_draft.specs.declared.row.Row.{Row}
 use Rattle.wl_draft.specs.Tables.{Table, put}
-use Rattle.wl_frames.specs.declared.frame.Operation.{Operation}
-use Rattle.wl_frames.specs.declared.frame.Operation.TheVariants.{Request, Release, Abort, Query}
-use Rattle.wl_frames.specs.declared.frame.Outcome.{Outcome}
-use Rattle.wl_frames.specs.declared.frame.Outcome.TheVariants as outcome
-use Rattle.wl_frames.specs.declared.frame.Answer.{Answer}
-use Rattle.wl_frames.specs.declared.frame.Snapshot.{Snapshot as Part}
-use Rattle.wl_frames.specs.declared.frame.Downward.{Downward}
-use Rattle.wl_frames.specs.declared.frame.Downward.TheVariants as down
+use Rattle.wl_grammar.specs.declared.frame.Operation.{Operation}
+use Rattle.wl_grammar.specs.declared.frame.Operation.TheVariants.{Request, Release, Abort, Query}
+use Rattle.wl_grammar.specs.declared.frame.Outcome.{Outcome}
+use Rattle.wl_grammar.specs.declared.frame.Outcome.TheVariants as outcome
+use Rattle.wl_grammar.specs.declared.frame.Answer.{Answer}
+use Rattle.wl_grammar.specs.declared.frame.Snapshot.{Snapshot as Part}
+use Rattle.wl_grammar.specs.declared.frame.Downward.{Downward}
+use Rattle.wl_grammar.specs.declared.frame.Downward.TheVariants as down
 use Rattle.wl_broker.specs.Broker.{BrokerState}
 use Rattle.wl_broadcast.specs.Channels.{ChannelState, open_refusal as channel_refusal, opened as channel_opened, post_refusal, posted, is_own as is_own_channel, read_at, closed_at}
 use Rattle.wl_agent.specs.declared.delivered.Unheard.{Unheard}
@@ -26,8 +26,8 @@ use Rattle.wl_agent.specs.Delivery.{noted, told_asked, told_lock, told_end, told
 use Rattle.wl_kernel.specs.Routes.{hearers, frame_of}
 use Rattle.wl_bag.specs.declared.message.Sender.{Sender}
 use Rattle.wl_bag.specs.declared.message.Message.{Message}
-use Rattle.wl_bag.specs.Membership.{In}
-use Rattle.wl_bag.proofs.Membership.{either, In-nil, In-map_cases}
+use Rattle.wl_draft.specs.Membership.{In}
+use Rattle.wl_draft.proofs.Membership.{either, In-nil, In-map_cases}
 use Rattle.wl_tab.specs.Tabs.{told}
 use Rattle.wl_world.specs.World.{WorldState, tab_of, lives, acts, channels_of, becomes, opens_channel, across, posts, reads, closes, report_if_entered, hears}
 use Rattle.wl_world.proofs.exclusion.HeldAfterSettling.{Compatible-fewer}

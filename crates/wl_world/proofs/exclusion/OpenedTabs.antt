@@ -5,7 +5,7 @@ use Rattle.std.proofs.lemmas.Bool.{cases_eq, eq-eqb, ne_eqb, cond-true, cond-fal
 use Rattle.wl_origin.specs.Order.{Pair}
 use Rattle.wl_origin.proofs.OrderLemmas.{pair_eq-decides}
 use Rattle.wl_kernel.specs.Kernel.{KernelState, OpenedTab, tab_in, tab_of, is_opened, lives, is_of, number_or, number_beside, partition_number, new_tab, opened, ended}
-use Rattle.wl_bag.proofs.Membership.{apart, either}
+use Rattle.wl_draft.proofs.Membership.{apart, either}
 use Rattle.wl_world.proofs.exclusion.Invariant.{opening_in}
 
 -- ---- an opening

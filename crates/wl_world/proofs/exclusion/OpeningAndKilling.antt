@@ -4,18 +4,18 @@ use Rattle.std.specs.Prelude.{◌==◌, nat_le, ◌||◌}
 use Rattle.std.proofs.lemmas.Bool.{cases_Bool, or_parts, not-true}
 use Rattle.wl_origin.specs.Order.{Pair}
 use Rattle.wl_draft.specs.declared.row.Row.{Row}
-use Rattle.wl_frames.specs.declared.frame.Command.{Command}
-use Rattle.wl_frames.specs.declared.frame.Upward.{Upward}
-use Rattle.wl_frames.specs.declared.frame.Upward.TheVariants as up
-use Rattle.wl_frames.specs.declared.frame.Downward.TheVariants as down
+use Rattle.wl_grammar.specs.declared.frame.Command.{Command}
+use Rattle.wl_grammar.specs.declared.frame.Upward.{Upward}
+use Rattle.wl_grammar.specs.declared.frame.Upward.TheVariants as up
+use Rattle.wl_grammar.specs.declared.frame.Downward.TheVariants as down
 use Rattle.wl_broker.specs.Broker.{BrokerState, Partial, Told, manager_of, partial_of, told_of, generation_of}
 use Rattle.wl_draft.specs.Tables.{put}
 use Rattle.wl_agent.specs.Tab.{TabState, newborn_two, status_of, is_held, operation_of, keeps_number}
 use Rattle.wl_kernel.specs.declared.fault.OpenFault.TheVariants.{NumberTaken, TooManyLiving, PartitionFull}
 use Rattle.wl_kernel.specs.Kernel.{KernelState, OpenedTab, tab_in, is_opened, number_beside, open_refusal, opened, ended, killed, lives as lives_in, living_tabs, living_of, living_limit, partition_limit}
-use Rattle.wl_bag.specs.Membership.{In}
-use Rattle.wl_bag.proofs.Membership.{apart, either, In-nil}
-use Rattle.wl_tab.specs.declared.locks.TheConstants.{COMMAND_LIMIT}
+use Rattle.wl_draft.specs.Membership.{In}
+use Rattle.wl_draft.proofs.Membership.{apart, either, In-nil}
+use Rattle.wl_limits.specs.declared.tabs.TheConstants.{COMMAND_LIMIT}
 use Rattle.wl_world.specs.World.{WorldState, tab_of, lives, partition_of, opens, with_two, opens_two, kills, with_kernel}
 use Rattle.wl_world.specs.Holdings.{IsHonest}
 use Rattle.wl_world.proofs.exclusion.HeldAfterSettling.{Compatible-fewer}

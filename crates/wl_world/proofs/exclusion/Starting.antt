@@ -3,9 +3,9 @@ use Rattle.std.proofs.Common.{◌≡◌, inl, inr, ⊎_elim, ℕ, suc, ◌+◌, 
 use Rattle.std.specs.Prelude.{◌==◌, nat_lt}
 use Rattle.std.proofs.lemmas.Bool.{eqb-true, lt-ltb, not-true, not-false, and_cases}
 use Rattle.wl_draft.specs.declared.row.Row.{Row}
-use Rattle.wl_frames.specs.declared.frame.Hello.{Hello}
-use Rattle.wl_frames.specs.declared.frame.Upward.{Upward}
-use Rattle.wl_frames.specs.declared.frame.Downward.TheVariants as down
+use Rattle.wl_grammar.specs.declared.frame.Hello.{Hello}
+use Rattle.wl_grammar.specs.declared.frame.Upward.{Upward}
+use Rattle.wl_grammar.specs.declared.frame.Downward.TheVariants as down
 use Rattle.wl_broker.specs.Broker.{BrokerState, started, hellos, hello_to}
 use Rattle.wl_kernel.specs.declared.fault.StartFault.TheVariants.{TooManyListed, NotRising}
 use Rattle.wl_kernel.specs.Kernel.{KernelState, OpenedTab, tab_in, tab_of as opened_tab_of, is_opened, lives as lives_in, put_in, any_tab, living_in, living_tabs, partition_number, list_limit, rises, is_listed, is_older, is_from_before, first_such, stranger, missing, absence, start_refusal, placed, may_stop, stopped}
@@ -14,8 +14,8 @@ use Rattle.wl_bag.specs.declared.message.Sender.TheVariants.{Kernel, Broker}
 use Rattle.wl_bag.specs.declared.message.Message.{Message}
 use Rattle.wl_bag.specs.declared.message.Message.TheVariants.{Down}
 use Rattle.wl_bag.specs.Messages.{sent_all}
-use Rattle.wl_bag.specs.Membership.{In, Here, Later}
-use Rattle.wl_bag.proofs.Membership.{apart, either, In-nil, In-cons_cases, In-head, In-one, In-map, In-map_cases, list_any-In}
+use Rattle.wl_draft.specs.Membership.{In, Here, Later}
+use Rattle.wl_draft.proofs.Membership.{apart, either, In-nil, In-cons_cases, In-head, In-one, In-map, In-map_cases, list_any-In}
 use Rattle.wl_bag.proofs.Same.{sent_all-keeps, sent_all-cases, down-same, hellos-same, answer-no_hello}
 use Rattle.wl_world.specs.World.{WorldState, tab_of, lives, partition_of, nothing, from_broker, with_broker, stops, begins, starts, greets}
 use Rattle.wl_world.specs.Holdings.{IsHonest}

@@ -9,17 +9,16 @@ use Rattle.std.proofs.lemmas.Bool.{and_parts, and_from, eqb-true, ne_eqb, cond-f
 use Rattle.std.proofs.lemmas.List.{take-append-drop}
 use Rattle.std.proofs.lemmas.List.Folds.{list_all-append}
 use Rattle.wl_draft.specs.declared.row.Entry.{Entry}
-use Rattle.wl_draft.specs.Tables.{Table, find, put}
-use Rattle.wl_frames.specs.declared.frame.Command.{Command}
-use Rattle.wl_frames.specs.declared.frame.Report.{Report}
-use Rattle.wl_frames.specs.declared.frame.Upward.{Upward}
-use Rattle.wl_frames.specs.declared.frame.Upward.TheVariants as up
+use Rattle.wl_draft.specs.Tables.{Table, find, put, Rises}
+use Rattle.wl_draft.proofs.RisingTables.{Rises-put}
+use Rattle.wl_grammar.specs.declared.frame.Command.{Command}
+use Rattle.wl_grammar.specs.declared.frame.Report.{Report}
+use Rattle.wl_grammar.specs.declared.frame.Upward.{Upward}
+use Rattle.wl_grammar.specs.declared.frame.Upward.TheVariants as up
 use Rattle.wl_broker.specs.Broker.{Partial, Told, all_below, fits, at_once, in_part, told_of, came_in, with_told, is_whole, whole_of, generation_of}
-use Rattle.wl_broker.specs.Kept.{Rises}
-use Rattle.wl_broker.proofs.PartitionRows.{Rises-put}
 use Rattle.wl_agent.specs.Tab.{part_count, part_of, report_bodies}
-use Rattle.wl_bag.specs.Membership.{In, Here, Later}
-use Rattle.wl_bag.proofs.Membership.{either, In-nil, In-cons_cases, In-head, In-one, In-map_cases}
+use Rattle.wl_draft.specs.Membership.{In, Here, Later}
+use Rattle.wl_draft.proofs.Membership.{either, In-nil, In-cons_cases, In-head, In-one, In-map_cases}
 
 -- ---- lists and tables
 

@@ -4,7 +4,7 @@ use Rattle.std.specs.List.{AllByRecursion}
 use Rattle.wl_origin.specs.Order.{Pair, paired}
 use Rattle.url.specs.declared.host.Host.TheVariants.{Domain}
 use Rattle.wl_origin.proofs.OrderLemmas.{pair_eq-decides}
-use Rattle.wl_frames.specs.declared.frame.Heard.{Heard}
+use Rattle.wl_grammar.specs.declared.frame.Heard.{Heard}
 use Rattle.wl_broadcast.specs.declared.letter.Letter.{Letter}
 use Rattle.wl_broadcast.specs.Channels.{ChannelState, Object, opened, open_refusal, post_refusal, posted, heard, is_old, is_own, read_at, closed_at, name_at, inbox_at, is_open_at}
 use Rattle.wl_broadcast.specs.Heard.{Call, Opens, Posts, Hears, Reads, Closes, takes, takes_in, of_source, RisesFrom, HearsOthers, IsPostFor as IsLetterFor}
@@ -13,8 +13,8 @@ use Rattle.wl_broadcast.proofs.Gained.{step_stays, nothing_itself, nothing_opene
 use Rattle.wl_broadcast.proofs.Rising.{takes_rising}
 use Rattle.wl_bag.specs.declared.message.Message.{Message}
 use Rattle.wl_bag.specs.declared.message.Message.TheVariants.{Across}
-use Rattle.wl_bag.specs.Membership.{In}
-use Rattle.wl_bag.proofs.Membership.{apart, either, In-nil, In-cons_cases, In-append_cases}
+use Rattle.wl_draft.specs.Membership.{In}
+use Rattle.wl_draft.proofs.Membership.{apart, either, In-nil, In-cons_cases, In-append_cases}
 use Rattle.wl_bag.proofs.Same.{sent_all-keeps, sent_all-cases}
 use Rattle.wl_world.specs.declared.event.Event.{Event}
 use Rattle.wl_world.specs.declared.event.Event.TheVariants as event

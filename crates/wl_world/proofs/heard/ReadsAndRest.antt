@@ -13,7 +13,7 @@ use Rattle.wl_broadcast.proofs.Gained.{step_stays}
 use Rattle.wl_said.specs.declared.said.Said.{Said}
 use Rattle.wl_said.specs.declared.said.Refusal.TheVariants as refusal
 use Rattle.wl_said.specs.Refused.{refused}
-use Rattle.wl_bag.proofs.Membership.{apart, either}
+use Rattle.wl_draft.proofs.Membership.{apart, either, by_test}
 use Rattle.wl_tab.specs.Tabs.{channels_in}
 use Rattle.wl_world.specs.declared.event.Event.{Event}
 use Rattle.wl_world.specs.declared.event.Event.TheVariants as event
@@ -21,7 +21,6 @@ use Rattle.wl_world.specs.World.{WorldState, empty_world, channels_of, lives, De
 use Rattle.wl_world.specs.Replies.{open_or, read_letter, reading, said_of, reply_of}
 use Rattle.wl_world.specs.Heard.{objects_of, takes_at, taken_in, letters_in, told_by, read_in, HeardTillClosedForAll, HeardIsReadForAll}
 use Rattle.wl_world.proofs.heard.ChannelSteps.{Caused, Owned, Calling, stays, called, calling, happens-owned}
-use Rattle.wl_world.proofs.apart.Cuts.{by_test}
 use Rattle.wl_world.proofs.heard.PostsRise.{open-there, run-owned, taken-closed}
 
 -- ---- inboxes

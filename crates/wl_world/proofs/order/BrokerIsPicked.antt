@@ -5,15 +5,15 @@ use Rattle.std.specs.List.{list_all}
 use Rattle.std.proofs.lemmas.Bool.{cases_eq, eqb-true}
 use Rattle.wl_draft.specs.declared.row.Row.{Row}
 use Rattle.wl_draft.specs.Locks.{newly_if, settle, settle_if, has_pair}
-use Rattle.wl_frames.specs.declared.frame.Operation.{Operation}
+use Rattle.wl_grammar.specs.declared.frame.Operation.{Operation}
 use Rattle.wl_broker.specs.declared.seat.Seat.{Seat}
 use Rattle.wl_broker.specs.declared.seat.Seat.TheVariants.{Joined, Dead}
 use Rattle.wl_draft.specs.Tables.{find}
 use Rattle.wl_broker.specs.Broker.{BrokerState, Partial, without_partial, seat_of, manager_of, has_come as seat_has_come, is_active}
 use Rattle.wl_bag.specs.declared.message.Message.{Message}
 use Rattle.wl_bag.specs.Messages.{sent_all}
-use Rattle.wl_bag.specs.Membership.{In, Here, Later}
-use Rattle.wl_bag.proofs.Membership.{either, In-append_cases, In-one}
+use Rattle.wl_draft.specs.Membership.{In, Here, Later}
+use Rattle.wl_draft.proofs.Membership.{either, In-append_cases, In-one}
 use Rattle.wl_bag.proofs.Same.{sent_all-keeps, sent_all-cases}
 use Rattle.wl_world.specs.Orders.{Act, Item, Picked, of_partition, of_tab, has_death, has_report, next_of, limit_of, is_complete, done, managed, probe_grants, grants_of, adds, WasHeld, HasAnswer}
 use Rattle.wl_world.proofs.exclusion.HeldAfterSettling.{Stands, settle-stands}

@@ -6,8 +6,8 @@ use Rattle.std.proofs.Math.Bool.{or-false, or_assoc}
 use Rattle.std.proofs.lemmas.Bool.{or_cases, or_parts, eqb-true, eqb-false, eq-eqb, ne_eqb, cond-true, cond-false}
 use Rattle.std.proofs.lemmas.List.{same_from_push}
 use Rattle.wl_draft.specs.Locks.{Locks, no_locks}
-use Rattle.wl_bag.specs.Membership.{In, Here, Later}
-use Rattle.wl_bag.proofs.Membership.{apart, either}
+use Rattle.wl_draft.specs.Membership.{In, Here, Later}
+use Rattle.wl_draft.proofs.Membership.{apart, either}
 use Rattle.wl_world.specs.Orders.{Act, Reports, Item, of_partition, of_tab, is_death, is_report, has_death, has_report, base_or, base_of, command_of, commands_of, managed_one, managed_from, managed}
 
 abbrev pub item : ℕ → ℕ → Act → Item

@@ -1,14 +1,14 @@
 -- A message that comes to the broker moves the locks of its own tab.
 use Rattle.std.proofs.Common.{◌≡◌, ◌≢◌, inl, ℕ, List, Option, Some, None, refl, sym, ap, ◌∙◌, subst}
-use Rattle.wl_frames.specs.declared.frame.Stamped.{Stamped}
-use Rattle.wl_frames.specs.declared.frame.Upward.{Upward}
-use Rattle.wl_frames.specs.declared.frame.Addressed.{Addressed}
+use Rattle.wl_grammar.specs.declared.frame.Stamped.{Stamped}
+use Rattle.wl_grammar.specs.declared.frame.Upward.{Upward}
+use Rattle.wl_grammar.specs.declared.frame.Addressed.{Addressed}
 use Rattle.wl_broker.specs.Broker.{BrokerState, manager_of, Taking, Drops, Does, taking}
 use Rattle.wl_broker.proofs.Takings.{Takes, joins, keeps, repeats, performs, taking-Takes}
 use Rattle.wl_broker.proofs.Others.{Takes-moves}
 use Rattle.wl_bag.specs.declared.message.Message.TheVariants.{Up}
 use Rattle.wl_bag.specs.Messages.{is_sent}
-use Rattle.wl_bag.proofs.Membership.{either}
+use Rattle.wl_draft.proofs.Membership.{either}
 use Rattle.wl_world.specs.declared.event.Event.{Event}
 use Rattle.wl_world.specs.declared.event.Event.TheVariants as event
 use Rattle.wl_world.specs.World.{WorldState, Deed, nothing, follows, comes_up, deed, happens}

@@ -7,12 +7,12 @@ use Rattle.wl_draft.specs.declared.row.Row.{Row}
 use Rattle.wl_draft.specs.Tables.{find, put}
 use Rattle.wl_draft.specs.Locks.{Locks, newly, newly_if, settle, settle_if, has_pair, ended}
 use Rattle.wl_draft.proofs.TableLemmas.{find-put_same, find-put_other}
-use Rattle.wl_frames.specs.declared.frame.Operation.{Operation}
-use Rattle.wl_frames.specs.declared.frame.Operation.TheVariants.{Request, Release, Abort, Query}
-use Rattle.wl_frames.specs.declared.frame.Outcome.TheVariants.{Granted}
-use Rattle.wl_frames.specs.declared.frame.Addressed.{Addressed}
-use Rattle.wl_frames.specs.declared.frame.Upward.{Upward}
-use Rattle.wl_frames.specs.declared.frame.Upward.TheVariants as up
+use Rattle.wl_grammar.specs.declared.frame.Operation.{Operation}
+use Rattle.wl_grammar.specs.declared.frame.Operation.TheVariants.{Request, Release, Abort, Query}
+use Rattle.wl_grammar.specs.declared.frame.Outcome.TheVariants.{Granted}
+use Rattle.wl_grammar.specs.declared.frame.Addressed.{Addressed}
+use Rattle.wl_grammar.specs.declared.frame.Upward.{Upward}
+use Rattle.wl_grammar.specs.declared.frame.Upward.TheVariants as up
 use Rattle.wl_broker.specs.declared.seat.Seat.{Seat}
 use Rattle.wl_broker.specs.declared.seat.Seat.TheVariants.{Joined, Dead}
 use Rattle.wl_broker.specs.declared.dropped.Dropped.{Dropped}
@@ -21,8 +21,8 @@ use Rattle.wl_broker.specs.Broker.{BrokerState, seat_of, manager_of, is_joined, 
 use Rattle.wl_bag.specs.declared.message.Message.{Message}
 use Rattle.wl_bag.specs.declared.message.Message.TheVariants.{Up}
 use Rattle.wl_bag.specs.Messages.{sent_all}
-use Rattle.wl_bag.specs.Membership.{In, Later}
-use Rattle.wl_bag.proofs.Membership.{apart, either, In-nil, In-cons_cases, In-head, In-map, In-one}
+use Rattle.wl_draft.specs.Membership.{In, Later}
+use Rattle.wl_draft.proofs.Membership.{apart, either, In-nil, In-cons_cases, In-head, In-map, In-one}
 use Rattle.wl_bag.proofs.Same.{sent_all-keeps, sent_all-cases}
 use Rattle.wl_world.specs.World.{from_broker}
 use Rattle.wl_world.specs.Orders.{Dies, Reports, Commands, Item, Picked, of_partition, of_tab, has_death, has_report, next_of, limit_of, is_complete, adds, adds_report, is_placed_elsewhere, takes_told, has_too_many, takes_command, picks_upward, picks_message, WasHeld, HasAnswer}

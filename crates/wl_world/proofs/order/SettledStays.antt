@@ -5,7 +5,7 @@ use Rattle.std.proofs.lemmas.Bool.{cases_Bool, and_left, and_right}
 use Rattle.wl_draft.specs.declared.mode.Mode.{Mode}
 use Rattle.wl_draft.specs.declared.row.Row.{Row}
 use Rattle.wl_draft.specs.Locks.{Locks, no_locks, conflict, is_named, is_free, is_grantable, granted, left_waiting, newly, settle}
-use Rattle.wl_bag.proofs.Membership.{apart}
+use Rattle.wl_draft.proofs.Membership.{apart}
 use Rattle.wl_world.specs.Orders.{Item, is_complete, done, managed_one, managed_from, managed}
 
 -- none of these may be granted, each with those ahead of it

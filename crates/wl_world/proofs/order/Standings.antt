@@ -7,13 +7,13 @@ use Rattle.wl_draft.specs.declared.row.Row.{Row}
 use Rattle.wl_draft.specs.declared.row.Entry.{Entry}
 use Rattle.wl_draft.specs.declared.row.Standing.TheVariants as standing
 use Rattle.wl_draft.specs.Locks.{Locks, is_grantable, has_pair, is_pair, row_of, rows_of, held_of, waiting_of, without_client, queued, probed, released, aborted, ended, restored, newly_if, settle_if, standing as standing_of}
-use Rattle.wl_frames.specs.declared.frame.Operation.{Operation}
-use Rattle.wl_frames.specs.declared.frame.Operation.TheVariants.{Request, Release, Abort, Query}
-use Rattle.wl_frames.specs.declared.frame.Outcome.TheVariants.{Granted}
+use Rattle.wl_grammar.specs.declared.frame.Operation.{Operation}
+use Rattle.wl_grammar.specs.declared.frame.Operation.TheVariants.{Request, Release, Abort, Query}
+use Rattle.wl_grammar.specs.declared.frame.Outcome.TheVariants.{Granted}
 use Rattle.wl_broker.specs.declared.seat.Seat.TheVariants.{Joined, Dead}
 use Rattle.wl_broker.specs.Broker.{BrokerState, Whole, manager_of, is_joined, is_dead, all_below, is_lock, drafted, outcome_of, answer_to, first_answer}
-use Rattle.wl_bag.specs.Membership.{In, Here, Later}
-use Rattle.wl_bag.proofs.Membership.{apart, either, In-nil, In-cons_cases, In-head, In-append_right, In-append_cases, In-one, In-map_cases, In-filter_cases, list_all-In}
+use Rattle.wl_draft.specs.Membership.{In, Here, Later}
+use Rattle.wl_draft.proofs.Membership.{apart, either, In-nil, In-cons_cases, In-head, In-append_right, In-append_cases, In-one, In-map_cases, In-filter_cases, list_all-In}
 use Rattle.wl_world.specs.Orders.{Dies, Reports, Commands, Item, has_death, has_report, commands_of, next_of, limit_of, granted_if, probe_grants}
 use Rattle.wl_world.proofs.exclusion.HeldAfterSettling.{Stands, settle-keeps, settle-newly, newly-waited, without-fewer}
 use Rattle.wl_world.proofs.order.OneMoreItem.{item, has_report-push, has_death-push}

@@ -6,13 +6,13 @@ use Rattle.wl_draft.specs.declared.row.Row.{Row}
 use Rattle.wl_draft.specs.Tables.{find, put}
 use Rattle.wl_draft.specs.Locks.{Locks, no_locks, newly_if, settle_if, is_pair, has_pair, without, restored}
 use Rattle.wl_draft.proofs.TableLemmas.{find-put_same, find-put_other, at-put_same, at-put_other}
-use Rattle.wl_frames.specs.declared.frame.Operation.{Operation}
-use Rattle.wl_frames.specs.declared.frame.Operation.TheVariants.{Request, Release, Abort, Query}
-use Rattle.wl_frames.specs.declared.frame.Outcome.TheVariants.{Granted, Gone}
-use Rattle.wl_frames.specs.declared.frame.SnapshotEntry.{SnapshotEntry}
-use Rattle.wl_frames.specs.declared.frame.Addressed.{Addressed}
-use Rattle.wl_frames.specs.declared.frame.Downward.{Downward}
-use Rattle.wl_frames.specs.declared.frame.Downward.TheVariants as down
+use Rattle.wl_grammar.specs.declared.frame.Operation.{Operation}
+use Rattle.wl_grammar.specs.declared.frame.Operation.TheVariants.{Request, Release, Abort, Query}
+use Rattle.wl_grammar.specs.declared.frame.Outcome.TheVariants.{Granted, Gone}
+use Rattle.wl_grammar.specs.declared.frame.SnapshotEntry.{SnapshotEntry}
+use Rattle.wl_grammar.specs.declared.frame.Addressed.{Addressed}
+use Rattle.wl_grammar.specs.declared.frame.Downward.{Downward}
+use Rattle.wl_grammar.specs.declared.frame.Downward.TheVariants as down
 use Rattle.wl_broker.specs.declared.seat.Seat.{Seat}
 use Rattle.wl_broker.specs.declared.seat.Seat.TheVariants.{Joined}
 use Rattle.wl_broker.specs.Broker.{BrokerState, seat_of, manager_of, is_joined, is_dead, next_in, next_of as broker_next, limit_in, limit_of as broker_limit, without_partial, Whole, is_active, with_seat, settled_at, newly_at, answer_to, grants_to, snapshot_entries, parts_of, snapshot_part, snapshot_to, first_answer, all_below, is_lock, drafted, Taking, Drops, Does, join, perform}
@@ -20,8 +20,8 @@ use Rattle.wl_bag.specs.declared.message.Sender.TheVariants.{Broker}
 use Rattle.wl_bag.specs.declared.message.Message.{Message}
 use Rattle.wl_bag.specs.declared.message.Message.TheVariants.{Down}
 use Rattle.wl_bag.specs.Messages.{sent_all}
-use Rattle.wl_bag.specs.Membership.{In, Here}
-use Rattle.wl_bag.proofs.Membership.{apart, either, In-nil, In-append_cases, In-append_right, In-one, In-map, In-map_cases, In-filter_cases, list_any-In}
+use Rattle.wl_draft.specs.Membership.{In, Here}
+use Rattle.wl_draft.proofs.Membership.{apart, either, In-nil, In-append_cases, In-append_right, In-one, In-map, In-map_cases, In-filter_cases, list_any-In}
 use Rattle.wl_bag.proofs.Same.{sent_all-adds, down-same}
 use Rattle.wl_world.specs.World.{from_broker}
 use Rattle.wl_world.specs.Orders.{Act, Reports, Commands, Item, Picked, of_tab, is_report, next_of, limit_of, done, probe_grants, adds, HasAnswer}

@@ -5,12 +5,12 @@ use Rattle.std.proofs.lemmas.Bool.{not-true, and_parts}
 use Rattle.wl_origin.specs.Order.{Pair}
 use Rattle.wl_draft.specs.declared.mode.Mode.{Mode}
 use Rattle.wl_draft.specs.Tables.{Table, put}
-use Rattle.wl_frames.specs.declared.frame.Operation.{Operation}
-use Rattle.wl_frames.specs.declared.frame.Report.{Report}
-use Rattle.wl_frames.specs.declared.frame.Upward.{Upward}
-use Rattle.wl_frames.specs.declared.frame.Upward.TheVariants as up
-use Rattle.wl_frames.specs.declared.frame.Downward.{Downward}
-use Rattle.wl_frames.specs.declared.frame.Downward.TheVariants as down
+use Rattle.wl_grammar.specs.declared.frame.Operation.{Operation}
+use Rattle.wl_grammar.specs.declared.frame.Report.{Report}
+use Rattle.wl_grammar.specs.declared.frame.Upward.{Upward}
+use Rattle.wl_grammar.specs.declared.frame.Upward.TheVariants as up
+use Rattle.wl_grammar.specs.declared.frame.Downward.{Downward}
+use Rattle.wl_grammar.specs.declared.frame.Downward.TheVariants as down
 use Rattle.wl_broadcast.specs.Channels.{ChannelState, open_refusal as channel_refusal, opened as channel_opened, post_refusal, posted, is_own as is_own_channel, read_at, closed_at}
 use Rattle.wl_broker.specs.Broker.{Told, at_once, in_part, told_of, hello_to}
 use Rattle.wl_agent.specs.declared.delivered.Delivered.{Delivered}
@@ -23,10 +23,10 @@ use Rattle.wl_bag.specs.declared.message.Sender.TheVariants.{Kernel}
 use Rattle.wl_bag.specs.declared.message.Message.{Message}
 use Rattle.wl_bag.specs.declared.message.Message.TheVariants.{Up, Down, Across}
 use Rattle.wl_bag.specs.Messages.{sent_all}
-use Rattle.wl_bag.specs.Membership.{In}
-use Rattle.wl_bag.proofs.Membership.{apart, either, In-nil, In-one, In-map_cases}
+use Rattle.wl_draft.specs.Membership.{In}
+use Rattle.wl_draft.proofs.Membership.{apart, either, In-nil, In-one, In-map_cases}
 use Rattle.wl_bag.proofs.Same.{sent_all-keeps, sent_all-cases}
-use Rattle.wl_tab.specs.declared.locks.TheConstants.{COMMAND_LIMIT}
+use Rattle.wl_limits.specs.declared.tabs.TheConstants.{COMMAND_LIMIT}
 use Rattle.wl_tab.specs.Tabs.{told}
 use Rattle.wl_world.specs.declared.event.Forged.{Forged}
 use Rattle.wl_world.specs.World.{WorldState, tab_of, partition_of, Deed, nothing, where_allowed, acts, stamped, issues, asks, queries, aborts, releases, resends, becomes, across, report_if_entered, hears, with_kernel, opens, with_two, opens_two, kills, lives, channels_of, opens_channel, posts, reads, closes, is_corrupt, taken_over, corrupts, forgery, forges}

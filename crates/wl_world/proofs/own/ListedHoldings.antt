@@ -4,25 +4,23 @@ use Rattle.std.specs.Prelude.{◌==◌}
 use Rattle.std.specs.List.{AllByRecursion, flat_map, list_any}
 use Rattle.std.proofs.Math.Bool.{and-true}
 use Rattle.std.proofs.lemmas.Bool.{and_parts, cond-true, cond-false, eq-eqb, eqb-true, ne_eqb, leb-true, or_left, or_right}
+use Rattle.wl_draft.proofs.RisingTables.{Rises-filter, find-In}
 use Rattle.wl_origin.specs.Order.{Pair}
-use Rattle.wl_draft.specs.Tables.{Table, find}
+use Rattle.wl_draft.specs.Tables.{Table, find, Rises}
 use Rattle.wl_agent.specs.declared.status.Status.{Status}
 use Rattle.wl_agent.specs.declared.status.Status.TheVariants.{Held}
-use Rattle.wl_broker.specs.Kept.{Rises}
 use Rattle.wl_agent.specs.Tab.{TabState, status_of, is_held}
 use Rattle.wl_kernel.specs.Kernel.{OpenedTab, tab_in, any_tab, lives as lives_in, living_tabs, rises_from, is_listed}
 use Rattle.wl_kernel.specs.Kept.{AreTabs}
 use Rattle.wl_kernel.proofs.Living.{passes, listed-living_in, rises-living_in}
-use Rattle.wl_bag.specs.Membership.{In, Here, Later}
-use Rattle.wl_bag.proofs.Membership.{apart, In-nil, In-cons_cases, In-append_left, In-append_right, In-append_cases, In-map, In-map_cases, In-filter, In-filter_cases, list_any-In}
+use Rattle.wl_draft.specs.Membership.{In, Here, Later}
+use Rattle.wl_draft.proofs.Membership.{apart, In-nil, In-cons_cases, In-append_left, In-append_right, In-append_cases, In-map, In-map_cases, In-filter, In-filter_cases, list_any-In}
 use Rattle.wl_tab.specs.declared.holding.Holding.{Holding}
 use Rattle.wl_tab.specs.TabTokens.{holding_at, holdings_of}
 use Rattle.wl_world.specs.declared.event.Event.{Event}
 use Rattle.wl_world.specs.World.{WorldState, empty_world, tab_of, lives, run}
 use Rattle.wl_world.specs.Holdings.{IsHolding}
 use Rattle.wl_world.specs.Machine.{held_by_living, holding_of, IsBefore, AreOrdered, AreHoldings}
-use Rattle.wl_world.proofs.Tables.{find-In}
-use Rattle.wl_world.proofs.exclusion.HeardNumbers.{Rises-filter}
 use Rattle.wl_world.proofs.exclusion.SoundRuns.{run-sound}
 use Rattle.wl_world.proofs.apart.RunsApart.{reached}
 use Rattle.wl_world.proofs.own.TabNumbers.{run-number}

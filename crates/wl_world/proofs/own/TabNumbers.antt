@@ -2,10 +2,10 @@
 use Rattle.std.proofs.Common.{◌≡◌, ℕ, ◌+◌, Bool, true, false, List, [], ◌∷◌, Option, Some, None, is_some, refl, sym, ap, ◌∙◌}
 use Rattle.std.specs.Prelude.{◌==◌, nat_lt}
 use Rattle.wl_draft.specs.declared.mode.Mode.{Mode}
-use Rattle.wl_frames.specs.declared.frame.Frame.{Frame}
-use Rattle.wl_frames.specs.declared.frame.Frame.TheVariants as frame
-use Rattle.wl_frames.specs.declared.frame.Snapshot.{Snapshot}
-use Rattle.wl_frames.specs.declared.frame.Stamped.{Stamped}
+use Rattle.wl_grammar.specs.declared.frame.Frame.{Frame}
+use Rattle.wl_grammar.specs.declared.frame.Frame.TheVariants as frame
+use Rattle.wl_grammar.specs.declared.frame.Snapshot.{Snapshot}
+use Rattle.wl_grammar.specs.declared.frame.Stamped.{Stamped}
 use Rattle.wl_broker.specs.Broker.{BrokerState, Taking, Drops, Does, taking}
 use Rattle.wl_broadcast.specs.Channels.{ChannelState}
 use Rattle.wl_agent.specs.declared.delivered.Delivered.{Delivered}
@@ -16,8 +16,8 @@ use Rattle.wl_kernel.specs.Routes.{frame_of}
 use Rattle.wl_bag.specs.declared.message.Message.{Message}
 use Rattle.wl_bag.specs.declared.message.Message.TheVariants.{Up, Down, Across}
 use Rattle.wl_bag.specs.Messages.{is_sent}
-use Rattle.wl_bag.proofs.Membership.{either}
-use Rattle.wl_tab.specs.declared.locks.TheConstants.{COMMAND_LIMIT}
+use Rattle.wl_draft.proofs.Membership.{either}
+use Rattle.wl_limits.specs.declared.tabs.TheConstants.{COMMAND_LIMIT}
 use Rattle.wl_tab.specs.Tabs.{told}
 use Rattle.wl_world.specs.declared.event.Event.{Event}
 use Rattle.wl_world.specs.declared.event.Event.TheVariants as event

@@ -2,7 +2,7 @@
 
 ghost use Rattle.std.specs.Prelude.{◌≡◌, IfOk, OnOk, true, not, is_some, if◌then◌else◌};
 ghost use Rattle.wl_draft.specs.Tables.{find};
-ghost use Rattle.wl_frames.specs.declared.frame.Frame.TheVariants as frame;
+ghost use Rattle.wl_grammar.specs.declared.frame.Frame.TheVariants as frame;
 ghost use Rattle.wl_kernel.specs.Routes.{frame_of};
 ghost use Rattle.wl_said.specs.declared.said.Said.TheVariants as said;
 ghost use Rattle.wl_said.specs.declared.said.Refusal.TheVariants.{NoMessage};
@@ -17,7 +17,7 @@ use crate::parts::{Done, Parts, of_broker, refused, silent};
 use crate::sending;
 use std::alloc::{AllocError, Global};
 use wl_bag::Message;
-use wl_frames::{Addressed, Answer, Downward, Frame, Hello, Stamped};
+use wl_grammar::{Addressed, Answer, Downward, Frame, Hello, Stamped};
 use wl_said::{Reason, Refusal, Said};
 use wl_tab::tables;
 

@@ -12,7 +12,7 @@ use crate::parts::{Done, Parts, refused, silent};
 use crate::sending::add_stamped;
 use std::alloc::{AllocError, Global};
 use wl_bag::Message;
-use wl_frames::{Frame, Upward};
+use wl_grammar::{Frame, Upward};
 use wl_kernel::Tabs;
 use wl_said::{Refusal, Said};
 

@@ -2,7 +2,7 @@
 
 ghost use Rattle.std.specs.Prelude.{◌≡◌, ◌≢◌, ◌≤◌, [], ◌++◌, length, map, IfOk, OnOk, None};
 ghost use Rattle.std.specs.List.{filter_map};
-ghost use Rattle.wl_frames.specs.declared.frame.Frame.TheVariants as frame;
+ghost use Rattle.wl_grammar.specs.declared.frame.Frame.TheVariants as frame;
 ghost use Rattle.wl_broadcast.specs.Channels.{after_hearing};
 ghost use Rattle.wl_said.specs.declared.said.Reached.TheVariants.{Took};
 ghost use Rattle.wl_world.specs.World.{WorldState, opens_channel, posts, reads, closes, becomes, channels_of, where_allowed, lives};
@@ -16,7 +16,7 @@ use std::alloc::{AllocError, Global};
 use wl_bag::Message;
 use wl_broadcast::{ChannelFault, Hearing, Letter, Posted};
 use wl_draft::Name;
-use wl_frames::{Frame, Heard, Sequence};
+use wl_grammar::{Frame, Heard, Sequence};
 use wl_kernel::{Routed, Tabs};
 use wl_said::{Reached, Reason, Refusal, Said};
 use wl_tab::{ChannelRefusal, channel_tables};

@@ -8,7 +8,7 @@ ghost use Rattle.wl_world.specs.Replies.{opening, opening_two, greeting, of_open
 use crate::parts::{Done, Parts, of_broker, refused, silent};
 use std::alloc::AllocError;
 use wl_bag::{Message, Sender};
-use wl_frames::{Addressed, Downward, Hello};
+use wl_grammar::{Addressed, Downward, Hello};
 use wl_kernel::OpenFault;
 use wl_origin::Partition;
 use wl_said::{Refusal, Said};

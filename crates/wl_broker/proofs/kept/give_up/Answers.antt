@@ -1,5 +1,5 @@
 use Rattle.std.proofs.Common.{◌∙◌}
-use Rattle.wl_broker.proofs.PartitionRows.{remove_entry-without}
+use Rattle.wl_draft.proofs.RisingTables.{remove_entry-without}
 use Rattle.wl_broker.proofs.kept.give_up.Goals as goal
 
 pub returns : goal.returns

@@ -1,6 +1,6 @@
 use Rattle.std.proofs.Common.{◌≡◌, ◌++◌, length}
 use Rattle.std.specs.List.{flat_map, AllByRecursion}
-use Rattle.wl_frames.specs.Grammar.{IsWellFormed, spelling}
+use Rattle.wl_grammar.specs.Grammar.{IsWellFormed, spelling}
 use Rattle.wl_frames.proofs.feed.read_frames.Given as goal
 
 -- the frames so far and what follows them are the bytes

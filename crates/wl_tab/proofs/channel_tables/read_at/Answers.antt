@@ -1,6 +1,6 @@
 use Rattle.std.proofs.Common.{refl}
 use Rattle.std.proofs.lemmas.Result.{IfOk-weaker, on_err_weaker}
-use Rattle.wl_agent.proofs.Rows.{written_same}
+use Rattle.wl_draft.proofs.RisingTables.{written_same}
 use Rattle.wl_tab.proofs.TabTables.{find_there, find_absent, written_as, ltb_zero}
 use Rattle.wl_tab.proofs.channel_tables.read_at.Goals as goal
 

@@ -1,8 +1,8 @@
 use Rattle.std.proofs.Common.{ℕ, sym, ap, ◌∙◌, length}
 use Rattle.std.specs.BTreeMap.{BTreeMap}
 use Rattle.std.proofs.lemmas.Result.{IfOk-weaker, on_err_weaker}
+use Rattle.wl_draft.proofs.RisingTables.{written_same}
 use Rattle.wl_agent.specs.Tab.{TabState, asked, ask_refusal}
-use Rattle.wl_agent.proofs.Rows.{written_same}
 use Rattle.wl_tab.proofs.TabTables.{find_there, find_absent, written_as, put_new}
 use Rattle.wl_tab.proofs.tables.ask_at.Goals as goal
 

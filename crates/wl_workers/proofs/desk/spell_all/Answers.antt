@@ -3,8 +3,8 @@ use Rattle.std.proofs.lemmas.List.{nil_from_length}
 use Rattle.std.proofs.lemmas.Result.{err_from_is_err_and}
 use Rattle.std.specs.List.{AllByRecursion}
 use Rattle.std.specs.Vec.Iter.{into_iter_items}
-use Rattle.wl_frames.specs.declared.frame.Frame.TheVariants as frame
-use Rattle.wl_frames.specs.Grammar.{IsAddressed, spelling}
+use Rattle.wl_grammar.specs.declared.frame.Frame.TheVariants as frame
+use Rattle.wl_grammar.specs.Grammar.{IsAddressed, spelling}
 use Rattle.wl_workers.specs.DeskSteps.{spelled}
 use Rattle.wl_workers.proofs.DeskLemmas.{outs_more}
 use Rattle.wl_workers.proofs.desk.spell_all.Goals as goal

@@ -1,7 +1,7 @@
 use Rattle.std.proofs.Common.{◌≡◌, ℕ, List, ◌++◌}
 use Rattle.std.specs.List.{AllByRecursion}
 use Rattle.std.specs.Vec.Iter.{into_iter_items}
-use Rattle.wl_frames.specs.Grammar.{IsAddressed}
+use Rattle.wl_grammar.specs.Grammar.{IsAddressed}
 use Rattle.wl_workers.specs.DeskSteps.{spelled}
 use Rattle.wl_workers.proofs.desk.spell_all.Given as goal
 

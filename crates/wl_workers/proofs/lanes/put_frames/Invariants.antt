@@ -1,6 +1,6 @@
 use Rattle.std.proofs.Common.{◌≡◌, List, ◌++◌}
 use Rattle.std.specs.Vec.Iter.{into_iter_items}
-use Rattle.wl_frames.specs.declared.frame.Addressed.{Addressed}
+use Rattle.wl_grammar.specs.declared.frame.Addressed.{Addressed}
 use Rattle.wl_workers.specs.Told.{Grows}
 use Rattle.wl_workers.specs.Lane.{as_frames, all_put}
 use Rattle.wl_workers.proofs.lanes.put_frames.Given as goal

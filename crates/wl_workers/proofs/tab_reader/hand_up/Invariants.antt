@@ -1,6 +1,6 @@
 use Rattle.std.proofs.Common.{◌≡◌, List, [], ◌++◌}
 use Rattle.std.specs.Vec.Iter.{into_iter_items}
-use Rattle.wl_frames.specs.declared.frame.Frame.{Frame}
+use Rattle.wl_grammar.specs.declared.frame.Frame.{Frame}
 use Rattle.wl_workers.specs.TabReader.{HandsUp}
 use Rattle.wl_workers.proofs.tab_reader.hand_up.Given as goal
 

@@ -1,7 +1,7 @@
 use Rattle.std.proofs.Common.{List, ◌++◌, ap, ◌∙◌}
 use Rattle.std.specs.List.{flat_map}
 use Rattle.std.proofs.lemmas.Result.{IfOk-weaker}
-use Rattle.wl_frames.specs.declared.frame.Frame.{Frame}
+use Rattle.wl_grammar.specs.declared.frame.Frame.{Frame}
 use Rattle.wl_agent.specs.Tab.{report_bodies}
 use Rattle.wl_bag.specs.declared.message.Message.{Message}
 use Rattle.wl_world.specs.Parts.{stamped_in}

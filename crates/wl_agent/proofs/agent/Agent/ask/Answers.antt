@@ -1,5 +1,5 @@
 use Rattle.std.proofs.Common.{List, ℕ, sym, ◌∙◌, subst}
-use Rattle.wl_frames.specs.Grammar.{IsLockName}
+use Rattle.wl_grammar.specs.Grammar.{IsLockName}
 use Rattle.wl_agent.proofs.Spellings.{name-spoken}
 use Rattle.wl_agent.proofs.agent.Agent.ask.Goals as goal
 

@@ -1,8 +1,8 @@
 use Rattle.std.proofs.Common.{Some, sym, ap, ◌∙◌}
-use Rattle.wl_draft.specs.Tables.{find}
+use Rattle.wl_draft.specs.Tables.{find, without_row}
 use Rattle.wl_draft.proofs.TableLemmas.{lookup-find}
-use Rattle.wl_agent.specs.Tab.{without_row}
-use Rattle.wl_agent.proofs.Rows.{remove_entry-without, weighs}
+use Rattle.wl_draft.proofs.RisingTables.{remove_entry-without}
+use Rattle.wl_agent.proofs.Rows.{weighs}
 use Rattle.wl_agent.proofs.Counts.{counts-without, live-fits, kept-fits}
 use Rattle.wl_agent.proofs.statuses.Statuses.remove.Goals as goal
 

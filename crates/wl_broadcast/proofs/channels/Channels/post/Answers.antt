@@ -1,6 +1,6 @@
 use Rattle.std.proofs.Common.{◌≡◌, ◌<◌, length, subst, sym, ap, ◌∙◌, arith}
 use Rattle.std.proofs.lemmas.List.Elements.{All-from_get_or}
-use Rattle.wl_frames.specs.Grammar.{IsChannel, IsData}
+use Rattle.wl_grammar.specs.Grammar.{IsChannel, IsData}
 use Rattle.wl_broadcast.specs.Owned.{Owned}
 use Rattle.wl_broadcast.specs.Channels.{ChannelState, name_at}
 use Rattle.wl_broadcast.specs.OpenObjects.{all_seen, AreChannels}

@@ -3,8 +3,8 @@ use Rattle.wl_draft.specs.Tables.{Table, at}
 use Rattle.wl_draft.proofs.TableLemmas.{at-put_same}
 use Rattle.wl_draft.specs.Locks.{Locks}
 use Rattle.wl_draft.specs.declared.row.Grant.{Grant}
-use Rattle.wl_frames.specs.declared.frame.Addressed.{Addressed}
-use Rattle.wl_frames.specs.declared.frame.Outcome.{Outcome}
+use Rattle.wl_grammar.specs.declared.frame.Addressed.{Addressed}
+use Rattle.wl_grammar.specs.declared.frame.Outcome.{Outcome}
 use Rattle.wl_broker.specs.Broker.{BrokerState, seat_of, manager_of}
 use Rattle.wl_broker.specs.Kept.{PartitionState, no_partition, outcome_at, answer_of, grant_of}
 use Rattle.wl_broker.proofs.BrokerSteps.{change_does, manager_of-fields}

@@ -1,7 +1,7 @@
 use Rattle.std.proofs.Common.{◌≡◌, ◌<◌, ◌||◌, ℕ, List, Some, nat_lt, eqb, sym, ap, ◌∙◌, subst, arith}
 use Rattle.std.proofs.Math.Path.{ap₂}
 use Rattle.std.proofs.lemmas.Result.{IfOk-weaker}
-use Rattle.wl_frames.specs.declared.frame.Addressed.{Addressed}
+use Rattle.wl_grammar.specs.declared.frame.Addressed.{Addressed}
 use Rattle.wl_broker.specs.declared.seat.Seat.TheVariants.{Joined}
 use Rattle.wl_broker.specs.Broker.{BrokerState, Taking, copied, IsTaken, next_of}
 use Rattle.wl_broker.proofs.Drops.{not_joined, recovering, out_of_turn, taken_before, too_many, command_taken, perform_taken}

@@ -1,7 +1,7 @@
 use Rattle.std.proofs.Common.{ℕ, List, subst, arith, not, ◌==◌, map, filter, Option, sym, ap, ◌∙◌}
 use Rattle.std.specs.List.{AllByRecursion}
-use Rattle.wl_frames.specs.declared.frame.Frame.{Frame}
-use Rattle.wl_frames.specs.Grammar.{IsTab, IsWellFormed}
+use Rattle.wl_grammar.specs.declared.frame.Frame.{Frame}
+use Rattle.wl_grammar.specs.Grammar.{IsTab, IsWellFormed}
 use Rattle.wl_kernel.specs.declared.routes.Routed.TheVariants.{Tabs}
 use Rattle.wl_kernel.specs.Kernel.{OpenedTab}
 use Rattle.wl_kernel.specs.Kept.{seen_in, partition_of}

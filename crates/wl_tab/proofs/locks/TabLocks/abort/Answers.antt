@@ -1,5 +1,5 @@
 use Rattle.std.proofs.Common.{◌≡◌, true, false, ap, subst, ◌∙◌, rules}
-use Rattle.wl_frames.specs.declared.frame.Operation.TheVariants.{Abort}
+use Rattle.wl_grammar.specs.declared.frame.Operation.TheVariants.{Abort}
 use Rattle.wl_agent.specs.Tab.{TabState, is_request, aborted}
 use Rattle.wl_tab.specs.declared.locks.Abortion.TheVariants as became
 use Rattle.wl_tab.specs.TabTokens.{IsKept, is_lock}

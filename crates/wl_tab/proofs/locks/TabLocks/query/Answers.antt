@@ -1,5 +1,5 @@
 use Rattle.std.proofs.Common.{List, [], ◌∷◌, ◌++◌, ap, ◌∙◌}
-use Rattle.wl_frames.specs.declared.frame.Operation.TheVariants.{Query}
+use Rattle.wl_grammar.specs.declared.frame.Operation.TheVariants.{Query}
 use Rattle.wl_agent.specs.declared.token.Token.TheVariants as token
 use Rattle.wl_tab.specs.declared.locks.kept.Kept.{Kept}
 use Rattle.wl_tab.specs.TabTokens.{kept_as}

@@ -1,5 +1,5 @@
 use Rattle.std.proofs.Common.{◌≡◌, true, false, Some, None, ap, subst, ◌∙◌, arith, rules}
-use Rattle.wl_frames.specs.declared.frame.Operation.TheVariants.{Release}
+use Rattle.wl_grammar.specs.declared.frame.Operation.TheVariants.{Release}
 use Rattle.wl_agent.specs.Tab.{TabState, released}
 use Rattle.wl_tab.specs.TabTokens.{IsKept, is_lock}
 use Rattle.wl_tab.proofs.KeptTokens.{Found, found, kept-finish}

@@ -1,9 +1,9 @@
 use Rattle.std.proofs.Common.{◌≡◌, ◌∙◌, ◌++◌, [], ◌∷◌, ap, arith}
 use Rattle.std.proofs.lemmas.Grind.{common_steps}
 use Rattle.wl_draft.specs.Locks.{row_of, probed}
-use Rattle.wl_table.specs.Index.{locks_in}
-use Rattle.wl_table.proofs.IndexLemmas.{probed-free}
-use Rattle.wl_table.proofs.CandidateLemmas.{candidates-held}
+use Rattle.wl_index.specs.Index.{locks_in}
+use Rattle.wl_index.proofs.IndexLemmas.{probed-free}
+use Rattle.wl_index.proofs.CandidateLemmas.{candidates-held}
 use Rattle.wl_table.proofs.indexed_table.IndexedTable.grant_at_once.Goals as goal
 
 pub invariant_of-self-2 : goal.invariant_of-self-2

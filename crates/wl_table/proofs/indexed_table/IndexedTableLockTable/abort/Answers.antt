@@ -1,7 +1,7 @@
 use Rattle.std.proofs.Common.{◌≡◌, ◌∙◌, ◌++◌, ap}
 use Rattle.wl_draft.specs.Locks.{grants, newly, settle, aborted}
-use Rattle.wl_table.specs.Index.{locks_in}
-use Rattle.wl_table.proofs.RemovalLemmas.{aborted-in}
+use Rattle.wl_index.specs.Index.{locks_in}
+use Rattle.wl_index.proofs.RemovalLemmas.{aborted-in}
 use Rattle.wl_table.proofs.indexed_table.IndexedTableLockTable.abort.Goals as goal
 
 pub returns-clause-grants : goal.returns-clause-grants

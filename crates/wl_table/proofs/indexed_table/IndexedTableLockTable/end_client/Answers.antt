@@ -1,7 +1,7 @@
 use Rattle.std.proofs.Common.{◌≡◌, ◌∙◌, ◌++◌, true, ap}
 use Rattle.wl_draft.specs.Locks.{grants, newly, newly_if, settle, settle_if, ended}
-use Rattle.wl_table.specs.Index.{locks_in}
-use Rattle.wl_table.proofs.RemovalLemmas.{ended-in}
+use Rattle.wl_index.specs.Index.{locks_in}
+use Rattle.wl_index.proofs.RemovalLemmas.{ended-in}
 use Rattle.wl_table.proofs.indexed_table.IndexedTableLockTable.end_client.Goals as goal
 
 pub returns-then-not-settle-clause-grants : goal.returns-then-not-settle-clause-grants

@@ -1,13 +1,13 @@
 use Rattle.std.proofs.Common.{◌≡◌, ◌∙◌, ◌++◌, [], ◌∷◌, true, ap, refl}
 use Rattle.wl_draft.specs.Locks.{is_grantable, grants, newly, settle, queued, row_of}
-use Rattle.wl_table.specs.Orders.{values_in}
-use Rattle.wl_table.specs.Index.{locks_in}
-use Rattle.wl_table.specs.Lines.{line_at}
-use Rattle.wl_table.specs.Nexts.{is_among, AreCandidates}
-use Rattle.wl_table.proofs.IndexLemmas.{queued-in, grantable-known}
-use Rattle.wl_table.proofs.Stuck.{AreStuck}
-use Rattle.wl_table.proofs.SettleLemmas.{newly-alone, settle-alone}
-use Rattle.wl_table.proofs.CandidateLemmas.{no-candidates, candidates-queued, pushed-here, pushed-kept}
+use Rattle.wl_index.specs.Orders.{values_in}
+use Rattle.wl_index.specs.Index.{locks_in}
+use Rattle.wl_index.specs.Lines.{line_at}
+use Rattle.wl_index.specs.Nexts.{is_among, AreCandidates}
+use Rattle.wl_index.proofs.IndexLemmas.{queued-in, grantable-known}
+use Rattle.wl_index.proofs.Stuck.{AreStuck}
+use Rattle.wl_index.proofs.SettleLemmas.{newly-alone, settle-alone}
+use Rattle.wl_index.proofs.CandidateLemmas.{no-candidates, candidates-queued, pushed-here, pushed-kept}
 use Rattle.wl_table.proofs.indexed_table.IndexedTableLockTable.request.Goals as goal
 
 pub grant_at_once-requires : goal.grant_at_once-requires

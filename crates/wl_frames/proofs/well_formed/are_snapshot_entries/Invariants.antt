@@ -1,8 +1,0 @@
-use Rattle.std.proofs.Common.{◌↔◌, drop}
-use Rattle.std.specs.List.{AllByRecursion}
-use Rattle.wl_frames.specs.Grammar.{IsSnapshotEntry}
-use Rattle.wl_frames.proofs.well_formed.are_snapshot_entries.Given as goal
-
--- the entries that are left decide on all
-abbrev pub invariant-loop-e : goal.invariant-loop-e
-invariant-loop-e l = AllByRecursion IsSnapshotEntry l.entries ↔ AllByRecursion IsSnapshotEntry (drop l.e-index l.entries)

@@ -1,7 +1,0 @@
-use Rattle.std.proofs.Common.{◌≡◌, ◌++◌, length, take}
-use Rattle.std.specs.List.{flat_map}
-use Rattle.wl_frames.specs.Grammar.{u16, place}
-use Rattle.wl_frames.proofs.writing.put_places.Given as goal
-
-abbrev pub invariant-loop-tab : goal.invariant-loop-tab
-invariant-loop-tab l = l.out.items ≡ l.fn.out.items ++ u16 (length l.places) ++ flat_map place (take l.tab-index l.places)

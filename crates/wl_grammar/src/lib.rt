@@ -1,0 +1,17 @@
+//! Frames as values: what tabs, the kernel and the broker send each other, and which of these can be spelled.
+#![tactic(auto)]
+
+mod copy;
+pub mod frame;
+pub mod origin;
+pub mod sequence;
+mod well_formed;
+
+pub use frame::{
+    Addressed, Answer, Command, Dead, Downward, Frame, Heard, Hello, Operation, Outcome,
+    PairWelcome, Post, Report, ReportPart, Snapshot, SnapshotEntry, Stamped, Start, Upward,
+    Welcome,
+};
+pub use origin::Origin;
+pub use sequence::Sequence;
+pub use wl_draft::{Entry, Memory, Mode, Name};

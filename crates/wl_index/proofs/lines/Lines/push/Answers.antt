@@ -1,0 +1,15 @@
+use Rattle.std.proofs.Common.{arith}
+use Rattle.std.proofs.lemmas.Map.Text.{text_keys}
+use Rattle.wl_index.proofs.lines.Lines.push.Goals as goal
+
+pub push-requires : goal.push-requires
+push-requires c = grind (arith, text_keys)
+
+pub returns-in-Some-clause-lines : goal.returns-in-Some-clause-lines
+returns-in-Some-clause-lines c = λ n. grind (arith, text_keys)
+
+pub returns-in-Some-clause-room : goal.returns-in-Some-clause-room
+returns-in-Some-clause-room c = λ n. grind (arith, text_keys)
+
+pub returns-in-Some-clause-kept : goal.returns-in-Some-clause-kept
+returns-in-Some-clause-kept c = λ n h. grind (arith, text_keys)

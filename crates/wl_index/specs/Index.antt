@@ -1,0 +1,87 @@
+-- What an indexed table keeps true: each line and each client's places are read off the two lists.
+use Rattle.std.specs.Prelude.{◌≡◌, ◌≤◌, ◌<◌, ◌+◌, ℕ, List, [], ◌∷◌, Bool, true, length, map, filter, count_by, ◌==◌, ◌&&◌, bytes_eq, if◌then◌else◌}
+use Rattle.wl_draft.specs.declared.mode.Mode.{Mode}
+use Rattle.wl_draft.specs.declared.mode.Mode.TheVariants.{Shared, Exclusive}
+use Rattle.wl_draft.specs.declared.row.Row.{Row}
+use Rattle.wl_draft.specs.Locks.{Locks, is_named}
+use Rattle.wl_draft.specs.Tables.{Table}
+use Rattle.wl_index.specs.Orders.{values_in, orders_in, is_below, is_rising}
+use Rattle.wl_index.specs.Lines.{LineState, line_at, room_at, HasLine, count_named}
+use Rattle.wl_index.specs.Clients.{Places, places_at, held_room_at, waiting_room_at}
+use Rattle.std.specs.List.{list_all}
+use Rattle.wl_index.specs.declared.index.Index.{Index}
+
+abbrev pub is_shared : Mode → Bool
+is_shared Shared = true
+is_shared Exclusive = Rattle.std.specs.Prelude.false
+
+abbrev pub is_exclusive : Mode → Bool
+is_exclusive Shared = Rattle.std.specs.Prelude.false
+is_exclusive Exclusive = true
+
+-- the line of a name, read off the two lists
+abbrev pub line_of : List ℕ → Table Row → Table Row → LineState
+line_of name held waiting = record {
+  shared = count_by (λ p. bytes_eq p.1.name name && is_shared p.1.mode) held;
+  exclusive = count_by (λ p. bytes_eq p.1.name name && is_exclusive p.1.mode) held;
+  queue = orders_in (filter (λ p. bytes_eq p.1.name name) waiting);
+}
+
+-- a client's places in a list
+abbrev pub places_in : ℕ → Table Row → Table ℕ
+places_in client rows = map (λ p. (p.0, p.1.number)) (filter (λ p. p.1.client == client) rows)
+
+abbrev pub places_of : ℕ → Table Row → Table Row → Places
+places_of client held waiting = record { held = places_in client held; waiting = places_in client waiting }
+
+-- the two lists
+abbrev pub locks_in : Table Row → Table Row → Locks
+locks_in held waiting = record { held = values_in held; waiting = values_in waiting }
+
+-- the index tells the truth of the two lists, and there is room to grant all that waits
+pub record IsIndexed (t : Index) : Type 0 where
+  pub held_rise : is_rising t.held.items ≡ true
+  pub waiting_rise : is_rising t.waiting.items ≡ true
+  pub held_below : is_below t.held.items t.next ≡ true
+  pub waiting_below : is_below t.waiting.items t.next ≡ true
+  pub lines : (name : List ℕ) → line_at t.lines name ≡ line_of name t.held.items t.waiting.items
+  pub clients : (client : ℕ) → places_at t.clients client ≡ places_of client t.held.items t.waiting.items
+  pub room : length t.waiting.items ≤ t.held.room
+  pub client_room : (client : ℕ) → length (places_at t.clients client).waiting ≤ held_room_at t.clients client
+
+-- there is room for one more lock of this client under this name
+pub record IsHoldable (t : Index) (client : ℕ) (name : List ℕ) : Type 0 where
+  pub held : length t.waiting.items < t.held.room
+  pub client_held : length (places_at t.clients client).waiting < held_room_at t.clients client
+  pub line : HasLine t.lines name
+
+-- there is room for so many more entries of this client under this name, held or waiting
+pub record IsReady (t : Index) (client : ℕ) (name : List ℕ) (count : ℕ) : Type 0 where
+  pub held : length t.waiting.items + count ≤ t.held.room
+  pub waiting : count ≤ t.waiting.room
+  pub client_held : length (places_at t.clients client).waiting + count ≤ held_room_at t.clients client
+  pub client_waiting : count ≤ waiting_room_at t.clients client
+  pub line : HasLine t.lines name
+  pub name_room : count ≤ room_at t.lines name
+
+-- whether these rows are all of this client
+abbrev pub are_of : ℕ → List Row → Bool
+are_of client rows = list_all (λ r. r.client == client) rows
+
+-- there is room for these locks and these requests of this client
+pub record HasRoom (t : Index) (client : ℕ) (locks requests : List Row) : Type 0 where
+  pub held : length t.waiting.items + length locks + length requests ≤ t.held.room
+  pub waiting : length requests ≤ t.waiting.room
+  pub client_held : length (places_at t.clients client).waiting + length locks + length requests ≤ held_room_at t.clients client
+  pub client_waiting : length requests ≤ waiting_room_at t.clients client
+  pub lines : (name : List ℕ) → is_named name locks ≡ true → HasLine t.lines name
+  pub names : (name : List ℕ) → count_named name requests ≤ room_at t.lines name
+
+-- what a new lock, or a new request of this name, leaves of the room
+pub record TakesRoom (old new : Index) (locks requests : ℕ) (name : List ℕ) : Type 0 where
+  pub held : old.held.room ≤ new.held.room + locks
+  pub waiting : old.waiting.room ≤ new.waiting.room + requests
+  pub client_held : (client : ℕ) → held_room_at old.clients client ≤ held_room_at new.clients client + locks
+  pub client_waiting : (client : ℕ) → waiting_room_at old.clients client ≤ waiting_room_at new.clients client + requests
+  pub lines : (n : List ℕ) → HasLine old.lines n → HasLine new.lines n
+  pub names : (n : List ℕ) → room_at old.lines n ≤ room_at new.lines n + (if bytes_eq name n then requests else 0)

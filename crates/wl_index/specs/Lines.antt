@@ -1,0 +1,60 @@
+-- What a table keeps of each name.
+use Rattle.std.specs.Prelude.{ℕ, ◌+◌, ◌-◌, List, [], ◌∷◌, ◌++◌, count_by, Bool, ◌&&◌, ◌==◌, IsSome, bytes_eq}
+use Rattle.std.specs.Option.{option_map_or}
+use Rattle.std.specs.HashMap.{get_by_text}
+use Rattle.std.specs.VecDeque.{deque_len, deque_capacity}
+use Rattle.wl_draft.specs.declared.mode.Mode.{Mode}
+use Rattle.wl_draft.specs.declared.mode.Mode.TheVariants.{Shared, Exclusive}
+use Rattle.wl_draft.specs.declared.row.Row.{Row}
+use Rattle.wl_index.specs.Orders.{without_number}
+use Rattle.wl_index.specs.declared.line.Line.{Line}
+use Rattle.wl_index.specs.declared.lines.Lines.{Lines}
+
+-- how many hold a name in each mode, and the numbers of the requests that wait for it, in the order of queueing
+pub record LineState : Type 0 where
+  pub shared : ℕ
+  pub exclusive : ℕ
+  pub queue : List ℕ
+
+abbrev pub nobody : LineState
+nobody = record { shared = 0; exclusive = 0; queue = [] }
+
+abbrev pub line_seen : Line → LineState
+line_seen l = record { shared = l.shared; exclusive = l.exclusive; queue = l.queue.items }
+
+-- whether a lock in this mode conflicts with none that is held
+abbrev pub lets_in : LineState → Mode → Bool
+lets_in s Shared = s.exclusive == 0
+lets_in s Exclusive = s.exclusive == 0 && s.shared == 0
+
+abbrev pub with_holder : LineState → Mode → LineState
+with_holder s Shared = record { shared = s.shared + 1; exclusive = s.exclusive; queue = s.queue }
+with_holder s Exclusive = record { shared = s.shared; exclusive = s.exclusive + 1; queue = s.queue }
+
+abbrev pub with_waiter : LineState → ℕ → LineState
+with_waiter s order = record { shared = s.shared; exclusive = s.exclusive; queue = s.queue ++ order ∷ [] }
+
+abbrev pub without_holder : LineState → Mode → LineState
+without_holder s Shared = record { shared = s.shared - 1; exclusive = s.exclusive; queue = s.queue }
+without_holder s Exclusive = record { shared = s.shared; exclusive = s.exclusive - 1; queue = s.queue }
+
+abbrev pub without_waiter : LineState → ℕ → LineState
+without_waiter s order = record { shared = s.shared; exclusive = s.exclusive; queue = without_number order s.queue }
+
+-- how many more may wait with no allocation
+abbrev pub line_room : Line → ℕ
+line_room l = deque_capacity l.queue - deque_len l.queue
+
+-- what is kept of a name
+abbrev pub line_at : Lines → List ℕ → LineState
+line_at ls name = option_map_or line_seen (get_by_text ls.lines name) nobody
+
+abbrev pub room_at : Lines → List ℕ → ℕ
+room_at ls name = option_map_or line_room (get_by_text ls.lines name) 0
+
+abbrev pub HasLine : Lines → List ℕ → Type 0
+HasLine ls name = IsSome (get_by_text ls.lines name)
+
+-- how many of these rows have this name
+abbrev pub count_named : List ℕ → List Row → ℕ
+count_named name rows = count_by (λ r. bytes_eq name r.name) rows

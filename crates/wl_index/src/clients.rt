@@ -1,0 +1,185 @@
+//! The entries of all clients.
+
+ghost use Rattle.std.specs.Prelude.{true, ◌≡◌, ◌+◌, ◌<◌, ◌≤◌, ◌==◌, ℕ, length, OnOk, IfSome, IfNone, Some, None, if◌then◌else◌};
+ghost use Rattle.wl_index.specs.Orders.{is_below};
+ghost use Rattle.wl_index.specs.Places.{first_place, IsPlace};
+ghost use Rattle.wl_index.specs.Clients.{no_places, places_at, standing_in, held_room_at, with_held, waiting_room_at, with_waiting, without_held, without_waiting};
+
+use crate::holdings::Holdings;
+use indexmap::IndexMap;
+use std::alloc::{AllocError, Global};
+use wl_draft::Standing;
+
+/// For each client what it holds and waits for.
+#[derive(Drop)]
+pub struct Clients {
+    pub alloc: Global,
+    pub clients: IndexMap<u16, Holdings>,
+}
+
+impl Clients {
+    pub fn new(alloc: Global) -> Clients
+        ensures { (c : ℕ) → places_at result c ≡ no_places }
+    {
+        Clients {
+            alloc,
+            clients: IndexMap::new(alloc),
+        }
+    }
+
+    /// Where the client's lock of this number stands.
+    pub fn standing(&self, client: u16, number: u32) -> Standing
+        ensures { result ≡ standing_in (places_at self.now client) number }
+    {
+        match self.clients.get(&client) {
+            Some(holdings) => holdings.standing(number),
+            None => Standing::Absent,
+        }
+    }
+
+    /// How many entries the client has.
+    pub fn live(&self, client: u16) -> usize
+        ensures { result ≡ length (places_at self.now client).held + length (places_at self.now client).waiting }
+    {
+        match self.clients.get(&client) {
+            Some(holdings) => holdings.len(),
+            None => 0,
+        }
+    }
+
+    /// Some lock of the client of the number that is meant.
+    pub fn find_held(&self, client: u16, which: Option<u32>) -> Option<u64>
+        ensures some { IfSome result (λ order. IsPlace which (places_at self.now client).held order) }
+        ensures none { IfNone result (first_place which (places_at self.now client).held ≡ None) }
+    {
+        match self.clients.get(&client) {
+            Some(holdings) => holdings.held.find(which),
+            None => None,
+        }
+    }
+
+    /// Some request of the client of the number that is meant.
+    pub fn find_waiting(&self, client: u16, which: Option<u32>) -> Option<u64>
+        ensures some { IfSome result (λ order. IsPlace which (places_at self.now client).waiting order) }
+        ensures none { IfNone result (first_place which (places_at self.now client).waiting ≡ None) }
+    {
+        match self.clients.get(&client) {
+            Some(holdings) => holdings.waiting.find(which),
+            None => None,
+        }
+    }
+
+    /// The client's first request of a number.
+    pub fn first_waiting(&self, client: u16, number: u32) -> Option<u64>
+        ensures { result ≡ first_place (Some number) (places_at self.now client).waiting }
+    {
+        match self.clients.get(&client) {
+            Some(holdings) => holdings.waiting.first(number),
+            None => None,
+        }
+    }
+
+    /// Makes room for one more lock of the client, beside those that it waits for.
+    pub fn reserve_lock(&mut self, client: u16) -> Result<(), AllocError>
+        ensures places { (c : ℕ) → places_at self.new c ≡ places_at self.old c }
+        ensures held { OnOk result (length (places_at self.new client).waiting < held_room_at self.new client) }
+        ensures kept { (c : ℕ) → held_room_at self.old c ≤ held_room_at self.new c }
+    {
+        if !self.clients.contains_key(&client) {
+            self.clients.insert(client, Holdings::new(self.alloc))?;
+        }
+        match self.clients.get_mut(&client) {
+            Some(holdings) => holdings.reserve_lock(),
+            None => Err(AllocError),
+        }
+    }
+
+    /// Makes room for so many more entries of the client, held or waiting.
+    pub fn reserve(&mut self, client: u16, count: usize) -> Result<(), AllocError>
+        ensures places { (c : ℕ) → places_at self.new c ≡ places_at self.old c }
+        ensures held { OnOk result (length (places_at self.new client).waiting + count ≤ held_room_at self.new client) }
+        ensures waiting { OnOk result (count ≤ waiting_room_at self.new client) }
+        ensures kept { (c : ℕ) → held_room_at self.old c ≤ held_room_at self.new c }
+        ensures kept_waiting { (c : ℕ) → waiting_room_at self.old c ≤ waiting_room_at self.new c }
+    {
+        if !self.clients.contains_key(&client) {
+            self.clients.insert(client, Holdings::new(self.alloc))?;
+        }
+        match self.clients.get_mut(&client) {
+            Some(holdings) => holdings.reserve(count),
+            None => Err(AllocError),
+        }
+    }
+
+    /// Puts a lock last in the client's. There is room for it.
+    pub fn hold(&mut self, client: u16, order: u64, number: u32)
+        requires last { is_below (places_at self.old client).held order ≡ true }
+        requires room { 0 < held_room_at self.old client }
+        ensures places { (c : ℕ) → places_at self.new c ≡ (if client == c then with_held (places_at self.old c) order number else places_at self.old c) }
+        ensures held { (c : ℕ) → held_room_at self.old c ≤ held_room_at self.new c + (if client == c then 1 else 0) }
+        ensures waiting { (c : ℕ) → waiting_room_at self.old c ≤ waiting_room_at self.new c }
+    {
+        match self.clients.get_mut(&client) {
+            Some(holdings) => holdings.held.push(order, number),
+            None => {}
+        }
+    }
+
+    /// Puts a request last in the client's. There is room for it.
+    pub fn wait(&mut self, client: u16, order: u64, number: u32)
+        requires last { is_below (places_at self.old client).waiting order ≡ true }
+        requires room { 0 < waiting_room_at self.old client }
+        ensures places { (c : ℕ) → places_at self.new c ≡ (if client == c then with_waiting (places_at self.old c) order number else places_at self.old c) }
+        ensures held { (c : ℕ) → held_room_at self.old c ≤ held_room_at self.new c }
+        ensures waiting { (c : ℕ) → waiting_room_at self.old c ≤ waiting_room_at self.new c + (if client == c then 1 else 0) }
+    {
+        match self.clients.get_mut(&client) {
+            Some(holdings) => holdings.waiting.push(order, number),
+            None => {}
+        }
+    }
+
+    /// Takes a lock out of the client's.
+    pub fn drop_held(&mut self, client: u16, order: u64)
+        ensures places { (c : ℕ) → places_at self.new c ≡ (if client == c then without_held (places_at self.old c) order else places_at self.old c) }
+        ensures held { (c : ℕ) → held_room_at self.old c ≤ held_room_at self.new c }
+        ensures waiting { (c : ℕ) → waiting_room_at self.old c ≤ waiting_room_at self.new c }
+    {
+        match self.clients.get_mut(&client) {
+            Some(holdings) => holdings.held.remove(order),
+            None => {}
+        }
+    }
+
+    /// Takes a request out of the client's.
+    pub fn drop_waiting(&mut self, client: u16, order: u64)
+        ensures places { (c : ℕ) → places_at self.new c ≡ (if client == c then without_waiting (places_at self.old c) order else places_at self.old c) }
+        ensures held { (c : ℕ) → held_room_at self.old c ≤ held_room_at self.new c }
+        ensures waiting { (c : ℕ) → waiting_room_at self.old c ≤ waiting_room_at self.new c }
+    {
+        match self.clients.get_mut(&client) {
+            Some(holdings) => holdings.waiting.remove(order),
+            None => {}
+        }
+    }
+
+    /// Forgets a client that has no entry.
+    pub fn forget(&mut self, client: u16)
+        ensures places { (c : ℕ) → places_at self.new c ≡ places_at self.old c }
+        ensures room { (c : ℕ) → length (places_at self.old c).waiting ≤ held_room_at self.old c → length (places_at self.new c).waiting ≤ held_room_at self.new c }
+    {
+        if self.is_idle(client) {
+            let _ = self.clients.swap_remove(&client);
+        }
+    }
+
+    // Whether the client is known and has no entry.
+    fn is_idle(&self, client: u16) -> bool
+        ensures { result ≡ true → places_at self.now client ≡ no_places }
+    {
+        match self.clients.get(&client) {
+            Some(holdings) => holdings.is_empty(),
+            None => false,
+        }
+    }
+}

@@ -1,0 +1,73 @@
+//! The entries of one client: which numbers it holds, and which wait.
+
+ghost use Rattle.std.specs.Prelude.{◌≡◌, true, ◌+◌, ◌<◌, ◌≤◌, OnOk, length};
+ghost use Rattle.wl_index.specs.Clients.{no_places, places_seen, standing_in, held_room, waiting_room};
+
+use crate::place_index::PlaceIndex;
+use std::alloc::{AllocError, Global};
+use wl_draft::Standing;
+
+/// What a client holds and waits for, each in the table's order. `held` always has room for what waits.
+#[derive(Drop)]
+pub struct Holdings {
+    pub held: PlaceIndex,
+    pub waiting: PlaceIndex,
+}
+
+impl Holdings {
+    pub fn new(alloc: Global) -> Holdings
+        ensures { places_seen result ≡ no_places }
+    {
+        Holdings {
+            held: PlaceIndex::new(alloc),
+            waiting: PlaceIndex::new(alloc),
+        }
+    }
+
+    pub fn len(&self) -> usize
+        ensures { result ≡ length (places_seen self.now).held + length (places_seen self.now).waiting }
+    {
+        self.held.len() + self.waiting.len()
+    }
+
+    pub fn standing(&self, number: u32) -> Standing
+        ensures { result ≡ standing_in (places_seen self.now) number }
+    {
+        if self.held.contains(number) {
+            Standing::Held
+        } else if self.waiting.contains(number) {
+            Standing::Waiting
+        } else {
+            Standing::Absent
+        }
+    }
+
+    pub fn is_empty(&self) -> bool
+        ensures { result ≡ true → places_seen self.now ≡ no_places }
+    {
+        self.held.is_empty() && self.waiting.is_empty()
+    }
+
+    /// Makes room for so many more entries, wherever they go.
+    pub fn reserve(&mut self, count: usize) -> Result<(), AllocError>
+        ensures places { places_seen self.new ≡ places_seen self.old }
+        ensures held { OnOk result (length (places_seen self.new).waiting + count ≤ held_room self.new) }
+        ensures waiting { OnOk result (count ≤ waiting_room self.new) }
+        ensures kept { (held_room self.old ≤ held_room self.new) × (waiting_room self.old ≤ waiting_room self.new) }
+    {
+        let Some(both) = self.waiting.len().checked_add(count) else {
+            return Err(AllocError);
+        };
+        self.waiting.reserve(count)?;
+        self.held.reserve(both)
+    }
+
+    /// Makes room for one more lock, beside those that are waited for.
+    pub fn reserve_lock(&mut self) -> Result<(), AllocError>
+        ensures places { places_seen self.new ≡ places_seen self.old }
+        ensures held { OnOk result (length (places_seen self.new).waiting < held_room self.new) }
+        ensures kept { (held_room self.old ≤ held_room self.new) × (waiting_room self.old ≤ waiting_room self.new) }
+    {
+        self.held.reserve(self.waiting.len() + 1)
+    }
+}

@@ -1,0 +1,17 @@
+//! The two lists of a partition's locks, with an index of their names and one of their clients.
+#![tactic(auto)]
+
+pub mod candidates;
+pub mod clients;
+pub mod holdings;
+pub mod index;
+pub mod line;
+pub mod lines;
+pub mod place_index;
+mod removal;
+pub mod restoring;
+pub mod rows;
+mod settling;
+
+pub use candidates::Candidates;
+pub use index::Index;

@@ -1,0 +1,193 @@
+//! The lines of all names.
+
+ghost use Rattle.std.specs.Prelude.{◌≡◌, true, ◌+◌, ◌<◌, ◌≤◌, ◌^◌, ℕ, List, OnOk, OnErr, ◌==◌, ◌&&◌, length, slice_get, bytes_eq, if◌then◌else◌};
+ghost use Rattle.wl_draft.specs.Locks.{is_named};
+ghost use Rattle.wl_index.specs.Orders.{do_rise};
+ghost use Rattle.wl_index.specs.Lines.{nobody, lets_in, with_holder, with_waiter, without_holder, without_waiter, line_at, room_at, HasLine, count_named};
+
+use crate::line::Line;
+use indexmap::IndexMap;
+use std::alloc::{AllocError, Global};
+use wl_draft::{Mode, Name, Row};
+
+/// For each name who holds it and who waits for it. A name without a line is held and waited for by nobody.
+#[derive(Drop)]
+pub struct Lines {
+    pub alloc: Global,
+    pub lines: IndexMap<String, Line>,
+}
+
+impl Lines {
+    pub fn new(alloc: Global) -> Lines
+        ensures { (n : List ℕ) → line_at result n ≡ nobody }
+    {
+        Lines {
+            alloc,
+            lines: IndexMap::new(alloc),
+        }
+    }
+
+    /// Whether a lock in this mode conflicts with none that is held.
+    pub fn is_free(&self, name: &Name, mode: Mode) -> bool
+        ensures { result ≡ lets_in (line_at self.now name.now) mode }
+    {
+        match self.lines.get(name.as_str()) {
+            Some(line) => line.is_free(mode),
+            None => true,
+        }
+    }
+
+    /// The number of the first that waits for the name.
+    pub fn front(&self, name: &Name) -> Option<u64>
+        ensures { result ≡ slice_get (line_at self.now name.now).queue 0 }
+    {
+        match self.lines.get(name.as_str()) {
+            Some(line) => line.front(),
+            None => None,
+        }
+    }
+
+    /// Counts one more holder of the name.
+    pub fn hold(&mut self, name: &Name, mode: Mode)
+        requires there { HasLine self.old name.now }
+        requires small { (line_at self.old name.now).shared + (line_at self.old name.now).exclusive < 2 ^ 63 }
+        ensures lines { (n : List ℕ) → line_at self.new n ≡ (if bytes_eq name.now n then with_holder (line_at self.old n) mode else line_at self.old n) }
+        ensures room { (n : List ℕ) → room_at self.new n ≡ room_at self.old n }
+        ensures kept { (n : List ℕ) → HasLine self.old n → HasLine self.new n }
+    {
+        match self.lines.get_mut(name.as_str()) {
+            Some(line) => line.hold(mode),
+            None => {}
+        }
+    }
+
+    /// Puts a request last in the line of its name. There is room for it.
+    pub fn push(&mut self, name: &Name, order: u64)
+        requires { 0 < room_at self.old name.now }
+        ensures lines { (n : List ℕ) → line_at self.new n ≡ (if bytes_eq name.now n then with_waiter (line_at self.old n) order else line_at self.old n) }
+        ensures room { (n : List ℕ) → room_at self.old n ≤ room_at self.new n + (if bytes_eq name.now n then 1 else 0) }
+        ensures kept { (n : List ℕ) → HasLine self.old n → HasLine self.new n }
+    {
+        match self.lines.get_mut(name.as_str()) {
+            Some(line) => line.push(order),
+            None => {}
+        }
+    }
+
+    /// Whether nobody waits for the name.
+    pub fn is_queue_empty(&self, name: &Name) -> bool
+        ensures { result ≡ (length (line_at self.now name.now).queue == 0) }
+    {
+        match self.lines.get(name.as_str()) {
+            Some(line) => line.is_queue_empty(),
+            None => true,
+        }
+    }
+
+    /// Makes a line for the name, if there is none.
+    pub fn open(&mut self, name: &Name) -> Result<(), AllocError>
+        ensures lines { (n : List ℕ) → line_at self.new n ≡ line_at self.old n }
+        ensures there { OnOk result (HasLine self.new name.now) }
+        ensures kept { (n : List ℕ) → room_at self.old n ≤ room_at self.new n }
+        ensures kept_lines { (n : List ℕ) → HasLine self.old n → HasLine self.new n }
+    {
+        if !self.lines.contains_key(name.as_str()) {
+            let key = String::from_str(self.alloc, name.as_str())?;
+            self.lines.insert(key, Line::new(self.alloc))?;
+        }
+        Ok(())
+    }
+
+    /// Whether a request of this name and mode would be granted at once.
+    pub fn is_next(&self, name: &Name, mode: Mode) -> bool
+        ensures { result ≡ (length (line_at self.now name.now).queue == 0 && lets_in (line_at self.now name.now) mode) }
+    {
+        self.is_queue_empty(name) && self.is_free(name, mode)
+    }
+
+    /// Makes room for so many more requests for the name.
+    pub fn reserve(&mut self, name: &Name, count: usize) -> Result<(), AllocError>
+        ensures lines { (n : List ℕ) → line_at self.new n ≡ line_at self.old n }
+        ensures room { OnOk result (count ≤ room_at self.new name.now) }
+        ensures there { OnOk result (HasLine self.new name.now) }
+        ensures kept { (n : List ℕ) → room_at self.old n ≤ room_at self.new n }
+        ensures kept_lines { (n : List ℕ) → HasLine self.old n → HasLine self.new n }
+    {
+        self.open(name)?;
+        match self.lines.get_mut(name.as_str()) {
+            Some(line) => line.reserve(count),
+            None => Err(AllocError),
+        }
+    }
+
+    /// Makes a line for each of these rows' names.
+    pub fn open_all(&mut self, rows: &[Row]) -> Result<(), AllocError>
+        ensures lines { (n : List ℕ) → line_at self.new n ≡ line_at self.old n }
+        ensures there { OnOk result ((n : List ℕ) → is_named n rows.now ≡ true → HasLine self.new n) }
+    {
+        for row in rows {
+            self.open(&row.name)?;
+        }
+        Ok(())
+    }
+
+    /// Makes room for all these requests.
+    pub fn reserve_all(&mut self, rows: &[Row]) -> Result<(), AllocError>
+        ensures lines { (n : List ℕ) → line_at self.new n ≡ line_at self.old n }
+        ensures room { OnOk result ((n : List ℕ) → count_named n rows.now ≤ room_at self.new n) }
+        ensures kept_lines { (n : List ℕ) → HasLine self.old n → HasLine self.new n }
+    {
+        let mut counts: IndexMap<&str, usize> = IndexMap::new(self.alloc);
+        for row in rows {
+            let name = row.name.as_str();
+            let count = counts.get(name).copied().unwrap_or(0) + 1;
+            counts.insert(name, count)?;
+            self.reserve(&row.name, count)?;
+        }
+        Ok(())
+    }
+
+    /// Counts one holder of the name less.
+    pub fn let_go(&mut self, name: &Name, mode: Mode)
+        ensures lines { (n : List ℕ) → line_at self.new n ≡ (if bytes_eq name.now n then without_holder (line_at self.old n) mode else line_at self.old n) }
+        ensures room { (n : List ℕ) → room_at self.new n ≡ room_at self.old n }
+        ensures kept { (n : List ℕ) → HasLine self.old n → HasLine self.new n }
+    {
+        match self.lines.get_mut(name.as_str()) {
+            Some(line) => line.let_go(mode),
+            None => {}
+        }
+    }
+
+    /// Takes a request out of the line of its name.
+    pub fn take_out(&mut self, name: &Name, order: u64)
+        requires { do_rise (line_at self.old name.now).queue ≡ true }
+        ensures lines { (n : List ℕ) → line_at self.new n ≡ (if bytes_eq name.now n then without_waiter (line_at self.old n) order else line_at self.old n) }
+        ensures room { (n : List ℕ) → room_at self.old n ≤ room_at self.new n }
+        ensures kept { (n : List ℕ) → HasLine self.old n → HasLine self.new n }
+    {
+        match self.lines.get_mut(name.as_str()) {
+            Some(line) => line.take_out(order),
+            None => {}
+        }
+    }
+
+    /// Forgets a name that nobody holds or waits for.
+    pub fn forget(&mut self, name: &Name)
+        ensures { (n : List ℕ) → line_at self.new n ≡ line_at self.old n }
+    {
+        if self.is_idle(name) {
+            let _ = self.lines.swap_remove(name.as_str());
+        }
+    }
+
+    // Whether nobody holds the name or waits for it.
+    fn is_idle(&self, name: &Name) -> bool
+        ensures { result ≡ true → line_at self.now name.now ≡ nobody }
+    {
+        match self.lines.get(name.as_str()) {
+            Some(line) => line.is_idle(),
+            None => false,
+        }
+    }
+}

@@ -1,0 +1,99 @@
+//! Takes out a client's entries.
+
+ghost use Rattle.std.specs.Prelude.{◌≡◌, ◌+◌, ◌<◌, ◌≤◌, ◌^◌, [], ℕ, List, OnOk, length, vec_len, vec_capacity};
+ghost use Rattle.wl_index.specs.Index.{IsIndexed, places_in};
+ghost use Rattle.wl_index.specs.Nexts.{without_meant, AreCandidates};
+
+use crate::candidates::Candidates;
+use crate::index::Index;
+use std::alloc::AllocError;
+use wl_draft::{Grant, Name};
+
+impl Index {
+    /// Takes out the client's held locks of the number that is meant, or all of them.
+    pub fn take_all_held(&mut self, client: u16, which: Option<u32>, candidates: &mut Candidates)
+        requires indexed { IsIndexed self.old }
+        requires room { length (places_in client self.old.held.items) + length (places_in client self.old.waiting.items) ≤ candidates.old.room }
+        requires candidates { AreCandidates candidates.old.items self.old.held.items self.old.waiting.items }
+        ensures indexed { IsIndexed self.new }
+        ensures held { self.new.held.items ≡ without_meant client which self.old.held.items }
+        ensures waiting { self.new.waiting.items ≡ self.old.waiting.items }
+        ensures next { self.new.next ≡ self.old.next }
+        ensures room { length (places_in client self.new.waiting.items) ≤ candidates.new.room }
+        ensures candidates { AreCandidates candidates.new.items self.new.held.items self.new.waiting.items }
+    {
+        while let Some(order) = self.clients.find_held(client, which) {
+            match self.take_held(order) {
+                Some(row) => {
+                    self.note_front(&row.name, candidates);
+                    self.forget_name(&row.name);
+                }
+                None => {}
+            }
+        }
+    }
+
+    /// Takes out the client's requests of the number that is meant, or all of them.
+    pub fn take_all_waiting(&mut self, client: u16, which: Option<u32>, candidates: &mut Candidates)
+        requires indexed { IsIndexed self.old }
+        requires room { length (places_in client self.old.waiting.items) ≤ candidates.old.room }
+        requires candidates { AreCandidates candidates.old.items self.old.held.items self.old.waiting.items }
+        ensures indexed { IsIndexed self.new }
+        ensures held { self.new.held.items ≡ self.old.held.items }
+        ensures waiting { self.new.waiting.items ≡ without_meant client which self.old.waiting.items }
+        ensures next { self.new.next ≡ self.old.next }
+        ensures fewer { length self.new.waiting.items ≤ length self.old.waiting.items }
+        ensures candidates { AreCandidates candidates.new.items self.new.held.items self.new.waiting.items }
+    {
+        while let Some(order) = self.clients.find_waiting(client, which) {
+            match self.take_waiting(order) {
+                Some(row) => {
+                    self.note_front(&row.name, candidates);
+                    self.forget_name(&row.name);
+                }
+                None => {}
+            }
+        }
+    }
+
+    // Forgets the name if nobody holds it or waits for it any more.
+    fn forget_name(&mut self, name: &Name)
+        requires { IsIndexed self.old }
+        ensures indexed { IsIndexed self.new }
+        ensures held { self.new.held.items ≡ self.old.held.items }
+        ensures waiting { self.new.waiting.items ≡ self.old.waiting.items }
+        ensures next { self.new.next ≡ self.old.next }
+    {
+        self.lines.forget(name);
+    }
+
+    /// Forgets the client if it has no entry any more.
+    pub fn forget_client(&mut self, client: u16)
+        requires { IsIndexed self.old }
+        ensures indexed { IsIndexed self.new }
+        ensures held { self.new.held.items ≡ self.old.held.items }
+        ensures waiting { self.new.waiting.items ≡ self.old.waiting.items }
+        ensures next { self.new.next ≡ self.old.next }
+    {
+        self.clients.forget(client);
+    }
+
+    /// Makes room for what settling grants once so many more entries were put in, and sees that there are numbers for them.
+    pub fn room_to_settle(&self, granted: &mut Vec<Grant>, more: usize) -> Result<(), AllocError>
+        ensures items { granted.new.items ≡ granted.old.items }
+        ensures room { OnOk result (vec_len granted.new + length self.now.waiting.items + more ≤ vec_capacity granted.new) }
+        ensures small { OnOk result (self.now.next + length self.now.waiting.items + more + more < 2 ^ 64) }
+    {
+        let waiting = self.waiting.len();
+        if self.next >= LAST_ORDER || more >= MOST_ENTRIES {
+            return Err(AllocError);
+        }
+        granted.reserve(waiting + more)
+    }
+}
+
+/// The order numbers that a table uses are below this one. No table lives long enough to reach it.
+const LAST_ORDER: u64 = 1 << 62;
+
+/// No report has so many entries.
+const MOST_ENTRIES: usize = 1 << 61;

@@ -1,0 +1,95 @@
+//! Puts the entries of a client's report into an index.
+
+ghost use Rattle.std.specs.Prelude.{◌≡◌, ◌+◌, ◌<◌, ◌≤◌, ◌^◌, ◌++◌, true, ◌==◌, IfOk, OnOk, length, List, ℕ};
+ghost use Rattle.wl_draft.specs.Locks.{held_of, waiting_of};
+ghost use Rattle.wl_index.specs.Orders.{values_in};
+ghost use Rattle.wl_index.specs.Index.{IsIndexed, HasRoom, are_of};
+ghost use Rattle.wl_index.specs.Nexts.{AreCandidates};
+
+use crate::candidates::Candidates;
+use crate::index::Index;
+use std::alloc::{AllocError, Global};
+use wl_draft::{Entry, Row};
+
+impl Index {
+    /// Makes room for these locks and these requests of a client.
+    pub fn make_room(
+        &mut self,
+        client: u16,
+        held: &[Row],
+        waiting: &[Row],
+    ) -> Result<(), AllocError>
+        requires indexed { IsIndexed self.old }
+        requires small { length held.now + length waiting.now < 2 ^ 63 }
+        ensures indexed { IsIndexed self.new }
+        ensures held { self.new.held.items ≡ self.old.held.items }
+        ensures waiting { self.new.waiting.items ≡ self.old.waiting.items }
+        ensures next { self.new.next ≡ self.old.next }
+        ensures room { OnOk result (HasRoom self.new client held.now waiting.now) }
+    {
+        let more = held.len() + waiting.len();
+        let before = self.waiting.len();
+        self.waiting.reserve(waiting.len())?;
+        self.held.reserve(before + more)?;
+        self.clients.reserve(client, more)?;
+        self.lines.open_all(held)?;
+        self.lines.reserve_all(waiting)
+    }
+
+    /// Puts locks of a client behind the held ones, and requests of it behind those that wait. There is room for them.
+    pub fn put_all(
+        &mut self,
+        client: u16,
+        held: Vec<Row>,
+        waiting: Vec<Row>,
+        candidates: &mut Candidates,
+    )
+        requires indexed { IsIndexed self.old }
+        requires room { HasRoom self.old client held.items waiting.items }
+        requires held_mine { are_of client held.items ≡ true }
+        requires waiting_mine { are_of client waiting.items ≡ true }
+        requires small { self.old.next + length held.items + length waiting.items < 2 ^ 64 }
+        requires candidates_room { length waiting.items ≤ candidates.old.room }
+        requires candidates { AreCandidates candidates.old.items self.old.held.items self.old.waiting.items }
+        ensures indexed { IsIndexed self.new }
+        ensures held { values_in self.new.held.items ≡ values_in self.old.held.items ++ held.items }
+        ensures waiting { values_in self.new.waiting.items ≡ values_in self.old.waiting.items ++ waiting.items }
+        ensures next { self.new.next ≡ self.old.next + length held.items + length waiting.items }
+        ensures candidates { AreCandidates candidates.new.items self.new.held.items self.new.waiting.items }
+    {
+        for row in held {
+            self.hold(row);
+        }
+        for row in waiting {
+            candidates.push(self.next);
+            self.queue(row);
+        }
+    }
+}
+
+/// A report's entries as the client's rows: those that are held, and those that wait.
+pub fn rows_of(
+    alloc: Global,
+    client: u16,
+    entries: &[Entry],
+) -> Result<(Vec<Row>, Vec<Row>), AllocError>
+    ensures rows { IfOk result
+        (λ rows. (rows.0.items ≡ held_of client entries.now) × (rows.1.items ≡ waiting_of client entries.now)) }
+{
+    let mut held = Vec::new(alloc);
+    let mut waiting = Vec::new(alloc);
+    for entry in entries {
+        let row = Row {
+            client,
+            number: entry.number,
+            name: entry.name.copy(alloc)?,
+            mode: entry.mode,
+        };
+        if entry.held {
+            held.push(row)?;
+        } else {
+            waiting.push(row)?;
+        }
+    }
+    Ok((held, waiting))
+}

@@ -1,0 +1,106 @@
+//! Rows under rising numbers: the order of a list whose rows are found, taken out and put last at no cost that grows
+//! with its length.
+
+ghost use Rattle.std.specs.Prelude.{◌≡◌, ◌+◌, ◌≤◌, ◌<◌, ◌^◌, [], ◌∷◌, ◌++◌, true, length, OnOk, IfOk, option_copied};
+ghost use Rattle.wl_draft.specs.Tables.{find};
+ghost use Rattle.wl_index.specs.Orders.{is_below, is_rising, without_order, orders_in, values_in};
+
+use indexmap::IndexMap;
+use std::alloc::{AllocError, Global};
+use std::marker::Model;
+use wl_draft::Row;
+
+/// The rows of a list, each under a number. Their order is that of the numbers.
+#[derive(Drop)]
+pub struct Rows {
+    rows: IndexMap<u64, Row>,
+}
+
+impl Model for Rows {
+    ghost use Rattle.wl_index.specs.Orders.{Ordered};
+
+    ghost Value = { Ordered };
+
+    ghost use Rattle.wl_index.specs.Orders.{ordered};
+    ghost use Rattle.indexmap.specs.IndexMap.{spare};
+
+    ghost view = { λ r. record { items = ordered r.rows.entries; room = spare r.rows } };
+}
+
+impl Rows {
+    pub fn new(alloc: Global) -> Rows
+        ensures { result.items ≡ [] }
+    {
+        Rows {
+            rows: IndexMap::new(alloc),
+        }
+    }
+
+    pub fn len(&self) -> usize
+        ensures len { result ≡ length self.now.items }
+        ensures small { result < 2 ^ 63 }
+    {
+        self.rows.len()
+    }
+
+    /// Makes room for so many more rows.
+    pub fn reserve(&mut self, count: usize) -> Result<(), AllocError>
+        ensures items { self.new.items ≡ self.old.items }
+        ensures room { OnOk result (count ≤ self.new.room) }
+        ensures kept { self.old.room ≤ self.new.room }
+    {
+        self.rows.reserve(count)
+    }
+
+    /// Puts a row last. Its number is above all that are there, and there is room for it.
+    pub fn push(&mut self, order: u64, row: Row)
+        requires last { is_below self.old.items order ≡ true }
+        requires room { 0 < self.old.room }
+        ensures items { self.new.items ≡ self.old.items ++ (order, row) ∷ [] }
+        ensures room { self.old.room ≤ self.new.room + 1 }
+    {
+        let _ = self.rows.insert(order, row);
+    }
+
+    pub fn get(&self, order: u64) -> Option<&Row>
+        ensures { option_copied result ≡ find self.now.items order }
+    {
+        self.rows.get(&order)
+    }
+
+    /// Takes out the row of this number.
+    pub fn remove(&mut self, order: u64) -> Option<Row>
+        ensures value { result ≡ find self.old.items order }
+        ensures items { self.new.items ≡ without_order order self.old.items }
+        ensures room { self.old.room ≤ self.new.room }
+    {
+        self.rows.swap_remove(&order)
+    }
+
+    // The numbers, rising.
+    fn orders(&self, alloc: Global) -> Result<Vec<u64>, AllocError>
+        ensures orders { IfOk result (λ orders. orders.items ≡ orders_in self.now.items) }
+        ensures rising { OnOk result (is_rising self.now.items ≡ true) }
+    {
+        let mut orders = Vec::with_capacity(alloc, self.rows.len())?;
+        for order in self.rows.keys() {
+            orders.push(*order)?;
+        }
+        orders.sort_unstable();
+        Ok(orders)
+    }
+
+    /// Copies of the rows, in order.
+    pub fn copies(&self, alloc: Global) -> Result<Vec<Row>, AllocError>
+        ensures { IfOk result (λ copies. copies.items ≡ values_in self.now.items) }
+    {
+        let orders = self.orders(alloc)?;
+        let mut copies = Vec::with_capacity(alloc, orders.len())?;
+        for order in &orders {
+            if let Some(row) = self.get(*order) {
+                copies.push(row.copy(alloc)?)?;
+            }
+        }
+        Ok(copies)
+    }
+}

@@ -1,0 +1,4 @@
+//! How far a broker's numbers go.
+
+/// The last generation.
+pub const LAST_GENERATION: u32 = 65_535;

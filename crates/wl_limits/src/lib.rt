@@ -1,0 +1,8 @@
+//! The limits that more than one crate cites, each with the one name by which code and contracts call it.
+#![tactic(auto)]
+
+pub mod brokers;
+pub mod frames;
+pub mod scripts;
+pub mod tabs;
+pub mod texts;
