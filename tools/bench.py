@@ -44,7 +44,9 @@ of the first rate to the second, the middle one of the runs. Where there is no `
 
 Idle: 64 tabs of one origin wait for a lock that one of them holds, that one too, by a second request behind the others'. Each
 sends its request again whenever it has heard nothing for 20 milliseconds. Prints the processor's time of kernel, broker and tabs
-together over five seconds, as a share of one processor, and the same of a kernel and a broker without tabs. It needs `/proc`.
+together over five seconds, as a share of one processor; beside it what the relay's processes take, of whose 64 tabs each sends a
+frame 20 milliseconds after the answer to the one before, and the ratio of the first to the second: of each the middle one of the
+runs; and the same of a kernel and a broker without tabs. It needs `/proc`.
 
 Where an older program is given, reports, waiting and answers also print how many times the time of the newer one the older one took.
 """
@@ -79,6 +81,9 @@ TURNOUTS = [("1 tab", 1, 1, True, 0.6), ("4 tabs, a name each", 1, 4, True, 0.6)
 TURNOUTS += [("16 tabs of 4 origins, a name each", 4, 4, True, None)]
 IDLE_GOAL = 0.25
 IDLE_SECONDS = 5
+IDLE_RUNS = 3
+# In milliseconds: how long a tab that waits hears nothing until it asks again.
+QUIET = 20
 # No run of processes takes longer.
 SECONDS = 120
 
@@ -328,17 +333,26 @@ def rounds_of(name, rounds):
     return "".join(f"ask exclusive {name}\nwait {2 * turn}\nrelease {2 * turn}\n" for turn in range(rounds))
 
 
+def nanoseconds_run(process):
+    """How long the threads of a process have run. Its clock ticks would lose what is less than one of them."""
+    total = 0
+    for thread in os.listdir(f"/proc/{process}/task"):
+        with open(f"/proc/{process}/task/{thread}/schedstat", encoding="utf-8") as file:
+            total += int(file.read().split()[0])
+    return total
+
+
 def members(session):
-    """The processes of a session, with the clock ticks that each has used."""
-    ticks = {}
+    """The processes of a session, and how long each has run."""
+    found = {}
     for name in os.listdir("/proc"):
         if name.isdigit():
             with contextlib.suppress(FileNotFoundError, ProcessLookupError):
                 with open(f"/proc/{name}/stat", encoding="utf-8") as file:
                     fields = file.read().rpartition(")")[2].split()
                 if int(fields[3]) == session:
-                    ticks[int(name)] = int(fields[11]) + int(fields[12])
-    return ticks
+                    found[int(name)] = nanoseconds_run(name)
+    return found
 
 
 def end(process):
@@ -457,7 +471,7 @@ def share_of(session, seconds):
     time.sleep(seconds)
     after, taken = members(session), time.monotonic() - begin
     assert before.keys() == after.keys(), "a process began or ended meanwhile"
-    return (sum(after.values()) - sum(before.values())) / os.sysconf("SC_CLK_TCK") / taken
+    return (sum(after.values()) - sum(before.values())) / 1e9 / taken
 
 
 def idle_share(program, tabs, seconds):
@@ -476,11 +490,31 @@ def idle_share(program, tabs, seconds):
             return share_of(process.pid, seconds)
 
 
-def idle(program, seconds=IDLE_SECONDS):
+def pacing_share(relay, tabs, seconds):
+    """Of the relay, of whose tabs each sends a frame as often as one that waits."""
+    with tempfile.TemporaryDirectory(prefix="wlb-") as place:
+        rounds = (seconds + 3) * 1000 // QUIET
+        with started([relay, "kernel", ".", str(tabs), str(rounds), str(QUIET)], place) as process:
+            assert process.stdout.readline() == b"up\n"
+            time.sleep(1)
+            assert len(members(process.pid)) == 2 + tabs
+            return share_of(process.pid, seconds)
+
+
+def idle(program, seconds=IDLE_SECONDS, runs=IDLE_RUNS):
     program = os.path.abspath(program)
-    waiting, alone = idle_share(program, 64, seconds), idle_share(program, 0, seconds)
-    print(f"idle: 64 tabs that wait {waiting:6.3f} of a processor  goal below {IDLE_GOAL}")
-    print(f"idle: no tabs           {alone:6.3f} of a processor  goal 0")
+    waiting, paced = [], []
+    with tempfile.TemporaryDirectory(prefix="wlb-") as place:
+        relay = build_relay(place)
+        for _ in range(runs):
+            waiting.append(idle_share(program, 64, seconds))
+            if relay:
+                paced.append(pacing_share(relay, 64, seconds))
+    print(f"idle: 64 tabs that wait {statistics.median(waiting):6.3f} of a processor  goal below {IDLE_GOAL}")
+    if paced:
+        ratio = statistics.median(share / other for share, other in zip(waiting, paced))
+        print(f"idle: the relay's 64    {statistics.median(paced):6.3f} of a processor  ratio {ratio:5.2f}")
+    print(f"idle: no tabs           {idle_share(program, 0, seconds):6.3f} of a processor  goal 0")
 
 
 def main():

@@ -4,9 +4,10 @@
 //     tab -> kernel's reader of the tab -> broker's reader -> lane
 //         -> kernel's reader of the broker -> kernel's writer of the tab -> tab
 //
-//     relay kernel DIR TABS ROUNDS     starts the others, as many tabs as said; each sends a frame and waits for it, ROUNDS times
-//     relay broker SOCKET              started by the kernel: two lanes answer what comes
-//     relay tab SOCKET ROUNDS          started by the kernel
+//     relay kernel DIR TABS ROUNDS [PAUSE]  starts the others, as many tabs as said; each sends a frame and waits for it, ROUNDS
+//                                           times, and pauses so many milliseconds before each frame, 0 if none are given
+//     relay broker SOCKET                   started by the kernel: two lanes answer what comes
+//     relay tab SOCKET ROUNDS PAUSE         started by the kernel
 //
 // The kernel prints `up` once all tabs are connected, and then lets them begin; and `ended` once all have ended. A frame has 32
 // bytes, of which two say its tab: the kernel sets them, as it stamps the frames of `wlb`. No lock is asked for and no frame is
@@ -23,6 +24,7 @@
 #include <sys/socket.h>
 #include <sys/un.h>
 #include <sys/wait.h>
+#include <time.h>
 #include <unistd.h>
 
 enum {
@@ -34,6 +36,7 @@ enum {
     LANES = 2,         // lanes of the broker
     TAB_LIMIT = 64,    // tabs at most
     ROUND_LIMIT = 1000000,
+    PAUSE_LIMIT = 1000, // milliseconds at most
     CONNECT_MS = 10000 // how long a child has to connect
 };
 
@@ -276,7 +279,7 @@ static void wait_for_children(void) {
     }
 }
 
-static int kernel(const char *directory, int count, char *rounds) {
+static int kernel(const char *directory, int count, char *rounds, char *pause) {
     char path[256];
     snprintf(path, sizeof path, "%s/broker.sock", directory);
     broker_link = start_child(path, (char *[]){"relay", "broker", path, 0});
@@ -286,7 +289,7 @@ static int kernel(const char *directory, int count, char *rounds) {
         tabs[i].number = i + 1;
         queue_init(&tabs[i].queue);
         snprintf(path, sizeof path, "%s/tab%d.sock", directory, i + 1);
-        tabs[i].link = start_child(path, (char *[]){"relay", "tab", path, rounds, 0});
+        tabs[i].link = start_child(path, (char *[]){"relay", "tab", path, rounds, pause, 0});
     }
     pthread_t broker_reader = start_thread(read_broker, 0);
     for (int i = 0; i < count; i++) {
@@ -357,12 +360,19 @@ static void await_frame(int link, Feed *feed) {
     feed_drop(feed, 1);
 }
 
-static int tab(const char *socket, int rounds) {
+static void sleep_for(int milliseconds) {
+    struct timespec left = {.tv_sec = milliseconds / 1000, .tv_nsec = milliseconds % 1000 * 1000000L};
+    while (nanosleep(&left, &left))
+        if (errno != EINTR) fail("sleep", errno);
+}
+
+static int tab(const char *socket, int rounds, int pause) {
     int link = connect_to(socket);
     Feed feed = {.bytes = 0};
     Frame frame = {{0, 0, 0, FRAME - 4}};
     await_frame(link, &feed);
     for (int round = 0; round < rounds; round++) {
+        if (pause) sleep_for(pause);
         send_frames(link, &frame, 1);
         await_frame(link, &feed);
     }
@@ -379,15 +389,17 @@ static int number_of(const char *text, int limit) {
 }
 
 int main(int argc, char **argv) {
-    if (argc == 5 && !strcmp(argv[1], "kernel")) {
+    if ((argc == 5 || argc == 6) && !strcmp(argv[1], "kernel")) {
         int count = number_of(argv[3], TAB_LIMIT);
-        if (count > 0 && number_of(argv[4], ROUND_LIMIT) >= 0) return kernel(argv[2], count, argv[4]);
+        char *pause = argc == 6 ? argv[5] : "0";
+        if (count > 0 && number_of(argv[4], ROUND_LIMIT) >= 0 && number_of(pause, PAUSE_LIMIT) >= 0)
+            return kernel(argv[2], count, argv[4], pause);
     }
     if (argc == 3 && !strcmp(argv[1], "broker")) return broker(argv[2]);
-    if (argc == 4 && !strcmp(argv[1], "tab")) {
-        int rounds = number_of(argv[3], ROUND_LIMIT);
-        if (rounds >= 0) return tab(argv[2], rounds);
+    if (argc == 5 && !strcmp(argv[1], "tab")) {
+        int rounds = number_of(argv[3], ROUND_LIMIT), pause = number_of(argv[4], PAUSE_LIMIT);
+        if (rounds >= 0 && pause >= 0) return tab(argv[2], rounds, pause);
     }
-    fputs("usage: relay kernel DIR TABS ROUNDS\n", stderr);
+    fputs("usage: relay kernel DIR TABS ROUNDS [PAUSE]\n", stderr);
     return 2;
 }
