@@ -1,6 +1,6 @@
 //! Looks at a tab on a board, and in words under a mutex.
 
-ghost use Rattle.std.specs.Prelude.{◌≡◌, ◌≤◌};
+ghost use Rattle.std.specs.Prelude.{◌≤◌};
 ghost use Rattle.wl_board.specs.Calls.{IsOf};
 
 use crate::race::{Outcome, Part, Setting, run};

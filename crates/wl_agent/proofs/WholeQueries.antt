@@ -1,12 +1,11 @@
 -- A query is whole once all parts of its answer have come, and not before.
 use Rattle.std.proofs.Common.{◌≡◌, ◌≢◌, ◌⊎◌, inl, inr, ⊎_elim, ℕ, ◌+◌, ◌<◌, ◌≤◌, Bool, true, false, cond, not, ◌&&◌, eqb, ltb, List, [], ◌∷◌, ◌++◌, length, length-append, append_assoc, append-nil, Option, Some, None, is_some, is_none, refl, sym, ap, ◌∙◌, subst, arith}
-use Rattle.std.proofs.lemmas.Bool.{and_parts, and_right, cases_Bool, eqb-true, ltb-true, false≢true}
+use Rattle.std.proofs.lemmas.Bool.{and_parts, and_right, eqb-true, ltb-true, false≢true}
 use Rattle.wl_draft.specs.Tables.{Table, find, Rises}
 use Rattle.wl_draft.proofs.Membership.{either}
 use Rattle.wl_draft.proofs.RisingTables.{find_below}
 use Rattle.wl_grammar.specs.declared.frame.Operation.{Operation}
 use Rattle.wl_grammar.specs.declared.frame.Operation.TheVariants.{Request, Release, Abort, Query}
-use Rattle.wl_grammar.specs.declared.frame.Answer.{Answer}
 use Rattle.wl_grammar.specs.declared.frame.Snapshot.{Snapshot as Part}
 use Rattle.wl_grammar.specs.declared.frame.Frame.{Frame}
 use Rattle.wl_grammar.specs.declared.frame.Frame.TheVariants as frame
@@ -19,7 +18,7 @@ use Rattle.wl_agent.specs.declared.status.Status.TheVariants.{Asked, Held, Query
 use Rattle.wl_agent.specs.Parts.{PartsState, no_parts, fits, with_part, is_whole, snapshot_of}
 use Rattle.wl_agent.specs.Tab.{TabState, born, status_of, operation_of, is_issued, is_query, is_querying, is_asked, enter, enter_first, enter_later, report_frames, carried, is_asked_probe, unless_asked, issue, ended, finish, asked, queried, aborted, released, ask_refusal, query_refusal}
 use Rattle.wl_agent.specs.Tokens.{is_pending, is_holding, is_asking, after_query}
-use Rattle.wl_agent.specs.Delivery.{delivery, noted, becomes, has_entered, of_other, told_by_answer, told_by_part, after_answer, after_part, parts_refusal, asking_refusal, part_refusal, parts_of, with_part_come}
+use Rattle.wl_agent.specs.Delivery.{delivery, noted, becomes, has_entered, of_other, told_by_answer, told_by_part, after_answer, after_part, asking_refusal, part_refusal, parts_of, with_part_come}
 use Rattle.wl_agent.specs.Laws.{Call, Asks, Queries, Tells, Aborts, Releases, Hears, step, steps, AreWhole, gathered, part_taken, parts_taken, AnsweredBy, WholeOnceAllCame}
 use Rattle.wl_agent.proofs.Cases.{told_fits, answered_as, find-issue, find-finish, find-ended, find-becomes}
 use Rattle.wl_agent.proofs.Carrying.{carried_cons}

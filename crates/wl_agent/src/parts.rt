@@ -1,7 +1,7 @@
 //! The parts of a snapshot that have come.
 
 ghost use Rattle.std.specs.Prelude.{◌≡◌, ◌++◌, false, IfOk, OnOk, OnErr};
-ghost use Rattle.wl_draft.specs.Tables.{has_row, put};
+ghost use Rattle.wl_draft.specs.Tables.{has_row};
 ghost use Rattle.wl_agent.specs.Parts.{no_parts, fits, with_part, whole_of, all_entries, held_in, pending_in, info_of};
 ghost use Rattle.wl_agent.specs.Delivery.{parts_refusal};
 

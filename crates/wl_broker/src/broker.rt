@@ -1,11 +1,11 @@
 //! The broker.
 
-ghost use Rattle.std.specs.Prelude.{◌≡◌, ◌≢◌, ◌<◌, IfOk, IfErr, OnErr, ℕ, List, [], ◌∷◌, true, false, length, replicate};
+ghost use Rattle.std.specs.Prelude.{◌≡◌, ◌≢◌, ◌<◌, IfOk, IfErr, OnErr, List, [], ◌∷◌, true, false, length, replicate};
 ghost use Rattle.wl_grammar.specs.declared.frame.Addressed.{Addressed};
 ghost use Rattle.wl_grammar.specs.declared.frame.Operation.TheVariants.{Query};
 ghost use Rattle.wl_grammar.specs.Grammar.{TabsRiseFrom};
 ghost use Rattle.wl_broker.specs.declared.seat.Seat.TheVariants.{Joined, Dead};
-ghost use Rattle.wl_broker.specs.Broker.{started, hellos, taking, burial, Does, Drops, copied, repeated, IsTaken, is_active, is_dead, is_joined, seat_of, listed_at, elsewhere, is_misplaced, take_told, take_command, partial_of, fits, is_there, with_told, is_whole, join_if, keeping, join, perform, later_answer, next_of, buried_at, with_seat, all_below, manager_of};
+ghost use Rattle.wl_broker.specs.Broker.{started, hellos, taking, burial, Does, Drops, copied, repeated, IsTaken, is_active, is_dead, is_joined, seat_of, listed_at, elsewhere, is_misplaced, take_told, take_command, partial_of, fits, is_there, with_told, join_if, keeping, join, perform, later_answer, next_of, buried_at, with_seat, all_below, manager_of};
 ghost use Rattle.wl_broker.specs.Kept.{Had, told, joining};
 
 use crate::answers::{Reply, hellos};

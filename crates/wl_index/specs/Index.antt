@@ -1,5 +1,5 @@
 -- What an indexed table keeps true: each line and each client's places are read off the two lists.
-use Rattle.std.specs.Prelude.{◌≡◌, ◌≤◌, ◌<◌, ◌+◌, ℕ, List, [], ◌∷◌, Bool, true, length, map, filter, count_by, ◌==◌, ◌&&◌, bytes_eq, if◌then◌else◌}
+use Rattle.std.specs.Prelude.{◌≡◌, ◌≤◌, ◌<◌, ◌+◌, ℕ, List, Bool, true, length, map, filter, count_by, ◌==◌, ◌&&◌, bytes_eq, if◌then◌else◌}
 use Rattle.wl_draft.specs.declared.mode.Mode.{Mode}
 use Rattle.wl_draft.specs.declared.mode.Mode.TheVariants.{Shared, Exclusive}
 use Rattle.wl_draft.specs.declared.row.Row.{Row}

@@ -1,6 +1,6 @@
 //! Takes out a client's entries.
 
-ghost use Rattle.std.specs.Prelude.{◌≡◌, ◌+◌, ◌<◌, ◌≤◌, ◌^◌, [], ℕ, List, OnOk, length, vec_len, vec_capacity};
+ghost use Rattle.std.specs.Prelude.{◌≡◌, ◌+◌, ◌<◌, ◌≤◌, ◌^◌, OnOk, length, vec_len, vec_capacity};
 ghost use Rattle.wl_index.specs.Index.{IsIndexed, places_in};
 ghost use Rattle.wl_index.specs.Nexts.{without_meant, AreCandidates};
 

@@ -1,6 +1,6 @@
 //! Puts the entries of a client's report into an index.
 
-ghost use Rattle.std.specs.Prelude.{◌≡◌, ◌+◌, ◌<◌, ◌≤◌, ◌^◌, ◌++◌, true, ◌==◌, IfOk, OnOk, length, List, ℕ};
+ghost use Rattle.std.specs.Prelude.{◌≡◌, ◌+◌, ◌<◌, ◌≤◌, ◌^◌, ◌++◌, true, IfOk, OnOk, length};
 ghost use Rattle.wl_draft.specs.Locks.{held_of, waiting_of};
 ghost use Rattle.wl_index.specs.Orders.{values_in};
 ghost use Rattle.wl_index.specs.Index.{IsIndexed, HasRoom, are_of};

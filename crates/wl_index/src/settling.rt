@@ -1,6 +1,6 @@
 //! Grants what can be granted of an index.
 
-ghost use Rattle.std.specs.Prelude.{◌≡◌, ◌+◌, ◌<◌, ◌≤◌, ◌^◌, ◌++◌, ◌∷◌, [], ◌==◌, ◌||◌, ℕ, true, Some, length, vec_len, vec_capacity};
+ghost use Rattle.std.specs.Prelude.{◌≡◌, ◌+◌, ◌<◌, ◌≤◌, ◌^◌, ◌++◌, ◌∷◌, [], ◌==◌, ℕ, true, Some, length, vec_len, vec_capacity};
 ghost use Rattle.wl_draft.specs.declared.row.Row.{Row};
 ghost use Rattle.wl_draft.specs.Tables.{find};
 ghost use Rattle.wl_draft.specs.Locks.{grants, newly, settle};

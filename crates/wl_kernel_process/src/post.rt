@@ -1,6 +1,6 @@
 //! A tab's outbox, as those who put into it have it.
 
-ghost use Rattle.std.specs.Prelude.{◌≡◌, true, false, IfOk};
+ghost use Rattle.std.specs.Prelude.{◌≡◌, true, false};
 ghost use Rattle.std.specs.Arc.{arc_value};
 ghost use Rattle.wl_outbox.specs.Passes.{IsOf, takes};
 

@@ -1,5 +1,5 @@
 -- The first fault among shards.
-use Rattle.std.proofs.Common.{rules, ◌≡◌, ◌<◌, ◌≤◌, ℕ, Bool, true, false, List, [], ◌∷◌, length, Option, Some, None, refl, arith}
+use Rattle.std.proofs.Common.{rules, ◌≡◌, ◌<◌, ℕ, false, List, [], ◌∷◌, length, Option, Some, None, refl, arith}
 use Rattle.std.specs.Prelude.{slice_index_or, is_some}
 use Rattle.wl_locked.specs.declared.receipt.Receipt.{Receipt}
 use Rattle.wl_locked.specs.declared.receipt.Step.{Step}

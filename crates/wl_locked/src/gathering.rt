@@ -1,11 +1,10 @@
 //! The histories of the shards that there are, gathered one after another, up to the first fault.
 
-ghost use Rattle.std.specs.Prelude.{◌≡◌, ◌<◌, ◌≤◌, ◌+◌, [], ℕ, List, length, slice_index_or, vec_capacity, IfOk, IfErr};
-ghost use Rattle.wl_locked.specs.Sharding.{IsGathered, IsRoomy, IsShardFault, IsShardHistory, Run};
+ghost use Rattle.std.specs.Prelude.{◌≡◌, ◌<◌, ◌+◌, List, IfOk, IfErr};
+ghost use Rattle.wl_locked.specs.Sharding.{IsGathered, IsRoomy};
 ghost use Rattle.wl_locked.specs.Closing.{IsClosed};
 ghost use Rattle.wl_locked.specs.Sharding.{opening_of, receipts_in};
 ghost use Rattle.wl_locked.specs.declared.receipt.Receipt.{Receipt};
-ghost use Rattle.wl_locked.specs.declared.receipt.Step.{Step};
 
 use crate::receipt::{CloseFault, History};
 use crate::shards::Shards;

@@ -1,6 +1,6 @@
 //! The right of one thread to put into an outbox, or to take from it.
 
-ghost use Rattle.std.specs.Prelude.{◌≡◌, ◌≢◌, [], true, false, Bool};
+ghost use Rattle.std.specs.Prelude.{◌≡◌, []};
 ghost use Rattle.wl_outbox.specs.Passes.{Handed, takes};
 
 use crate::parcel::Parcel;

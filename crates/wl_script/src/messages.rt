@@ -1,6 +1,6 @@
 //! The text of messages. Each function appends to what was written before.
 
-ghost use Rattle.std.specs.Prelude.{◌≡◌, ◌++◌, OnOk, decimal};
+ghost use Rattle.std.specs.Prelude.{◌≡◌, ◌++◌, OnOk};
 ghost use Rattle.std.specs.List.{flat_map};
 ghost use Rattle.wl_script.specs.Texts.{mode_text, held_text, outcome_text, lock_text, command_number, operation_text, command_text, entry_text, report_text, report_part_text, upward_text, hello_text, answer_text, row_text, part_text, snapshot_text, downward_text, post_text};
 

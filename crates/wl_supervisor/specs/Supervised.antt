@@ -4,7 +4,6 @@ use Rattle.wl_grammar.specs.declared.frame.Stamped.{Stamped}
 use Rattle.wl_grammar.specs.declared.frame.Addressed.{Addressed}
 use Rattle.wl_broker.specs.Broker.{BrokerState, started, hellos, Taking, Drops, Does, taking, burial}
 use Rattle.wl_kernel.specs.Kernel.{KernelState, is_opened, is_living, may_stop, stopped, start_refusal, placed}
-use Rattle.wl_limits.specs.declared.brokers.TheConstants.{LAST_GENERATION}
 use Rattle.wl_supervisor.specs.declared.supervisor.Supervisor.{Supervisor}
 use Rattle.wl_supervisor.specs.declared.supervisor.Supervisor.TheVariants.{Down, Up}
 

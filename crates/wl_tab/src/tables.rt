@@ -1,6 +1,6 @@
 //! The tables of tabs: a tab without a row is as it was born.
 
-ghost use Rattle.std.specs.Prelude.{◌≡◌, ◌≢◌, ◌&&◌, length, Some, None, IfOk, OnOk, IfErr, OnErr, Err, if◌then◌else◌};
+ghost use Rattle.std.specs.Prelude.{◌≡◌, ◌≢◌, ◌&&◌, length, Some, None, IfOk, OnOk, IfErr, OnErr, if◌then◌else◌};
 ghost use Rattle.wl_draft.specs.Tables.{find, put};
 ghost use Rattle.wl_agent.specs.Tab.{asked, queried, aborted, released, ask_refusal, query_refusal, status_of, is_asked};
 ghost use Rattle.wl_agent.specs.Tokens.{is_pending, is_holding};

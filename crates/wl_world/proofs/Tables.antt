@@ -1,11 +1,8 @@
 -- What is found in a table.
-use Rattle.std.proofs.Common.{◌≡◌, ◌≢◌, ⊎_elim, ℕ, [], ◌∷◌, Option, Some, sym, ap, ◌∙◌, subst}
-use Rattle.std.specs.Prelude.{◌==◌}
-use Rattle.std.proofs.lemmas.Bool.{eqb-true, cases_eq}
+use Rattle.std.proofs.Common.{◌≢◌, ⊎_elim, ℕ, Option, Some, sym, subst}
+use Rattle.std.proofs.lemmas.Bool.{cases_eq}
 use Rattle.wl_draft.specs.Tables.{Table, find, put}
 use Rattle.wl_draft.proofs.TableLemmas.{find-put_same, find-put_other}
-use Rattle.wl_draft.specs.Membership.{In, Later}
-use Rattle.wl_draft.proofs.Membership.{either, In-head}
 
 -- what holds of the new value at its number and of the others elsewhere holds everywhere
 pub each_found : {X : Type 0} (P : ℕ → Option X → Type 0) (k : ℕ) (x : X) (ps : Table X) → P k (Some x) → ((j : ℕ) → k ≢ j → P j (find ps j)) → (j : ℕ) → P j (find (put k x ps) j)

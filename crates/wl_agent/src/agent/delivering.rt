@@ -1,7 +1,6 @@
 //! Frames that come to the tab.
 
 ghost use Rattle.std.specs.Prelude.{◌≡◌, ◌≢◌, true, IfOk, OnOk, OnErr, None};
-ghost use Rattle.wl_agent.specs.Tab.{enter};
 ghost use Rattle.wl_agent.specs.Delivery.{delivery, takes_memory, noted, acknowledged_by, has_entered, of_other, told_by_answer, told_by_part, after_answer, after_part, part_refusal, IsSendable};
 ghost use Rattle.wl_agent.specs.Kept.{CanFollow};
 ghost use Rattle.wl_grammar.specs.declared.frame.Frame.TheVariants as frame;

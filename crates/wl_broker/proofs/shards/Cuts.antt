@@ -1,12 +1,11 @@
 -- What a cut of a list or a table keeps. Helpers of the proofs on shards.
-use Rattle.std.proofs.Common.{◌≡◌, ◌⊎◌, inl, inr, ⊎_elim, ℕ, ◌+◌, ◌<◌, ◌≤◌, Bool, true, false, cond, not, ◌&&◌, List, [], ◌∷◌, ◌++◌, map, filter, Option, Some, None, unwrap_or, refl, sym, ap, ap₂, ◌∙◌, subst, arith}
+use Rattle.std.proofs.Common.{◌≡◌, ℕ, ◌+◌, ◌<◌, Bool, true, false, cond, not, [], ◌∷◌, filter, Option, Some, None, unwrap_or, refl, sym, ap, ◌∙◌, subst, arith}
 use Rattle.std.specs.Prelude.{◌==◌, nat_lt}
-use Rattle.std.specs.List.{list_all}
-use Rattle.std.proofs.lemmas.Bool.{false≢true, cond_both, and_parts, cond-true, cond-false, eqb-true, ne_eqb, ltb-true, lt-ltb}
+use Rattle.std.proofs.lemmas.Bool.{cond-true, cond-false, eqb-true, ltb-true}
 use Rattle.wl_draft.specs.Tables.{Table, at, find, put, Rises}
 use Rattle.wl_draft.proofs.TableLemmas.{at-find}
-use Rattle.wl_draft.proofs.Membership.{either, In-cons_cases, In-head, by_test}
-use Rattle.wl_draft.specs.Membership.{In, Here, Later}
+use Rattle.wl_draft.proofs.Membership.{either, In-head, by_test}
+use Rattle.wl_draft.specs.Membership.{In, Later}
 use Rattle.wl_draft.proofs.RisingTables.{Rises-filter, find_below, put-below}
 
 -- ---- tables

@@ -1,22 +1,18 @@
 -- Each tab has one partition, its home, and all that a broker has of a tab stands there.
-use Rattle.std.proofs.Common.{◌≡◌, ⊎_elim, ℕ, ◌+◌, Bool, true, false, not, List, [], ◌∷◌, ◌++◌, filter, Option, Some, None, refl, sym, subst, arith}
+use Rattle.std.proofs.Common.{◌≡◌, ⊎_elim, ℕ, ◌+◌, Bool, not, List, [], ◌∷◌, Option, Some, None, refl, sym, subst, arith}
 use Rattle.std.specs.Prelude.{◌==◌}
 use Rattle.std.proofs.lemmas.Bool.{eqb-true}
-use Rattle.wl_draft.specs.declared.row.Row.{Row}
-use Rattle.wl_draft.specs.declared.row.Entry.{Entry}
 use Rattle.wl_draft.specs.Tables.{Table, at, Rises}
-use Rattle.wl_draft.specs.Locks.{Locks, no_locks, is_grantable, granted, left_waiting, newly, settle, settle_if, row_of, rows_of, held_of, waiting_of, queued, probed, released, aborted, ended, restored}
-use Rattle.wl_draft.proofs.Membership.{either, In-nil, In-one, In-cons_cases, In-append_cases, In-map_cases, In-filter_cases}
+use Rattle.wl_draft.specs.Locks.{Locks, no_locks, newly, settle, settle_if}
+use Rattle.wl_draft.proofs.Membership.{either, In-nil, In-filter_cases}
 use Rattle.wl_draft.specs.Membership.{In, Here, Later}
 use Rattle.wl_draft.proofs.RisingTables.{Rises-put, Rises-filter, find-In, put-cases}
 use Rattle.wl_broker.proofs.Clients.{Own, Stands, newly-Own, settle-Stands, restored-Stands, drafted-Stands, ended-Stands}
-use Rattle.wl_grammar.specs.declared.frame.Operation.{Operation}
-use Rattle.wl_grammar.specs.declared.frame.Operation.TheVariants.{Request, Release, Abort, Query}
 use Rattle.wl_grammar.specs.declared.frame.Addressed.{Addressed}
 use Rattle.wl_grammar.specs.declared.frame.Upward.{Upward}
 use Rattle.wl_broker.specs.declared.seat.Seat.{Seat}
 use Rattle.wl_broker.specs.declared.seat.Seat.TheVariants.{Joined, Dead}
-use Rattle.wl_broker.specs.Broker.{BrokerState, started, seat_of, manager_of, is_active, with_seat, settled_at, newly_at, listed_at, seated_at, or_else, limit_of, place_of, drafted, Partial, Told, partial_of, with_told, whole_of, keeping, burial}
+use Rattle.wl_broker.specs.Broker.{BrokerState, started, seat_of, manager_of, is_active, with_seat, settled_at, newly_at, listed_at, seated_at, or_else, limit_of, place_of, Partial, Told, partial_of, with_told, whole_of, keeping, burial}
 use Rattle.wl_broker.proofs.Takings.{Takes, joins, keeps, repeats, performs, Buries, again, stranger, ends, burial-Buries}
 
 -- ---- a partition's locks

@@ -1,12 +1,12 @@
 -- What a cut of a list or a table keeps.
-use Rattle.std.proofs.Common.{◌≡◌, ◌⊎◌, inl, inr, ⊎_elim, ℕ, ◌+◌, ◌<◌, ◌≤◌, Bool, true, false, cond, not, ◌||◌, List, [], ◌∷◌, map, filter, Some, None, unwrap_or, refl, sym, ap, ap₂, ◌∙◌, subst, arith}
+use Rattle.std.proofs.Common.{◌≡◌, ℕ, ◌+◌, ◌<◌, Bool, true, false, cond, not, ◌||◌, List, [], ◌∷◌, map, filter, Some, None, unwrap_or, refl, sym, ap, ap₂, ◌∙◌, arith}
 use Rattle.std.specs.Prelude.{◌==◌, nat_lt}
 use Rattle.std.specs.List.{list_any}
-use Rattle.std.proofs.lemmas.Bool.{cond-true, cond-false, eqb-true, ne_eqb, ltb-true, lt-ltb}
+use Rattle.std.proofs.lemmas.Bool.{cond-true, cond-false, eqb-true, ltb-true}
 use Rattle.wl_draft.specs.Tables.{Table, at, find, put, Rises}
 use Rattle.wl_draft.proofs.TableLemmas.{at-find}
 use Rattle.wl_draft.specs.Membership.{In, Here, Later}
-use Rattle.wl_draft.proofs.Membership.{apart, either, In-cons_cases, In-filter_cases, by_test}
+use Rattle.wl_draft.proofs.Membership.{apart, either, In-filter_cases, by_test}
 use Rattle.wl_draft.proofs.RisingTables.{Rises-filter, put-below}
 use Rattle.wl_world.specs.Apart.{only}
 

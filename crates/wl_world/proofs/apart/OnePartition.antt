@@ -1,12 +1,11 @@
 -- What belongs together at the broker: each number that it has beside another is of the same partition.
-use Rattle.std.proofs.Common.{◌≡◌, ⊎_elim, ℕ, ◌+◌, Bool, true, false, not, ◌&&◌, ◌||◌, List, [], ◌∷◌, ◌++◌, map, filter, Option, Some, None, refl, sym, ap, ◌∙◌, subst, arith}
+use Rattle.std.proofs.Common.{◌≡◌, ⊎_elim, ℕ, ◌+◌, Bool, true, not, ◌&&◌, ◌||◌, List, [], ◌∷◌, map, Option, Some, None, refl, sym, ap, ◌∙◌, subst, arith}
 use Rattle.std.specs.Prelude.{◌==◌, nat_lt, nat_le}
 use Rattle.std.specs.List.{range_with_len}
 use Rattle.std.proofs.lemmas.Bool.{eqb-true}
 use Rattle.wl_draft.specs.declared.row.Row.{Row}
-use Rattle.wl_draft.specs.declared.row.Entry.{Entry}
 use Rattle.wl_draft.specs.Tables.{Table, at, Rises}
-use Rattle.wl_draft.specs.Locks.{Locks, no_locks, is_grantable, granted, left_waiting, newly, settle, settle_if, live, without, row_of, rows_of, held_of, waiting_of, queued, probed, released, aborted, ended, restored}
+use Rattle.wl_draft.specs.Locks.{Locks, no_locks, newly, settle, settle_if, live, without, ended, restored}
 use Rattle.wl_draft.proofs.RisingTables.{Rises-put, Rises-filter, put-cases, find-In}
 use Rattle.wl_broker.proofs.Clients.{Own, Stands, Own-filter, newly-Own, settle-Stands, restored-Stands, drafted-Stands, ended-Stands}
 use Rattle.wl_grammar.specs.declared.frame.Operation.{Operation}
@@ -22,7 +21,7 @@ use Rattle.wl_broker.specs.declared.seat.Seat.TheVariants.{Joined, Dead}
 use Rattle.wl_broker.specs.declared.dropped.Dropped.TheVariants.{OldGeneration, LaterGeneration, NotJoined, Recovering, OutOfTurn, DeadTab, AlreadyJoined, HeldByNewcomer, BadReport, Misplaced, TooMany, PartTwice}
 use Rattle.wl_broker.specs.Broker.{BrokerState, seat_of, manager_of, is_joined, is_dead, next_of, is_active, with_seat, settled_at, newly_at, answer_to, grants_to, snapshot_entries, parts_of, snapshot_part, snapshot_to, first_answer, later_answer, listed_at, is_listed, seated_at, or_else, has_held, all_below, is_lock, limit_of, last_number, is_misplaced, place_of, generation_of, drafted, Taking, Drops, Does, join, perform, Partial, Told as ToldBy, Whole, partial_of, at_once, in_part, fits, is_there, with_told, is_whole, whole_of, keeping, join_if, take_told, take_command, take_inner, taking, buried_at, burial}
 use Rattle.wl_draft.specs.Membership.{In, Here, Later}
-use Rattle.wl_draft.proofs.Membership.{either, In-nil, In-one, In-cons_cases, In-append_cases, In-map_cases, In-filter_cases}
+use Rattle.wl_draft.proofs.Membership.{either, In-nil, In-one, In-append_cases, In-map_cases, In-filter_cases}
 
 -- ---- the broker
 

@@ -1,7 +1,7 @@
 -- What hearing makes of a tab's numbers.
-use Rattle.std.proofs.Common.{◌≡◌, ◌≢◌, ◌⊎◌, inl, inr, ⊎_elim, ℕ, ◌+◌, ◌≤◌, Bool, true, false, not, List, [], ◌∷◌, map, filter, Option, Some, None, is_some, refl, sym, ap, ◌∙◌, arith}
+use Rattle.std.proofs.Common.{◌≡◌, ◌≢◌, ◌⊎◌, inl, inr, ℕ, Bool, true, false, not, List, filter, Option, Some, None, is_some, refl, sym, ap, ◌∙◌, arith}
 use Rattle.std.specs.Prelude.{◌==◌}
-use Rattle.std.proofs.lemmas.Bool.{eq-eqb, not-true, ne_eqb, cond-true, cond-false}
+use Rattle.std.proofs.lemmas.Bool.{eq-eqb, not-true}
 use Rattle.wl_draft.specs.Tables.{Table, find, Rises, without_row}
 use Rattle.wl_draft.proofs.RisingTables.{Rises-put, find-In, Rises-filter, Rises-map, In-find}
 use Rattle.wl_grammar.specs.declared.frame.Operation.{Operation}
@@ -17,8 +17,7 @@ use Rattle.wl_agent.specs.declared.status.Status.TheVariants.{Asked, Held, Query
 use Rattle.wl_agent.specs.Parts.{PartsState, with_part, is_whole, snapshot_of}
 use Rattle.wl_agent.specs.Tab.{TabState, status_of, operation_of, is_issued, is_held, keeps_number, ended, is_asked_probe, unless_asked, carried}
 use Rattle.wl_agent.specs.Delivery.{noted, becomes, told_asked, told_lock, told_end, told_asked_query, told_query, told_command, told_by_answer, part_refusal, parts_of, with_part_come, after_answer, after_part}
-use Rattle.wl_draft.specs.Membership.{In}
-use Rattle.wl_draft.proofs.Membership.{apart, either, In-nil, In-cons_cases, In-map_cases, In-filter_cases}
+use Rattle.wl_draft.proofs.Membership.{apart, either, In-map_cases, In-filter_cases}
 use Rattle.wl_tab.specs.Tabs.{is_told, told}
 use Rattle.wl_world.proofs.Tables.{each_found}
 use Rattle.wl_world.proofs.exclusion.Invariant.{Alive}

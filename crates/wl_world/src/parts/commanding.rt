@@ -1,11 +1,8 @@
 //! Tabs ask for locks, give them up, and send again.
 
-ghost use Rattle.std.specs.Prelude.{◌≡◌, ◌≢◌, ◌∷◌, true, IfOk, OnOk};
-ghost use Rattle.wl_draft.specs.Tables.{find};
+ghost use Rattle.std.specs.Prelude.{◌≡◌, ◌≢◌, IfOk, OnOk};
 ghost use Rattle.wl_said.specs.declared.said.Said.TheVariants as said;
-ghost use Rattle.wl_tab.specs.Tabs.{tab_in};
-ghost use Rattle.wl_supervisor.specs.Supervised.{kernel_of};
-ghost use Rattle.wl_world.specs.World.{WorldState, tab_of, lives, asks, queries, aborts, releases, resends, resent};
+ghost use Rattle.wl_world.specs.World.{tab_of, asks, queries, aborts, releases, resends, resent};
 ghost use Rattle.wl_world.specs.Replies.{asking, querying, aborting, releasing, resending, some_resent, of_agent};
 ghost use Rattle.wl_world.specs.Parts.{issued_in};
 

@@ -1,8 +1,7 @@
 //! Messages come.
 
-ghost use Rattle.std.specs.Prelude.{◌≡◌, IfOk, OnOk, true, not, is_some, if◌then◌else◌};
+ghost use Rattle.std.specs.Prelude.{◌≡◌, IfOk, OnOk, true, is_some, if◌then◌else◌};
 ghost use Rattle.wl_draft.specs.Tables.{find};
-ghost use Rattle.wl_grammar.specs.declared.frame.Frame.TheVariants as frame;
 ghost use Rattle.wl_kernel.specs.Routes.{frame_of};
 ghost use Rattle.wl_said.specs.declared.said.Said.TheVariants as said;
 ghost use Rattle.wl_said.specs.declared.said.Refusal.TheVariants.{NoMessage};

@@ -5,7 +5,7 @@ ghost use Rattle.std.specs.List.{filter_map};
 ghost use Rattle.wl_grammar.specs.declared.frame.Frame.TheVariants as frame;
 ghost use Rattle.wl_broadcast.specs.Channels.{after_hearing};
 ghost use Rattle.wl_said.specs.declared.said.Reached.TheVariants.{Took};
-ghost use Rattle.wl_world.specs.World.{WorldState, opens_channel, posts, reads, closes, becomes, channels_of, where_allowed, lives};
+ghost use Rattle.wl_world.specs.World.{opens_channel, posts, reads, closes, becomes, channels_of, where_allowed, lives};
 ghost use Rattle.wl_world.specs.Replies.{opening_channel, posting, reading, closing, hearing, alive_or, of_channel};
 ghost use Rattle.wl_world.specs.Merging.{count_below, merged, across_to, number_in, posted_said, hearing_said};
 ghost use Rattle.wl_world.specs.Parts.{crossed, of_posting};

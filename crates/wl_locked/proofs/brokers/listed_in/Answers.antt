@@ -1,7 +1,6 @@
-use Rattle.std.proofs.Common.{◌≡◌, ◌+◌, ◌++◌, ℕ, drop, sym, ap, ◌∙◌, append-nil}
+use Rattle.std.proofs.Common.{◌+◌, ◌++◌, ℕ, drop, sym, ap, ◌∙◌, append-nil}
 use Rattle.std.specs.Prelude.{slice_index_or}
 use Rattle.std.proofs.lemmas.List.{drop_all}
-use Rattle.wl_grammar.specs.Grammar.{TabsRiseFrom}
 use Rattle.wl_broker.specs.Shards.{is_of, listed_of, shard_of}
 use Rattle.std.proofs.lemmas.Bool.{eq-eqb, ne_eqb}
 use Rattle.wl_locked.proofs.Listing.{front_item, listed-more, listed-passed, rises-filter}

@@ -1,4 +1,4 @@
-use Rattle.std.proofs.Common.{◌+◌, [], Err, take, sym, ap, ◌∙◌, arith}
+use Rattle.std.proofs.Common.{◌+◌, Err, take, sym, ap, ◌∙◌, arith}
 use Rattle.std.proofs.lemmas.Bool.{false≢true}
 use Rattle.std.proofs.lemmas.Grind.{common_steps}
 use Rattle.std.proofs.lemmas.Result.{err_from_is_err_and}

@@ -1,7 +1,6 @@
-use Rattle.std.proofs.Common.{◌≡◌, ◌<◌, ℕ, length, sym, ap, ◌∙◌, subst, arith}
+use Rattle.std.proofs.Common.{◌<◌, ℕ, sym, ap, ◌∙◌, subst, arith}
 use Rattle.std.specs.Prelude.{slice_index_or}
 use Rattle.std.proofs.lemmas.List.{length-map}
-use Rattle.wl_locked.specs.Receipts.{total}
 use Rattle.wl_locked.specs.Closing.{IsCompared}
 use Rattle.wl_locked.specs.Sharding.{opening_of, receipts_of, receipts_in}
 use Rattle.wl_locked.proofs.brokers.Brokers.gather.Goals as goal

@@ -1,4 +1,4 @@
-use Rattle.std.proofs.Common.{◌≡◌, sym, ◌∙◌, ap, subst, arith, Result}
+use Rattle.std.proofs.Common.{sym, ◌∙◌, subst, arith}
 use Rattle.wl_locked.specs.Sharding.{opening_of, receipts_in}
 use Rattle.wl_locked.specs.Closing.{IsClosed}
 use Rattle.wl_locked.proofs.Gathered.{stopped}

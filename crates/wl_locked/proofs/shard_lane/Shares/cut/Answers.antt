@@ -1,4 +1,4 @@
-use Rattle.std.proofs.Common.{◌≡◌, refl, arith}
+use Rattle.std.proofs.Common.{refl, arith}
 use Rattle.wl_locked.proofs.Lists.{same_cons}
 use Rattle.wl_locked.proofs.shard_lane.Shares.cut.Goals as goal
 

@@ -1,4 +1,4 @@
-use Rattle.std.proofs.Common.{◌≡◌, ◌∙◌, sym, ap, arith, replicate, []}
+use Rattle.std.proofs.Common.{◌∙◌, ap, arith, replicate, []}
 use Rattle.wl_locked.specs.declared.shards.TheConstants.{SHARD_LIMIT}
 use Rattle.wl_locked.specs.Sharding.{Run, hellos_below}
 use Rattle.wl_locked.proofs.Greeting.{no_more_hellos}

@@ -1,4 +1,4 @@
-use Rattle.std.proofs.Common.{◌≡◌, ◌∙◌, ap, arith}
+use Rattle.std.proofs.Common.{◌∙◌, ap, arith}
 use Rattle.std.proofs.lemmas.Result.{IfOk-weaker}
 use Rattle.wl_locked.specs.Sharding.{receipts_of}
 use Rattle.wl_locked.proofs.Raising.{receipts-with}
