@@ -7,14 +7,14 @@ ghost use Rattle.wl_locked.specs.declared.shards.TheConstants.{SHARD_LIMIT};
 
 use crate::Outcome;
 use crate::events::{Events, of_tab};
-use std::alloc::Global;
+use std::alloc::{AllocError, Global};
 use std::io;
 use std::marker::{Brand, Model, PhantomData};
 use std::sync::Wait;
 use std::thread::Threads;
 use std::time::{Clock, Instant};
 use wl_grammar::Frame;
-use wl_locked::{Blanks, LANE_LIMIT, Sharded, Shards, Work, shard_of};
+use wl_locked::{Blanks, History, LANE_LIMIT, ShardLane, Sharded, Shards, Work, shard_of};
 use wl_workers::{Gate, Intake, Job, Outlet, OutletFault, run_lanes};
 
 /// Gives what stands in a list, all of it for one of so many shards. Contracts see it as the number of shards.
@@ -74,6 +74,84 @@ impl Outlet for Nowhere {
     }
 }
 
+/// For each lane the events of a tab, and the shard that they go to.
+fn lists_of(
+    alloc: Global,
+    lanes: u16,
+    shards: u16,
+    locks: u32,
+) -> Result<Vec<(u16, Events)>, AllocError>
+    requires { 0 < shards }
+{
+    let mut lists = Vec::new(alloc);
+    for lane in 0..lanes {
+        let tab = lane.wrapping_add(1);
+        lists.push((shard_of(shards, tab), of_tab(alloc, tab, locks)?))?;
+    }
+    Ok(lists)
+}
+
+/// A job for a lane, with the events that it has, all for one shard.
+fn job_of<J: Shards>(
+    lane: ShardLane<J>,
+    shards: u16,
+    shard: u16,
+    events: Events,
+) -> Job<J, Listed<J>, Nowhere>
+    requires { shards ≡ J.run.shards }
+{
+    Job {
+        lane,
+        intake: Listed {
+            shards,
+            shard,
+            events,
+            of: PhantomData::<J>,
+        },
+        outlet: Nowhere,
+        end: None,
+    }
+}
+
+/// A job for each lane.
+fn jobs_of<J: Shards>(
+    alloc: Global,
+    lanes: Vec<ShardLane<J>>,
+    shards: u16,
+    lists: Vec<(u16, Events)>,
+) -> Result<Vec<Job<J, Listed<J>, Nowhere>>, AllocError>
+    requires { shards ≡ J.run.shards }
+{
+    lanes
+        .into_iter()
+        .zip(lists)
+        .map(
+            |(lane, (shard, events)): (ShardLane<J>, (u16, Events))|
+                requires { shards ≡ J.run.shards }
+            { job_of(lane, shards, shard, events) },
+        )
+        .collect::<Vec<Job<J, Listed<J>, Nowhere>>>(alloc)
+}
+
+fn lanes_of<J: Shards>(
+    alloc: Global,
+    jobs: Vec<Job<J, Listed<J>, Nowhere>>,
+) -> Result<Vec<ShardLane<J>>, AllocError> {
+    jobs.into_iter()
+        .map(|job: Job<J, Listed<J>, Nowhere>| job.lane)
+        .collect::<Vec<ShardLane<J>>>(alloc)
+}
+
+/// How many steps stand in these histories.
+fn steps_of(histories: &[History]) -> u32 {
+    let mut steps = 0u32;
+    for history in histories {
+        let more = u32::try_from(history.steps().len()).unwrap_or(u32::MAX);
+        steps = steps.saturating_add(more);
+    }
+    steps
+}
+
 /// Runs so many lanes over so many shards, each with the events of a tab of its own, whose partition has the tab's number.
 pub fn run<R: Threads + Wait + Clock + Sync>(
     rt: &R,
@@ -103,6 +181,7 @@ fn run_named<J: Shards + Send + Sync, R: Threads + Wait + Clock + Sync>(
     requires shards { (0 < shards) × (shards ≤ SHARD_LIMIT) }
     requires run { J.run ≡ record { generation = 1; listed = []; shards = shards; lanes = lanes; limit = 4294967295 } }
 {
+    let lists = lists_of(alloc, lanes, shards, locks)?;
     let (broker, made, _hellos) = Sharded::<J>::new(
         alloc,
         blanks,
@@ -112,37 +191,16 @@ fn run_named<J: Shards + Send + Sync, R: Threads + Wait + Clock + Sync>(
         lanes,
         shards,
     )?;
-    let mut jobs = Vec::new(alloc);
-    for (lane, tab) in made.into_iter().zip(1..) {
-        jobs.push(Job {
-            lane,
-            intake: Listed {
-                shards,
-                shard: shard_of(shards, tab),
-                events: of_tab(alloc, tab, locks)?,
-                of: PhantomData::<J>,
-            },
-            outlet: Nowhere,
-            end: None,
-        })?;
-    }
+    let mut jobs = jobs_of(alloc, made, shards, lists)?;
     if jobs.is_empty() || jobs.len() > usize::from(LANE_LIMIT) {
         return Err(io::Error::from(io::ErrorKind::Other));
     }
     let start = Instant::now(rt)?;
     run_lanes(rt, &broker, jobs.as_mut_slice(), &Open);
     let nanoseconds = start.elapsed(rt)?.as_nanos();
-    let mut done = Vec::new(alloc);
-    for job in jobs {
-        done.push(job.lane)?;
-    }
-    let Ok(histories) = broker.close(done) else {
+    let Ok(histories) = broker.close(lanes_of(alloc, jobs)?) else {
         return Err(io::Error::from(io::ErrorKind::Other));
     };
-    let mut steps = 0u32;
-    for history in histories.iter() {
-        let more = u32::try_from(history.steps().len()).unwrap_or(u32::MAX);
-        steps = steps.saturating_add(more);
-    }
+    let steps = steps_of(histories.as_slice());
     Ok(Outcome { steps, nanoseconds })
 }
