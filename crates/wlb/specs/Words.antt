@@ -1,5 +1,5 @@
 -- The command line of `wlb`, in the grammar of clap's simple commands.
-use Rattle.std.specs.Prelude.{◌≡◌, ◌⊎◌, ◌≤◌, ℕ, List, [], ◌∷◌, codes, option_map, Option, Some, None, pos, true, false, IsSome, String, ⊤}
+use Rattle.std.specs.Prelude.{◌≡◌, ◌⊎◌, ◌≤◌, ℕ, List, [], ◌∷◌, codes, decimal, option_map, Option, Some, None, pos, true, false, IsSome, String, ⊤}
 use Rattle.std.specs.String.{string_bytes}
 use Rattle.std.specs.declared.alloc.Global.{Global}
 use Rattle.std.specs.Str.Parse.{digits_value, starts_with_minus, without_leading_plus}
