@@ -67,7 +67,7 @@ impl<'a> Part for Counting<'a> {
 }
 
 /// Draws all numbers of each board.
-pub fn from_board<R: Threads + Wait + Clock + Sync>(
+pub(crate) fn from_board<R: Threads + Wait + Clock + Sync>(
     rt: &R,
     alloc: Global,
     threads: u16,
@@ -96,7 +96,7 @@ pub fn from_board<R: Threads + Wait + Clock + Sync>(
 }
 
 /// Draws all numbers of each counter.
-pub fn from_counter<R: Threads + Wait + Clock + Sync>(
+pub(crate) fn from_counter<R: Threads + Wait + Clock + Sync>(
     rt: &R,
     alloc: Global,
     threads: u16,

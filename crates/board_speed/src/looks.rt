@@ -71,7 +71,7 @@ impl<'a> Part for Locking<'a> {
 }
 
 /// Looks at a dead tab.
-pub fn at_board<R: Threads + Wait + Clock + Sync>(
+pub(crate) fn at_board<R: Threads + Wait + Clock + Sync>(
     rt: &R,
     alloc: Global,
     threads: u16,
@@ -99,7 +99,7 @@ pub fn at_board<R: Threads + Wait + Clock + Sync>(
 }
 
 /// Looks at a dead tab under a mutex.
-pub fn at_words<R: Threads + Wait + Clock + Sync>(
+pub(crate) fn at_words<R: Threads + Wait + Clock + Sync>(
     rt: &R,
     alloc: Global,
     threads: u16,

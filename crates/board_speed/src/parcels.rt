@@ -112,7 +112,7 @@ impl<'a> Part for AtOutbox<'a> {
 }
 
 /// Puts and takes parcels at once.
-pub fn through_outbox<R: Threads + Wait + Clock + Sync>(
+pub(crate) fn through_outbox<R: Threads + Wait + Clock + Sync>(
     rt: &R,
     alloc: Global,
     putters: u16,
@@ -196,7 +196,7 @@ impl<'a> Part for AtQueue<'a> {
 }
 
 /// Puts and takes parcels at once, under a mutex.
-pub fn through_queue<R: Threads + Wait + Clock + Sync>(
+pub(crate) fn through_queue<R: Threads + Wait + Clock + Sync>(
     rt: &R,
     alloc: Global,
     putters: u16,

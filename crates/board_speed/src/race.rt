@@ -28,7 +28,7 @@ pub struct Outcome {
 }
 
 impl Outcome {
-    pub const fn nothing() -> Outcome {
+    pub(crate) const fn nothing() -> Outcome {
         Outcome {
             done: 0,
             nanoseconds: 0,
@@ -36,7 +36,7 @@ impl Outcome {
     }
 
     /// Both races, one after the other.
-    pub fn and(self, other: Outcome) -> Outcome {
+    pub(crate) fn and(self, other: Outcome) -> Outcome {
         Outcome {
             done: self.done.saturating_add(other.done),
             nanoseconds: self.nanoseconds.saturating_add(other.nanoseconds),
@@ -53,7 +53,7 @@ pub trait Part {
 }
 
 /// Runs the parts, each in a thread.
-pub fn run<R: Threads + Wait + Clock + Sync, P: Part + Send>(
+pub(crate) fn run<R: Threads + Wait + Clock + Sync, P: Part + Send>(
     rt: &R,
     parts: &mut [P],
 ) -> io::Result<Outcome> {

@@ -5,14 +5,14 @@ use std::collections::VecDeque;
 use wl_grammar::{Command, Mode, Name, Operation, Report, Sequence, Stamped, Upward};
 use wl_locked::BookEvent;
 
-pub type Events = VecDeque<BookEvent>;
+pub(crate) type Events = VecDeque<BookEvent>;
 
 /// The names of locks, one for each tab.
 const NAMES: [&str; 4] = ["a", "b", "c", "d"];
 
 /// A tab's report, and then so often a request of a lock that no other tab wants, and the release of it. Each tab has a
 /// partition of its own.
-pub fn of_tab(alloc: Global, tab: u16, locks: u32) -> Result<Events, AllocError> {
+pub(crate) fn of_tab(alloc: Global, tab: u16, locks: u32) -> Result<Events, AllocError> {
     let mut events = VecDeque::new(alloc);
     events.push_back(said(tab, report(alloc)))?;
     for lock in 0..locks {

@@ -144,16 +144,14 @@ fn lanes_of<J: Shards>(
 
 /// How many steps stand in these histories.
 fn steps_of(histories: &[History]) -> u32 {
-    let mut steps = 0u32;
-    for history in histories {
-        let more = u32::try_from(history.steps().len()).unwrap_or(u32::MAX);
-        steps = steps.saturating_add(more);
-    }
-    steps
+    histories
+        .iter()
+        .map(|history| u32::try_from(history.steps().len()).unwrap_or(u32::MAX))
+        .fold(0, |steps: u32, more: u32| steps.saturating_add(more))
 }
 
 /// Runs so many lanes over so many shards, each with the events of a tab of its own, whose partition has the tab's number.
-pub fn run<R: Threads + Wait + Clock + Sync>(
+pub(crate) fn run<R: Threads + Wait + Clock + Sync>(
     rt: &R,
     alloc: Global,
     lanes: u16,

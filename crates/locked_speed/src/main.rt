@@ -36,9 +36,9 @@ const MANY: u32 = 100_000;
 
 /// How a run went.
 #[derive(Clone, Copy)]
-pub struct Outcome {
-    pub steps: u32,
-    pub nanoseconds: u128,
+pub(crate) struct Outcome {
+    pub(crate) steps: u32,
+    pub(crate) nanoseconds: u128,
 }
 
 fn main(rt: HostRuntime) -> io::Result<()> {
