@@ -177,7 +177,8 @@ fn run_named<J: Shards + Send + Sync, R: Threads + Wait + Clock + Sync>(
     requires parts { HaveParts lanes blanks }
     requires lanes { (0 < lanes) × (lanes ≤ LANE_LIMIT) }
     requires shards { (0 < shards) × (shards ≤ SHARD_LIMIT) }
-    requires run { J.run ≡ record { generation = 1; listed = []; shards = shards; lanes = lanes; limit = 4294967295 } }
+    requires run { J.run
+        ≡ record { generation = 1; listed = []; shards = shards; lanes = lanes; limit = 4294967295 } }
 {
     let lists = lists_of(alloc, lanes, shards, locks)?;
     let (broker, made, _hellos) = Sharded::<J>::new(

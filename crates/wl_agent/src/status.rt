@@ -51,7 +51,8 @@ impl Status {
         requires querying { is_querying (Some self.old) ≡ true }
         requires missing { has_row (parts_of (Some self.old)).came part.now.part ≡ false }
         ensures ok { OnOk result (self.new ≡ with_part_come part.now (parts_of (Some self.old))) }
-        ensures whole { IfOk result (λ whole. whole ≡ is_whole (with_part part.now (parts_of (Some self.old)))) }
+        ensures whole { IfOk result (λ whole.
+            whole ≡ is_whole (with_part part.now (parts_of (Some self.old)))) }
         ensures err { OnErr result (self.new ≡ self.old) }
     {
         match self {

@@ -149,8 +149,10 @@ impl Statuses {
     ) -> Result<bool, AllocError>
         requires querying { is_querying (find self.old part.now.number) ≡ true }
         requires missing { has_row (parts_of (find self.old part.now.number)).came part.now.part ≡ false }
-        ensures ok { OnOk result (self.new ≡ put part.now.number (with_part_come part.now (parts_of (find self.old part.now.number))) self.old) }
-        ensures whole { IfOk result (λ whole. whole ≡ is_whole (with_part part.now (parts_of (find self.old part.now.number)))) }
+        ensures ok { OnOk result (self.new ≡ put part.now.number
+            (with_part_come part.now (parts_of (find self.old part.now.number))) self.old) }
+        ensures whole { IfOk result (λ whole.
+            whole ≡ is_whole (with_part part.now (parts_of (find self.old part.now.number)))) }
         ensures err { OnErr result (self.new ≡ self.old) }
     {
         match self.rows.get_mut(&part.number) {

@@ -1,10 +1,9 @@
 //! The board that threads share.
 
-ghost use Rattle.std.specs.Prelude.{◌≡◌, ◌≢◌, ◌+◌, ◌<◌, ◌≤◌, Err, IfOk, OnOk, OnErr, All, vec_len};
+ghost use Rattle.std.specs.Prelude.{◌≡◌, ◌+◌, ◌<◌, ◌≤◌, Err, IfOk, OnOk, OnErr, All, vec_len};
 ghost use Rattle.wl_board.specs.declared.board.TheConstants.{SEAT_LIMIT, STEP_LIMIT};
 ghost use Rattle.wl_board.specs.Rule.{Has, newcomer};
 ghost use Rattle.wl_board.specs.Steps.{sees, marks, draws_number, bears, bumps_to};
-ghost use Rattle.wl_board.specs.Seats.{Sitting};
 ghost use Rattle.wl_board.specs.Calls.{IsOf, IsSameSeat, IsNew, HasMetEnd, MeetsEnd, counter_seen, generation_seen, tab_seen, word_of};
 
 use crate::fault::{DrawFault, Memory, SeatSpent};
@@ -109,12 +108,15 @@ impl Board {
         ensures unknown { IfOk result (λ t. ¬ Has t seat.old.view.drawn) }
         ensures drawn { IfOk result (λ t. seat.new.view ≡ draws_number seat.old.view t) }
         ensures ticket { IfOk result (λ t. Has t seat.new.view.drawn × (¬ Has t seat.new.view.born)) }
-        ensures allowed { OnOk result ((¬ HasMetEnd self.now.tabs seat.old.view) × (seat.old.view.draws < STEP_LIMIT)) }
+        ensures allowed { OnOk result ((¬ HasMetEnd self.now.tabs seat.old.view)
+            × (seat.old.view.draws < STEP_LIMIT)) }
 
         // A refusal comes for its cause alone.
-        ensures used_up { result ≡ Err DrawFault.TabsUsedUp → MeetsEnd self.now.tabs seat.old.view seat.new.view }
+        ensures used_up { result ≡ Err DrawFault.TabsUsedUp
+            → MeetsEnd self.now.tabs seat.old.view seat.new.view }
         ensures spent { result ≡ Err DrawFault.SeatSpent
-            → (¬ HasMetEnd self.now.tabs seat.old.view) × (seat.old.view.draws ≡ STEP_LIMIT) × (seat.new ≡ seat.old) }
+            → (¬ HasMetEnd self.now.tabs seat.old.view)
+            × (seat.old.view.draws ≡ STEP_LIMIT) × (seat.new ≡ seat.old) }
     {
         let tabs = self.tabs;
         if seat.met_end {

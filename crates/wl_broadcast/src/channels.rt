@@ -1,6 +1,7 @@
 //! A tab's channels.
 
-ghost use Rattle.std.specs.Prelude.{◌≡◌, ◌≢◌, ◌==◌, ◌<◌, ◌^◌, ◌++◌, length, filter, not, true, None, Some, Err, IfOk, OnOk, IfErr, OnErr, IsTrue};
+ghost use Rattle.std.specs.Prelude.{◌≡◌, ◌==◌, ◌<◌, ◌^◌, ◌++◌, length, filter, not, true, None, Some, Err, IfOk, OnOk, IfErr, OnErr, IsTrue};
+ghost use Rattle.wl_draft.specs.Refusals.{RefusesBy};
 ghost use Rattle.wl_draft.specs.Tables.{put};
 ghost use Rattle.wl_grammar.specs.Grammar.{IsWellFormed};
 ghost use Rattle.wl_broadcast.specs.OpenObjects.{all_seen, open_from, AreChannels};
@@ -66,9 +67,10 @@ impl Channels {
 
     /// Opens a channel object of the name, behind the others.
     pub fn open(&mut self, name: &str) -> Result<Channel, ChannelFault>
-        ensures ok { OnOk result ((self.new ≡ opened name.now self.old) × (open_refusal name.now self.old ≡ None)) }
+        ensures ok { OnOk result ((self.new ≡ opened name.now self.old)
+            × (open_refusal name.now self.old ≡ None)) }
         ensures channel { IfOk result (λ c. (c.tab ≡ self.old.tab) × (c.number ≡ length self.old.objects)) }
-        ensures refused { IfErr result (λ e. e ≢ ChannelFault.Memory → open_refusal name.now self.old ≡ Some e) }
+        ensures refused { RefusesBy result (open_refusal name.now self.old) ChannelFault.Memory }
         ensures memory { result ≡ Err ChannelFault.Memory → open_refusal name.now self.old ≡ None }
         ensures err { OnErr result (self.new ≡ self.old) }
     {
@@ -93,13 +95,18 @@ impl Channels {
     /// Posts data on a channel: the tab's other open objects of its name get it at once, oldest first.
     pub fn post(&mut self, channel: &Channel, bytes: &[u8]) -> Result<Posted, ChannelFault>
         ensures ok { OnOk result (self.new ≡ posted channel.now.number bytes.now self.old) }
-        ensures allowed { OnOk result (post_refusal channel.now.tab channel.now.number bytes.now self.old ≡ None) }
+        ensures allowed { OnOk result (post_refusal channel.now.tab channel.now.number bytes.now self.old
+            ≡ None) }
         ensures posted { IfOk result (λ p.
             (p.frame ≡ post_frame self.old.posts (name_at self.old.objects channel.now.number) bytes.now)
-            × (p.took ≡ taking (Some channel.now.number) (name_at self.old.objects channel.now.number) self.old.objects)
-            × (p.full ≡ full (Some channel.now.number) (name_at self.old.objects channel.now.number) self.old.objects)) }
-        ensures refused { IfErr result (λ e. e ≢ ChannelFault.Memory → post_refusal channel.now.tab channel.now.number bytes.now self.old ≡ Some e) }
-        ensures memory { result ≡ Err ChannelFault.Memory → post_refusal channel.now.tab channel.now.number bytes.now self.old ≡ None }
+            × (p.took ≡ taking (Some channel.now.number)
+            (name_at self.old.objects channel.now.number) self.old.objects)
+            × (p.full ≡ full (Some channel.now.number)
+            (name_at self.old.objects channel.now.number) self.old.objects)) }
+        ensures refused { RefusesBy result
+            (post_refusal channel.now.tab channel.now.number bytes.now self.old) ChannelFault.Memory }
+        ensures memory { result ≡ Err ChannelFault.Memory
+            → post_refusal channel.now.tab channel.now.number bytes.now self.old ≡ None }
         ensures well_formed { IfOk result (λ p. IsWellFormed p.frame) }
         ensures err { OnErr result (self.new ≡ self.old) }
     {
@@ -140,9 +147,10 @@ impl Channels {
 
     /// Takes another tab's post in. An old one changes nothing.
     pub fn heard(&mut self, frame: &Frame) -> Result<Hearing, ChannelFault>
-        ensures ok { OnOk result ((self.new ≡ after_hearing frame.now self.old) × (heard_refusal frame.now ≡ None)) }
+        ensures ok { OnOk result ((self.new ≡ after_hearing frame.now self.old)
+            × (heard_refusal frame.now ≡ None)) }
         ensures hearing { IfOk result (λ h. h ≡ hearing_of frame.now self.old) }
-        ensures refused { IfErr result (λ e. e ≢ ChannelFault.Memory → heard_refusal frame.now ≡ Some e) }
+        ensures refused { RefusesBy result (heard_refusal frame.now) ChannelFault.Memory }
         ensures memory { result ≡ Err ChannelFault.Memory → heard_refusal frame.now ≡ None }
         ensures growth { result ≡ Err ChannelFault.Memory → is_news frame.now self.old ≡ true }
         ensures err { OnErr result (self.new ≡ self.old) }
@@ -182,7 +190,8 @@ impl Channels {
     pub fn inbox(&self, channel: &Channel) -> Result<usize, ChannelFault>
         ensures ok { IfOk result (λ n. n ≡ length (inbox_at self.now.objects channel.now.number)) }
         ensures allowed { OnOk result (own_refusal channel.now.tab channel.now.number self.now ≡ None) }
-        ensures refused { IfErr result (λ e. own_refusal channel.now.tab channel.now.number self.now ≡ Some e) }
+        ensures refused { IfErr result (λ e.
+            own_refusal channel.now.tab channel.now.number self.now ≡ Some e) }
     {
         if !self.is_own(channel) {
             return Err(ChannelFault::ForeignChannel);
@@ -193,9 +202,11 @@ impl Channels {
     /// Takes the oldest post out. It takes no memory.
     pub fn read(&mut self, channel: &Channel) -> Result<Option<Letter>, ChannelFault>
         ensures ok { OnOk result (self.new ≡ read_at channel.now.number self.old) }
-        ensures letter { IfOk result (λ letter. letter ≡ first_of (inbox_at self.old.objects channel.now.number)) }
+        ensures letter { IfOk result (λ letter.
+            letter ≡ first_of (inbox_at self.old.objects channel.now.number)) }
         ensures allowed { OnOk result (own_refusal channel.now.tab channel.now.number self.old ≡ None) }
-        ensures refused { IfErr result (λ e. own_refusal channel.now.tab channel.now.number self.old ≡ Some e) }
+        ensures refused { IfErr result (λ e.
+            own_refusal channel.now.tab channel.now.number self.old ≡ Some e) }
         ensures err { OnErr result (self.new ≡ self.old) }
     {
         if !self.is_own(channel) {
@@ -208,7 +219,8 @@ impl Channels {
     pub fn close(&mut self, channel: Channel) -> Result<(), Foreign<Channel>>
         ensures ok { OnOk result (self.new ≡ closed_at channel.number self.old) }
         ensures allowed { OnOk result (own_refusal channel.tab channel.number self.old ≡ None) }
-        ensures refused { OnErr result (own_refusal channel.tab channel.number self.old ≡ Some ChannelFault.ForeignChannel) }
+        ensures refused { OnErr result (own_refusal channel.tab channel.number self.old
+            ≡ Some ChannelFault.ForeignChannel) }
         ensures given_back { IfErr result (λ foreign. foreign.value ≡ channel) }
         ensures err { OnErr result (self.new ≡ self.old) }
     {
@@ -233,8 +245,10 @@ impl Channels {
     fn deliver(&mut self, delivery: &Delivery) -> Result<Takers, AllocError>
         ensures ok { OnOk result (self.new
             ≡ record self.old { objects = delivered delivery.now.sender delivery.now.name.now delivery.now.letter.now self.old.objects }) }
-        ensures took { IfOk result (λ takers. takers.took.items ≡ taking delivery.now.sender delivery.now.name.now self.old.objects) }
-        ensures full { IfOk result (λ takers. takers.full.items ≡ full delivery.now.sender delivery.now.name.now self.old.objects) }
+        ensures took { IfOk result (λ takers.
+            takers.took.items ≡ taking delivery.now.sender delivery.now.name.now self.old.objects) }
+        ensures full { IfOk result (λ takers.
+            takers.full.items ≡ full delivery.now.sender delivery.now.name.now self.old.objects) }
         ensures err { OnErr result (self.new ≡ self.old) }
     {
         let mut takers = Takers::new(self.alloc);
@@ -285,16 +299,20 @@ fn hear(
     requires numbers { length objects.old < 2 ^ 64 }
     requires open { open_numbers.now ≡ open_from 0 (all_seen objects.old) }
     ensures ok { OnOk result (all_seen objects.new
-        ≡ delivered delivery.now.sender delivery.now.name.now delivery.now.letter.now (all_seen objects.old)) }
-    ensures kept_open { OnOk result (open_from 0 (all_seen objects.new) ≡ open_from 0 (all_seen objects.old)) }
-    ensures kept_names { OnOk result (AreChannels (all_seen objects.old) → AreChannels (all_seen objects.new)) }
+        ≡ delivered delivery.now.sender delivery.now.name.now delivery.now.letter.now
+        (all_seen objects.old)) }
+    ensures kept_open { OnOk result (open_from 0 (all_seen objects.new)
+        ≡ open_from 0 (all_seen objects.old)) }
+    ensures kept_names { OnOk result (AreChannels (all_seen objects.old)
+        → AreChannels (all_seen objects.new)) }
     ensures last { OnOk result (last.new.entries
         ≡ put delivery.now.letter.now.source delivery.now.letter.now.number last.old.entries) }
     ensures took { OnOk result (takers.new.took.items
         ≡ takers.old.took.items ++ taking delivery.now.sender delivery.now.name.now (all_seen objects.old)) }
     ensures full { OnOk result (takers.new.full.items
         ≡ takers.old.full.items ++ full delivery.now.sender delivery.now.name.now (all_seen objects.old)) }
-    ensures err { OnErr result ((all_seen objects.new ≡ all_seen objects.old) × (last.new.entries ≡ last.old.entries)) }
+    ensures err { OnErr result ((all_seen objects.new ≡ all_seen objects.old)
+        × (last.new.entries ≡ last.old.entries)) }
 {
     let Letter { source, number, .. } = delivery.letter;
     if last.contains_key(source) {

@@ -155,11 +155,14 @@ pub(crate) fn deliver(
     requires numbers { first + length objects.old < 2 ^ 64 }
     requires open { open_numbers.now ≡ open_from first (all_seen objects.old) }
     ensures ok { OnOk result (all_seen objects.new
-        ≡ delivered_from first delivery.now.sender delivery.now.name.now delivery.now.letter.now (all_seen objects.old)) }
+        ≡ delivered_from first delivery.now.sender delivery.now.name.now delivery.now.letter.now
+        (all_seen objects.old)) }
     ensures took { OnOk result (takers.new.took.items
-        ≡ takers.old.took.items ++ taking_from first delivery.now.sender delivery.now.name.now (all_seen objects.old)) }
+        ≡ takers.old.took.items
+        ++ taking_from first delivery.now.sender delivery.now.name.now (all_seen objects.old)) }
     ensures full { OnOk result (takers.new.full.items
-        ≡ takers.old.full.items ++ full_from first delivery.now.sender delivery.now.name.now (all_seen objects.old)) }
+        ≡ takers.old.full.items
+        ++ full_from first delivery.now.sender delivery.now.name.now (all_seen objects.old)) }
     ensures err { OnErr result (all_seen objects.new ≡ all_seen objects.old) }
 {
     let Some((number, later)) = open_numbers.split_first() else {

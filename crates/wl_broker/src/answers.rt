@@ -127,7 +127,8 @@ fn snapshot_entries(
     held: Vec<Row>,
     waiting: Vec<Row>,
 ) -> Result<Vec<SnapshotEntry>, AllocError>
-    ensures { IfOk result (λ v. v.items ≡ map (snapshot_entry_of true) held.items ++ map (snapshot_entry_of false) waiting.items) }
+    ensures { IfOk result (λ v.
+        v.items ≡ map (snapshot_entry_of true) held.items ++ map (snapshot_entry_of false) waiting.items) }
 {
     held.into_iter()
         .map(|row| snapshot_entry(true, row))
@@ -209,7 +210,8 @@ pub fn snapshot(
     held: Vec<Row>,
     waiting: Vec<Row>,
 ) -> Result<Vec<Addressed>, AllocError>
-    ensures { IfOk result (λ outs. outs.items ≡ snapshot_of generation upto tab number (map (snapshot_entry_of true) held.items ++ map (snapshot_entry_of false) waiting.items)) }
+    ensures { IfOk result (λ outs. outs.items ≡ snapshot_of generation upto tab number
+        (map (snapshot_entry_of true) held.items ++ map (snapshot_entry_of false) waiting.items)) }
 {
     let entries = snapshot_entries(alloc, held, waiting)?;
     snapshot_parts(alloc, generation, upto, tab, number, entries)

@@ -107,7 +107,8 @@ impl<T: LockTable> Broker<T> {
 
     /// Does what `take` does, and tells it in so many equal lists. All memory is taken before anything is changed.
     pub fn take_copies(&mut self, stamped: &Stamped, copies: usize) -> Result<Vec<Outs>, Dropped>
-        ensures taken { IfOk result (λ all. copied copies (taking self.old stamped.now) ≡ Some (self.new, all.items)) }
+        ensures taken { IfOk result (λ all.
+            copied copies (taking self.old stamped.now) ≡ Some (self.new, all.items)) }
         // It is dropped for the first cause that applies,
         ensures dropped { IfErr result (λ d. d ≢ Dropped.Memory → taking self.old stamped.now ≡ Drops d) }
         // and for want of memory only where no other cause does.
@@ -214,9 +215,12 @@ impl<T: LockTable> Broker<T> {
         requires place { place ≡ listed_at tab self.old.listed }
         requires alive { is_dead (seat_of self.old tab) ≡ false }
         requires placed { is_misplaced self.old tab partition ≡ false }
-        ensures taken { IfOk result (λ all. copied copies (take_told self.old tab partition (told heading entries.now)) ≡ Some (self.new, all.items)) }
-        ensures dropped { IfErr result (λ d. d ≢ Dropped.Memory → take_told self.old tab partition (told heading entries.now) ≡ Drops d) }
-        ensures memory { IfErr result (λ d. d ≡ Dropped.Memory → IsTaken (take_told self.old tab partition (told heading entries.now))) }
+        ensures taken { IfOk result (λ all.
+            copied copies (take_told self.old tab partition (told heading entries.now)) ≡ Some (self.new, all.items)) }
+        ensures dropped { IfErr result (λ d.
+            d ≢ Dropped.Memory → take_told self.old tab partition (told heading entries.now) ≡ Drops d) }
+        ensures memory { IfErr result (λ d.
+            d ≡ Dropped.Memory → IsTaken (take_told self.old tab partition (told heading entries.now))) }
         ensures err { OnErr result (self.new ≡ self.old) }
     {
         if is_joined(seat) {
@@ -247,9 +251,12 @@ impl<T: LockTable> Broker<T> {
     ) -> Result<Vec<Outs>, Dropped>
         requires seat { seat ≡ seat_of self.old tab }
         requires placed { is_misplaced self.old tab partition ≡ false }
-        ensures taken { IfOk result (λ all. copied copies (take_command self.old tab partition number operation.now) ≡ Some (self.new, all.items)) }
-        ensures dropped { IfErr result (λ d. d ≢ Dropped.Memory → take_command self.old tab partition number operation.now ≡ Drops d) }
-        ensures memory { IfErr result (λ d. d ≡ Dropped.Memory → IsTaken (take_command self.old tab partition number operation.now)) }
+        ensures taken { IfOk result (λ all.
+            copied copies (take_command self.old tab partition number operation.now) ≡ Some (self.new, all.items)) }
+        ensures dropped { IfErr result (λ d.
+            d ≢ Dropped.Memory → take_command self.old tab partition number operation.now ≡ Drops d) }
+        ensures memory { IfErr result (λ d.
+            d ≡ Dropped.Memory → IsTaken (take_command self.old tab partition number operation.now)) }
         ensures err { OnErr result (self.new ≡ self.old) }
     {
         if !is_joined(seat) {
@@ -294,7 +301,8 @@ impl<T: LockTable> Broker<T> {
         requires fits { fits (told heading entries.now) (partial_of self.old tab) ≡ true }
         requires missing { is_there (told heading entries.now) (partial_of self.old tab) ≡ false }
         ensures joined { let k = with_told partition (told heading entries.now) (partial_of self.old tab) in
-            IfOk result (λ all. copied copies (join_if self.old tab partition k) ≡ Some (self.new, all.items)) }
+            IfOk result (λ all. copied copies (join_if self.old tab partition k)
+            ≡ Some (self.new, all.items)) }
         ensures err { OnErr result (self.new ≡ self.old) }
     {
         if !is_last(&self.kept, tab, heading) {
@@ -322,7 +330,8 @@ impl<T: LockTable> Broker<T> {
         requires below { all_below heading.base entries.now ≡ true }
         requires fits { fits (told heading entries.now) (partial_of self.old tab) ≡ true }
         ensures kept { let k = with_told partition (told heading entries.now) (partial_of self.old tab) in
-            IfOk result (λ all. copied copies (Does (keeping tab k self.old) []) ≡ Some (self.new, all.items)) }
+            IfOk result (λ all. copied copies (Does (keeping tab k self.old) [])
+            ≡ Some (self.new, all.items)) }
         ensures err { OnErr result (self.new ≡ self.old) }
     {
         let mut all = self.rooms.prepare(copies, 0, 0)?;
@@ -346,7 +355,8 @@ impl<T: LockTable> Broker<T> {
         requires place { place ≡ listed_at tab self.old.listed }
         requires placed { elsewhere (listed_at tab self.old.listed) partition ≡ false }
         requires below { all_below heading.base entries.now ≡ true }
-        ensures joined { IfOk result (λ all. copied copies (join self.old tab partition (joining heading entries.now)) ≡ Some (self.new, all.items)) }
+        ensures joined { IfOk result (λ all.
+            copied copies (join self.old tab partition (joining heading entries.now)) ≡ Some (self.new, all.items)) }
         ensures err { OnErr result (self.new ≡ self.old) }
     {
         let waiting = waiting_in(row_at(&self.partitions, partition));
@@ -389,7 +399,8 @@ impl<T: LockTable> Broker<T> {
     /// What a tab has in its partition is gone, now that it is dead.
     fn bury(&mut self, tab: u16, partition: u16, copies: usize) -> Result<Vec<Outs>, AllocError>
         requires { Had self.old tab partition }
-        ensures buried { IfOk result (λ all. repeated copies (buried_at (with_seat tab Dead self.old) tab (Some partition)) ≡ (self.new, all.items)) }
+        ensures buried { IfOk result (λ all.
+            repeated copies (buried_at (with_seat tab Dead self.old) tab (Some partition)) ≡ (self.new, all.items)) }
         ensures err { OnErr result (self.new ≡ self.old) }
     {
         let before = seat_of(&self.seats, tab);
@@ -423,7 +434,8 @@ impl<T: LockTable> Broker<T> {
     fn bury_stranger(&mut self, tab: u16, copies: usize) -> Result<Vec<Outs>, AllocError>
         requires new { seat_of self.old tab ≡ None }
         requires unlisted { listed_at tab self.old.listed ≡ None }
-        ensures buried { IfOk result (λ all. repeated copies (with_seat tab Dead self.old, []) ≡ (self.new, all.items)) }
+        ensures buried { IfOk result (λ all.
+            repeated copies (with_seat tab Dead self.old, []) ≡ (self.new, all.items)) }
         ensures err { OnErr result (self.new ≡ self.old) }
     {
         let mut all = self.rooms.prepare(copies, 0, 0)?;
@@ -455,7 +467,8 @@ impl<T: LockTable> Broker<T> {
         copies: usize,
     ) -> Result<Vec<Outs>, AllocError>
         requires { upto ≡ next_of self.old tab }
-        ensures again { IfOk result (λ all. all.items ≡ replicate copies (later_answer self.old tab partition number operation.now ∷ [])) }
+        ensures again { IfOk result (λ all.
+            all.items ≡ replicate copies (later_answer self.old tab partition number operation.now ∷ [])) }
         ensures same { self.new ≡ self.old }
     {
         let outcome = outcome_in(row_at(&self.partitions, partition), tab, number, operation);
@@ -492,7 +505,8 @@ impl<T: LockTable> Broker<T> {
         requires waiting { waiting ≡ length (manager_of self.old partition).waiting }
         requires active { is_active self.old partition ≡ true }
         requires more { number < 4294967295 }
-        ensures performed { IfOk result (λ all. copied copies (perform self.old tab partition number operation.now) ≡ Some (self.new, all.items)) }
+        ensures performed { IfOk result (λ all.
+            copied copies (perform self.old tab partition number operation.now) ≡ Some (self.new, all.items)) }
         ensures err { OnErr result (self.new ≡ self.old) }
     {
         if let Operation::Query = operation {
@@ -544,7 +558,8 @@ impl<T: LockTable> Broker<T> {
         requires joined { seat_of self.old tab ≡ Some (Joined partition number limit) }
         requires active { is_active self.old partition ≡ true }
         requires more { number < 4294967295 }
-        ensures performed { IfOk result (λ all. copied copies (perform self.old tab partition number Query) ≡ Some (self.new, all.items)) }
+        ensures performed { IfOk result (λ all.
+            copied copies (perform self.old tab partition number Query) ≡ Some (self.new, all.items)) }
         ensures err { OnErr result (self.new ≡ self.old) }
     {
         let next = number + 1;

@@ -64,7 +64,8 @@ pub fn is_too_many<T: LockTable>(
     limit: u16,
     operation: &Operation,
 ) -> bool
-    ensures { result ≡ (is_lock operation.now && nat_le limit (live (row_or (option_copied row.entry)).locks tab)) }
+    ensures { result
+        ≡ (is_lock operation.now && nat_le limit (live (row_or (option_copied row.entry)).locks tab)) }
 {
     is_lock(operation) && live_in(row, tab) >= usize::from(limit)
 }
@@ -101,7 +102,8 @@ pub fn snapshots_at<T: LockTable>(
 ) -> Result<Vec<Outs>, AllocError>
     requires { IsTrue (at no_partition partitions.now.entries partition).is_active }
     ensures copies { let m = (at no_partition partitions.now.entries partition).locks in
-        IfOk result (λ all. all.items ≡ replicate copies (snapshot_of generation upto tab number (entries_of m))) }
+        IfOk result (λ all. all.items
+        ≡ replicate copies (snapshot_of generation upto tab number (entries_of m))) }
     ensures settled { OnOk result (newly (at no_partition partitions.now.entries partition).locks ≡ []) }
 {
     match row_at(partitions, partition) {
@@ -119,10 +121,12 @@ pub fn restore_at<T: LockTable>(
     entries: &[Entry],
     is_active: bool,
 ) -> Result<Vec<Grant>, AllocError>
-    ensures grants { let m = restored tab entries.now (at no_partition partitions.old.entries partition).locks in
+    ensures grants { let m = restored tab entries.now
+        (at no_partition partitions.old.entries partition).locks in
         IfOk result (λ g. g.items ≡ grants (newly_if is_active m)) }
     ensures ok { let m = restored tab entries.now (at no_partition partitions.old.entries partition).locks in
-        OnOk result (partitions.new.entries ≡ put partition (state_of (settle_if is_active m) is_active) partitions.old.entries) }
+        OnOk result (partitions.new.entries
+        ≡ put partition (state_of (settle_if is_active m) is_active) partitions.old.entries) }
     ensures err { OnErr result (partitions.new.entries ≡ partitions.old.entries) }
 {
     match partitions.get_mut(&partition) {
@@ -147,7 +151,8 @@ pub fn end_at<T: LockTable>(
     ensures grants { let m = ended tab (at no_partition partitions.old.entries partition).locks in
         IfOk result (λ g. g.items ≡ grants (newly_if is_active m)) }
     ensures ok { let m = ended tab (at no_partition partitions.old.entries partition).locks in
-        OnOk result (partitions.new.entries ≡ put partition (state_of (settle_if is_active m) is_active) partitions.old.entries) }
+        OnOk result (partitions.new.entries
+        ≡ put partition (state_of (settle_if is_active m) is_active) partitions.old.entries) }
     ensures err { OnErr result (partitions.new.entries ≡ partitions.old.entries) }
 {
     match partitions.get_mut(&partition) {
@@ -173,12 +178,16 @@ pub fn command_at<T: LockTable>(
 ) -> Result<(Vec<Grant>, Outcome), AllocError>
     requires active { IsTrue (at no_partition partitions.old.entries partition).is_active }
     requires new { standing (at no_partition partitions.old.entries partition).locks tab number ≡ Absent }
-    ensures grants { let m = drafted tab number operation.now (at no_partition partitions.old.entries partition).locks in
+    ensures grants { let m = drafted tab number operation.now
+        (at no_partition partitions.old.entries partition).locks in
         IfOk result (λ r. r.0.items ≡ grants (without tab number (newly m))) }
-    ensures outcome { let m = drafted tab number operation.now (at no_partition partitions.old.entries partition).locks in
+    ensures outcome { let m = drafted tab number operation.now
+        (at no_partition partitions.old.entries partition).locks in
         IfOk result (λ r. r.1 ≡ outcome_at (settle m) tab number operation.now) }
-    ensures ok { let m = drafted tab number operation.now (at no_partition partitions.old.entries partition).locks in
-        OnOk result (partitions.new.entries ≡ put partition (state_of (settle m) true) partitions.old.entries) }
+    ensures ok { let m = drafted tab number operation.now
+        (at no_partition partitions.old.entries partition).locks in
+        OnOk result (partitions.new.entries
+        ≡ put partition (state_of (settle m) true) partitions.old.entries) }
     ensures err { OnErr result (partitions.new.entries ≡ partitions.old.entries) }
 {
     match partitions.get_mut(&partition) {

@@ -41,7 +41,8 @@ pub fn is_misplaced(
     partition: u16,
 ) -> bool
     ensures { result ≡ (elsewhere place partition
-        || (elsewhere (seated_at seat) partition || elsewhere (kept_at (find kept.now.entries tab)) partition)) }
+        || (elsewhere (seated_at seat) partition || elsewhere
+        (kept_at (find kept.now.entries tab)) partition)) }
 {
     elsewhere(place, partition)
         || elsewhere(seated_at(seat), partition)
@@ -74,7 +75,8 @@ pub fn is_bad_report(
     heading: Heading,
     entries: &[Entry],
 ) -> bool
-    ensures { result ≡ not (all_below heading.base entries.now && fits (told heading entries.now) (find kept.now.entries tab)) }
+    ensures { result ≡ not
+        (all_below heading.base entries.now && fits (told heading entries.now) (find kept.now.entries tab)) }
 {
     !(all_below(heading.base, entries) && fits(kept, tab, heading, entries))
 }

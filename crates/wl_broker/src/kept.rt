@@ -41,7 +41,13 @@ impl Model for Kept {
 impl Kept {
     /// The report of this heading, of which no part has come.
     fn new(alloc: Global, partition: u16, heading: Heading) -> Kept
-        ensures { result ≡ record { partition = partition; base = heading.base; parts = heading.parts; limit = heading.limit; came = [] } }
+        ensures { result ≡ record {
+          partition = partition;
+          base = heading.base;
+          parts = heading.parts;
+          limit = heading.limit;
+          came = [];
+        } }
     {
         Kept {
             partition,
@@ -108,7 +114,8 @@ impl Kept {
         entries: &[Entry],
     ) -> Result<Vec<Entry>, AllocError>
         requires { has_row self.now.came part ≡ false }
-        ensures gathered { IfOk result (λ v. v.items ≡ flat_map (λ row. row.1) (put part entries.now self.now.came)) }
+        ensures gathered { IfOk result (λ v.
+            v.items ≡ flat_map (λ row. row.1) (put part entries.now self.now.came)) }
         ensures below { all_in_below self.now.base self.now.came ≡ true }
     {
         let mut gathered = Vec::new(alloc);
@@ -239,7 +246,8 @@ pub fn keep(
 ) -> Result<(), AllocError>
     requires below { all_below heading.base entries.now ≡ true }
     requires fits { fits (told heading entries.now) (find kept.old.entries tab) ≡ true }
-    ensures ok { OnOk result (kept.new.entries ≡ put tab (with_told partition (told heading entries.now) (find kept.old.entries tab)) kept.old.entries) }
+    ensures ok { OnOk result (kept.new.entries
+        ≡ put tab (with_told partition (told heading entries.now) (find kept.old.entries tab)) kept.old.entries) }
     ensures err { OnErr result (kept.new.entries ≡ kept.old.entries) }
 {
     match kept.get_mut(&tab) {

@@ -80,7 +80,8 @@ impl<T: LockTable> Partition<T> {
         tab: u16,
         number: u32,
     ) -> Result<Vec<Outs>, AllocError>
-        ensures copies { IfOk result (λ all. all.items ≡ replicate copies (snapshot_of generation upto tab number (entries_of self.now.locks))) }
+        ensures copies { IfOk result (λ all. all.items
+            ≡ replicate copies (snapshot_of generation upto tab number (entries_of self.now.locks))) }
         ensures settled { OnOk result (IsTrue self.now.is_active → newly self.now.locks ≡ []) }
     {
         let mut all = Vec::with_capacity(alloc, copies)?;
@@ -99,8 +100,12 @@ impl<T: LockTable> Partition<T> {
         entries: &[Entry],
         is_active: bool,
     ) -> Result<Vec<Grant>, AllocError>
-        ensures grants { IfOk result (λ g. g.items ≡ grants (newly_if is_active (restored tab entries.now self.old.locks))) }
-        ensures ok { OnOk result (self.new ≡ record { locks = settle_if is_active (restored tab entries.now self.old.locks); is_active = is_active }) }
+        ensures grants { IfOk result (λ g.
+            g.items ≡ grants (newly_if is_active (restored tab entries.now self.old.locks))) }
+        ensures ok { OnOk result (self.new ≡ record {
+          locks = settle_if is_active (restored tab entries.now self.old.locks);
+          is_active = is_active;
+        }) }
         ensures err { OnErr result (self.new ≡ self.old) }
     {
         let granted = self.table.restore(tab, entries, is_active)?;
@@ -111,7 +116,8 @@ impl<T: LockTable> Partition<T> {
     /// Takes out all that a tab has. From now on the partition is active or not, as is said.
     pub fn end_tab(&mut self, tab: u16, is_active: bool) -> Result<Vec<Grant>, AllocError>
         ensures grants { IfOk result (λ g. g.items ≡ grants (newly_if is_active (ended tab self.old.locks))) }
-        ensures ok { OnOk result (self.new ≡ record { locks = settle_if is_active (ended tab self.old.locks); is_active = is_active }) }
+        ensures ok { OnOk result (self.new
+            ≡ record { locks = settle_if is_active (ended tab self.old.locks); is_active = is_active }) }
         ensures err { OnErr result (self.new ≡ self.old) }
     {
         let granted = self.table.end_client(tab, is_active)?;
@@ -129,8 +135,10 @@ impl<T: LockTable> Partition<T> {
     ) -> Result<Vec<Grant>, AllocError>
         requires active { IsTrue self.old.is_active }
         requires new { standing self.old.locks tab number ≡ Absent }
-        ensures grants { IfOk result (λ g. g.items ≡ grants (without tab number (newly (drafted tab number operation.now self.old.locks)))) }
-        ensures ok { OnOk result (self.new ≡ record self.old { locks = settle (drafted tab number operation.now self.old.locks) }) }
+        ensures grants { IfOk result (λ g.
+            g.items ≡ grants (without tab number (newly (drafted tab number operation.now self.old.locks)))) }
+        ensures ok { OnOk result (self.new
+            ≡ record self.old { locks = settle (drafted tab number operation.now self.old.locks) }) }
         ensures err { OnErr result (self.new ≡ self.old) }
     {
         let mut granted = self.change(alloc, tab, number, operation)?;
@@ -150,7 +158,8 @@ impl<T: LockTable> Partition<T> {
         requires new { standing self.old.locks tab number ≡ Absent }
         ensures grants { IfOk result (λ g. filter (λ x. not (is_grant_of tab number x)) g.items
             ≡ grants (without tab number (newly (drafted tab number operation.now self.old.locks)))) }
-        ensures ok { OnOk result (self.new ≡ record self.old { locks = settle (drafted tab number operation.now self.old.locks) }) }
+        ensures ok { OnOk result (self.new
+            ≡ record self.old { locks = settle (drafted tab number operation.now self.old.locks) }) }
         ensures err { OnErr result (self.new ≡ self.old) }
     {
         match operation {

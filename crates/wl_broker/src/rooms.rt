@@ -44,7 +44,8 @@ fn empty_lists(
     frames: usize,
 ) -> Result<Vec<Vec<Addressed>>, AllocError>
     ensures len { IfOk result (λ all. length all.items ≡ lists) }
-    ensures room { IfOk result (λ all. AllByRecursion (λ v. (v.items ≡ []) × (vec_len v ≡ 0) × (frames ≤ vec_capacity v)) all.items) }
+    ensures room { IfOk result (λ all.
+        AllByRecursion (λ v. (v.items ≡ []) × (vec_len v ≡ 0) × (frames ≤ vec_capacity v)) all.items) }
 {
     let mut all = Vec::with_capacity(alloc, lists)?;
     for _ in 0..lists {
@@ -125,7 +126,8 @@ impl Rooms {
     ) -> Outs
         requires lists { 0 < self.old.lists }
         requires frames { length (replied generation own) + length granted.now ≤ self.old.frames }
-        ensures said { result ≡ replied generation own ++ map (grant_of generation seats.now.entries) granted.now }
+        ensures said { result
+            ≡ replied generation own ++ map (grant_of generation seats.now.entries) granted.now }
         ensures lists { self.old.lists ≤ self.new.lists + 1 }
         ensures frames { self.new.frames ≡ self.old.frames }
     {
@@ -153,7 +155,8 @@ impl Rooms {
         requires capacity { copies ≤ vec_capacity all.old }
         requires lists { copies ≤ self.old.lists }
         requires frames { length (replied generation own) + length granted.now ≤ self.old.frames }
-        ensures { all.new.items ≡ replicate copies (replied generation own ++ map (grant_of generation seats.now.entries) granted.now) }
+        ensures { all.new.items ≡ replicate copies (replied generation own
+            ++ map (grant_of generation seats.now.entries) granted.now) }
     {
         for _ in 0..copies {
             let said = self.said(generation, seats, own, granted);

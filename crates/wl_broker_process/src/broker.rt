@@ -358,7 +358,13 @@ fn serve<R: Host, J: Shards + Send + Sync>(
     requires parts { HaveParts lanes blanks }
     requires lanes { (0 < lanes) × (lanes ≤ LANE_LIMIT) }
     requires shards { (0 < shards) × (shards ≤ SHARD_LIMIT) }
-    requires run { J.run ≡ record { generation = start.generation; listed = start.list; shards = shards; lanes = lanes; limit = limit } }
+    requires run { J.run ≡ record {
+      generation = start.generation;
+      listed = start.list;
+      shards = shards;
+      lanes = lanes;
+      limit = limit;
+    } }
 {
     let link = incoming.link();
     let (broker, places, hellos) = Sharded::<J>::new(

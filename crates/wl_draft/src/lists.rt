@@ -113,7 +113,8 @@ pub(crate) fn rows_of(
     entries: &[Entry],
 ) -> Result<(Vec<Row>, Vec<Row>), AllocError>
     ensures { IfOk result
-        (λ rows. (rows.0.items ≡ held_of client entries.now) × (rows.1.items ≡ waiting_of client entries.now)) }
+        (λ rows. (rows.0.items ≡ held_of client entries.now)
+        × (rows.1.items ≡ waiting_of client entries.now)) }
 {
     let mut held = Vec::new(alloc);
     let mut waiting = Vec::new(alloc);

@@ -1,3 +1,3 @@
-pub mod Fronts
+pub mod Prefixes
 pub mod BodyLength
 pub mod Framing

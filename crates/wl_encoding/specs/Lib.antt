@@ -1,5 +1,5 @@
 pub use Rattle.wl_draft.specs.Tables
 pub use Rattle.wl_draft.specs.Locks
 pub use Rattle.wl_grammar.specs.Grammar
-pub mod Fronts
+pub mod Prefixes
 pub mod Lengths

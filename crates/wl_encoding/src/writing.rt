@@ -2,7 +2,7 @@
 
 ghost use Rattle.std.specs.Prelude.{◌≡◌, ◌≤◌, ◌<◌, ◌+◌, ◌^◌, ◌++◌, ◌∷◌, [], length, take, drop, IfOk, OnOk, OnErr};
 ghost use Rattle.std.specs.List.{flat_map, AllByRecursion};
-ghost use Rattle.wl_encoding.specs.Fronts.{IsFrontOf};
+ghost use Rattle.wl_encoding.specs.Prefixes.{IsPrefixOf};
 ghost use Rattle.wl_grammar.specs.Grammar.{u16, u32, IsWellFormed, IsCommand, IsReport, IsReportPart, IsPost, IsSnapshot, IsHeard, IsWelcome, IsPairWelcome, IsStamped, IsStart, IsAddressed, IsUpward, IsDownward, IsOperation, IsLockName, IsEntry, IsSnapshotEntry, spelled_mode, spelled_flag, spelled_held, spelled_outcome, short_text, long_text, operation, entry, snapshot_entry, place, command, report, report_part, post, hello, answer, snapshot, heard, welcome, pair_welcome, upward, downward, stamped, start, addressed, dead, body, spelling};
 ghost use Rattle.wl_limits.specs.declared.frames.TheConstants.{ENTRY_LIMIT, LIST_LIMIT};
 ghost use Rattle.wl_limits.specs.declared.texts.TheConstants.{NAME_LIMIT};
@@ -44,7 +44,7 @@ pub fn encode_into(out: &mut Vec<u8>, frame: &Frame) -> Result<(), AllocError>
 fn put_frame(out: &mut Vec<u8>, frame: &Frame) -> Result<(), AllocError>
     requires { IsWellFormed frame.now }
     ensures spelled { OnOk result (out.new.items ≡ out.old.items ++ spelling frame.now) }
-    ensures kept { IsFrontOf out.old.items out.new.items }
+    ensures kept { IsPrefixOf out.old.items out.new.items }
 {
     let start = out.len();
     // The length is known once the body stands behind it.
@@ -67,7 +67,7 @@ fn set_length(bytes: &mut [u8], start: usize, count: u32)
 fn put_body(out: &mut Vec<u8>, frame: &Frame) -> Result<(), AllocError>
     requires { IsWellFormed frame.now }
     ensures spelled { OnOk result (out.new.items ≡ out.old.items ++ body frame.now) }
-    ensures kept { IsFrontOf out.old.items out.new.items }
+    ensures kept { IsPrefixOf out.old.items out.new.items }
 {
     match frame {
         Frame::Command(c) => put_command(out, c),
@@ -91,14 +91,14 @@ fn put_body(out: &mut Vec<u8>, frame: &Frame) -> Result<(), AllocError>
 
 fn put_u16(out: &mut Vec<u8>, number: u16) -> Result<(), AllocError>
     ensures spelled { OnOk result (out.new.items ≡ out.old.items ++ u16 number) }
-    ensures kept { IsFrontOf out.old.items out.new.items }
+    ensures kept { IsPrefixOf out.old.items out.new.items }
 {
     out.extend_from_slice(&number.to_be_bytes())
 }
 
 fn put_u32(out: &mut Vec<u8>, number: u32) -> Result<(), AllocError>
     ensures spelled { OnOk result (out.new.items ≡ out.old.items ++ u32 number) }
-    ensures kept { IsFrontOf out.old.items out.new.items }
+    ensures kept { IsPrefixOf out.old.items out.new.items }
 {
     out.extend_from_slice(&number.to_be_bytes())
 }
@@ -106,14 +106,14 @@ fn put_u32(out: &mut Vec<u8>, number: u32) -> Result<(), AllocError>
 /// The version and the kind of a body.
 fn put_kind(out: &mut Vec<u8>, version: u8, kind: u8) -> Result<(), AllocError>
     ensures spelled { OnOk result (out.new.items ≡ out.old.items ++ (version ∷ kind ∷ [])) }
-    ensures kept { IsFrontOf out.old.items out.new.items }
+    ensures kept { IsPrefixOf out.old.items out.new.items }
 {
     out.extend_from_slice(&[version, kind])
 }
 
 fn put_mode(out: &mut Vec<u8>, mode: Mode) -> Result<(), AllocError>
     ensures spelled { OnOk result (out.new.items ≡ out.old.items ++ spelled_mode mode) }
-    ensures kept { IsFrontOf out.old.items out.new.items }
+    ensures kept { IsPrefixOf out.old.items out.new.items }
 {
     let byte = match mode {
         Mode::Shared => 1,
@@ -125,7 +125,7 @@ fn put_mode(out: &mut Vec<u8>, mode: Mode) -> Result<(), AllocError>
 
 fn put_flag(out: &mut Vec<u8>, flag: bool) -> Result<(), AllocError>
     ensures spelled { OnOk result (out.new.items ≡ out.old.items ++ spelled_flag flag) }
-    ensures kept { IsFrontOf out.old.items out.new.items }
+    ensures kept { IsPrefixOf out.old.items out.new.items }
 {
     let byte = if flag { 1 } else { 0 };
     out.push(byte)?;
@@ -134,7 +134,7 @@ fn put_flag(out: &mut Vec<u8>, flag: bool) -> Result<(), AllocError>
 
 fn put_held(out: &mut Vec<u8>, held: bool) -> Result<(), AllocError>
     ensures spelled { OnOk result (out.new.items ≡ out.old.items ++ spelled_held held) }
-    ensures kept { IsFrontOf out.old.items out.new.items }
+    ensures kept { IsPrefixOf out.old.items out.new.items }
 {
     let byte = if held { 1 } else { 2 };
     out.push(byte)?;
@@ -143,7 +143,7 @@ fn put_held(out: &mut Vec<u8>, held: bool) -> Result<(), AllocError>
 
 fn put_outcome(out: &mut Vec<u8>, outcome: Outcome) -> Result<(), AllocError>
     ensures spelled { OnOk result (out.new.items ≡ out.old.items ++ spelled_outcome outcome) }
-    ensures kept { IsFrontOf out.old.items out.new.items }
+    ensures kept { IsPrefixOf out.old.items out.new.items }
 {
     let byte = match outcome {
         Outcome::Waiting => 1,
@@ -159,7 +159,7 @@ fn put_outcome(out: &mut Vec<u8>, outcome: Outcome) -> Result<(), AllocError>
 fn put_short_text(out: &mut Vec<u8>, text: &str) -> Result<(), AllocError>
     requires { length text.now ≤ NAME_LIMIT }
     ensures spelled { OnOk result (out.new.items ≡ out.old.items ++ short_text text.now) }
-    ensures kept { IsFrontOf out.old.items out.new.items }
+    ensures kept { IsPrefixOf out.old.items out.new.items }
 {
     out.push(text.len() as u8)?;
     out.extend_from_slice(text.as_bytes())
@@ -169,7 +169,7 @@ fn put_short_text(out: &mut Vec<u8>, text: &str) -> Result<(), AllocError>
 fn put_long_text(out: &mut Vec<u8>, bytes: &[u8]) -> Result<(), AllocError>
     requires { length bytes.now < 2 ^ 16 }
     ensures spelled { OnOk result (out.new.items ≡ out.old.items ++ long_text bytes.now) }
-    ensures kept { IsFrontOf out.old.items out.new.items }
+    ensures kept { IsPrefixOf out.old.items out.new.items }
 {
     put_u16(out, bytes.len() as u16)?;
     out.extend_from_slice(bytes)
@@ -180,7 +180,7 @@ fn put_long_text(out: &mut Vec<u8>, bytes: &[u8]) -> Result<(), AllocError>
 fn put_operation(out: &mut Vec<u8>, asked: &Operation) -> Result<(), AllocError>
     requires { IsOperation asked.now }
     ensures spelled { OnOk result (out.new.items ≡ out.old.items ++ operation asked.now) }
-    ensures kept { IsFrontOf out.old.items out.new.items }
+    ensures kept { IsPrefixOf out.old.items out.new.items }
 {
     match asked {
         Operation::Request {
@@ -211,7 +211,7 @@ fn put_operation(out: &mut Vec<u8>, asked: &Operation) -> Result<(), AllocError>
 fn put_entry(out: &mut Vec<u8>, e: &Entry) -> Result<(), AllocError>
     requires { IsLockName e.now.name }
     ensures spelled { OnOk result (out.new.items ≡ out.old.items ++ entry e.now) }
-    ensures kept { IsFrontOf out.old.items out.new.items }
+    ensures kept { IsPrefixOf out.old.items out.new.items }
 {
     put_u32(out, e.number)?;
     put_held(out, e.held)?;
@@ -222,7 +222,7 @@ fn put_entry(out: &mut Vec<u8>, e: &Entry) -> Result<(), AllocError>
 fn put_snapshot_entry(out: &mut Vec<u8>, e: &SnapshotEntry) -> Result<(), AllocError>
     requires { IsLockName e.now.name }
     ensures spelled { OnOk result (out.new.items ≡ out.old.items ++ snapshot_entry e.now) }
-    ensures kept { IsFrontOf out.old.items out.new.items }
+    ensures kept { IsPrefixOf out.old.items out.new.items }
 {
     put_held(out, e.held)?;
     put_u16(out, e.tab)?;
@@ -235,7 +235,7 @@ fn put_entries(out: &mut Vec<u8>, entries: &[Entry]) -> Result<(), AllocError>
     requires each { AllByRecursion IsEntry entries.now }
     ensures spelled { OnOk result (out.new.items
         ≡ out.old.items ++ (u16 (length entries.now) ++ flat_map entry entries.now)) }
-    ensures kept { IsFrontOf out.old.items out.new.items }
+    ensures kept { IsPrefixOf out.old.items out.new.items }
 {
     put_u16(out, entries.len() as u16)?;
     for e in entries {
@@ -249,7 +249,7 @@ fn put_snapshot_entries(out: &mut Vec<u8>, entries: &[SnapshotEntry]) -> Result<
     requires each { AllByRecursion IsSnapshotEntry entries.now }
     ensures spelled { OnOk result (out.new.items
         ≡ out.old.items ++ (u16 (length entries.now) ++ flat_map snapshot_entry entries.now)) }
-    ensures kept { IsFrontOf out.old.items out.new.items }
+    ensures kept { IsPrefixOf out.old.items out.new.items }
 {
     put_u16(out, entries.len() as u16)?;
     for e in entries {
@@ -262,7 +262,7 @@ fn put_places(out: &mut Vec<u8>, places: &[(u16, u16)]) -> Result<(), AllocError
     requires { length places.now ≤ LIST_LIMIT }
     ensures spelled { OnOk result (out.new.items
         ≡ out.old.items ++ (u16 (length places.now) ++ flat_map place places.now)) }
-    ensures kept { IsFrontOf out.old.items out.new.items }
+    ensures kept { IsPrefixOf out.old.items out.new.items }
 {
     put_u16(out, places.len() as u16)?;
     for (tab, partition) in places {
@@ -278,7 +278,7 @@ fn put_places(out: &mut Vec<u8>, places: &[(u16, u16)]) -> Result<(), AllocError
 fn put_command(out: &mut Vec<u8>, c: &Command) -> Result<(), AllocError>
     requires { IsCommand c.now }
     ensures spelled { OnOk result (out.new.items ≡ out.old.items ++ command c.now) }
-    ensures kept { IsFrontOf out.old.items out.new.items }
+    ensures kept { IsPrefixOf out.old.items out.new.items }
 {
     put_kind(out, 1, 1)?;
     put_u32(out, c.generation)?;
@@ -290,7 +290,7 @@ fn put_command(out: &mut Vec<u8>, c: &Command) -> Result<(), AllocError>
 fn put_report(out: &mut Vec<u8>, r: &Report) -> Result<(), AllocError>
     requires { IsReport r.now }
     ensures spelled { OnOk result (out.new.items ≡ out.old.items ++ report r.now) }
-    ensures kept { IsFrontOf out.old.items out.new.items }
+    ensures kept { IsPrefixOf out.old.items out.new.items }
 {
     put_kind(out, 1, 2)?;
     put_u32(out, r.generation)?;
@@ -302,7 +302,7 @@ fn put_report(out: &mut Vec<u8>, r: &Report) -> Result<(), AllocError>
 fn put_report_part(out: &mut Vec<u8>, r: &ReportPart) -> Result<(), AllocError>
     requires { IsReportPart r.now }
     ensures spelled { OnOk result (out.new.items ≡ out.old.items ++ report_part r.now) }
-    ensures kept { IsFrontOf out.old.items out.new.items }
+    ensures kept { IsPrefixOf out.old.items out.new.items }
 {
     put_kind(out, 2, 2)?;
     put_u32(out, r.generation)?;
@@ -316,7 +316,7 @@ fn put_report_part(out: &mut Vec<u8>, r: &ReportPart) -> Result<(), AllocError>
 fn put_post(out: &mut Vec<u8>, p: &Post) -> Result<(), AllocError>
     requires { IsPost p.now }
     ensures spelled { OnOk result (out.new.items ≡ out.old.items ++ post p.now) }
-    ensures kept { IsFrontOf out.old.items out.new.items }
+    ensures kept { IsPrefixOf out.old.items out.new.items }
 {
     put_kind(out, 1, 3)?;
     put_u32(out, p.number)?;
@@ -327,7 +327,7 @@ fn put_post(out: &mut Vec<u8>, p: &Post) -> Result<(), AllocError>
 #[tactic(auto, unfolding(wl_grammar::specs::Grammar::hello))]
 fn put_hello(out: &mut Vec<u8>, h: &Hello) -> Result<(), AllocError>
     ensures spelled { OnOk result (out.new.items ≡ out.old.items ++ hello h.now) }
-    ensures kept { IsFrontOf out.old.items out.new.items }
+    ensures kept { IsPrefixOf out.old.items out.new.items }
 {
     put_kind(out, 1, 16)?;
     put_u32(out, h.generation)
@@ -336,7 +336,7 @@ fn put_hello(out: &mut Vec<u8>, h: &Hello) -> Result<(), AllocError>
 #[tactic(auto, unfolding(wl_grammar::specs::Grammar::answer))]
 fn put_answer(out: &mut Vec<u8>, a: &Answer) -> Result<(), AllocError>
     ensures spelled { OnOk result (out.new.items ≡ out.old.items ++ answer a.now) }
-    ensures kept { IsFrontOf out.old.items out.new.items }
+    ensures kept { IsPrefixOf out.old.items out.new.items }
 {
     put_kind(out, 1, 17)?;
     put_u32(out, a.generation)?;
@@ -349,7 +349,7 @@ fn put_answer(out: &mut Vec<u8>, a: &Answer) -> Result<(), AllocError>
 fn put_snapshot(out: &mut Vec<u8>, s: &Snapshot) -> Result<(), AllocError>
     requires { IsSnapshot s.now }
     ensures spelled { OnOk result (out.new.items ≡ out.old.items ++ snapshot s.now) }
-    ensures kept { IsFrontOf out.old.items out.new.items }
+    ensures kept { IsPrefixOf out.old.items out.new.items }
 {
     put_kind(out, 1, 18)?;
     put_u32(out, s.generation)?;
@@ -363,7 +363,7 @@ fn put_snapshot(out: &mut Vec<u8>, s: &Snapshot) -> Result<(), AllocError>
 fn put_heard(out: &mut Vec<u8>, h: &Heard) -> Result<(), AllocError>
     requires { IsHeard h.now }
     ensures spelled { OnOk result (out.new.items ≡ out.old.items ++ heard h.now) }
-    ensures kept { IsFrontOf out.old.items out.new.items }
+    ensures kept { IsPrefixOf out.old.items out.new.items }
 {
     put_kind(out, 1, 19)?;
     put_u16(out, h.source)?;
@@ -376,7 +376,7 @@ fn put_heard(out: &mut Vec<u8>, h: &Heard) -> Result<(), AllocError>
 fn put_welcome(out: &mut Vec<u8>, w: &Welcome) -> Result<(), AllocError>
     requires { IsWelcome w.now }
     ensures spelled { OnOk result (out.new.items ≡ out.old.items ++ welcome w.now) }
-    ensures kept { IsFrontOf out.old.items out.new.items }
+    ensures kept { IsPrefixOf out.old.items out.new.items }
 {
     put_kind(out, 1, 20)?;
     put_u16(out, w.tab)?;
@@ -387,7 +387,7 @@ fn put_welcome(out: &mut Vec<u8>, w: &Welcome) -> Result<(), AllocError>
 fn put_pair_welcome(out: &mut Vec<u8>, w: &PairWelcome) -> Result<(), AllocError>
     requires { IsPairWelcome w.now }
     ensures spelled { OnOk result (out.new.items ≡ out.old.items ++ pair_welcome w.now) }
-    ensures kept { IsFrontOf out.old.items out.new.items }
+    ensures kept { IsPrefixOf out.old.items out.new.items }
 {
     put_kind(out, 2, 20)?;
     put_u16(out, w.tab)?;
@@ -399,7 +399,7 @@ fn put_pair_welcome(out: &mut Vec<u8>, w: &PairWelcome) -> Result<(), AllocError
 fn put_upward(out: &mut Vec<u8>, inner: &Upward) -> Result<(), AllocError>
     requires { IsUpward inner.now }
     ensures spelled { OnOk result (out.new.items ≡ out.old.items ++ upward inner.now) }
-    ensures kept { IsFrontOf out.old.items out.new.items }
+    ensures kept { IsPrefixOf out.old.items out.new.items }
 {
     match inner {
         Upward::Command(c) => put_command(out, c),
@@ -412,7 +412,7 @@ fn put_upward(out: &mut Vec<u8>, inner: &Upward) -> Result<(), AllocError>
 fn put_downward(out: &mut Vec<u8>, inner: &Downward) -> Result<(), AllocError>
     requires { IsDownward inner.now }
     ensures spelled { OnOk result (out.new.items ≡ out.old.items ++ downward inner.now) }
-    ensures kept { IsFrontOf out.old.items out.new.items }
+    ensures kept { IsPrefixOf out.old.items out.new.items }
 {
     match inner {
         Downward::Hello(h) => put_hello(out, h),
@@ -425,7 +425,7 @@ fn put_downward(out: &mut Vec<u8>, inner: &Downward) -> Result<(), AllocError>
 fn put_stamped(out: &mut Vec<u8>, s: &Stamped) -> Result<(), AllocError>
     requires { IsStamped s.now }
     ensures spelled { OnOk result (out.new.items ≡ out.old.items ++ stamped s.now) }
-    ensures kept { IsFrontOf out.old.items out.new.items }
+    ensures kept { IsPrefixOf out.old.items out.new.items }
 {
     put_kind(out, 1, 32)?;
     put_u16(out, s.tab)?;
@@ -437,7 +437,7 @@ fn put_stamped(out: &mut Vec<u8>, s: &Stamped) -> Result<(), AllocError>
 fn put_start(out: &mut Vec<u8>, s: &Start) -> Result<(), AllocError>
     requires { IsStart s.now }
     ensures spelled { OnOk result (out.new.items ≡ out.old.items ++ start s.now) }
-    ensures kept { IsFrontOf out.old.items out.new.items }
+    ensures kept { IsPrefixOf out.old.items out.new.items }
 {
     put_kind(out, 1, 33)?;
     put_u32(out, s.generation)?;
@@ -448,7 +448,7 @@ fn put_start(out: &mut Vec<u8>, s: &Start) -> Result<(), AllocError>
 fn put_addressed(out: &mut Vec<u8>, a: &Addressed) -> Result<(), AllocError>
     requires { IsAddressed a.now }
     ensures spelled { OnOk result (out.new.items ≡ out.old.items ++ addressed a.now) }
-    ensures kept { IsFrontOf out.old.items out.new.items }
+    ensures kept { IsPrefixOf out.old.items out.new.items }
 {
     put_kind(out, 1, 34)?;
     put_u16(out, a.tab)?;
@@ -458,7 +458,7 @@ fn put_addressed(out: &mut Vec<u8>, a: &Addressed) -> Result<(), AllocError>
 #[tactic(auto, unfolding(wl_grammar::specs::Grammar::dead))]
 fn put_dead(out: &mut Vec<u8>, d: &Dead) -> Result<(), AllocError>
     ensures spelled { OnOk result (out.new.items ≡ out.old.items ++ dead d.now) }
-    ensures kept { IsFrontOf out.old.items out.new.items }
+    ensures kept { IsPrefixOf out.old.items out.new.items }
 {
     put_kind(out, 1, 35)?;
     put_u16(out, d.tab)

@@ -1,7 +1,7 @@
 -- A reader that counts its reads, a writer, and whether each has failed.
 use Rattle.std.specs.Prelude.{ℕ, List, Bool, false, Option}
 use Rattle.std.specs.Io.KnownBytes.{Appends}
-use Rattle.wl_encoding.specs.Fronts.{IsFrontOf}
+use Rattle.wl_encoding.specs.Prefixes.{IsPrefixOf}
 
 pub record Reading (R : Type 0) : Type 0 where
   pub reader : R
@@ -18,6 +18,6 @@ fresh_reader reader = record { reader = reader; reads = 0; has_failed = false }
 abbrev pub fresh_writer : {W : Type 0} → W → Writing W
 fresh_writer writer = record { writer = writer; has_failed = false }
 
--- a front of the bytes was written
-abbrev pub WritesFront : Option (List ℕ) → Option (List ℕ) → List ℕ → Type 0
-WritesFront old new bytes = (front : List ℕ) × IsFrontOf front bytes × Appends old new front
+-- a prefix of the bytes was written
+abbrev pub WritesPrefix : Option (List ℕ) → Option (List ℕ) → List ℕ → Type 0
+WritesPrefix old new bytes = (front : List ℕ) × IsPrefixOf front bytes × Appends old new front

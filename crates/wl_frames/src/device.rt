@@ -2,7 +2,7 @@
 
 ghost use Rattle.std.specs.Prelude.{◌≡◌, ◌≤◌, ◌<◌, ◌+◌, length, take, true, false, Err, IfOk, OnOk, OnErr};
 ghost use Rattle.std.specs.Io.KnownBytes.{Consumes, IsAtEnd, Keeps, Appends};
-ghost use Rattle.wl_frames.specs.Device.{fresh_reader, fresh_writer, WritesFront};
+ghost use Rattle.wl_frames.specs.Device.{fresh_reader, fresh_writer, WritesPrefix};
 ghost use Rattle.wl_frames.specs.declared.device.TheConstants.{READ_LIMIT};
 
 use std::io::{Read, Write};
@@ -71,11 +71,15 @@ impl<R: Read> Source<R> {
     pub fn read(&mut self, buffer: &mut [u8]) -> Result<usize, ReadFault>
         requires { 0 < length buffer.old }
         ensures bound { IfOk result (λ n. n ≤ length buffer.new) }
-        ensures bytes { IfOk result (λ n. Consumes (R.remaining self.old.reader) (R.remaining self.new.reader) (take n buffer.new)) }
+        ensures bytes { IfOk result (λ n.
+            Consumes (R.remaining self.old.reader) (R.remaining self.new.reader) (take n buffer.new)) }
         ensures end { IfOk result (λ n. n ≡ 0 → IsAtEnd (R.remaining self.new.reader)) }
-        ensures counted { IfOk result (λ n. (self.new.reads ≡ self.old.reads + 1) × (self.new.has_failed ≡ self.old.has_failed)) }
-        ensures failed { result ≡ Err ReadFault.Failed → (self.new.has_failed ≡ true) × Keeps (R.remaining self.old.reader) (R.remaining self.new.reader) }
-        ensures limit { result ≡ Err ReadFault.TooManyReads → (self.old.reads ≡ READ_LIMIT) × (self.new ≡ self.old) }
+        ensures counted { IfOk result (λ n.
+            (self.new.reads ≡ self.old.reads + 1) × (self.new.has_failed ≡ self.old.has_failed)) }
+        ensures failed { result ≡ Err ReadFault.Failed → (self.new.has_failed ≡ true)
+            × Keeps (R.remaining self.old.reader) (R.remaining self.new.reader) }
+        ensures limit { result ≡ Err ReadFault.TooManyReads
+            → (self.old.reads ≡ READ_LIMIT) × (self.new ≡ self.old) }
         ensures within { self.new.reads ≤ 1000000 }
     {
         if self.reads >= READ_LIMIT {
@@ -121,10 +125,12 @@ impl<W> Sink<W> {
 impl<W: Write> Sink<W> {
     /// Writes the bytes, in as many writes as the writer needs. A write that takes nothing is a failure.
     pub fn write(&mut self, bytes: &[u8]) -> Result<(), WriteFault>
-        ensures written { OnOk result (Appends (W.contents self.old.writer) (W.contents self.new.writer) bytes.now) }
+        ensures written { OnOk result
+            (Appends (W.contents self.old.writer) (W.contents self.new.writer) bytes.now) }
         ensures sound { OnOk result (self.new.has_failed ≡ self.old.has_failed) }
-        // What was written before the failure is a front of the bytes.
-        ensures failed { OnErr result ((self.new.has_failed ≡ true) × WritesFront (W.contents self.old.writer) (W.contents self.new.writer) bytes.now) }
+        // What was written before the failure is a prefix of the bytes.
+        ensures failed { OnErr result ((self.new.has_failed ≡ true)
+            × WritesPrefix (W.contents self.old.writer) (W.contents self.new.writer) bytes.now) }
     {
         let mut rest = bytes;
         while !rest.is_empty() {

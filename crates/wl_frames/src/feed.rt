@@ -14,7 +14,8 @@ use wl_limits::frames::{BODY_LIMIT, LEAST_BODY};
 
 /// The length at the front of a stream, and what follows it; none before all its bytes are there.
 fn length_at(bytes: &[u8]) -> Option<(usize, &[u8])>
-    ensures { MatchOption result (length bytes.now < 4) (λ x. (bytes.now ≡ spelled_u32 x.0 ++ x.1.now) × (x.0 < 2 ^ 32)) }
+    ensures { MatchOption result (length bytes.now < 4) (λ x.
+        (bytes.now ≡ spelled_u32 x.0 ++ x.1.now) × (x.0 < 2 ^ 32)) }
 {
     if bytes.len() < 4 {
         return None;
@@ -26,7 +27,8 @@ fn length_at(bytes: &[u8]) -> Option<(usize, &[u8])>
 
 /// The frame at the front of a stream, and what follows it; none before all its bytes are there.
 fn frame_at(alloc: Global, bytes: &[u8]) -> Result<Option<(Frame, &[u8])>, FrameFault>
-    ensures frame { IfOk result (λ next. MatchOption next (IsPartial bytes.now) (λ x. IsWellFormed x.0 × (bytes.now ≡ spelling x.0 ++ x.1.now))) }
+    ensures frame { IfOk result (λ next. MatchOption next (IsPartial bytes.now) (λ x.
+        IsWellFormed x.0 × (bytes.now ≡ spelling x.0 ++ x.1.now))) }
     ensures fault { IfErr result (λ e. (e ≡ Memory) ⊎ HasFaultNext bytes.now e) }
 {
     let Some((len, rest)) = length_at(bytes) else {

@@ -10,12 +10,14 @@ ghost use Rattle.wl_frames.specs.Stream.{Reads, Rest, Stop};
 pub fn law_spelling()
     ensures one_frame { (bytes : List ℕ) (f g : Frame) → IsBody bytes f → IsBody bytes g → f ≡ g }
     ensures length { (f : Frame) → IsWellFormed f → IsLength (length (body f)) }
-    ensures apart { (f g : Frame) (x y : List ℕ) → IsWellFormed f → IsWellFormed g → spelling f ++ x ≡ spelling g ++ y → (f ≡ g) × (x ≡ y) }
+    ensures apart { (f g : Frame) (x y : List ℕ) → IsWellFormed f
+        → IsWellFormed g → spelling f ++ x ≡ spelling g ++ y → (f ≡ g) × (x ≡ y) }
 {}
 
 /// A stream has one reading, and reading it in pieces is reading the whole.
 pub fn law_reading()
-    ensures one { (stream : List ℕ) (fs gs : List Frame) (s t : Stop) → Reads stream fs s → Reads stream gs t → (fs ≡ gs) × (s ≡ t) }
+    ensures one { (stream : List ℕ) (fs gs : List Frame) (s t : Stop)
+        → Reads stream fs s → Reads stream gs t → (fs ≡ gs) × (s ≡ t) }
     ensures joins { (stream piece rest : List ℕ) (fs gs : List Frame) (s : Stop)
         → Reads stream fs (Rest rest) → Reads (rest ++ piece) gs s → Reads (stream ++ piece) (fs ++ gs) s }
 {}

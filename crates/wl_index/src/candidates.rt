@@ -63,7 +63,8 @@ impl Candidates {
 
     /// Takes the least number out.
     pub fn pop(&mut self) -> Option<u64>
-        ensures items { IfSome result (λ o. (k : ℕ) → is_among k self.old.items ≡ (o == k || is_among k self.new.items)) }
+        ensures items { IfSome result (λ o.
+            (k : ℕ) → is_among k self.old.items ≡ (o == k || is_among k self.new.items)) }
         ensures least { IfSome result (λ o. (k : ℕ) → is_among k self.new.items ≡ true → o ≤ k) }
         ensures len { OnSome result (length self.new.items + 1 ≡ length self.old.items) }
         ensures room { OnSome result (self.old.room + 1 ≤ self.new.room) }

@@ -39,7 +39,8 @@ impl Clients {
 
     /// How many entries the client has.
     pub fn live(&self, client: u16) -> usize
-        ensures { result ≡ length (places_at self.now client).held + length (places_at self.now client).waiting }
+        ensures { result
+            ≡ length (places_at self.now client).held + length (places_at self.now client).waiting }
     {
         match self.clients.get(&client) {
             Some(holdings) => holdings.len(),
@@ -82,7 +83,8 @@ impl Clients {
     /// Makes room for one more lock of the client, beside those that it waits for.
     pub fn reserve_lock(&mut self, client: u16) -> Result<(), AllocError>
         ensures places { (c : ℕ) → places_at self.new c ≡ places_at self.old c }
-        ensures held { OnOk result (length (places_at self.new client).waiting < held_room_at self.new client) }
+        ensures held { OnOk result
+            (length (places_at self.new client).waiting < held_room_at self.new client) }
         ensures kept { (c : ℕ) → held_room_at self.old c ≤ held_room_at self.new c }
     {
         if !self.clients.contains_key(&client) {
@@ -97,7 +99,8 @@ impl Clients {
     /// Makes room for so many more entries of the client, held or waiting.
     pub fn reserve(&mut self, client: u16, count: usize) -> Result<(), AllocError>
         ensures places { (c : ℕ) → places_at self.new c ≡ places_at self.old c }
-        ensures held { OnOk result (length (places_at self.new client).waiting + count ≤ held_room_at self.new client) }
+        ensures held { OnOk result
+            (length (places_at self.new client).waiting + count ≤ held_room_at self.new client) }
         ensures waiting { OnOk result (count ≤ waiting_room_at self.new client) }
         ensures kept { (c : ℕ) → held_room_at self.old c ≤ held_room_at self.new c }
         ensures kept_waiting { (c : ℕ) → waiting_room_at self.old c ≤ waiting_room_at self.new c }
@@ -115,8 +118,10 @@ impl Clients {
     pub fn hold(&mut self, client: u16, order: u64, number: u32)
         requires last { is_below (places_at self.old client).held order ≡ true }
         requires room { 0 < held_room_at self.old client }
-        ensures places { (c : ℕ) → places_at self.new c ≡ (if client == c then with_held (places_at self.old c) order number else places_at self.old c) }
-        ensures held { (c : ℕ) → held_room_at self.old c ≤ held_room_at self.new c + (if client == c then 1 else 0) }
+        ensures places { (c : ℕ) → places_at self.new c
+            ≡ (if client == c then with_held (places_at self.old c) order number else places_at self.old c) }
+        ensures held { (c : ℕ)
+            → held_room_at self.old c ≤ held_room_at self.new c + (if client == c then 1 else 0) }
         ensures waiting { (c : ℕ) → waiting_room_at self.old c ≤ waiting_room_at self.new c }
     {
         match self.clients.get_mut(&client) {
@@ -129,9 +134,11 @@ impl Clients {
     pub fn wait(&mut self, client: u16, order: u64, number: u32)
         requires last { is_below (places_at self.old client).waiting order ≡ true }
         requires room { 0 < waiting_room_at self.old client }
-        ensures places { (c : ℕ) → places_at self.new c ≡ (if client == c then with_waiting (places_at self.old c) order number else places_at self.old c) }
+        ensures places { (c : ℕ) → places_at self.new c ≡ (if client == c
+            then with_waiting (places_at self.old c) order number else places_at self.old c) }
         ensures held { (c : ℕ) → held_room_at self.old c ≤ held_room_at self.new c }
-        ensures waiting { (c : ℕ) → waiting_room_at self.old c ≤ waiting_room_at self.new c + (if client == c then 1 else 0) }
+        ensures waiting { (c : ℕ)
+            → waiting_room_at self.old c ≤ waiting_room_at self.new c + (if client == c then 1 else 0) }
     {
         match self.clients.get_mut(&client) {
             Some(holdings) => holdings.waiting.push(order, number),
@@ -141,7 +148,8 @@ impl Clients {
 
     /// Takes a lock out of the client's.
     pub fn drop_held(&mut self, client: u16, order: u64)
-        ensures places { (c : ℕ) → places_at self.new c ≡ (if client == c then without_held (places_at self.old c) order else places_at self.old c) }
+        ensures places { (c : ℕ) → places_at self.new c
+            ≡ (if client == c then without_held (places_at self.old c) order else places_at self.old c) }
         ensures held { (c : ℕ) → held_room_at self.old c ≤ held_room_at self.new c }
         ensures waiting { (c : ℕ) → waiting_room_at self.old c ≤ waiting_room_at self.new c }
     {
@@ -153,7 +161,8 @@ impl Clients {
 
     /// Takes a request out of the client's.
     pub fn drop_waiting(&mut self, client: u16, order: u64)
-        ensures places { (c : ℕ) → places_at self.new c ≡ (if client == c then without_waiting (places_at self.old c) order else places_at self.old c) }
+        ensures places { (c : ℕ) → places_at self.new c
+            ≡ (if client == c then without_waiting (places_at self.old c) order else places_at self.old c) }
         ensures held { (c : ℕ) → held_room_at self.old c ≤ held_room_at self.new c }
         ensures waiting { (c : ℕ) → waiting_room_at self.old c ≤ waiting_room_at self.new c }
     {
@@ -166,7 +175,8 @@ impl Clients {
     /// Forgets a client that has no entry.
     pub fn forget(&mut self, client: u16)
         ensures places { (c : ℕ) → places_at self.new c ≡ places_at self.old c }
-        ensures room { (c : ℕ) → length (places_at self.old c).waiting ≤ held_room_at self.old c → length (places_at self.new c).waiting ≤ held_room_at self.new c }
+        ensures room { (c : ℕ) → length (places_at self.old c).waiting ≤ held_room_at self.old c
+            → length (places_at self.new c).waiting ≤ held_room_at self.new c }
     {
         if self.is_idle(client) {
             let _ = self.clients.swap_remove(&client);

@@ -53,7 +53,8 @@ impl Holdings {
         ensures places { places_seen self.new ≡ places_seen self.old }
         ensures held { OnOk result (length (places_seen self.new).waiting + count ≤ held_room self.new) }
         ensures waiting { OnOk result (count ≤ waiting_room self.new) }
-        ensures kept { (held_room self.old ≤ held_room self.new) × (waiting_room self.old ≤ waiting_room self.new) }
+        ensures kept { (held_room self.old ≤ held_room self.new)
+            × (waiting_room self.old ≤ waiting_room self.new) }
     {
         let Some(both) = self.waiting.len().checked_add(count) else {
             return Err(AllocError);
@@ -66,7 +67,8 @@ impl Holdings {
     pub fn reserve_lock(&mut self) -> Result<(), AllocError>
         ensures places { places_seen self.new ≡ places_seen self.old }
         ensures held { OnOk result (length (places_seen self.new).waiting < held_room self.new) }
-        ensures kept { (held_room self.old ≤ held_room self.new) × (waiting_room self.old ≤ waiting_room self.new) }
+        ensures kept { (held_room self.old ≤ held_room self.new)
+            × (waiting_room self.old ≤ waiting_room self.new) }
     {
         self.held.reserve(self.waiting.len() + 1)
     }

@@ -51,7 +51,8 @@ impl Lines {
     pub fn hold(&mut self, name: &Name, mode: Mode)
         requires there { HasLine self.old name.now }
         requires small { (line_at self.old name.now).shared + (line_at self.old name.now).exclusive < 2 ^ 63 }
-        ensures lines { (n : List ℕ) → line_at self.new n ≡ (if bytes_eq name.now n then with_holder (line_at self.old n) mode else line_at self.old n) }
+        ensures lines { (n : List ℕ) → line_at self.new n
+            ≡ (if bytes_eq name.now n then with_holder (line_at self.old n) mode else line_at self.old n) }
         ensures room { (n : List ℕ) → room_at self.new n ≡ room_at self.old n }
         ensures kept { (n : List ℕ) → HasLine self.old n → HasLine self.new n }
     {
@@ -64,8 +65,10 @@ impl Lines {
     /// Puts a request last in the line of its name. There is room for it.
     pub fn push(&mut self, name: &Name, order: u64)
         requires { 0 < room_at self.old name.now }
-        ensures lines { (n : List ℕ) → line_at self.new n ≡ (if bytes_eq name.now n then with_waiter (line_at self.old n) order else line_at self.old n) }
-        ensures room { (n : List ℕ) → room_at self.old n ≤ room_at self.new n + (if bytes_eq name.now n then 1 else 0) }
+        ensures lines { (n : List ℕ) → line_at self.new n
+            ≡ (if bytes_eq name.now n then with_waiter (line_at self.old n) order else line_at self.old n) }
+        ensures room { (n : List ℕ)
+            → room_at self.old n ≤ room_at self.new n + (if bytes_eq name.now n then 1 else 0) }
         ensures kept { (n : List ℕ) → HasLine self.old n → HasLine self.new n }
     {
         match self.lines.get_mut(name.as_str()) {
@@ -100,7 +103,8 @@ impl Lines {
 
     /// Whether a request of this name and mode would be granted at once.
     pub fn is_next(&self, name: &Name, mode: Mode) -> bool
-        ensures { result ≡ (length (line_at self.now name.now).queue == 0 && lets_in (line_at self.now name.now) mode) }
+        ensures { result
+            ≡ (length (line_at self.now name.now).queue == 0 && lets_in (line_at self.now name.now) mode) }
     {
         self.is_queue_empty(name) && self.is_free(name, mode)
     }
@@ -149,7 +153,8 @@ impl Lines {
 
     /// Counts one holder of the name less.
     pub fn let_go(&mut self, name: &Name, mode: Mode)
-        ensures lines { (n : List ℕ) → line_at self.new n ≡ (if bytes_eq name.now n then without_holder (line_at self.old n) mode else line_at self.old n) }
+        ensures lines { (n : List ℕ) → line_at self.new n
+            ≡ (if bytes_eq name.now n then without_holder (line_at self.old n) mode else line_at self.old n) }
         ensures room { (n : List ℕ) → room_at self.new n ≡ room_at self.old n }
         ensures kept { (n : List ℕ) → HasLine self.old n → HasLine self.new n }
     {
@@ -162,7 +167,8 @@ impl Lines {
     /// Takes a request out of the line of its name.
     pub fn take_out(&mut self, name: &Name, order: u64)
         requires { do_rise (line_at self.old name.now).queue ≡ true }
-        ensures lines { (n : List ℕ) → line_at self.new n ≡ (if bytes_eq name.now n then without_waiter (line_at self.old n) order else line_at self.old n) }
+        ensures lines { (n : List ℕ) → line_at self.new n ≡ (if bytes_eq name.now n
+            then without_waiter (line_at self.old n) order else line_at self.old n) }
         ensures room { (n : List ℕ) → room_at self.old n ≤ room_at self.new n }
         ensures kept { (n : List ℕ) → HasLine self.old n → HasLine self.new n }
     {

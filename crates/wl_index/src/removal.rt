@@ -13,7 +13,8 @@ impl Index {
     /// Takes out the client's held locks of the number that is meant, or all of them.
     pub fn take_all_held(&mut self, client: u16, which: Option<u32>, candidates: &mut Candidates)
         requires indexed { IsIndexed self.old }
-        requires room { length (places_in client self.old.held.items) + length (places_in client self.old.waiting.items) ≤ candidates.old.room }
+        requires room { length (places_in client self.old.held.items)
+            + length (places_in client self.old.waiting.items) ≤ candidates.old.room }
         requires candidates { AreCandidates candidates.old.items self.old.held.items self.old.waiting.items }
         ensures indexed { IsIndexed self.new }
         ensures held { self.new.held.items ≡ without_meant client which self.old.held.items }
@@ -81,7 +82,8 @@ impl Index {
     /// Makes room for what settling grants once so many more entries were put in, and sees that there are numbers for them.
     pub fn room_to_settle(&self, granted: &mut Vec<Grant>, more: usize) -> Result<(), AllocError>
         ensures items { granted.new.items ≡ granted.old.items }
-        ensures room { OnOk result (vec_len granted.new + length self.now.waiting.items + more ≤ vec_capacity granted.new) }
+        ensures room { OnOk result
+            (vec_len granted.new + length self.now.waiting.items + more ≤ vec_capacity granted.new) }
         ensures small { OnOk result (self.now.next + length self.now.waiting.items + more + more < 2 ^ 64) }
     {
         let waiting = self.waiting.len();

@@ -53,7 +53,8 @@ impl Index {
         requires candidates { AreCandidates candidates.old.items self.old.held.items self.old.waiting.items }
         ensures indexed { IsIndexed self.new }
         ensures held { values_in self.new.held.items ≡ values_in self.old.held.items ++ held.items }
-        ensures waiting { values_in self.new.waiting.items ≡ values_in self.old.waiting.items ++ waiting.items }
+        ensures waiting { values_in self.new.waiting.items
+            ≡ values_in self.old.waiting.items ++ waiting.items }
         ensures next { self.new.next ≡ self.old.next + length held.items + length waiting.items }
         ensures candidates { AreCandidates candidates.new.items self.new.held.items self.new.waiting.items }
     {
@@ -74,7 +75,8 @@ pub fn rows_of(
     entries: &[Entry],
 ) -> Result<(Vec<Row>, Vec<Row>), AllocError>
     ensures rows { IfOk result
-        (λ rows. (rows.0.items ≡ held_of client entries.now) × (rows.1.items ≡ waiting_of client entries.now)) }
+        (λ rows. (rows.0.items ≡ held_of client entries.now)
+        × (rows.1.items ≡ waiting_of client entries.now)) }
 {
     let mut held = Vec::new(alloc);
     let mut waiting = Vec::new(alloc);

@@ -51,8 +51,10 @@ impl Index {
     pub fn note_front(&self, name: &Name, candidates: &mut Candidates)
         requires indexed { IsIndexed self.now }
         requires room { 0 < candidates.old.room }
-        ensures front { (k : ℕ) → next_in name.now self.now.held.items self.now.waiting.items ≡ Some k → is_among k candidates.new.items ≡ true }
-        ensures kept { (k : ℕ) → is_among k candidates.old.items ≡ true → is_among k candidates.new.items ≡ true }
+        ensures front { (k : ℕ) → next_in name.now self.now.held.items self.now.waiting.items ≡ Some k
+            → is_among k candidates.new.items ≡ true }
+        ensures kept { (k : ℕ) → is_among k candidates.old.items ≡ true
+            → is_among k candidates.new.items ≡ true }
         ensures len { length candidates.new.items ≤ length candidates.old.items + 1 }
         ensures room { candidates.old.room ≤ candidates.new.room + 1 }
     {
@@ -71,12 +73,15 @@ impl Index {
         requires others { AreOthers order candidates.old.items self.old.held.items self.old.waiting.items }
         ensures indexed { IsIndexed self.new }
         ensures waiting { self.new.waiting.items ≡ without_order order self.old.waiting.items }
-        ensures held { (r : Row) → find self.old.waiting.items order ≡ Some r → self.new.held.items ≡ self.old.held.items ++ (self.old.next, r) ∷ [] }
-        ensures granted { (r : Row) → find self.old.waiting.items order ≡ Some r → granted.new.items ≡ granted.old.items ++ grants (r ∷ []) }
+        ensures held { (r : Row) → find self.old.waiting.items order ≡ Some r
+            → self.new.held.items ≡ self.old.held.items ++ (self.old.next, r) ∷ [] }
+        ensures granted { (r : Row) → find self.old.waiting.items order ≡ Some r
+            → granted.new.items ≡ granted.old.items ++ grants (r ∷ []) }
         ensures next { self.new.next ≤ self.old.next + 1 }
         ensures len { vec_len granted.new ≤ vec_len granted.old + 1 }
         ensures capacity { vec_capacity granted.old ≤ vec_capacity granted.new }
-        ensures candidates { (r : Row) → find self.old.waiting.items order ≡ Some r → AreCandidates candidates.new.items self.new.held.items self.new.waiting.items }
+        ensures candidates { (r : Row) → find self.old.waiting.items order ≡ Some r
+            → AreCandidates candidates.new.items self.new.held.items self.new.waiting.items }
         ensures candidates_len { length candidates.new.items ≤ length candidates.old.items + 1 }
     {
         match self.take_waiting(order) {
@@ -96,8 +101,10 @@ impl Index {
         requires room { vec_len granted.old + length self.old.waiting.items ≤ vec_capacity granted.old }
         requires candidates { AreCandidates candidates.old.items self.old.held.items self.old.waiting.items }
         ensures indexed { IsIndexed self.new }
-        ensures settled { locks_in self.new.held.items self.new.waiting.items ≡ settle (locks_in self.old.held.items self.old.waiting.items) }
-        ensures granted { granted.new.items ≡ granted.old.items ++ grants (newly (locks_in self.old.held.items self.old.waiting.items)) }
+        ensures settled { locks_in self.new.held.items self.new.waiting.items
+            ≡ settle (locks_in self.old.held.items self.old.waiting.items) }
+        ensures granted { granted.new.items
+            ≡ granted.old.items ++ grants (newly (locks_in self.old.held.items self.old.waiting.items)) }
         ensures candidates { AreCandidates candidates.new.items self.new.held.items self.new.waiting.items }
     {
         while let Some(order) = candidates.pop() {

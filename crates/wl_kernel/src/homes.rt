@@ -128,8 +128,10 @@ impl Homes {
         tab: u16,
     ) -> Result<usize, AllocError>
         requires { rises (members (home_of self.old partition)) ≡ true }
-        ensures joined { OnOk result (SetsHome self.old self.new partition (Some (joined tab (home_of self.old partition)))) }
-        ensures place { IfOk result (λ place. (place < length self.new.homes) × (partition_at self.new place ≡ partition)) }
+        ensures joined { OnOk result
+            (SetsHome self.old self.new partition (Some (joined tab (home_of self.old partition)))) }
+        ensures place { IfOk result (λ place.
+            (place < length self.new.homes) × (partition_at self.new place ≡ partition)) }
         ensures kept { OnOk result (KeepsPlaces self.old self.new) }
         ensures err { OnErr result (self.new ≡ self.old) }
     {

@@ -50,7 +50,8 @@ pub(crate) fn heard(
     post: Post,
     members: &[u16],
 ) -> Result<Vec<(u16, Frame)>, AllocError>
-    ensures heard { IfOk result (λ heard. heard.items ≡ map (λ n. (n, heard_of source post)) (filter (λ n. not (n == source)) members.now)) }
+    ensures heard { IfOk result (λ heard.
+        heard.items ≡ map (λ n. (n, heard_of source post)) (filter (λ n. not (n == source)) members.now)) }
     ensures growth { OnErr result (filter (λ n. not (n == source)) members.now ≢ []) }
 {
     let others = others_of(source, members);

@@ -56,7 +56,8 @@ impl Down {
         ensures frame { IfOk result (λ r. r.1 ≡ start_frame listed.now self) }
         ensures well_formed { IfOk result (λ r. IsWellFormed r.1) }
         ensures allowed { OnOk result (start_refusal listed.now self ≡ None) }
-        ensures refused { IfErr result (λ r. r.1 ≢ StartFault.Memory → start_refusal listed.now self ≡ Some r.1) }
+        ensures refused { IfErr result (λ r.
+            r.1 ≢ StartFault.Memory → start_refusal listed.now self ≡ Some r.1) }
         ensures memory { IfErr result (λ r. r.1 ≡ StartFault.Memory → start_refusal listed.now self ≡ None) }
         ensures growth { IfErr result (λ r. r.1 ≡ StartFault.Memory → 0 < length listed.now) }
         ensures err { IfErr result (λ r. r.0 ≡ self) }

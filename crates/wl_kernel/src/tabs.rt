@@ -1,6 +1,7 @@
 //! The tab table, which belongs to the supervisor.
 
 ghost use Rattle.std.specs.Prelude.{◌≡◌, ◌≢◌, ◌<◌, ◌≤◌, [], length, None, Some, Err, IfOk, OnOk, IfErr, OnErr, IfSome, IsTrue, true, false, option_map, if◌then◌else◌};
+ghost use Rattle.wl_draft.specs.Refusals.{RefusesBy};
 ghost use Rattle.wl_grammar.specs.Grammar.{IsTab, IsUpward, IsPost, IsWellFormed};
 ghost use Rattle.wl_grammar.specs.declared.frame.Frame.TheVariants as frame;
 ghost use Rattle.wl_kernel.specs.declared.routes.Routed.TheVariants.{Broker};
@@ -103,9 +104,10 @@ impl Tabs {
 
     /// Opens a tab in a partition, whose number is answered.
     pub fn open(&mut self, tab: u16, partition: Partition) -> Result<u16, OpenFault>
-        ensures ok { OnOk result ((self.new ≡ opened tab partition self.old) × (open_refusal tab partition self.old ≡ None)) }
+        ensures ok { OnOk result ((self.new ≡ opened tab partition self.old)
+            × (open_refusal tab partition self.old ≡ None)) }
         ensures number { IfOk result (λ n. n ≡ number_for tab partition self.old) }
-        ensures refused { IfErr result (λ e. e ≢ OpenFault.Memory → open_refusal tab partition self.old ≡ Some e) }
+        ensures refused { RefusesBy result (open_refusal tab partition self.old) OpenFault.Memory }
         ensures memory { result ≡ Err OpenFault.Memory → open_refusal tab partition self.old ≡ None }
         ensures err { OnErr result (self.new ≡ self.old) }
     {
@@ -151,7 +153,7 @@ impl Tabs {
     pub fn route_up(&self, tab: u16, frame: Frame) -> Result<Routed, RouteFault>
         ensures routed { IfOk result (λ routed. routed ≡ routed_up tab frame self.now) }
         ensures allowed { OnOk result (route_up_refusal tab frame self.now ≡ None) }
-        ensures refused { IfErr result (λ e. e ≢ RouteFault.Memory → route_up_refusal tab frame self.now ≡ Some e) }
+        ensures refused { RefusesBy result (route_up_refusal tab frame self.now) RouteFault.Memory }
         ensures memory { result ≡ Err RouteFault.Memory → route_up_refusal tab frame self.now ≡ None }
         ensures growth { result ≡ Err RouteFault.Memory → TakesMemory tab frame self.now }
         ensures well_formed { IfOk result (λ routed. IsWellFormed frame → IsWellRouted routed) }
@@ -190,7 +192,7 @@ impl Tabs {
         ensures placed { IfOk result (λ list. list ≡ placed listed.now self.now) }
         ensures well_formed { IfOk result IsList }
         ensures allowed { OnOk result (start_refusal listed.now self.now ≡ None) }
-        ensures refused { IfErr result (λ e. e ≢ StartFault.Memory → start_refusal listed.now self.now ≡ Some e) }
+        ensures refused { RefusesBy result (start_refusal listed.now self.now) StartFault.Memory }
         ensures memory { result ≡ Err StartFault.Memory → start_refusal listed.now self.now ≡ None }
         ensures growth { result ≡ Err StartFault.Memory → 0 < length listed.now }
     {
@@ -262,9 +264,12 @@ impl Tabs {
 
     /// The row of a tab and the home of its partition, if it was ever opened.
     fn found(&self, tab: u16) -> Option<Found<'_>>
-        ensures row { option_map (λ found. seen_in (partition_of self.now tab) found.row.now) result ≡ tab_of self.now tab }
-        ensures home { IfSome result (λ found. found.home.now ≡ (partition_number self.now tab, living_of self.now (partition_of self.now tab))) }
-        ensures from_one { (o : OpenedTab) → tab_of self.now tab ≡ Some o → (1 ≤ tab) × (1 ≤ partition_number self.now tab) }
+        ensures row { option_map (λ found.
+            seen_in (partition_of self.now tab) found.row.now) result ≡ tab_of self.now tab }
+        ensures home { IfSome result (λ found. found.home.now
+            ≡ (partition_number self.now tab, living_of self.now (partition_of self.now tab))) }
+        ensures from_one { (o : OpenedTab) → tab_of self.now tab ≡ Some o
+            → (1 ≤ tab) × (1 ≤ partition_number self.now tab) }
     {
         let place = self.places.get(&tab)?;
         let row = &self.rows[*place];
@@ -274,12 +279,15 @@ impl Tabs {
 
     /// The row of a living tab and the home of its partition.
     fn found_living(&self, tab: u16) -> Result<Found<'_>, RouteFault>
-        ensures row { IfOk result (λ found. tab_of self.now tab ≡ Some (seen_in (partition_of self.now tab) found.row.now)) }
-        ensures home { IfOk result (λ found. found.home.now ≡ (partition_number self.now tab, living_of self.now (partition_of self.now tab))) }
+        ensures row { IfOk result (λ found.
+            tab_of self.now tab ≡ Some (seen_in (partition_of self.now tab) found.row.now)) }
+        ensures home { IfOk result (λ found. found.home.now
+            ≡ (partition_number self.now tab, living_of self.now (partition_of self.now tab))) }
         ensures allowed { OnOk result (tab_refusal self.now tab ≡ None) }
         ensures refused { IfErr result (λ e. tab_refusal self.now tab ≡ Some e) }
         ensures no_memory { IfErr result (λ e. e ≢ RouteFault.Memory) }
-        ensures from_one { (o : OpenedTab) → tab_of self.now tab ≡ Some o → (1 ≤ tab) × (1 ≤ partition_number self.now tab) }
+        ensures from_one { (o : OpenedTab) → tab_of self.now tab ≡ Some o
+            → (1 ≤ tab) × (1 ≤ partition_number self.now tab) }
     {
         match self.found(tab) {
             Some(found) if found.row.is_living => Ok(found),
@@ -309,7 +317,7 @@ impl Tabs {
     fn to_others(&self, tab: u16, post: Post) -> Result<Routed, RouteFault>
         ensures routed { IfOk result (λ routed. routed ≡ routed_up tab (frame.Post post) self.now) }
         ensures allowed { OnOk result (tab_refusal self.now tab ≡ None) }
-        ensures refused { IfErr result (λ e. e ≢ RouteFault.Memory → tab_refusal self.now tab ≡ Some e) }
+        ensures refused { RefusesBy result (tab_refusal self.now tab) RouteFault.Memory }
         ensures memory { result ≡ Err RouteFault.Memory → tab_refusal self.now tab ≡ None }
         ensures growth { result ≡ Err RouteFault.Memory → hearers tab self.now ≢ [] }
         ensures well_formed { IfOk result (λ routed. IsPost post → IsWellRouted routed) }

@@ -38,7 +38,8 @@ pub(crate) fn answer(
 /// The replies that send these.
 fn sent(mut all: Vec<Outs>) -> (Reply, Reply, Reply)
     requires { length all.items ≡ COPIES }
-    ensures { (outs : List Addressed) → all.items ≡ replicate COPIES outs → result ≡ (Reply.Outs outs, Reply.Outs outs, Reply.Outs outs) }
+    ensures { (outs : List Addressed) → all.items ≡ replicate COPIES outs
+        → result ≡ (Reply.Outs outs, Reply.Outs outs, Reply.Outs outs) }
 {
     let third = all.pop().unwrap();
     let second = all.pop().unwrap();

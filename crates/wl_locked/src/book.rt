@@ -99,7 +99,8 @@ impl<J: Generation> Book<J> {
         ensures equal { IfOk result (λ r. r.0 ≡ r.1) }
         ensures event { IfOk result (λ r. r.0.event ≡ event) }
         ensures place { IfOk result (λ r. r.0.place ≡ length self.old) }
-        ensures reply { IfOk result (λ r. r.0.reply ≡ (stepped (replay J.opening (events self.old)) event).1) }
+        ensures reply { IfOk result (λ r.
+            r.0.reply ≡ (stepped (replay J.opening (events self.old)) event).1) }
         ensures cause { IfOk result (λ r. r.0.reply ≢ Reply.Dropped Dropped.Memory) }
         ensures stored { IfOk result (λ r. self.new ≡ self.old ++ step_of r.0 ∷ []) }
         ensures counted { OnOk result (share.new.amount ≡ share.old.amount + 1) }
@@ -169,7 +170,8 @@ impl<J: Generation> Book<J> {
         ensures equal { IfOk result (λ r. r.0 ≡ r.1) }
         ensures event { IfOk result (λ r. r.0.event ≡ event) }
         ensures place { IfOk result (λ r. r.0.place ≡ length self.old) }
-        ensures reply { IfOk result (λ r. r.0.reply ≡ (stepped (replay J.opening (events self.old)) event).1) }
+        ensures reply { IfOk result (λ r.
+            r.0.reply ≡ (stepped (replay J.opening (events self.old)) event).1) }
         ensures cause { IfOk result (λ r. r.0.reply ≢ Reply.Dropped Dropped.Memory) }
         ensures stored { IfOk result (λ r. self.new ≡ self.old ++ step_of r.0 ∷ []) }
         ensures counted { OnOk result (share.new.amount ≡ share.old.amount + 1) }
@@ -225,7 +227,8 @@ impl<J: Generation> Book<J> {
     pub(crate) fn compare<L: Kept>(self, shard: u16, lanes: &[L]) -> (Ending<J>, Share<J>)
         requires { shard < SHARD_LIMIT }
         ensures same { result.0.steps.items ≡ self }
-        ensures compared { IsCompared J.opening J.limit (map (L.kept shard) lanes.now) self result.0.compared result.0.calls.total }
+        ensures compared { IsCompared J.opening J.limit
+            (map (L.kept shard) lanes.now) self result.0.compared result.0.calls.total }
         ensures spare { (result.1.parts ≡ 0) × (result.1.amount ≡ 0) }
     {
         let Book {
@@ -266,7 +269,10 @@ impl<J: Generation> Ending<J> {
         ensures mismatch { (p : ℕ) → result ≡ Err (CloseFault.Mismatch p) → self.compared ≡ Err p }
         ensures fewer { result ≡ Err CloseFault.WrongCount → self.compared ≡ Ok false }
         ensures counted { all.parts ≡ J.parts → all.amount ≡ self.calls.total }
-        ensures closed { (lanes : List (List Receipt)) → IsCompared J.opening J.limit lanes self.steps.items self.compared self.calls.total → all.parts ≡ length lanes → all.amount ≡ total lanes → IsClosed J.opening J.limit J.parts lanes result }
+        ensures closed { (lanes : List (List Receipt))
+            → IsCompared J.opening J.limit lanes self.steps.items self.compared self.calls.total
+            → all.parts ≡ length lanes → all.amount ≡ total lanes
+            → IsClosed J.opening J.limit J.parts lanes result }
     {
         let Ending {
             steps,

@@ -58,7 +58,8 @@ pub(crate) struct Beginning<'a> {
 fn listed_in(beginning: &Beginning<'_>, shard: u16) -> Result<Vec<(u16, u16)>, AllocError>
     requires shards { 0 < beginning.now.shards }
     requires list { TabsRiseFrom 1 beginning.now.list.now }
-    ensures listed { IfOk result (λ part. part.items ≡ listed_of (is_of beginning.now.shards shard) beginning.now.list.now) }
+    ensures listed { IfOk result (λ part.
+        part.items ≡ listed_of (is_of beginning.now.shards shard) beginning.now.list.now) }
     ensures rises { IfOk result (λ part. TabsRiseFrom 1 part.items) }
 {
     let mut part = Vec::new(beginning.alloc);
@@ -83,7 +84,8 @@ fn open_shard<J: Shards, const SHARD: u16>(
     requires run { IsRun J.run beginning.now }
     ensures parts { IfOk result (λ r. r.1.parts ≡ J.run.lanes) }
     ensures amount { IfOk result (λ r. r.1.amount ≡ 0) }
-    ensures greetings { OnOk result (greetings.new.items ≡ greetings.old.items ++ hellos J.run.generation (listed_of (is_of J.run.shards SHARD) J.run.listed)) }
+    ensures greetings { OnOk result (greetings.new.items ≡ greetings.old.items
+        ++ hellos J.run.generation (listed_of (is_of J.run.shards SHARD) J.run.listed)) }
 {
     let part = listed_in(beginning, SHARD)?;
     let (broker, share, hellos) = LockedBroker::open(
@@ -228,10 +230,12 @@ impl<J: Shards> Brokers<J> {
         requires shards { (gathering.shards ≡ J.run.shards) × (gathering.shards ≤ SHARD_LIMIT) }
         requires first { (gathering.fault ≡ None) × (gathering.histories.items ≡ []) }
         ensures count { IfOk result (λ histories. length histories.items ≡ J.run.shards) }
-        ensures made { IfOk result (λ histories. (shard : ℕ) → shard < length histories.items → IsShardHistory J.run lanes.items shard (slice_index_or histories.items shard [])) }
+        ensures made { IfOk result (λ histories. (shard : ℕ) → shard < length histories.items
+            → IsShardHistory J.run lanes.items shard (slice_index_or histories.items shard [])) }
         ensures shard { IfErr result (λ e. e.0 < J.run.shards) }
         ensures fault { IfErr result (λ e. IsShardFault J.run lanes.items e.0 e.1) }
-        ensures least { IfErr result (λ e. (shard : ℕ) → shard < e.0 → (history : List Step) × IsShardHistory J.run lanes.items shard history) }
+        ensures least { IfErr result (λ e. (shard : ℕ) → shard < e.0
+            → (history : List Step) × IsShardHistory J.run lanes.items shard history) }
     {
         let gathered = self.gather(lanes, gathering);
         gathered.end()

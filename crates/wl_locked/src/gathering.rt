@@ -24,7 +24,9 @@ impl Gathering {
         requires shards { self.old.shards ≡ J.run.shards }
         ensures room { IsRoomy (shard + 1) self.new }
         ensures shards { self.new.shards ≡ self.old.shards }
-        ensures gathered { (lanes : List (List (List Receipt))) → IsGathered J.run lanes self.old → IsClosed (opening_of J.run shard) J.run.limit J.run.lanes (receipts_in shard lanes) closed → IsGathered J.run lanes self.new }
+        ensures gathered { (lanes : List (List (List Receipt))) → IsGathered J.run lanes self.old
+            → IsClosed (opening_of J.run shard) J.run.limit J.run.lanes (receipts_in shard lanes) closed
+            → IsGathered J.run lanes self.new }
     {
         if shard >= self.shards || self.fault.is_some() {
             return;

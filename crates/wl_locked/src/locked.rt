@@ -108,7 +108,9 @@ impl<J: Generation> LockedBroker<J> {
         ensures replays { IfOk result (λ h. IsReplay J.opening h) }
         ensures within { IfOk result (λ h. length h ≤ J.limit) }
         ensures made { IfOk result (λ h. IsMadeOf h lanes.items) }
-        ensures mismatch { (p : ℕ) → result ≡ Err (CloseFault.Mismatch p) → (h : List Step) × IsReplay J.opening h × (length lanes.items ≡ J.parts → length h ≡ total lanes.items) × IsMismatch h lanes.items p }
+        ensures mismatch { (p : ℕ) → result ≡ Err (CloseFault.Mismatch p)
+            → (h : List Step) × IsReplay J.opening h
+            × (length lanes.items ≡ J.parts → length h ≡ total lanes.items) × IsMismatch h lanes.items p }
         ensures count { result ≡ Err CloseFault.WrongCount → length lanes.items ≢ J.parts }
     {
         self.book.into_inner().close(lanes)
@@ -116,7 +118,8 @@ impl<J: Generation> LockedBroker<J> {
     /// Compares the history with the receipts of a shard, and gives back the spare share.
     pub(crate) fn compare<L: Kept>(self, shard: u16, lanes: &[L]) -> (Ending<J>, Share<J>)
         requires { shard < SHARD_LIMIT }
-        ensures compared { IsCompared J.opening J.limit (map (L.kept shard) lanes.now) result.0.steps.items result.0.compared result.0.calls.total }
+        ensures compared { IsCompared J.opening J.limit
+            (map (L.kept shard) lanes.now) result.0.steps.items result.0.compared result.0.calls.total }
         ensures spare { (result.1.parts ≡ 0) × (result.1.amount ≡ 0) }
     {
         self.book.into_inner().compare(shard, lanes)

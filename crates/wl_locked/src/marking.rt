@@ -68,7 +68,8 @@ fn mark_all<L: Kept>(steps: &[Step], marks: &mut [bool], shard: u16, lanes: &[L]
 /// Whether each place is marked.
 fn all_marked(marks: &[bool]) -> bool
     ensures yes { result ≡ true → (p : ℕ) → p < length marks.now → slice_index_or marks.now p false ≡ true }
-    ensures no { result ≡ false → (p : ℕ) × (p < length marks.now) × (slice_index_or marks.now p false ≡ false) }
+    ensures no { result ≡ false
+        → (p : ℕ) × (p < length marks.now) × (slice_index_or marks.now p false ≡ false) }
 {
     for mark in marks {
         if !*mark {
@@ -89,7 +90,8 @@ pub(crate) fn compare<L: Kept>(
     requires marks { marks.old ≡ replicate (length steps.now) false }
     requires shard { shard < SHARD_LIMIT }
     ensures made { IfOk result (λ whole. whole ≡ true → IsMadeOf steps.now (map (L.kept shard) lanes.now)) }
-    ensures fewer { IfOk result (λ whole. whole ≡ false → total (map (L.kept shard) lanes.now) < length steps.now) }
+    ensures fewer { IfOk result (λ whole.
+        whole ≡ false → total (map (L.kept shard) lanes.now) < length steps.now) }
     ensures err { IfErr result (λ p. IsMismatch steps.now (map (L.kept shard) lanes.now) p) }
 {
     mark_all(steps, marks, shard, lanes)?;

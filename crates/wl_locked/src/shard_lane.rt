@@ -169,7 +169,8 @@ pub(crate) fn gather_all<J: Shards>(shares: Shares<J>, lanes: Vec<ShardLane<J>>)
     requires parts { shares.0 ≡ 0 }
     requires amounts { shares.1 ≡ replicate SHARD_LIMIT 0 }
     ensures parts { result.0 ≡ length lanes.items }
-    ensures amounts { (shard : ℕ) → shard < SHARD_LIMIT → slice_index_or result.1 shard 0 ≡ total (receipts_in shard lanes.items) }
+    ensures amounts { (shard : ℕ) → shard < SHARD_LIMIT
+        → slice_index_or result.1 shard 0 ≡ total (receipts_in shard lanes.items) }
 {
     let mut all = shares;
     let mut lanes = lanes;

@@ -59,7 +59,13 @@ impl<J: Shards> Sharded<J> {
         requires parts { HaveParts lanes blanks }
         requires lanes { (0 < lanes) × (lanes ≤ LANE_LIMIT) }
         requires shards { (0 < shards) × (shards ≤ SHARD_LIMIT) }
-        requires run { J.run ≡ record { generation = generation; listed = list.now; shards = shards; lanes = lanes; limit = limit } }
+        requires run { J.run ≡ record {
+          generation = generation;
+          listed = list.now;
+          shards = shards;
+          lanes = lanes;
+          limit = limit;
+        } }
         ensures lanes { IfOk result (λ r. r.1.items ≡ replicate lanes (replicate SHARD_LIMIT [])) }
         ensures hellos { IfOk result (λ r. r.2 ≡ hellos_below J.run shards) }
     {
@@ -113,10 +119,12 @@ impl<J: Shards> Sharded<J> {
     /// takes no memory.
     pub fn close(self, lanes: Vec<ShardLane<J>>) -> Result<Vec<History>, (u16, CloseFault)>
         ensures count { IfOk result (λ histories. length histories.items ≡ J.run.shards) }
-        ensures made { IfOk result (λ histories. (shard : ℕ) → shard < J.run.shards → IsShardHistory J.run lanes.items shard (slice_index_or histories.items shard [])) }
+        ensures made { IfOk result (λ histories. (shard : ℕ) → shard < J.run.shards
+            → IsShardHistory J.run lanes.items shard (slice_index_or histories.items shard [])) }
         ensures shard { IfErr result (λ e. e.0 < J.run.shards) }
         ensures fault { IfErr result (λ e. IsShardFault J.run lanes.items e.0 e.1) }
-        ensures least { IfErr result (λ e. (shard : ℕ) → shard < e.0 → (history : List Step) × IsShardHistory J.run lanes.items shard history) }
+        ensures least { IfErr result (λ e. (shard : ℕ) → shard < e.0
+            → (history : List Step) × IsShardHistory J.run lanes.items shard history) }
     {
         let Sharded {
             brokers,

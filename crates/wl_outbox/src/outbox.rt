@@ -59,7 +59,8 @@ impl Outbox {
         ensures tab { IfOk result (λ r. (r.0.partition ≡ partition) × (r.0.tab ≡ tab)) }
         ensures taker { IfOk result (λ r. IsOf r.1 r.0 × (takes r.1 ≡ true) × (r.1.view.parcels ≡ [])) }
         ensures count { IfOk result (λ r. vec_len r.2 ≡ putters) }
-        ensures putters { IfOk result (λ r. All (λ p. IsOf p r.0 × (takes p ≡ false) × (p.view.parcels ≡ [])) r.2.items) }
+        ensures putters { IfOk result (λ r.
+            All (λ p. IsOf p r.0 × (takes p ≡ false) × (p.view.parcels ≡ [])) r.2.items) }
     {
         let mut list = Vec::with_capacity(alloc, usize::from(putters))?;
         let (queue, mut taker) = Queue::ruled(alloc, CAPACITY)?;

@@ -8,7 +8,8 @@ use wl_frames::{Frame, encode_into};
 
 /// Appends the encoding of a frame; nothing of one that has none. Where memory is refused, the bytes are as they were.
 pub fn append(_alloc: Global, bytes: &mut Vec<u8>, frame: &Frame) -> Result<(), AllocError>
-    ensures spelled { IsWellFormed frame.now → OnOk result (bytes.new.items ≡ bytes.old.items ++ spelling frame.now) }
+    ensures spelled { IsWellFormed frame.now
+        → OnOk result (bytes.new.items ≡ bytes.old.items ++ spelling frame.now) }
     ensures nothing { (¬ IsWellFormed frame.now) → IsOk result × (bytes.new.items ≡ bytes.old.items) }
     ensures refused { OnErr result (bytes.new.items ≡ bytes.old.items) }
 {

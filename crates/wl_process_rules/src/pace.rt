@@ -54,7 +54,8 @@ impl Pace {
 
     /// The tab sends this, so many nanoseconds after it sent last.
     pub fn send(&mut self, load: Load, elapsed: u64)
-        ensures { self.new ≡ min (self.old - elapsed + (load.frames * FRAME_COST + load.bytes * BYTE_COST)) (2 ^ 64 - 1) }
+        ensures { self.new
+            ≡ min (self.old - elapsed + (load.frames * FRAME_COST + load.bytes * BYTE_COST)) (2 ^ 64 - 1) }
     {
         let cost = u64::from(load.frames) * FRAME_COST + u64::from(load.bytes) * BYTE_COST;
         self.ahead = self.ahead.saturating_sub(elapsed).saturating_add(cost);

@@ -1,9 +1,11 @@
 //! What an event did, the messages apart, or why it did nothing.
 
 use bytes::Bytes;
-use wl_agent::Snapshot;
-use wl_broadcast::Letter;
+use wl_agent::{AgentFault, Snapshot, Unheard};
+use wl_broadcast::{ChannelFault, Letter};
+use wl_broker::Dropped;
 use wl_grammar::Sequence;
+use wl_kernel::{OpenFault, StartFault};
 use wl_origin::Partition;
 
 /// What an event did, the messages apart.
@@ -134,22 +136,12 @@ pub enum Reached {
 pub enum Refusal {
     /// The tab was never opened, or is dead.
     NoTab,
-    /// The number is 0, or a tab was opened with it before.
-    NumberTaken,
-    /// 1,024 tabs live.
-    TooManyLiving,
-    /// 64 tabs of the partition live.
-    PartitionFull,
+    /// The kernel did not open the tab.
+    Open(OpenFault),
     /// A broker is up.
     AlreadyUp,
-    /// More than 1,024 tabs are listed.
-    TooManyListed,
-    /// The listed numbers do not rise strictly.
-    NotRising,
-    /// This tab is listed and was never opened.
-    Stranger(u16),
-    /// This living tab was opened before the last stop and is not listed.
-    Missing(u16),
+    /// The kernel did not start a broker.
+    Start(StartFault),
     /// No broker is up that could be stopped.
     AlreadyDown,
     /// The broker is of the last generation, 65,535.
@@ -158,72 +150,35 @@ pub enum Refusal {
     Down,
     /// The tab is not dead.
     Living,
-    /// The lock's name begins with `-`.
-    NotSupported,
-    /// The name has more than 255 bytes.
-    NameTooLong,
-    /// As many numbers of the tab are asked or held as may be.
-    TooMany,
-    /// The tab's commands are used up, 1,000,000 in its life, those apart that its requests may still need to end.
-    NumbersUsedUp,
+    /// The tab did not issue the command.
+    Ask(AgentFault),
     /// The lock is held, so its request can't be aborted.
     Held,
     /// There is nothing to abort, to release, to send again or to read.
     Nothing,
     /// No such message was ever sent.
     NoMessage,
-    /// 64 channels of the tab are open.
-    TooManyChannels,
+    /// The tab did not open the channel, or did not post.
+    Channel(ChannelFault),
     /// The tab has opened no channel of this number.
     NoChannel,
     /// The channel is closed.
     InvalidState,
-    /// The post has more than 16,384 bytes.
-    DataTooLong,
-    /// The tab has posted 1,000,000 times.
-    PostsUsedUp,
     /// The tab was never taken over, and forges nothing.
     Honest,
 }
 
-/// Why a message that was delivered was dropped. Its generation is compared with the one that the tab has entered, or with
-/// the broker's.
+/// Why a message that was delivered was dropped.
 #[derive(Clone, Copy, Debug, PartialEq, Eq)]
 pub enum Reason {
-    /// It is of an earlier generation, or a hello of none that is later.
-    OldGeneration,
-    /// It is of a later generation.
-    LaterGeneration,
-    /// The number is held already.
-    Held,
-    /// The number is over.
-    Over,
-    /// It is no answer that a command of its number can get.
-    Odd,
-    /// This part of the snapshot has come before.
-    Twice,
-    /// Its target, or the tab that it comes from, is dead.
+    /// Its target, or the tab that posted it, is dead.
     DeadTab,
+    /// The tab that it came to dropped it.
+    AtTab(Unheard),
     /// This post of its source or a later one was heard before.
     OldPost,
     /// No broker is up.
     Down,
-    /// The tab has not reported yet.
-    NotJoined,
-    /// A listed tab of the partition has neither reported nor died.
-    Recovering,
-    /// A command of the tab that comes before it has not come.
-    OutOfTurn,
-    /// The tab has reported before.
-    AlreadyJoined,
-    /// The tab is not listed, and reports a lock as held.
-    HeldByNewcomer,
-    /// The report has a number that is not below its base, or does not fit the parts that are kept.
-    BadReport,
-    /// The tab stands under another partition.
-    Misplaced,
-    /// As many requests of the tab are held or wait as may be.
-    TooMany,
-    /// This part of the report is kept already.
-    PartTwice,
+    /// The broker dropped it.
+    AtBroker(Dropped),
 }

@@ -4,7 +4,7 @@ use Rattle.std.specs.Prelude.{◌==◌}
 use Rattle.std.proofs.lemmas.Bool.Decides.{nat_tests}
 use Rattle.std.proofs.lemmas.List.{take_more, drop_more}
 use Rattle.wl_world.specs.World.{WorldState}
-use Rattle.wl_encoding.proofs.Fronts.{IsFrontOf-append, append-IsFrontOf}
+use Rattle.wl_encoding.proofs.Prefixes.{IsPrefixOf-append, append-IsPrefixOf}
 use Rattle.wl_script.specs.declared.line.Line.{Line}
 use Rattle.wl_script.specs.declared.sim.SimFault.{SimFault}
 use Rattle.wl_script.specs.declared.sim.SimFault.TheVariants as sim
@@ -75,9 +75,9 @@ EndsBy-onward : (r next : Ran) (o : Option ℕ) (e : SimFault) (output : List �
 EndsBy-onward r next (Some m) e output is h = h
 EndsBy-onward r next None (sim.Line n) output is h = absurd (let both : None ≡ Some n = sym is ∙ h.0 in cc)
 EndsBy-onward r next None sim.Read output is h = h
-EndsBy-onward r next None sim.Write output is h = IsFrontOf-append output r.written next.written h
+EndsBy-onward r next None sim.Write output is h = IsPrefixOf-append output r.written next.written h
 EndsBy-onward r next None sim.TooManyReads output is h = h
-EndsBy-onward r next None sim.Memory output is h = IsFrontOf-append output r.written next.written h
+EndsBy-onward r next None sim.Memory output is h = IsPrefixOf-append output r.written next.written h
 
 -- what comes behind does not matter
 EndsBy-more : (n : ℕ) (w : WorldState) (texts more : List (List ℕ)) (e : SimFault) (output : List ℕ) → EndsBy (runs n w texts) e output → EndsBy (runs n w (texts ++ more)) e output
@@ -87,9 +87,9 @@ EndsBy-more n w texts more e output h =
 pub EndsBy-before : (front : List ℕ) (r : Ran) (e : SimFault) (output : List ℕ) → EndsBy r e output → EndsBy (before front r) e (front ++ output)
 EndsBy-before front r (sim.Line n) output h = (h.0, ap (λ l. front ++ l) h.1)
 EndsBy-before front r sim.Read output h = h
-EndsBy-before front r sim.Write output h = append-IsFrontOf front output r.written h
+EndsBy-before front r sim.Write output h = append-IsPrefixOf front output r.written h
 EndsBy-before front r sim.TooManyReads output h = h
-EndsBy-before front r sim.Memory output h = append-IsFrontOf front output r.written h
+EndsBy-before front r sim.Memory output h = append-IsPrefixOf front output r.written h
 
 pub Ends-memory : (r : Ran) → EndsBy r sim.Memory []
 Ends-memory r = (r.written, refl)

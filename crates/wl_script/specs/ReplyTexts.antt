@@ -5,9 +5,21 @@ use Rattle.serde_json.specs.Data.{Data, Items, string, array, object, no_members
 use Rattle.serde_json.specs.View.{items_of}
 use Rattle.serde_json.specs.Written.{compact_text}
 use Rattle.wl_origin.specs.Partition.{origin_text}
+use Rattle.wl_agent.specs.declared.delivered.Unheard.{Unheard}
+use Rattle.wl_agent.specs.declared.delivered.Unheard.TheVariants as unheard
+use Rattle.wl_agent.specs.declared.fault.AgentFault.{AgentFault}
+use Rattle.wl_agent.specs.declared.fault.AgentFault.TheVariants as agent_fault
 use Rattle.wl_agent.specs.declared.snapshot.LockInfo.{LockInfo}
 use Rattle.wl_agent.specs.declared.snapshot.Snapshot.{Snapshot}
+use Rattle.wl_broadcast.specs.declared.fault.ChannelFault.{ChannelFault}
+use Rattle.wl_broadcast.specs.declared.fault.ChannelFault.TheVariants as channel_fault
 use Rattle.wl_broadcast.specs.declared.letter.Letter.{Letter}
+use Rattle.wl_broker.specs.declared.dropped.Dropped.{Dropped}
+use Rattle.wl_broker.specs.declared.dropped.Dropped.TheVariants as dropped
+use Rattle.wl_kernel.specs.declared.fault.OpenFault.{OpenFault}
+use Rattle.wl_kernel.specs.declared.fault.OpenFault.TheVariants as open_fault
+use Rattle.wl_kernel.specs.declared.fault.StartFault.{StartFault}
+use Rattle.wl_kernel.specs.declared.fault.StartFault.TheVariants as start_fault
 use Rattle.wl_said.specs.declared.said.Said.{Said}
 use Rattle.wl_said.specs.declared.said.Said.TheVariants as said
 use Rattle.wl_said.specs.declared.said.Ended.{Ended}
@@ -51,53 +63,86 @@ sent_text s =
 
 -- ---- refusals and drops
 
+-- those of memory are never said
+unfoldable pub open_fault_text : OpenFault → List ℕ
+open_fault_text open_fault.NumberTaken = codes "NumberTaken"
+open_fault_text open_fault.TooManyLiving = codes "TooManyLiving"
+open_fault_text open_fault.PartitionFull = codes "PartitionFull"
+open_fault_text open_fault.Memory = codes "Memory"
+
+unfoldable pub start_fault_text : StartFault → List ℕ
+start_fault_text start_fault.TooManyListed = codes "too many"
+start_fault_text start_fault.NotRising = codes "not rising"
+start_fault_text (start_fault.Stranger tab) = codes "stranger " ++ decimal tab
+start_fault_text (start_fault.Missing tab) = codes "missing " ++ decimal tab
+start_fault_text start_fault.Memory = codes "Memory"
+
+unfoldable pub agent_fault_text : AgentFault → List ℕ
+agent_fault_text agent_fault.NotSupported = codes "NotSupportedError"
+agent_fault_text agent_fault.NameTooLong = codes "NameTooLong"
+agent_fault_text agent_fault.TooMany = codes "TooMany"
+agent_fault_text agent_fault.NumbersUsedUp = codes "NumbersUsedUp"
+agent_fault_text agent_fault.Memory = codes "Memory"
+
+-- a channel of the simulator is its own tab's, and what comes to it is a post
+unfoldable pub channel_fault_text : ChannelFault → List ℕ
+channel_fault_text channel_fault.NameTooLong = codes "NameTooLong"
+channel_fault_text channel_fault.DataTooLong = codes "DataTooLong"
+channel_fault_text channel_fault.TooManyChannels = codes "TooManyChannels"
+channel_fault_text channel_fault.PostsUsedUp = codes "PostsUsedUp"
+channel_fault_text channel_fault.ForeignChannel = codes "ForeignChannel"
+channel_fault_text channel_fault.WrongKind = codes "WrongKind"
+channel_fault_text channel_fault.Memory = codes "Memory"
+
 unfoldable pub refusal_text : Refusal → List ℕ
 refusal_text refusal.NoTab = codes "no tab"
-refusal_text refusal.NumberTaken = codes "NumberTaken"
-refusal_text refusal.TooManyLiving = codes "TooManyLiving"
-refusal_text refusal.PartitionFull = codes "PartitionFull"
+refusal_text (refusal.Open fault) = open_fault_text fault
 refusal_text refusal.AlreadyUp = codes "already up"
-refusal_text refusal.TooManyListed = codes "too many"
-refusal_text refusal.NotRising = codes "not rising"
-refusal_text (refusal.Stranger tab) = codes "stranger " ++ decimal tab
-refusal_text (refusal.Missing tab) = codes "missing " ++ decimal tab
+refusal_text (refusal.Start fault) = start_fault_text fault
 refusal_text refusal.AlreadyDown = codes "already down"
 refusal_text refusal.GenerationsUsedUp = codes "GenerationsUsedUp"
 refusal_text refusal.Down = codes "down"
 refusal_text refusal.Living = codes "living"
-refusal_text refusal.NotSupported = codes "NotSupportedError"
-refusal_text refusal.NameTooLong = codes "NameTooLong"
-refusal_text refusal.TooMany = codes "TooMany"
-refusal_text refusal.NumbersUsedUp = codes "NumbersUsedUp"
+refusal_text (refusal.Ask fault) = agent_fault_text fault
 refusal_text refusal.Held = codes "held"
 refusal_text refusal.Nothing = codes "nothing"
 refusal_text refusal.NoMessage = codes "no message"
-refusal_text refusal.TooManyChannels = codes "TooManyChannels"
+refusal_text (refusal.Channel fault) = channel_fault_text fault
 refusal_text refusal.NoChannel = codes "no channel"
 refusal_text refusal.InvalidState = codes "InvalidStateError"
-refusal_text refusal.DataTooLong = codes "DataTooLong"
-refusal_text refusal.PostsUsedUp = codes "PostsUsedUp"
 refusal_text refusal.Honest = codes "honest"
 
+unfoldable pub unheard_text : Unheard → List ℕ
+unheard_text unheard.OldGeneration = codes "old generation"
+unheard_text unheard.LaterGeneration = codes "later generation"
+unheard_text unheard.Held = codes "held"
+unheard_text unheard.Over = codes "over"
+unheard_text unheard.Odd = codes "odd"
+unheard_text unheard.Twice = codes "twice"
+unheard_text unheard.WrongKind = codes "wrong kind"
+unheard_text unheard.Memory = codes "Memory"
+
+unfoldable pub dropped_text : Dropped → List ℕ
+dropped_text dropped.OldGeneration = codes "old generation"
+dropped_text dropped.LaterGeneration = codes "later generation"
+dropped_text dropped.NotJoined = codes "not joined"
+dropped_text dropped.Recovering = codes "recovering"
+dropped_text dropped.OutOfTurn = codes "out of turn"
+dropped_text dropped.DeadTab = codes "dead tab"
+dropped_text dropped.AlreadyJoined = codes "already joined"
+dropped_text dropped.HeldByNewcomer = codes "held by newcomer"
+dropped_text dropped.BadReport = codes "bad report"
+dropped_text dropped.Misplaced = codes "misplaced"
+dropped_text dropped.TooMany = codes "too many"
+dropped_text dropped.PartTwice = codes "part twice"
+dropped_text dropped.Memory = codes "Memory"
+
 unfoldable pub reason_text : Reason → List ℕ
-reason_text reason.OldGeneration = codes "old generation"
-reason_text reason.LaterGeneration = codes "later generation"
-reason_text reason.Held = codes "held"
-reason_text reason.Over = codes "over"
-reason_text reason.Odd = codes "odd"
-reason_text reason.Twice = codes "twice"
 reason_text reason.DeadTab = codes "dead tab"
+reason_text (reason.AtTab why) = unheard_text why
 reason_text reason.OldPost = codes "old post"
 reason_text reason.Down = codes "down"
-reason_text reason.NotJoined = codes "not joined"
-reason_text reason.Recovering = codes "recovering"
-reason_text reason.OutOfTurn = codes "out of turn"
-reason_text reason.AlreadyJoined = codes "already joined"
-reason_text reason.HeldByNewcomer = codes "held by newcomer"
-reason_text reason.BadReport = codes "bad report"
-reason_text reason.Misplaced = codes "misplaced"
-reason_text reason.TooMany = codes "too many"
-reason_text reason.PartTwice = codes "part twice"
+reason_text (reason.AtBroker why) = dropped_text why
 
 -- ---- snapshots, in JSON
 

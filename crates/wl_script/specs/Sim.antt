@@ -3,7 +3,7 @@ use Rattle.std.specs.Prelude.{◌≡◌, ◌⊎◌, ⊤, ℕ, ◌+◌, ◌==◌,
 use Rattle.std.specs.List.{slice_split}
 use Rattle.std.specs.Io.KnownBytes.{Consumes, Appends, IsAtEnd}
 use Rattle.wl_world.specs.World.{WorldState, empty_world}
-use Rattle.wl_encoding.specs.Fronts.{IsFrontOf}
+use Rattle.wl_encoding.specs.Prefixes.{IsPrefixOf}
 use Rattle.wl_script.specs.declared.line.Line.{Line}
 use Rattle.wl_script.specs.declared.sim.SimFault.{SimFault}
 use Rattle.wl_script.specs.declared.sim.SimFault.TheVariants as sim
@@ -52,9 +52,9 @@ Answered input (Err (sim.Line n)) output = ((run_of input).refused ≡ Some n) �
 -- the reader failed, or was read as often as it may be: the lines with a feed were played
 Answered input (Err sim.Read) output = ((whole_run_of input).refused ≡ None) × (output ≡ (whole_run_of input).written)
 Answered input (Err sim.TooManyReads) output = ((whole_run_of input).refused ≡ None) × (output ≡ (whole_run_of input).written)
--- the writer failed, or memory was refused: a front of what is due
-Answered input (Err sim.Write) output = IsFrontOf output (run_of input).written
-Answered input (Err sim.Memory) output = IsFrontOf output (run_of input).written
+-- the writer failed, or memory was refused: a prefix of what is due
+Answered input (Err sim.Write) output = IsPrefixOf output (run_of input).written
+Answered input (Err sim.Memory) output = IsPrefixOf output (run_of input).written
 
 -- a run ends well at the end of the script alone; and a line is refused there, or whatever stands behind what was read
 abbrev pub NeedsEnd : List ℕ → Result (Unit {0}) SimFault → Option (List ℕ) → Type 0

@@ -6,7 +6,7 @@ use Rattle.wl_world.specs.World.{WorldState, empty_world}
 use Rattle.wl_world.specs.Machine.{Machine}
 use Rattle.wl_frames.specs.declared.device.ReadFault.{ReadFault}
 use Rattle.wl_frames.specs.declared.device.ReadFault.TheVariants as read
-use Rattle.wl_encoding.specs.Fronts.{IsFrontOf}
+use Rattle.wl_encoding.specs.Prefixes.{IsPrefixOf}
 use Rattle.wl_script.specs.declared.sim.SimFault.{SimFault}
 use Rattle.wl_script.specs.declared.sim.SimFault.TheVariants as sim
 use Rattle.wl_script.specs.Played.{Played}
@@ -50,9 +50,9 @@ lines_after front piece = first_after front (lines_of piece)
 abbrev pub EndsBy : Ran → SimFault → List ℕ → Type 0
 EndsBy r (sim.Line n) output = (r.refused ≡ Some n) × (output ≡ r.written)
 EndsBy r sim.Read output = ⊥
-EndsBy r sim.Write output = IsFrontOf output r.written
+EndsBy r sim.Write output = IsPrefixOf output r.written
 EndsBy r sim.TooManyReads output = ⊥
-EndsBy r sim.Memory output = IsFrontOf output r.written
+EndsBy r sim.Memory output = IsPrefixOf output r.written
 
 -- one line
 abbrev pub PlaysLine : ℕ → WorldState → List ℕ → Result Machine SimFault → List ℕ → Type 0

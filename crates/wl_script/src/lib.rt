@@ -7,6 +7,7 @@ pub mod line;
 pub mod messages;
 mod play;
 pub mod reading;
+mod refusals;
 pub mod replies;
 pub mod sim;
 mod snapshots;

@@ -102,7 +102,8 @@ fn open_two(
     out: &mut Vec<u8>,
 ) -> Result<World, AllocError>
     ensures { IfOk result (λ after.
-        Becomes (opens_url true world.world tab (partition_of_pair top.now url.now)) after out.old.items out.new.items) }
+        Becomes (opens_url true world.world tab
+        (partition_of_pair top.now url.now)) after out.old.items out.new.items) }
 {
     match partition_pair(alloc, top, url) {
         Ok(partition) => open_in(alloc, world, tab, partition, true, out),
@@ -207,7 +208,8 @@ fn named(world: &World, name: u64) -> Option<&Message>
 /// What living tabs hold is shown.
 #[tactic(auto, unfolding(crate::specs::Played::played))]
 fn show(world: World, out: &mut Vec<u8>) -> Result<World, AllocError>
-    ensures { IfOk result (λ after. Becomes (played world.world Line.Show) after out.old.items out.new.items) }
+    ensures { IfOk result (λ after.
+        Becomes (played world.world Line.Show) after out.old.items out.new.items) }
 {
     let holdings = world.holdings()?;
     put_holdings(out, holdings.as_slice())?;

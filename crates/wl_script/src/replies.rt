@@ -2,9 +2,10 @@
 
 ghost use Rattle.std.specs.Prelude.{◌≡◌, ◌++◌, OnOk, IfOk};
 ghost use Rattle.std.specs.List.{flat_map};
-ghost use Rattle.wl_script.specs.ReplyTexts.{sender_text, message_text, name_text, sent_text, refusal_text, reason_text, ended_text, letter_text, reached_text, heard_text, said_text, reply_text};
+ghost use Rattle.wl_script.specs.ReplyTexts.{sender_text, message_text, name_text, sent_text, ended_text, letter_text, reached_text, heard_text, said_text, reply_text};
 
 use crate::messages::{put_downward, put_part, put_post, put_upward};
+use crate::refusals::{put_refusal, reason_words};
 use crate::snapshots::snapshot_json;
 use bytes::Bytes;
 use itoa::Buffer;
@@ -91,74 +92,6 @@ fn put_all_sent(out: &mut Vec<u8>, sent: &[Sent]) -> Result<(), AllocError>
     Ok(())
 }
 
-// ---- refusals and drops
-
-#[tactic(auto, unfolding(crate::specs::ReplyTexts::refusal_text))]
-fn put_refusal(out: &mut Vec<u8>, refusal: Refusal) -> Result<(), AllocError>
-    ensures { OnOk result (out.new.items ≡ out.old.items ++ refusal_text refusal) }
-{
-    match refusal {
-        Refusal::NoTab => put(out, "no tab"),
-        Refusal::NumberTaken => put(out, "NumberTaken"),
-        Refusal::TooManyLiving => put(out, "TooManyLiving"),
-        Refusal::PartitionFull => put(out, "PartitionFull"),
-        Refusal::AlreadyUp => put(out, "already up"),
-        Refusal::TooManyListed => put(out, "too many"),
-        Refusal::NotRising => put(out, "not rising"),
-        Refusal::Stranger(tab) => {
-            put(out, "stranger ")?;
-            put_number(out, u64::from(tab))
-        }
-        Refusal::Missing(tab) => {
-            put(out, "missing ")?;
-            put_number(out, u64::from(tab))
-        }
-        Refusal::AlreadyDown => put(out, "already down"),
-        Refusal::GenerationsUsedUp => put(out, "GenerationsUsedUp"),
-        Refusal::Down => put(out, "down"),
-        Refusal::Living => put(out, "living"),
-        Refusal::NotSupported => put(out, "NotSupportedError"),
-        Refusal::NameTooLong => put(out, "NameTooLong"),
-        Refusal::TooMany => put(out, "TooMany"),
-        Refusal::NumbersUsedUp => put(out, "NumbersUsedUp"),
-        Refusal::Held => put(out, "held"),
-        Refusal::Nothing => put(out, "nothing"),
-        Refusal::NoMessage => put(out, "no message"),
-        Refusal::TooManyChannels => put(out, "TooManyChannels"),
-        Refusal::NoChannel => put(out, "no channel"),
-        Refusal::InvalidState => put(out, "InvalidStateError"),
-        Refusal::DataTooLong => put(out, "DataTooLong"),
-        Refusal::PostsUsedUp => put(out, "PostsUsedUp"),
-        Refusal::Honest => put(out, "honest"),
-    }
-}
-
-#[tactic(auto, unfolding(crate::specs::ReplyTexts::reason_text))]
-fn reason_words(reason: Reason) -> &'static str
-    ensures { result.now ≡ reason_text reason }
-{
-    match reason {
-        Reason::OldGeneration => "old generation",
-        Reason::LaterGeneration => "later generation",
-        Reason::Held => "held",
-        Reason::Over => "over",
-        Reason::Odd => "odd",
-        Reason::Twice => "twice",
-        Reason::DeadTab => "dead tab",
-        Reason::OldPost => "old post",
-        Reason::Down => "down",
-        Reason::NotJoined => "not joined",
-        Reason::Recovering => "recovering",
-        Reason::OutOfTurn => "out of turn",
-        Reason::AlreadyJoined => "already joined",
-        Reason::HeldByNewcomer => "held by newcomer",
-        Reason::BadReport => "bad report",
-        Reason::Misplaced => "misplaced",
-        Reason::TooMany => "too many",
-        Reason::PartTwice => "part twice",
-    }
-}
-
 // ---- what was said
 
 #[tactic(auto, unfolding(crate::specs::ReplyTexts::ended_text))]
@@ -224,7 +157,8 @@ fn put_all_reached(
     letter: &[u8],
     objects: &[Reached],
 ) -> Result<(), AllocError>
-    ensures { OnOk result (out.new.items ≡ out.old.items ++ flat_map (reached_text tab letter.now) objects.now) }
+    ensures { OnOk result (out.new.items
+        ≡ out.old.items ++ flat_map (reached_text tab letter.now) objects.now) }
 {
     for reached in objects {
         put_reached(out, tab, letter, *reached)?;
@@ -346,7 +280,8 @@ fn put_hearing(
     letter: &Letter,
     objects: &[Reached],
 ) -> Result<(), AllocError>
-    ensures { OnOk result (out.new.items ≡ out.old.items ++ said_text (Said.Heard tab letter.now objects.now)) }
+    ensures { OnOk result (out.new.items
+        ≡ out.old.items ++ said_text (Said.Heard tab letter.now objects.now)) }
 {
     let letter = letter_of(alloc, letter.source, letter.number, &letter.bytes)?;
     put_heard(out, tab, letter.as_slice(), objects)

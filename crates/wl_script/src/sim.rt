@@ -109,7 +109,8 @@ impl Sim {
     ) -> Result<Sim, SimFault>
         requires number { self.number + length piece.now < 4294967296 }
         requires sink { sink.old.has_failed ≡ false }
-        ensures taken { (output : List ℕ) × Appends (W.contents sink.old.writer) (W.contents sink.new.writer) output
+        ensures taken { (output : List ℕ)
+            × Appends (W.contents sink.old.writer) (W.contents sink.new.writer) output
             × Takes self piece.now result output }
         ensures write { (result ≡ Err SimFault.Write) ↔ (sink.new.has_failed ≡ true) }
     {
@@ -139,7 +140,8 @@ impl Sim {
     /// The script has ended: what has come of the last line is all of it.
     fn end<W: Write>(self, alloc: Global, sink: &mut Sink<W>) -> Result<(), SimFault>
         requires sink { sink.old.has_failed ≡ false }
-        ensures closed { (output : List ℕ) × Appends (W.contents sink.old.writer) (W.contents sink.new.writer) output
+        ensures closed { (output : List ℕ)
+            × Appends (W.contents sink.old.writer) (W.contents sink.new.writer) output
             × Closes self result output }
         ensures write { (result ≡ Err SimFault.Write) ↔ (sink.new.has_failed ≡ true) }
     {
@@ -157,7 +159,8 @@ fn play_line<W: Write>(
     sink: &mut Sink<W>,
 ) -> Result<World, SimFault>
     requires sink { sink.old.has_failed ≡ false }
-    ensures played { (output : List ℕ) × Appends (W.contents sink.old.writer) (W.contents sink.new.writer) output
+    ensures played { (output : List ℕ)
+        × Appends (W.contents sink.old.writer) (W.contents sink.new.writer) output
         × PlaysLine number world.world text.now result output }
     ensures write { (result ≡ Err SimFault.Write) ↔ (sink.new.has_failed ≡ true) }
 {

@@ -3,29 +3,15 @@ use Rattle.std.specs.Prelude.{ℕ, List, not, option_map, Option, Some, None, if
 use Rattle.wl_grammar.specs.declared.frame.Stamped.{Stamped}
 use Rattle.wl_grammar.specs.declared.frame.Upward.{Upward}
 use Rattle.wl_grammar.specs.declared.frame.Upward.TheVariants as up
-use Rattle.wl_broker.specs.declared.dropped.Dropped.{Dropped}
-use Rattle.wl_broker.specs.declared.dropped.Dropped.TheVariants as dropped
 use Rattle.wl_broker.specs.Broker.{BrokerState, seat_of, is_joined, Taking, Drops, Does, taking}
-use Rattle.wl_kernel.specs.declared.fault.StartFault.{StartFault}
-use Rattle.wl_kernel.specs.declared.fault.StartFault.TheVariants as start_fault
 use Rattle.wl_kernel.specs.Kernel.{KernelState, is_opened, is_living, may_stop, start_refusal}
 use Rattle.wl_said.specs.declared.said.Said.{Said}
 use Rattle.wl_said.specs.declared.said.Said.TheVariants as said
-use Rattle.wl_said.specs.declared.said.Refusal.{Refusal}
 use Rattle.wl_said.specs.declared.said.Refusal.TheVariants as refusal
-use Rattle.wl_said.specs.declared.said.Reason.{Reason}
 use Rattle.wl_said.specs.declared.said.Reason.TheVariants as reason
 use Rattle.wl_said.specs.Refused.{refused, refused_or}
 
 -- ---- the kernel
-
--- Memory is never among what the definitions refuse for
-abbrev pub of_start : StartFault → Refusal
-of_start start_fault.TooManyListed = refusal.TooManyListed
-of_start start_fault.NotRising = refusal.NotRising
-of_start (start_fault.Stranger t) = refusal.Stranger t
-of_start (start_fault.Missing t) = refusal.Missing t
-of_start start_fault.Memory = refusal.NotRising
 
 -- a broker is up
 abbrev pub up_or : Option BrokerState → Said → Said
@@ -48,24 +34,9 @@ stopping k (Some b) = if may_stop k then said.Stopped k.generation else refused 
 
 abbrev pub starting : KernelState → List ℕ → Option BrokerState → Said
 starting k ts (Some b) = refused refusal.AlreadyUp
-starting k ts None = refused_or (option_map of_start (start_refusal ts k)) (said.Started k.generation)
+starting k ts None = refused_or (option_map refusal.Start (start_refusal ts k)) (said.Started k.generation)
 
 -- ---- deliveries to the broker
-
-abbrev pub of_dropped : Dropped → Reason
-of_dropped dropped.OldGeneration = reason.OldGeneration
-of_dropped dropped.LaterGeneration = reason.LaterGeneration
-of_dropped dropped.NotJoined = reason.NotJoined
-of_dropped dropped.Recovering = reason.Recovering
-of_dropped dropped.OutOfTurn = reason.OutOfTurn
-of_dropped dropped.DeadTab = reason.DeadTab
-of_dropped dropped.AlreadyJoined = reason.AlreadyJoined
-of_dropped dropped.HeldByNewcomer = reason.HeldByNewcomer
-of_dropped dropped.BadReport = reason.BadReport
-of_dropped dropped.Misplaced = reason.Misplaced
-of_dropped dropped.TooMany = reason.TooMany
-of_dropped dropped.PartTwice = reason.PartTwice
-of_dropped dropped.Memory = reason.TooMany
 
 -- a tab joins by its report, or by the part of it that was missing last
 abbrev pub joined_or : BrokerState → ℕ → Said → Said
@@ -77,7 +48,7 @@ taken_said b t (up.Report r) = said.Joined t
 taken_said b t (up.ReportPart r) = joined_or b t (said.Part r.part r.parts)
 
 abbrev pub taking_said : Stamped → Taking → Said
-taking_said s (Drops d) = said.Dropped (of_dropped d)
+taking_said s (Drops d) = said.Dropped (reason.AtBroker d)
 taking_said s (Does b outs) = taken_said b s.tab s.inner
 
 abbrev pub brought : Stamped → Option BrokerState → Said

@@ -1,12 +1,13 @@
 //! The supervisor, with the broker that is up.
 
-ghost use Rattle.std.specs.Prelude.{◌≡◌, ◌≢◌, [], None, Some, IfOk, OnOk, IfErr, OnErr, is_some, if◌then◌else◌};
+ghost use Rattle.std.specs.Prelude.{◌≡◌, ◌≢◌, [], None, IfOk, OnOk, OnErr, is_some, if◌then◌else◌};
+ghost use Rattle.wl_draft.specs.Refusals.{RefusesBy};
 ghost use Rattle.wl_grammar.specs.Grammar.{TabsRiseFrom};
 ghost use Rattle.wl_broker.specs.Broker.{started, hellos};
 ghost use Rattle.wl_kernel.specs.Kernel.{no_tabs, number_for, open_refusal, opened, is_living, killed};
 ghost use Rattle.wl_said.specs.declared.said.Said.TheVariants as said;
 ghost use Rattle.wl_supervisor.specs.declared.supervisor.Supervisor.TheVariants.{Down as down_state, Up as up_with};
-ghost use Rattle.wl_supervisor.specs.Supervising.{killing, stopping, starting, brought, telling, of_start, of_dropped, taken_said};
+ghost use Rattle.wl_supervisor.specs.Supervising.{killing, stopping, starting, brought, telling, taken_said};
 ghost use Rattle.wl_supervisor.specs.Supervised.{kernel_of, broker_of, with_kernel, begun, greeted, halted, after_taking, outs_by_taking, after_burial, outs_by_burial};
 ghost use Rattle.wl_limits.specs.declared.brokers.TheConstants.{LAST_GENERATION};
 
@@ -72,10 +73,12 @@ impl Supervisor {
 
     /// A tab is opened. Answers the number of its partition.
     pub fn open(&mut self, tab: u16, partition: Partition) -> Result<u16, OpenFault>
-        ensures ok { OnOk result (self.new ≡ with_kernel (opened tab partition (kernel_of self.old)) self.old) }
+        ensures ok { OnOk result (self.new
+            ≡ with_kernel (opened tab partition (kernel_of self.old)) self.old) }
         ensures number { IfOk result (λ number. number ≡ number_for tab partition (kernel_of self.old)) }
         ensures allowed { OnOk result (open_refusal tab partition (kernel_of self.old) ≡ None) }
-        ensures refused { IfErr result (λ e. e ≢ OpenFault.Memory → open_refusal tab partition (kernel_of self.old) ≡ Some e) }
+        ensures refused { RefusesBy result
+            (open_refusal tab partition (kernel_of self.old)) OpenFault.Memory }
         ensures err { OnErr result (self.new ≡ self.old) }
     {
         match self {
@@ -89,7 +92,8 @@ impl Supervisor {
     /// A tab is dead from now on.
     pub fn kill(&mut self, tab: u16) -> Said
         ensures said { result ≡ killing (kernel_of self.old) tab }
-        ensures kernel { self.new ≡ with_kernel (if is_living (kernel_of self.old) tab then killed tab (kernel_of self.old) else kernel_of self.old) self.old }
+        ensures kernel { self.new ≡ with_kernel (if is_living (kernel_of self.old) tab
+            then killed tab (kernel_of self.old) else kernel_of self.old) self.old }
     {
         let killed = match self {
             Supervisor::Down(down) => down.tabs_mut().kill(tab),
@@ -160,7 +164,8 @@ impl Supervisor {
                 said: taken(broker, stamped),
                 outs,
             }),
-            Err(dropped) => Ok(silent(alloc, Said::Dropped(reason_of(dropped)?))),
+            Err(Dropped::Memory) => Err(AllocError),
+            Err(dropped) => Ok(silent(alloc, Said::Dropped(Reason::AtBroker(dropped)))),
         }
     }
 
@@ -220,22 +225,23 @@ fn begin(alloc: Global, up: Up, start: &Start) -> Result<(Supervisor, Outcome), 
 /// The broker was not started.
 fn refuse(alloc: Global, down: Down, fault: StartFault) -> Result<(Supervisor, Outcome), AllocError>
     ensures supervisor { IfOk result (λ r. r.0 ≡ down_state down) }
-    ensures said { IfOk result (λ r. r.1.said ≡ said.Refused (of_start fault)) }
+    ensures said { IfOk result (λ r. r.1.said ≡ said.Refused (Refusal.Start fault)) }
     ensures outs { IfOk result (λ r. r.1.outs ≡ []) }
     ensures fault { IfOk result (λ _. fault ≢ StartFault.Memory) }
 {
-    let refusal = match fault {
-        StartFault::TooManyListed => Refusal::TooManyListed,
-        StartFault::NotRising => Refusal::NotRising,
-        StartFault::Stranger(tab) => Refusal::Stranger(tab),
-        StartFault::Missing(tab) => Refusal::Missing(tab),
+    match fault {
         StartFault::Memory => {
             down.end();
-            return Err(AllocError);
+            Err(AllocError)
         }
-    };
-    let supervisor = Supervisor::Down(down);
-    Ok((supervisor, silent(alloc, Said::Refused(refusal))))
+        fault => {
+            let supervisor = Supervisor::Down(down);
+            Ok((
+                supervisor,
+                silent(alloc, Said::Refused(Refusal::Start(fault))),
+            ))
+        }
+    }
 }
 
 /// What is said of a message, now that the broker has taken it.
@@ -256,26 +262,4 @@ fn taken(broker: &Broker<IndexedTable>, stamped: &Stamped) -> Said
             }
         }
     }
-}
-
-/// Why the broker dropped a message, unless memory was refused.
-fn reason_of(dropped: Dropped) -> Result<Reason, AllocError>
-    ensures reason { IfOk result (λ reason. reason ≡ of_dropped dropped) }
-    ensures dropped { OnOk result (dropped ≢ Dropped.Memory) }
-{
-    Ok(match dropped {
-        Dropped::OldGeneration => Reason::OldGeneration,
-        Dropped::LaterGeneration => Reason::LaterGeneration,
-        Dropped::NotJoined => Reason::NotJoined,
-        Dropped::Recovering => Reason::Recovering,
-        Dropped::OutOfTurn => Reason::OutOfTurn,
-        Dropped::DeadTab => Reason::DeadTab,
-        Dropped::AlreadyJoined => Reason::AlreadyJoined,
-        Dropped::HeldByNewcomer => Reason::HeldByNewcomer,
-        Dropped::BadReport => Reason::BadReport,
-        Dropped::Misplaced => Reason::Misplaced,
-        Dropped::TooMany => Reason::TooMany,
-        Dropped::PartTwice => Reason::PartTwice,
-        Dropped::Memory => return Err(AllocError),
-    })
 }

@@ -6,8 +6,6 @@ use Rattle.wl_grammar.specs.declared.frame.Frame.TheVariants as frame
 use Rattle.wl_grammar.specs.declared.frame.Operation.{Operation}
 use Rattle.wl_agent.specs.declared.delivered.Delivered.{Delivered}
 use Rattle.wl_agent.specs.declared.delivered.Delivered.TheVariants as told
-use Rattle.wl_agent.specs.declared.delivered.Unheard.{Unheard}
-use Rattle.wl_agent.specs.declared.delivered.Unheard.TheVariants as unheard
 use Rattle.wl_agent.specs.declared.snapshot.Snapshot.{Snapshot}
 use Rattle.wl_agent.specs.declared.status.Status.{Status}
 use Rattle.wl_agent.specs.declared.status.Status.TheVariants.{Whole}
@@ -18,7 +16,6 @@ use Rattle.wl_said.specs.declared.said.Said.{Said}
 use Rattle.wl_said.specs.declared.said.Said.TheVariants as said
 use Rattle.wl_said.specs.declared.said.Ended.{Ended}
 use Rattle.wl_said.specs.declared.said.Ended.TheVariants as ended
-use Rattle.wl_said.specs.declared.said.Reason.{Reason}
 use Rattle.wl_said.specs.declared.said.Reason.TheVariants as reason
 
 -- the numbers that entering a generation ends, by rising number: asked probes get null, asked queries are lost
@@ -32,15 +29,6 @@ ended_in issued (row ∷ rows) =
 -- the first generation of a life ends none
 abbrev pub ended_by_entering : TabState → List Ended
 ended_by_entering a = if a.entered == 0 then [] else ended_in a.issued a.statuses
-
--- what is addressed to a tab is of no wrong kind
-abbrev pub of_unheard : Unheard → Reason
-of_unheard unheard.OldGeneration = reason.OldGeneration
-of_unheard unheard.LaterGeneration = reason.LaterGeneration
-of_unheard unheard.Held = reason.Held
-of_unheard unheard.Over = reason.Over
-of_unheard unheard.Twice = reason.Twice
-of_unheard u = reason.Odd
 
 abbrev pub snapshot_in : Option Status → Snapshot
 snapshot_in (Some (Whole snapshot)) = snapshot
@@ -69,7 +57,7 @@ told_said f before after (told.Lost k) = said.Lost k
 told_said f before after (told.Taken k) = said.Taken k
 told_said f before after (told.Part k) = said.Part (part_in f) (parts_in f)
 told_said f before after (told.Whole k) = said.Whole k (snapshot_in (status_of after k))
-told_said f before after (told.Dropped u) = said.Dropped (of_unheard u)
+told_said f before after (told.Dropped u) = said.Dropped (reason.AtTab u)
 
 unfoldable pub arrival : Frame → TabState → Said
 arrival f a = let d = delivery f a in told_said f a d.0 d.1

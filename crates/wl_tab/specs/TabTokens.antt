@@ -20,11 +20,12 @@ use Rattle.wl_said.specs.declared.said.Ended.{Ended}
 use Rattle.wl_said.specs.declared.said.Ended.TheVariants as ended
 use Rattle.wl_said.specs.declared.said.Said.{Said}
 use Rattle.wl_said.specs.declared.said.Said.TheVariants as said
+use Rattle.wl_said.specs.declared.said.Reason.TheVariants as reason
 use Rattle.wl_tab.specs.declared.locks.Abortion.{Abortion}
 use Rattle.wl_tab.specs.declared.locks.Abortion.TheVariants as became
 use Rattle.wl_tab.specs.declared.locks.kept.Kept.{Kept}
 use Rattle.wl_tab.specs.Tabs.{is_told}
-use Rattle.wl_tab.specs.Arrivals.{generation_in, part_in, parts_in, of_unheard}
+use Rattle.wl_tab.specs.Arrivals.{generation_in, part_in, parts_in}
 
 -- ---- tokens
 
@@ -135,7 +136,7 @@ said_of_told f numbers snapshot (told.Lost k) = said.Lost k
 said_of_told f numbers snapshot (told.Taken k) = said.Taken k
 said_of_told f numbers snapshot (told.Part k) = said.Part (part_in f) (parts_in f)
 said_of_told f numbers snapshot (told.Whole k) = whole_said k snapshot
-said_of_told f numbers snapshot (told.Dropped u) = said.Dropped (of_unheard u)
+said_of_told f numbers snapshot (told.Dropped u) = said.Dropped (reason.AtTab u)
 
 -- the generation that is entered then
 abbrev pub entered_by : Frame → Delivered → ℕ → ℕ

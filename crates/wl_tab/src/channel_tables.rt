@@ -1,6 +1,7 @@
 //! The table of the tabs' channels: a tab without a row has opened none.
 
-ghost use Rattle.std.specs.Prelude.{◌≡◌, ◌≢◌, nat_lt, length, Some, None, Ok, Err, IfOk, OnOk, IfErr, OnErr, if◌then◌else◌};
+ghost use Rattle.std.specs.Prelude.{◌≡◌, nat_lt, length, Some, None, Ok, Err, IfOk, OnOk, IfErr, OnErr, if◌then◌else◌};
+ghost use Rattle.wl_draft.specs.Refusals.{RefusesBy};
 ghost use Rattle.wl_draft.specs.Tables.{find, put};
 ghost use Rattle.wl_broadcast.specs.Channels.{opened, open_refusal, posted, post_frame, name_at, taking, full, after_hearing, hearing_of, heard_refusal, read_at, closed_at, first_of, inbox_at, is_open_at};
 ghost use Rattle.wl_tab.specs.Tabs.{channels_in};
@@ -24,8 +25,10 @@ pub fn open_at(
     ensures ok { let c = channels_in tab (find rows.old.entries tab) in
         OnOk result (rows.new.entries ≡ put tab (opened name.now c) rows.old.entries) }
     ensures number { IfOk result (λ n. n ≡ length (channels_in tab (find rows.old.entries tab)).objects) }
-    ensures allowed { OnOk result (open_refusal name.now (channels_in tab (find rows.old.entries tab)) ≡ None) }
-    ensures refused { IfErr result (λ e. e ≢ ChannelFault.Memory → open_refusal name.now (channels_in tab (find rows.old.entries tab)) ≡ Some e) }
+    ensures allowed { OnOk result (open_refusal name.now (channels_in tab (find rows.old.entries tab))
+        ≡ None) }
+    ensures refused { RefusesBy result
+        (open_refusal name.now (channels_in tab (find rows.old.entries tab))) ChannelFault.Memory }
     ensures err { OnErr result (rows.new.entries ≡ rows.old.entries) }
 {
     match rows.get_mut(&tab) {
@@ -49,7 +52,8 @@ pub fn hear_at(
     requires { heard_refusal frame.now ≡ None }
     ensures ok { let c = channels_in tab (find rows.old.entries tab) in
         OnOk result (rows.new.entries ≡ put tab (after_hearing frame.now c) rows.old.entries) }
-    ensures hearing { IfOk result (λ h. h ≡ hearing_of frame.now (channels_in tab (find rows.old.entries tab))) }
+    ensures hearing { IfOk result (λ h.
+        h ≡ hearing_of frame.now (channels_in tab (find rows.old.entries tab))) }
     ensures err { OnErr result (rows.new.entries ≡ rows.old.entries) }
 {
     match rows.get_mut(&tab) {
@@ -72,12 +76,15 @@ pub fn post_at(
 ) -> Result<Posted, ChannelRefusal>
     ensures ok { let c = channels_in tab (find rows.old.entries tab) in
         OnOk result (rows.new.entries ≡ put tab (posted number bytes.now c) rows.old.entries) }
-    ensures allowed { OnOk result (posting_refusal number bytes.now (channels_in tab (find rows.old.entries tab)) ≡ None) }
+    ensures allowed { OnOk result
+        (posting_refusal number bytes.now (channels_in tab (find rows.old.entries tab)) ≡ None) }
     ensures posted { let c = channels_in tab (find rows.old.entries tab) in IfOk result (λ p.
         (p.frame ≡ post_frame c.posts (name_at c.objects number) bytes.now)
         × (p.took ≡ taking (Some number) (name_at c.objects number) c.objects)
         × (p.full ≡ full (Some number) (name_at c.objects number) c.objects)) }
-    ensures refused { IfErr result (λ e. e ≢ ChannelRefusal.Fault ChannelFault.Memory → posting_refusal number bytes.now (channels_in tab (find rows.old.entries tab)) ≡ Some e) }
+    ensures refused { RefusesBy result
+        (posting_refusal number bytes.now (channels_in tab (find rows.old.entries tab)))
+        (ChannelRefusal.Fault ChannelFault.Memory) }
     ensures err { OnErr result (rows.new.entries ≡ rows.old.entries) }
 {
     match rows.get_mut(&tab) {
@@ -94,9 +101,12 @@ pub fn read_at(
 ) -> Result<Option<Letter>, ChannelRefusal>
     ensures ok { let c = channels_in tab (find rows.old.entries tab) in
         OnOk result (rows.new.entries ≡ put tab (read_at number c) rows.old.entries) }
-    ensures allowed { OnOk result (number_refusal number (channels_in tab (find rows.old.entries tab)) ≡ None) }
-    ensures letter { IfOk result (λ letter. letter ≡ first_of (inbox_at (channels_in tab (find rows.old.entries tab)).objects number)) }
-    ensures refused { IfErr result (λ e. number_refusal number (channels_in tab (find rows.old.entries tab)) ≡ Some e) }
+    ensures allowed { OnOk result (number_refusal number (channels_in tab (find rows.old.entries tab))
+        ≡ None) }
+    ensures letter { IfOk result (λ letter.
+        letter ≡ first_of (inbox_at (channels_in tab (find rows.old.entries tab)).objects number)) }
+    ensures refused { IfErr result (λ e.
+        number_refusal number (channels_in tab (find rows.old.entries tab)) ≡ Some e) }
     ensures err { OnErr result (rows.new.entries ≡ rows.old.entries) }
 {
     match rows.get_mut(&tab) {
@@ -111,9 +121,11 @@ pub fn close_at(
     tab: u16,
     number: usize,
 ) -> Result<(), ChannelRefusal>
-    ensures result { result ≡ (if nat_lt number (length (channels_in tab (find rows.old.entries tab)).objects) then Ok tt else Err ChannelRefusal.NoChannel) }
+    ensures result { result ≡ (if nat_lt number (length (channels_in tab (find rows.old.entries tab)).objects)
+        then Ok tt else Err ChannelRefusal.NoChannel) }
     ensures rows { let c = channels_in tab (find rows.old.entries tab) in
-        rows.new.entries ≡ (if is_open_at c.objects number then put tab (closed_at number c) rows.old.entries else rows.old.entries) }
+        rows.new.entries ≡ (if is_open_at c.objects number
+        then put tab (closed_at number c) rows.old.entries else rows.old.entries) }
 {
     match rows.get_mut(&tab) {
         Some(channels) => channels.close(number),

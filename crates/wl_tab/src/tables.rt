@@ -1,6 +1,7 @@
 //! The tables of tabs: a tab without a row is as it was born.
 
-ghost use Rattle.std.specs.Prelude.{◌≡◌, ◌≢◌, ◌&&◌, length, Some, None, IfOk, OnOk, IfErr, OnErr, if◌then◌else◌};
+ghost use Rattle.std.specs.Prelude.{◌≡◌, ◌&&◌, length, Some, None, IfOk, OnOk, OnErr, if◌then◌else◌};
+ghost use Rattle.wl_draft.specs.Refusals.{RefusesBy};
 ghost use Rattle.wl_draft.specs.Tables.{find, put};
 ghost use Rattle.wl_agent.specs.Tab.{asked, queried, aborted, released, ask_refusal, query_refusal, status_of, is_asked};
 ghost use Rattle.wl_agent.specs.Tokens.{is_pending, is_holding};
@@ -39,7 +40,8 @@ pub fn ask_at(
         OnOk result (tabs.new.entries ≡ put tab (asked mode if_available name.now a) tabs.old.entries) }
     ensures number { IfOk result (λ n. n ≡ length (tab_in tab (find tabs.old.entries tab)).issued) }
     ensures allowed { OnOk result (ask_refusal (tab_in tab (find tabs.old.entries tab)) name.now ≡ None) }
-    ensures refused { IfErr result (λ e. e ≢ AgentFault.Memory → ask_refusal (tab_in tab (find tabs.old.entries tab)) name.now ≡ Some e) }
+    ensures refused { RefusesBy result
+        (ask_refusal (tab_in tab (find tabs.old.entries tab)) name.now) AgentFault.Memory }
     ensures err { OnErr result (tabs.new.entries ≡ tabs.old.entries) }
 {
     match tabs.get_mut(&tab) {
@@ -57,7 +59,7 @@ fn ask(locks: &mut TabLocks, mode: Mode, if_available: bool, name: &Name) -> Res
     ensures ok { OnOk result (locks.new ≡ asked mode if_available name.now locks.old) }
     ensures allowed { OnOk result (ask_refusal locks.old name.now ≡ None) }
     ensures number { IfOk result (λ n. n ≡ length locks.old.issued) }
-    ensures refused { IfErr result (λ e. e ≢ AgentFault.Memory → ask_refusal locks.old name.now ≡ Some e) }
+    ensures refused { RefusesBy result (ask_refusal locks.old name.now) AgentFault.Memory }
     ensures err { OnErr result (locks.new ≡ locks.old) }
 {
     if if_available {
@@ -77,7 +79,8 @@ pub fn query_at(
         OnOk result (tabs.new.entries ≡ put tab (queried a) tabs.old.entries) }
     ensures number { IfOk result (λ n. n ≡ length (tab_in tab (find tabs.old.entries tab)).issued) }
     ensures allowed { OnOk result (query_refusal (tab_in tab (find tabs.old.entries tab)) ≡ None) }
-    ensures refused { IfErr result (λ e. e ≢ AgentFault.Memory → query_refusal (tab_in tab (find tabs.old.entries tab)) ≡ Some e) }
+    ensures refused { RefusesBy result
+        (query_refusal (tab_in tab (find tabs.old.entries tab))) AgentFault.Memory }
     ensures err { OnErr result (tabs.new.entries ≡ tabs.old.entries) }
 {
     match tabs.get_mut(&tab) {
@@ -95,7 +98,8 @@ pub fn query_at(
 pub fn abort_at(tabs: &mut BTreeMap<u16, TabLocks>, tab: u16, number: u32) -> Abortion
     ensures said { result ≡ abortion number (tab_in tab (find tabs.old.entries tab)) }
     ensures tabs { let a = tab_in tab (find tabs.old.entries tab) in
-        tabs.new.entries ≡ (if is_pending a number && is_asked (status_of a number) then put tab (aborted number a) tabs.old.entries else tabs.old.entries) }
+        tabs.new.entries ≡ (if is_pending a number && is_asked (status_of a number)
+        then put tab (aborted number a) tabs.old.entries else tabs.old.entries) }
 {
     match tabs.get_mut(&tab) {
         Some(locks) => locks.abort(number),
@@ -105,9 +109,11 @@ pub fn abort_at(tabs: &mut BTreeMap<u16, TabLocks>, tab: u16, number: u32) -> Ab
 
 /// A tab releases a lock.
 pub fn release_at(tabs: &mut BTreeMap<u16, TabLocks>, tab: u16, number: u32) -> Option<u32>
-    ensures next { let a = tab_in tab (find tabs.old.entries tab) in result ≡ (if is_holding a number then Some (length a.issued) else None) }
+    ensures next { let a = tab_in tab (find tabs.old.entries tab) in result
+        ≡ (if is_holding a number then Some (length a.issued) else None) }
     ensures tabs { let a = tab_in tab (find tabs.old.entries tab) in
-        tabs.new.entries ≡ (if is_holding a number then put tab (released number a) tabs.old.entries else tabs.old.entries) }
+        tabs.new.entries ≡ (if is_holding a number
+        then put tab (released number a) tabs.old.entries else tabs.old.entries) }
 {
     match tabs.get_mut(&tab) {
         Some(locks) => locks.release(number),
@@ -143,7 +149,8 @@ pub fn keep_at(
     tabs: &mut BTreeMap<u16, TabLocks>,
     tab: u16,
 ) -> Result<(), AllocError>
-    ensures { OnOk result (tabs.new.entries ≡ put tab (tab_in tab (find tabs.old.entries tab)) tabs.old.entries) }
+    ensures { OnOk result (tabs.new.entries
+        ≡ put tab (tab_in tab (find tabs.old.entries tab)) tabs.old.entries) }
 {
     match tabs.get_mut(&tab) {
         Some(_) => Ok(()),

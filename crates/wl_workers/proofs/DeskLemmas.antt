@@ -17,11 +17,11 @@ use Rattle.wl_broker.specs.Broker.{BrokerState, started, hellos, Taking, Does, D
 use Rattle.wl_broker.specs.Speech.{IsSpellable}
 use Rattle.wl_workers.specs.declared.desk.DeskFault.{DeskFault}
 use Rattle.wl_workers.specs.declared.desk.DeskFault.TheVariants as desk
-use Rattle.wl_encoding.specs.Fronts.{IsFrontOf}
+use Rattle.wl_encoding.specs.Prefixes.{IsPrefixOf}
 use Rattle.wl_workers.specs.Desk.{DeskState, Opening, Serving, Refused, taken, desk_step, desk_after, desk_outs, IsServing, IsRefused}
 use Rattle.wl_workers.specs.DeskSteps.{state_of, IsSpeaking, spelled, due, IsBegun, Steps, Spells, Deals}
 use Rattle.wl_broker.proofs.Speech.{spells_start, spells_taking, spells_burial}
-use Rattle.wl_encoding.proofs.Fronts.{IsFrontOf-append, append-IsFrontOf, IsFrontOf-trans}
+use Rattle.wl_encoding.proofs.Prefixes.{IsPrefixOf-append, append-IsPrefixOf, IsPrefixOf-trans}
 
 -- ---- one frame
 
@@ -207,7 +207,7 @@ unanswered_begins old new f bytes desk.Memory step = ([], sym (append-nil bytes)
 pub unspelled_begins : (old new : DeskState) (f : Frame) (outs : List Addressed) (before after : List ℕ) → Steps old f new (Ok outs) → IsBegun before (spelled outs) after
     → Spells old f new before after (Err desk.Memory)
 unspelled_begins old new f outs before after step (piece, p, q) =
-    (piece, p, subst (IsFrontOf piece) (sym (due-cons old new f [] outs step.0)) (IsFrontOf-append piece (spelled outs) (due new []) q))
+    (piece, p, subst (IsPrefixOf piece) (sym (due-cons old new f [] outs step.0)) (IsPrefixOf-append piece (spelled outs) (due new []) q))
 
 -- ---- frames, answered one after another
 
@@ -263,15 +263,15 @@ answer_fails first now new last all rest more f output desk.Write h e step = abs
 answer_fails first now new last all rest more f output desk.TooManyReads h e step = step
 answer_fails first now new last all rest more f output desk.Memory h e step = (due now rest, sym h.output_is)
 
--- the answers to the frames before, and a front of that to the next
+-- the answers to the frames before, and a prefix of that to the next
 begun_is_front : (first now : DeskState) (all rest more : List Frame) (f : Frame) (written before after : List ℕ) → Leaves first now all rest (written ++ before) → rest ≡ f ∷ more
-    → IsBegun before (due now (f ∷ [])) after → IsFrontOf (written ++ after) (due first all)
+    → IsBegun before (due now (f ∷ [])) after → IsPrefixOf (written ++ after) (due first all)
 begun_is_front first now all rest more f written before after h e (piece, p, q) =
     let whole : due now rest ≡ due now (f ∷ []) ++ due (desk_step now f).0 more = ap (due now) e ∙ due-append now (f ∷ []) more in
-    let ahead = IsFrontOf-append piece _ (due (desk_step now f).0 more) q in
-    let all_front = append-IsFrontOf (written ++ before) piece _ ahead in
-    subst (λ l. IsFrontOf l (due first all)) (append_assoc written before piece ∙ ap (λ l. written ++ l) (sym p))
-    (subst (IsFrontOf ((written ++ before) ++ piece)) (ap (λ l. (written ++ before) ++ l) (sym whole) ∙ h.output_is) all_front)
+    let ahead = IsPrefixOf-append piece _ (due (desk_step now f).0 more) q in
+    let all_front = append-IsPrefixOf (written ++ before) piece _ ahead in
+    subst (λ l. IsPrefixOf l (due first all)) (append_assoc written before piece ∙ ap (λ l. written ++ l) (sym p))
+    (subst (IsPrefixOf ((written ++ before) ++ piece)) (ap (λ l. (written ++ before) ++ l) (sym whole) ∙ h.output_is) all_front)
 
 -- its answer stands behind those before
 pub Leaves-spelled : (first now new : DeskState) (all rest more : List Frame) (f : Frame) (written before after : List ℕ) → Leaves first now all rest (written ++ before) → rest ≡ f ∷ more
@@ -305,7 +305,7 @@ spelling_fails first now new last all rest more f written before after desk.Memo
 
 -- what was gathered before a frame that was not answered was not written
 spelled_is_front : (first now new : DeskState) (all rest more : List Frame) (f : Frame) (written before after : List ℕ) (e : DeskFault) → Leaves first now all rest (written ++ before)
-    → rest ≡ f ∷ more → Spells now f new before after (Err e) → IsFrontOf (written ++ after) (due first all)
+    → rest ≡ f ∷ more → Spells now f new before after (Err e) → IsPrefixOf (written ++ after) (due first all)
 spelled_is_front first now new all rest more f written before after (desk.Frame x) h e step = absurd step
 spelled_is_front first now new all rest more f written before after desk.Unexpected h e step =
     ([], sym (spelling_fails first now new new all rest more f written before after desk.Unexpected h e step).1 ∙ sym (append-nil (written ++ after)))
@@ -315,16 +315,16 @@ spelled_is_front first now new all rest more f written before after desk.TooMany
 spelled_is_front first now new all rest more f written before after desk.Memory h e step = begun_is_front first now all rest more f written before after h e step
 
 pub breaks_off : (first now new last : DeskState) (all rest more : List Frame) (f : Frame) (written before after front : List ℕ) (e : DeskFault) → (all ≡ [] → ⊥)
-    → Leaves first now all rest (written ++ before) → rest ≡ f ∷ more → Spells now f new before after (Err e) → IsFrontOf front after → Deals first all last (Err desk.Write) (written ++ front)
+    → Leaves first now all rest (written ++ before) → rest ≡ f ∷ more → Spells now f new before after (Err e) → IsPrefixOf front after → Deals first all last (Err desk.Write) (written ++ front)
 breaks_off first now new last all rest more f written before after front e some h next step p =
-    (some, IsFrontOf-trans _ _ _ (append-IsFrontOf written front after p) (spelled_is_front first now new all rest more f written before after e h next step))
+    (some, IsPrefixOf-trans _ _ _ (append-IsPrefixOf written front after p) (spelled_is_front first now new all rest more f written before after e h next step))
 
 -- what was gathered was not written
 pub writing_fails : (first now last : DeskState) (all rest : List Frame) (written bytes front : List ℕ) → (all ≡ [] → ⊥) → Leaves first now all rest (written ++ bytes)
-    → IsFrontOf front bytes → Deals first all last (Err desk.Write) (written ++ front)
+    → IsPrefixOf front bytes → Deals first all last (Err desk.Write) (written ++ front)
 writing_fails first now last all rest written bytes front some h p = (
   some,
-  subst (IsFrontOf (written ++ front)) h.output_is (IsFrontOf-append (written ++ front) _ (due now rest) (append-IsFrontOf written front bytes p)),
+  subst (IsPrefixOf (written ++ front)) h.output_is (IsPrefixOf-append (written ++ front) _ (due now rest) (append-IsPrefixOf written front bytes p)),
 )
 
 -- there is a frame

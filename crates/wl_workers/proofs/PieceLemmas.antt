@@ -10,7 +10,7 @@ use Rattle.wl_grammar.specs.Grammar.{IsWellFormed, spelling}
 use Rattle.wl_frames.specs.Stream.{Stop, Rest, Fault, HasFault, HasFaultNext, Reads, IsPartial, Feeding, Takes, Refuses}
 use Rattle.wl_workers.specs.declared.desk.DeskFault.{DeskFault}
 use Rattle.wl_workers.specs.declared.desk.DeskFault.TheVariants as desk
-use Rattle.wl_encoding.specs.Fronts.{IsFrontOf}
+use Rattle.wl_encoding.specs.Prefixes.{IsPrefixOf}
 use Rattle.wl_workers.specs.Desk.{DeskState, desk_after, IsRefused, IsReadPart}
 use Rattle.wl_workers.specs.DeskSteps.{of_frame, due, Deals, EndsBy, Breaks, Treats}
 
@@ -99,7 +99,7 @@ no_deal old new rest piece frames desk.Memory output partial is_open none h = re
   stop = Rest rest;
   is_part = (piece, refl);
   reads = Reads-none rest partial;
-  ends = subst (λ fs. IsFrontOf output (due old fs)) none h;
+  ends = subst (λ fs. IsPrefixOf output (due old fs)) none h;
 }
 
 breaks_by_fault : (old new : DeskState) (rest piece : List ℕ) (frames : List Frame) (fault : FrameFault) (output : List ℕ) → Reads (rest ++ piece) frames (Fault fault) → Deals old frames new (Ok tt) output

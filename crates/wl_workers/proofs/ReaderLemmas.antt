@@ -16,7 +16,7 @@ use Rattle.wl_workers.specs.declared.tab_reader.ReadEnd.{ReadEnd}
 use Rattle.wl_workers.specs.declared.tab_reader.ReadEnd.TheVariants as end
 use Rattle.wl_workers.specs.Told.{Grows}
 use Rattle.wl_workers.specs.Looks.{IsNotDead, at_tab, FindsDead}
-use Rattle.wl_workers.specs.TabReader.{of_read, ended, dead_look, HandsUp, IsProperFront, IsButLastPiece, EndsAfter, NeedsEnd, ReadsTab, Passes, Closes, IsPieceEnd}
+use Rattle.wl_workers.specs.TabReader.{of_read, ended, dead_look, HandsUp, IsProperPrefix, IsButLastPiece, EndsAfter, NeedsEnd, ReadsTab, Passes, Closes, IsPieceEnd}
 use Rattle.wl_workers.proofs.ToldLemmas.{Grows-nil, Grows-trans}
 use Rattle.wl_workers.proofs.PieceLemmas.{Reads-join, Reads-none, no_cut}
 
@@ -70,11 +70,11 @@ refused_by old new piece before fault.Truncated sound h = inr (h.stops (λ x. cc
 refused_by old new piece before fault.Memory sound h = inl (refl, (h.memory refl).0)
 refused_by old new piece before fault.Failed sound h = let failed = h.failed_before.0 refl in absurd (let e : true ≡ false = sym failed ∙ sound in cc)
 
-no_front : (front frames : List Frame) → IsProperFront front frames → frames ≢ []
+no_front : (front frames : List Frame) → IsProperPrefix front frames → frames ≢ []
 no_front front frames h none = absurd (let e = ap length (sym h.2 ∙ none) in let a = length-append front (h.0 ∷ h.1) in omega arith)
 
 -- the tab was found dead before a frame that stood before the fault
-pub dead_before : (old new : Feeding) (piece : List ℕ) (before front : List Frame) (f : FrameFault) → old.has_failed ≡ false → Refuses old new piece before f → IsProperFront front before
+pub dead_before : (old new : Feeding) (piece : List ℕ) (before front : List Frame) (f : FrameFault) → old.has_failed ≡ false → Refuses old new piece before f → IsProperPrefix front before
     → EndsAfter old.rest piece front end.Dead
 dead_before old new piece before front f sound h proper = ⊎_elim
     (λ (m : (f ≡ fault.Memory) × (before ≡ [])). absurd (no_front front before proper m.1))

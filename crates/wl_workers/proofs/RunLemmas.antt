@@ -8,10 +8,10 @@ use Rattle.wl_workers.specs.declared.desk.DeskFault.{DeskFault}
 use Rattle.wl_workers.specs.declared.desk.DeskFault.TheVariants as desk
 use Rattle.wl_frames.specs.declared.device.ReadFault.{ReadFault}
 use Rattle.wl_frames.specs.declared.device.ReadFault.TheVariants as read
-use Rattle.wl_encoding.specs.Fronts.{IsFrontOf}
+use Rattle.wl_encoding.specs.Prefixes.{IsPrefixOf}
 use Rattle.wl_workers.specs.Desk.{DeskState, Opening, desk_after, written, IsServing, IsRefused, IsReadPart, Answered, NeedsEnd, Runs}
 use Rattle.wl_workers.specs.DeskSteps.{of_read, due, EndsBy, Passes, Breaks, Closes}
-use Rattle.wl_encoding.proofs.Fronts.{append-IsFrontOf}
+use Rattle.wl_encoding.proofs.Prefixes.{append-IsPrefixOf}
 use Rattle.wl_workers.proofs.DeskLemmas.{desk_after-append, due-append, frames_before_opening, IsWriteFault}
 use Rattle.wl_workers.proofs.PieceLemmas.{Reads-join, no_cut}
 
@@ -74,13 +74,13 @@ part_after before part piece desk.Unexpected h = ap (λ l. before ++ l) h
 part_after before part piece desk.Read h = ap (λ l. before ++ l) h
 part_after before part piece desk.Write h = ap (λ l. before ++ l) h
 part_after before part piece desk.TooManyReads h = ap (λ l. before ++ l) h
-part_after before part piece desk.Memory h = append-IsFrontOf before part piece h
+part_after before part piece desk.Memory h = append-IsPrefixOf before part piece h
 
--- a front of what is due for the later frames, behind all that was due before
-front_after : (frames more : List Frame) (state : DeskState) (output piece : List ℕ) → state ≡ desk_after Opening frames → output ≡ written frames → IsFrontOf piece (due state more)
-    → IsFrontOf (output ++ piece) (written (frames ++ more))
+-- a prefix of what is due for the later frames, behind all that was due before
+front_after : (frames more : List Frame) (state : DeskState) (output piece : List ℕ) → state ≡ desk_after Opening frames → output ≡ written frames → IsPrefixOf piece (due state more)
+    → IsPrefixOf (output ++ piece) (written (frames ++ more))
 front_after frames more state output piece at is h =
-    subst (IsFrontOf (output ++ piece)) (written-append frames more state output piece at is) (append-IsFrontOf output piece (due state more) h)
+    subst (IsPrefixOf (output ++ piece)) (written-append frames more state output piece at is) (append-IsPrefixOf output piece (due state more) h)
 
 answered_after : (frames more : List Frame) (state : DeskState) (stop : Stop) (e : DeskFault) (output piece : List ℕ) → state ≡ desk_after Opening frames → output ≡ written frames
     → EndsBy state more stop e piece → Answered (frames ++ more) stop (Err e) (output ++ piece)

@@ -10,9 +10,9 @@ use Rattle.wl_board.specs.declared.tab.Life.{Life}
 use Rattle.wl_board.specs.declared.tab.Life.TheVariants as life
 use Rattle.wl_grammar.specs.declared.frame.Frame.{Frame}
 use Rattle.wl_grammar.specs.Grammar.{IsWellFormed, spelling}
-use Rattle.wl_encoding.specs.Fronts.{IsFrontOf}
-use Rattle.wl_frames.specs.Device.{WritesFront}
-use Rattle.wl_encoding.proofs.Fronts.{append-IsFrontOf}
+use Rattle.wl_encoding.specs.Prefixes.{IsPrefixOf}
+use Rattle.wl_frames.specs.Device.{WritesPrefix}
+use Rattle.wl_encoding.proofs.Prefixes.{append-IsPrefixOf}
 use Rattle.wl_outbox.specs.Parcels.{Packed}
 use Rattle.wl_outbox.specs.MergeLaws.{IsPickedFrom, nothing, picks, leaves}
 use Rattle.wl_outbox.specs.Passes.{Handed, Shared, IsOf, IsSamePass, is_taking, takes}
@@ -42,18 +42,18 @@ writes_one f a b bytes has_failed form is sound appended = record {
   written = subst (λ c. IsWritten c bytes (f ∷ [])) (sym sound) (is ∙ sym (append-nil (spelling f)));
 }
 
-pub writes_part : (f : Frame) (a b : Option (List ℕ)) (bytes : List ℕ) (has_failed : Bool) → IsWellFormed f → bytes ≡ spelling f → has_failed ≡ true → WritesFront a b bytes → WritesFrames (f ∷ []) a b has_failed
+pub writes_part : (f : Frame) (a b : Option (List ℕ)) (bytes : List ℕ) (has_failed : Bool) → IsWellFormed f → bytes ≡ spelling f → has_failed ≡ true → WritesPrefix a b bytes → WritesFrames (f ∷ []) a b has_failed
 writes_part f a b bytes has_failed form is failed h = record {
   kept = f ∷ [];
   output = h.0;
   keeps = (picks f [] [] nothing, (form, tt));
   appended = h.2;
-  written = subst (λ c. IsWritten c h.0 (f ∷ [])) (sym failed) (subst (IsFrontOf h.0) (is ∙ sym (append-nil (spelling f))) h.1);
+  written = subst (λ c. IsWritten c h.0 (f ∷ [])) (sym failed) (subst (IsPrefixOf h.0) (is ∙ sym (append-nil (spelling f))) h.1);
 }
 
 -- by what the writer answered
 pub writes_by : {E : Type 0} (f : Frame) (a b : Option (List ℕ)) (bytes : List ℕ) (r : Result (Unit {0}) E) (was now : Bool) → IsWellFormed f → bytes ≡ spelling f → was ≡ false → OnOk r (Appends a b bytes)
-    → OnOk r (now ≡ was) → OnErr r ((now ≡ true) × WritesFront a b bytes) → WritesFrames (f ∷ []) a b now
+    → OnOk r (now ≡ was) → OnErr r ((now ≡ true) × WritesPrefix a b bytes) → WritesFrames (f ∷ []) a b now
 writes_by f a b bytes (Ok done) was now form is sound appended same failed = writes_one f a b bytes now form is (same ∙ sound) appended
 writes_by f a b bytes (Err e) was now form is sound appended same failed = writes_part f a b bytes now form is failed.0 failed.1
 
@@ -67,7 +67,7 @@ IsPickedFrom-append xs ys us vs (leaves y ws bs p) q = leaves y (ws ++ ys) (bs +
 written_more : (output more : List ℕ) (kept next : List Frame) (has_failed : Bool) → output ≡ flat_map spelling kept → IsWritten has_failed more next → IsWritten has_failed (output ++ more) (kept ++ next)
 written_more output more kept next false is h = ap (λ l. l ++ more) is ∙ ap (λ l. flat_map spelling kept ++ l) h ∙ sym (flat_map-append spelling kept next)
 written_more output more kept next true is h =
-    subst (IsFrontOf (output ++ more)) (ap (λ l. l ++ flat_map spelling next) is ∙ sym (flat_map-append spelling kept next)) (append-IsFrontOf output more (flat_map spelling next) h)
+    subst (IsPrefixOf (output ++ more)) (ap (λ l. l ++ flat_map spelling next) is ∙ sym (flat_map-append spelling kept next)) (append-IsPrefixOf output more (flat_map spelling next) h)
 
 WritesTab-none : (taken : List Packed) (a : Option (List ℕ)) → WritesTab taken taken a a false
 WritesTab-none taken a = record {

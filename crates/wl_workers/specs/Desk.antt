@@ -11,7 +11,7 @@ use Rattle.wl_frames.specs.Stream.{Stop, Rest, Fault, Reads}
 use Rattle.wl_broker.specs.Broker.{BrokerState, started, hellos, Taking, Drops, Does, taking, burial}
 use Rattle.wl_workers.specs.declared.desk.DeskFault.{DeskFault}
 use Rattle.wl_workers.specs.declared.desk.DeskFault.TheVariants as desk
-use Rattle.wl_encoding.specs.Fronts.{IsFrontOf}
+use Rattle.wl_encoding.specs.Prefixes.{IsPrefixOf}
 
 -- before the first frame; with a broker; after a frame that was not expected
 pub data DeskState : Type 0 where
@@ -70,13 +70,13 @@ Answered frames stop (Err desk.Read) output =
     (rest : List ℕ) × (stop ≡ Rest rest) × (IsRefused (desk_after Opening frames) → ⊥) × (output ≡ written frames)
 Answered frames stop (Err desk.TooManyReads) output =
     (rest : List ℕ) × (stop ≡ Rest rest) × (IsRefused (desk_after Opening frames) → ⊥) × (output ≡ written frames)
--- the writer failed, or memory was refused: a front of what is due
-Answered frames stop (Err desk.Write) output = IsFrontOf output (written frames)
-Answered frames stop (Err desk.Memory) output = IsFrontOf output (written frames)
+-- the writer failed, or memory was refused: a prefix of what is due
+Answered frames stop (Err desk.Write) output = IsPrefixOf output (written frames)
+Answered frames stop (Err desk.Memory) output = IsPrefixOf output (written frames)
 
 -- the part of the input that was read as frames: all of it, but for want of memory
 abbrev pub IsReadPart : List ℕ → List ℕ → Result (Unit {0}) DeskFault → Type 0
-IsReadPart part input (Err desk.Memory) = IsFrontOf part input
+IsReadPart part input (Err desk.Memory) = IsPrefixOf part input
 IsReadPart part input result = part ≡ input
 
 -- what was written is the answer to what was read

@@ -14,7 +14,7 @@ use Rattle.wl_workers.specs.declared.desk.DeskFault.{DeskFault}
 use Rattle.wl_workers.specs.declared.desk.DeskFault.TheVariants as desk
 use Rattle.wl_frames.specs.declared.device.ReadFault.{ReadFault}
 use Rattle.wl_frames.specs.declared.device.ReadFault.TheVariants as read
-use Rattle.wl_encoding.specs.Fronts.{IsFrontOf}
+use Rattle.wl_encoding.specs.Prefixes.{IsPrefixOf}
 use Rattle.wl_workers.specs.Desk.{DeskState, Opening, Serving, Refused, desk_step, desk_after, desk_outs, IsServing, IsRefused, IsReadPart}
 
 -- ---- faults
@@ -66,9 +66,9 @@ Steps old f new (Err desk.Write) = ⊥
 Steps old f new (Err desk.TooManyReads) = ⊥
 Steps old f new (Err desk.Memory) = Unit {0}
 
--- a front of these bytes stands behind the old ones
+-- a prefix of these bytes stands behind the old ones
 abbrev pub IsBegun : List ℕ → List ℕ → List ℕ → Type 0
-IsBegun old bytes new = (piece : List ℕ) × (new ≡ old ++ piece) × IsFrontOf piece bytes
+IsBegun old bytes new = (piece : List ℕ) × (new ≡ old ++ piece) × IsPrefixOf piece bytes
 
 -- a frame was answered behind the bytes before, was not expected, or was not answered for want of memory
 abbrev pub Spells : DeskState → Frame → DeskState → List ℕ → List ℕ → Result (Unit {0}) DeskFault → Type 0
@@ -87,18 +87,18 @@ Deals old frames new (Ok done) output = (new ≡ desk_after old frames) × (IsRe
 Deals old frames new (Err (desk.Frame e)) output = ⊥
 Deals old frames new (Err desk.Unexpected) output = IsRefused (desk_after old frames) × (output ≡ due old frames)
 Deals old frames new (Err desk.Read) output = ⊥
-Deals old frames new (Err desk.Write) output = (frames ≢ []) × IsFrontOf output (due old frames)
+Deals old frames new (Err desk.Write) output = (frames ≢ []) × IsPrefixOf output (due old frames)
 Deals old frames new (Err desk.TooManyReads) output = ⊥
-Deals old frames new (Err desk.Memory) output = IsFrontOf output (due old frames)
+Deals old frames new (Err desk.Memory) output = IsPrefixOf output (due old frames)
 
 -- a piece was read as these frames and answered, up to the fault that ends the run
 abbrev pub EndsBy : DeskState → List Frame → Stop → DeskFault → List ℕ → Type 0
 EndsBy old frames stop (desk.Frame e) output = (stop ≡ Fault e) × (IsRefused (desk_after old frames) → ⊥) × (output ≡ due old frames)
 EndsBy old frames stop desk.Unexpected output = IsRefused (desk_after old frames) × (output ≡ due old frames)
 EndsBy old frames stop desk.Read output = ⊥
-EndsBy old frames stop desk.Write output = IsFrontOf output (due old frames)
+EndsBy old frames stop desk.Write output = IsPrefixOf output (due old frames)
 EndsBy old frames stop desk.TooManyReads output = ⊥
-EndsBy old frames stop desk.Memory output = IsFrontOf output (due old frames)
+EndsBy old frames stop desk.Memory output = IsPrefixOf output (due old frames)
 
 pub record Passes (old new : DeskState) (rest piece : List ℕ) (feed : Feeding) (output : List ℕ) : Type 0 where
   pub frames : List Frame

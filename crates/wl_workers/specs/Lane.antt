@@ -55,7 +55,7 @@ abbrev pub steps_of : List Answered → ℕ
 steps_of [] = 0
 steps_of (a ∷ all) = step_of a + steps_of all
 
--- a front of these frames was put out, and the next one was refused
+-- a prefix of these frames was put out, and the next one was refused
 pub record PutsUpTo (before after : Option (List PutOut)) (frames : List Frame) (fault : OutletFault) : Type 0 where
   pub front : List Frame
   pub refused : Frame

@@ -44,8 +44,8 @@ pub record HandsUp (tab : ℕ) (lives_before lives_after : Option (List (ℕ × 
   pub handed : Grows handed_before handed_after (map (λ f. (tab, f)) frames)
 
 -- some frames are left
-abbrev pub IsProperFront : List Frame → List Frame → Type 0
-IsProperFront front frames = (next : Frame) × (rest : List Frame) × (frames ≡ front ++ next ∷ rest)
+abbrev pub IsProperPrefix : List Frame → List Frame → Type 0
+IsProperPrefix front frames = (next : Frame) × (rest : List Frame) × (frames ≡ front ++ next ∷ rest)
 
 -- ---- how the reading ends
 
@@ -66,7 +66,7 @@ EndsAfter rest input frames (end.Frame f) =
 EndsAfter rest input frames end.Read = (unread : List ℕ) × Reads (rest ++ input) frames (Rest unread)
 EndsAfter rest input frames end.TooManyReads = (unread : List ℕ) × Reads (rest ++ input) frames (Rest unread)
 -- the tab was found dead before a frame that had come
-EndsAfter rest input frames end.Dead = (all : List Frame) × (stop : Stop) × Reads (rest ++ input) all stop × IsProperFront frames all
+EndsAfter rest input frames end.Dead = (all : List Frame) × (stop : Stop) × Reads (rest ++ input) all stop × IsProperPrefix frames all
 
 -- a reading that ended for want of more input has come to the reader's end
 abbrev pub NeedsEnd : ReadEnd → Option (List ℕ) → Type 0

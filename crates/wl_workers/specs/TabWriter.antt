@@ -4,7 +4,7 @@ use Rattle.std.specs.List.{flat_map, AllByRecursion}
 use Rattle.std.specs.Io.KnownBytes.{Appends}
 use Rattle.wl_grammar.specs.declared.frame.Frame.{Frame}
 use Rattle.wl_grammar.specs.Grammar.{IsWellFormed, spelling}
-use Rattle.wl_encoding.specs.Fronts.{IsFrontOf}
+use Rattle.wl_encoding.specs.Prefixes.{IsPrefixOf}
 use Rattle.wl_outbox.specs.Parcels.{Packed}
 use Rattle.wl_outbox.specs.MergeLaws.{IsPickedFrom}
 
@@ -12,10 +12,10 @@ use Rattle.wl_outbox.specs.MergeLaws.{IsPickedFrom}
 abbrev pub Keeps : List Frame → List Frame → Type 0
 Keeps kept frames = IsPickedFrom kept frames × AllByRecursion IsWellFormed kept
 
--- the encodings of the kept frames, or a front of that where the writer has failed
+-- the encodings of the kept frames, or a prefix of that where the writer has failed
 abbrev pub IsWritten : Bool → List ℕ → List Frame → Type 0
 IsWritten false output kept = output ≡ flat_map spelling kept
-IsWritten true output kept = IsFrontOf output (flat_map spelling kept)
+IsWritten true output kept = IsPrefixOf output (flat_map spelling kept)
 
 -- the encodings of the frames were written, without those that are lost
 pub record WritesFrames (frames : List Frame) (writer_before writer_after : Option (List ℕ)) (has_failed : Bool) : Type 0 where

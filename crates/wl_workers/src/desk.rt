@@ -4,7 +4,7 @@ ghost use Rattle.std.specs.Prelude.{◌≡◌, ◌≢◌, ◌↔◌, ℕ, List, 
 ghost use Rattle.std.specs.List.{AllByRecursion};
 ghost use Rattle.std.specs.Io.KnownBytes.{Appends, IsAtEnd};
 ghost use Rattle.wl_frames.specs.declared.device.TheConstants.{READ_LIMIT};
-ghost use Rattle.wl_frames.specs.Device.{WritesFront};
+ghost use Rattle.wl_frames.specs.Device.{WritesPrefix};
 ghost use Rattle.wl_grammar.specs.Grammar.{IsWellFormed, IsAddressed};
 ghost use Rattle.wl_frames.specs.Stream.{IsPartial};
 ghost use Rattle.wl_workers.specs.declared.desk.DeskFault.TheVariants.{Write as write_fault, Memory as memory};
@@ -186,7 +186,8 @@ impl<T: LockTable> Desk<T> {
         requires frames { AllByRecursion IsWellFormed frames.now }
         requires is_open { IsRefused self.old → ⊥ }
         requires sink { sink.old.has_failed ≡ false }
-        ensures answered { (output : List ℕ) × Appends (W.contents sink.old.writer) (W.contents sink.new.writer) output
+        ensures answered { (output : List ℕ)
+            × Appends (W.contents sink.old.writer) (W.contents sink.new.writer) output
             × Deals self.old frames.now self.new result output }
         ensures write { (result ≡ Err DeskFault.Write) ↔ (sink.new.has_failed ≡ true) }
     {
@@ -219,7 +220,8 @@ impl<T: LockTable> Desk<T> {
         requires rest { IsPartial feed.old.rest }
         requires is_open { IsRefused self.old → ⊥ }
         requires sink { sink.old.has_failed ≡ false }
-        ensures treated { (output : List ℕ) × Appends (W.contents sink.old.writer) (W.contents sink.new.writer) output
+        ensures treated { (output : List ℕ)
+            × Appends (W.contents sink.old.writer) (W.contents sink.new.writer) output
             × Treats self.old self.new feed.old.rest piece.now feed.new result output }
         ensures write { (result ≡ Err DeskFault.Write) ↔ (sink.new.has_failed ≡ true) }
     {
@@ -247,7 +249,8 @@ impl<T: LockTable> Desk<T> {
 
 /// A message that is dropped is not answered; but for want of memory the run ends.
 fn unanswered(alloc: Global, reason: Dropped) -> Result<Outs, DeskFault>
-    ensures { MatchResult result (λ outs. (outs ≡ []) × (reason ≢ Dropped.Memory)) (λ e. e ≡ DeskFault.Memory) }
+    ensures { MatchResult result (λ outs.
+        (outs ≡ []) × (reason ≢ Dropped.Memory)) (λ e. e ≡ DeskFault.Memory) }
 {
     match reason {
         Dropped::Memory => Err(DeskFault::Memory),
@@ -269,11 +272,12 @@ fn spell_all(outs: Outs, bytes: &mut Vec<u8>) -> Result<(), AllocError>
 
 /// Writes the bytes and takes them away, once they are many.
 fn write_bundle<W: Write>(bytes: &mut Vec<u8>, sink: &mut Sink<W>) -> Result<(), WriteFault>
-    ensures written { OnOk result ((piece : List ℕ) × Appends (W.contents sink.old.writer) (W.contents sink.new.writer) piece
+    ensures written { OnOk result
+        ((piece : List ℕ) × Appends (W.contents sink.old.writer) (W.contents sink.new.writer) piece
         × (bytes.old.items ≡ piece ++ bytes.new.items)) }
     ensures sound { OnOk result (sink.new.has_failed ≡ sink.old.has_failed) }
     ensures failed { OnErr result ((sink.new.has_failed ≡ true)
-        × WritesFront (W.contents sink.old.writer) (W.contents sink.new.writer) bytes.old.items) }
+        × WritesPrefix (W.contents sink.old.writer) (W.contents sink.new.writer) bytes.old.items) }
 {
     if bytes.len() < BUNDLE_LEN {
         return Ok(());

@@ -60,7 +60,8 @@ pub trait Desk {
     fn take_one<R: Wait + Clock>(&mut self, rt: &R, work: Work) -> Result<Receipt, NotStepped>
         requires { IsDealt (shards self.old) work }
         ensures answered { Grows (answered self.old) (answered self.new) ((work, result) ∷ []) }
-        ensures kept { (shard : ℕ) → Grows (kept self.old shard) (kept self.new shard) (receipt_in shard (work, result)) }
+        ensures kept { (shard : ℕ)
+            → Grows (kept self.old shard) (kept self.new shard) (receipt_in shard (work, result)) }
         ensures borrowed { borrowed self.new ≡ borrowed self.old }
         ensures shards { shards self.new ≡ shards self.old };
 }
@@ -137,8 +138,10 @@ fn put_frames<R: Wait + Clock, O: Outlet>(
     outs: Vec<Addressed>,
     outlet: &mut O,
 ) -> Result<(), OutletFault>
-    ensures all { OnOk result (Grows (O.put_out outlet.old) (O.put_out outlet.new) (all_put (as_frames outs.items))) }
-    ensures some { IfErr result (λ fault. PutsUpTo (O.put_out outlet.old) (O.put_out outlet.new) (as_frames outs.items) fault) }
+    ensures all { OnOk result
+        (Grows (O.put_out outlet.old) (O.put_out outlet.new) (all_put (as_frames outs.items))) }
+    ensures some { IfErr result (λ fault.
+        PutsUpTo (O.put_out outlet.old) (O.put_out outlet.new) (as_frames outs.items) fault) }
 {
     for addressed in outs {
         put_one(rt, addressed, outlet)?;
@@ -152,8 +155,10 @@ fn put_reply<R: Wait + Clock, O: Outlet>(
     reply: Reply,
     outlet: &mut O,
 ) -> Result<(), OutletFault>
-    ensures all { OnOk result (Grows (O.put_out outlet.old) (O.put_out outlet.new) (all_put (frames_of reply))) }
-    ensures some { IfErr result (λ fault. PutsUpTo (O.put_out outlet.old) (O.put_out outlet.new) (frames_of reply) fault) }
+    ensures all { OnOk result
+        (Grows (O.put_out outlet.old) (O.put_out outlet.new) (all_put (frames_of reply))) }
+    ensures some { IfErr result (λ fault.
+        PutsUpTo (O.put_out outlet.old) (O.put_out outlet.new) (frames_of reply) fault) }
 {
     match reply {
         Reply::Outs(outs) => put_frames(rt, outs.into_vec(), outlet),
@@ -169,8 +174,10 @@ fn send<R: Wait + Clock, G: Gate, O: Outlet>(
     gate: &G,
     outlet: &mut O,
 ) -> Result<(), Cause>
-    ensures all { OnOk result (Grows (O.put_out outlet.old) (O.put_out outlet.new) (all_put (frames_of receipt.reply))) }
-    ensures some { IfErr result (λ why. IsUnsent why (O.put_out outlet.old) (O.put_out outlet.new) receipt.reply) }
+    ensures all { OnOk result
+        (Grows (O.put_out outlet.old) (O.put_out outlet.new) (all_put (frames_of receipt.reply))) }
+    ensures some { IfErr result (λ why.
+        IsUnsent why (O.put_out outlet.old) (O.put_out outlet.new) receipt.reply) }
 {
     if !gate.pass(rt, number) {
         return Err(Cause::Shut);
@@ -193,7 +200,8 @@ pub fn lane<R: Wait + Clock, I: Intake, D: Desk, G: Gate, O: Outlet>(
     outlet: &mut O,
 ) -> LaneEnd
     requires { I.shards intake.old ≡ D.shards desk.old }
-    ensures runs { RunsLane (I.given intake.old) (I.given intake.new) (D.answered desk.old) (D.answered desk.new)
+    ensures runs { RunsLane (I.given intake.old) (I.given intake.new)
+        (D.answered desk.old) (D.answered desk.new)
         (D.kept desk.old) (D.kept desk.new) (O.put_out outlet.old) (O.put_out outlet.new) result }
     ensures borrowed { D.borrowed desk.new ≡ D.borrowed desk.old }
 {

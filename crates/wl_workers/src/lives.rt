@@ -58,7 +58,8 @@ impl BoardSeat {
         ensures same { (self.new.board ≡ self.old.board) × IsSameSeat self.old.seat self.new.seat }
         ensures range { IfOk result (λ t. IsOnBoard t self.old.board) }
         ensures drawn { IfOk result (λ t. self.new.seat.view ≡ draws_number self.old.seat.view t) }
-        ensures ticket { IfOk result (λ t. Has t self.new.seat.view.drawn × (¬ Has t self.new.seat.view.born)) }
+        ensures ticket { IfOk result (λ t.
+            Has t self.new.seat.view.drawn × (¬ Has t self.new.seat.view.born)) }
     {
         self.board.draw(&mut self.seat)
     }
@@ -91,7 +92,8 @@ impl Lives for BoardSeat {
     /// A number that the board does not have is of no tab.
     fn look<R: Wait + Clock>(&mut self, _rt: &R, tab: u16) -> Life
         ensures same { (self.new.board ≡ self.old.board) × IsSameSeat self.old.seat self.new.seat }
-        ensures seen { IsOnBoard tab self.old.board → self.new.seat.view ≡ sees self.old.seat.view (tab + 1) (word_of result) }
+        ensures seen { IsOnBoard tab self.old.board
+            → self.new.seat.view ≡ sees self.old.seat.view (tab + 1) (word_of result) }
         ensures not_back { IsOnBoard tab self.old.board → tab_seen tab self.old.seat.view ≤ word_of result }
         ensures unknown { (¬ IsOnBoard tab self.old.board) → (result ≡ Life.None) × (self.new ≡ self.old) }
     {

@@ -5,7 +5,7 @@ ghost use Rattle.wl_frames.specs.declared.device.TheConstants.{PIECE_LEN, READ_L
 ghost use Rattle.wl_grammar.specs.declared.frame.Frame.{Frame as TheFrame};
 ghost use Rattle.wl_frames.specs.Stream.{IsPartial};
 ghost use Rattle.wl_workers.specs.declared.tab_reader.ReadEnd.TheVariants.{Frame as frame_end};
-ghost use Rattle.wl_workers.specs.TabReader.{of_read, ended, dead_look, HandsUp, IsProperFront, EndsAfter, Passes, NeedsEnd, ReadsTab, Closes, IsPieceEnd};
+ghost use Rattle.wl_workers.specs.TabReader.{of_read, ended, dead_look, HandsUp, IsProperPrefix, EndsAfter, Passes, NeedsEnd, ReadsTab, Closes, IsPieceEnd};
 
 use crate::lives::{Lives, finds_dead};
 use crate::uplink::Uplink;
@@ -59,9 +59,12 @@ fn hand_up<R: Wait + Clock, L: Lives, U: Uplink>(
     uplink: &mut U,
 ) -> Result<(), ReadEnd>
     ensures { MatchResult result
-        (λ _. HandsUp tab (L.answered lives.old) (L.answered lives.new) (U.handed uplink.old) (U.handed uplink.new) frames.items [])
-        (λ end. IsPieceEnd end × (end ≡ ReadEnd.Dead) × ((front : List TheFrame) × IsProperFront front frames.items
-        × HandsUp tab (L.answered lives.old) (L.answered lives.new) (U.handed uplink.old) (U.handed uplink.new) front (dead_look end))) }
+        (λ _. HandsUp tab (L.answered lives.old) (L.answered lives.new)
+        (U.handed uplink.old) (U.handed uplink.new) frames.items [])
+        (λ end. IsPieceEnd end × (end ≡ ReadEnd.Dead)
+        × ((front : List TheFrame) × IsProperPrefix front frames.items
+        × HandsUp tab (L.answered lives.old) (L.answered lives.new)
+        (U.handed uplink.old) (U.handed uplink.new) front (dead_look end))) }
 {
     for frame in frames {
         if finds_dead(rt, tab, lives) {
@@ -85,9 +88,11 @@ fn take_piece<R: Wait + Clock, L: Lives, U: Uplink>(
     requires rest { IsPartial feed.old.rest }
     requires piece { length piece.now ≤ PIECE_LEN }
     ensures { MatchResult result
-        (λ _. Passes tab (L.answered lives.old) (L.answered lives.new) (U.handed uplink.old) (U.handed uplink.new) feed.old.rest piece.now feed.new)
+        (λ _. Passes tab (L.answered lives.old) (L.answered lives.new)
+        (U.handed uplink.old) (U.handed uplink.new) feed.old.rest piece.now feed.new)
         (λ end. IsPieceEnd end × ((frames : List TheFrame) × EndsAfter feed.old.rest piece.now frames end
-        × HandsUp tab (L.answered lives.old) (L.answered lives.new) (U.handed uplink.old) (U.handed uplink.new) frames (dead_look end))) }
+        × HandsUp tab (L.answered lives.old) (L.answered lives.new)
+        (U.handed uplink.old) (U.handed uplink.new) frames (dead_look end))) }
 {
     match feed.push(piece) {
         Ok(frames) => hand_up(rt, tab, frames, lives, uplink),
@@ -119,7 +124,8 @@ fn read_all<R: Wait + Clock, S: Read, L: Lives, U: Uplink>(
     requires source { source.old.has_failed ≡ false }
     requires reads { source.old.reads ≡ 0 }
     ensures reads { ReadsTab tab (S.remaining source.old.reader) (S.remaining source.new.reader)
-        (L.answered lives.old) (L.answered lives.new) (U.handed uplink.old) (U.handed uplink.new) (ended result) }
+        (L.answered lives.old) (L.answered lives.new)
+        (U.handed uplink.old) (U.handed uplink.new) (ended result) }
     ensures end { NeedsEnd (ended result) (S.remaining source.new.reader) }
     ensures other { result ≢ Err ReadEnd.End }
     ensures failed { (result ≡ Err ReadEnd.Read) ↔ (source.new.has_failed ≡ true) }

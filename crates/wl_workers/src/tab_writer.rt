@@ -28,7 +28,8 @@ pub enum WriteEnd {
 /// Writes the encoding of a frame. One that has no spelling, or for which memory was refused, is lost.
 fn write_frame<W: Write>(alloc: Global, frame: Frame, sink: &mut Sink<W>) -> Result<(), WriteFault>
     requires { sink.old.has_failed ≡ false }
-    ensures written { WritesFrames (frame ∷ []) (W.contents sink.old.writer) (W.contents sink.new.writer) sink.new.has_failed }
+    ensures written { WritesFrames (frame ∷ [])
+        (W.contents sink.old.writer) (W.contents sink.new.writer) sink.new.has_failed }
     ensures failed { (result ≡ Ok tt) ↔ (sink.new.has_failed ≡ false) }
 {
     if !frame.is_well_formed() {
@@ -54,7 +55,8 @@ fn write_all<R: Wait + Clock, L: Lives, W: Write>(
     requires takes { takes pass.old ≡ true }
     requires sink { sink.old.has_failed ≡ false }
     ensures pass { IsSamePass pass.old pass.new }
-    ensures writes { WritesTab pass.old.view.parcels pass.new.view.parcels (W.contents sink.old.writer) (W.contents sink.new.writer) sink.new.has_failed }
+    ensures writes { WritesTab pass.old.view.parcels pass.new.view.parcels
+        (W.contents sink.old.writer) (W.contents sink.new.writer) sink.new.has_failed }
     ensures looks { LooksOnly tab (L.answered lives.old) (L.answered lives.new) }
     ensures dead { OnOk result (FoundDead tab (L.answered lives.old) (L.answered lives.new)) }
     ensures empty { OnOk result (Held 0 (IsMoment pass.new.view)) }
@@ -91,7 +93,8 @@ pub fn tab_writer<R: Wait + Clock, L: Lives, W: Write>(
     ensures pass { IsSamePass pass.old pass.new }
 
     // What is written is the encodings of what was taken, in order, without the lost ones.
-    ensures writes { WritesTab pass.old.view.parcels pass.new.view.parcels (W.contents sink.old.writer) (W.contents sink.new.writer) sink.new.has_failed }
+    ensures writes { WritesTab pass.old.view.parcels pass.new.view.parcels
+        (W.contents sink.old.writer) (W.contents sink.new.writer) sink.new.has_failed }
     ensures looks { LooksOnly tab (L.answered lives.old) (L.answered lives.new) }
     ensures dead { result ≡ WriteEnd.Dead → FoundDead tab (L.answered lives.old) (L.answered lives.new) }
     ensures empty { result ≡ WriteEnd.Dead → Held 0 (IsMoment pass.new.view) }

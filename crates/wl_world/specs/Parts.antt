@@ -7,8 +7,6 @@ use Rattle.wl_grammar.specs.declared.frame.Frame.TheVariants as frame
 use Rattle.wl_grammar.specs.declared.frame.Upward.{Upward}
 use Rattle.wl_grammar.specs.declared.frame.Upward.TheVariants as up
 use Rattle.wl_broadcast.specs.Channels.{ChannelState}
-use Rattle.wl_broadcast.specs.declared.fault.ChannelFault.{ChannelFault}
-use Rattle.wl_broadcast.specs.declared.fault.ChannelFault.TheVariants as fault
 use Rattle.wl_kernel.specs.Routes.{hearers}
 use Rattle.wl_agent.specs.Tab.{TabState, operation_of, report_bodies, due, is_report_due}
 use Rattle.wl_said.specs.declared.said.Refusal.{Refusal}
@@ -74,14 +72,10 @@ is_in_place e = true
 
 -- ---- channels
 
-abbrev pub of_fault : ChannelFault → Refusal
-of_fault fault.DataTooLong = refusal.DataTooLong
-of_fault f = refusal.PostsUsedUp
-
 abbrev pub of_posting : ChannelRefusal → Refusal
 of_posting channel_refusal.NoChannel = refusal.NoChannel
 of_posting channel_refusal.Closed = refusal.InvalidState
-of_posting (channel_refusal.Fault f) = of_fault f
+of_posting (channel_refusal.Fault f) = refusal.Channel f
 
 -- a tab's post, for the other living tabs of its partition
 abbrev pub crossed : KernelState → ℕ → Frame → List Message

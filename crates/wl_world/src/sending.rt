@@ -67,7 +67,8 @@ fn add_command(
     number: u32,
     sends: &mut Vec<Message>,
 ) -> Result<(), AllocError>
-    ensures { OnOk result (sends.new.items ≡ sends.old.items ++ command_in kernel.now tab locks.now number ∷ []) }
+    ensures { OnOk result (sends.new.items
+        ≡ sends.old.items ++ command_in kernel.now tab locks.now number ∷ []) }
 {
     match locks.message(number) {
         Ok(frame) => add_stamped(kernel, tab, frame, sends),

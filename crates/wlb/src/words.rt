@@ -27,7 +27,8 @@ pub fn line(alloc: Global, words: &[String]) -> Result<Line, LineFault>
     // what the command line's grammar refuses is no line,
     ensures refused { IfOk result (λ _. fault_of command_line (map string_bytes words.now) ≡ []) }
     // and there is something to print only where the grammar finds a fault.
-    ensures usage { IfErr result (λ e. e ≢ LineFault.Memory → fault_of command_line (map string_bytes words.now) ≢ []) }
+    ensures usage { IfErr result (λ e.
+        e ≢ LineFault.Memory → fault_of command_line (map string_bytes words.now) ≢ []) }
 {
     match program(alloc)?.try_get_matches_from(words) {
         Ok(matches) => Ok(line_of(alloc, &matches)?),

@@ -53,7 +53,7 @@ fn run<S: Read + Drop>(alloc: Global, reader: S, written: &mut Vec<u8>) -> Resul
     desk_run(alloc, &mut source, &mut sink)
 }
 
-/// Runs the desk, and compares how it ends and what it writes. A run that memory ended has written a front of that, and is made
+/// Runs the desk, and compares how it ends and what it writes. A run that memory ended has written a prefix of that, and is made
 /// again.
 fn expect<S: Read + Copy + Drop>(
     rt: &impl Abort,

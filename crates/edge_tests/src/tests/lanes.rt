@@ -446,7 +446,8 @@ fn run_named<J: Shards + Send + Sync, G: Gate + Sync, R: Threads + Wait + Clock 
     requires parts { HaveParts lanes blanks }
     requires lanes { (0 < lanes) × (lanes ≤ LANE_LIMIT) }
     requires shards { (0 < shards) × (shards ≤ SHARD_LIMIT) }
-    requires run { J.run ≡ record { generation = 1; listed = []; shards = shards; lanes = lanes; limit = limit } }
+    requires run { J.run
+        ≡ record { generation = 1; listed = []; shards = shards; lanes = lanes; limit = limit } }
 {
     let (broker, lanes, _hellos) = Sharded::<J>::new(alloc, blanks, 1, &[], limit, lanes, shards)?;
     let mut jobs = jobs_of(alloc, lanes, shards, scripts)?;

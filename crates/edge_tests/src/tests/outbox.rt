@@ -15,7 +15,8 @@ use wl_outbox::{CrossPartition, Full, Outbox, Parcel, Pass};
 fn next_pass(rt: &impl Abort, outbox: &Outbox, passes: &mut Vec<Pass>) -> Pass
     requires { All (λ p. IsOf p outbox.now × (takes p ≡ false) × (p.view.parcels ≡ [])) passes.old.items }
     ensures pass { IsOf result outbox.now × (takes result ≡ false) }
-    ensures others { All (λ p. IsOf p outbox.now × (takes p ≡ false) × (p.view.parcels ≡ [])) passes.new.items }
+    ensures others { All (λ p.
+        IsOf p outbox.now × (takes p ≡ false) × (p.view.parcels ≡ [])) passes.new.items }
 {
     passes.pop().expect(rt, "one more pass")
 }
@@ -135,10 +136,12 @@ fn parcels_of_two_threads_come_in_order(rt: HostRuntime) {
     thread::join(
         &rt,
         move ||
-            requires { IsOf one shared.now × (takes one ≡ false) × (shared.now.partition ≡ 1) × (shared.now.tab ≡ 2) }
+            requires { IsOf one shared.now × (takes one ≡ false)
+                × (shared.now.partition ≡ 1) × (shared.now.tab ≡ 2) }
         { put_hundred(host, shared, one, 0) },
         move ||
-            requires { IsOf other shared.now × (takes other ≡ false) × (shared.now.partition ≡ 1) × (shared.now.tab ≡ 2) }
+            requires { IsOf other shared.now × (takes other ≡ false)
+                × (shared.now.partition ≡ 1) × (shared.now.tab ≡ 2) }
         { put_hundred(host, shared, other, 500) },
     );
     take_both(&rt, &outbox, &mut taker);

@@ -37,7 +37,7 @@ pub fn append(rt: &impl Abort, bytes: &mut Vec<u8>, more: &[u8]) {
     }
 }
 
-/// What a call that was refused memory has written is a front of its text, and is taken away before the call is made again.
+/// What a call that was refused memory has written is a prefix of its text, and is taken away before the call is made again.
 pub fn clear_front(rt: &impl Abort, out: &mut Vec<u8>, text: &str) {
     assert!(rt; text.as_bytes().starts_with(out.as_slice()), "of {text}");
     out.clear();

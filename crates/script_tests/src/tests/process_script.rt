@@ -245,7 +245,7 @@ fn put_once(reply: &KernelReply<'_>, out: &mut Vec<u8>) -> Result<(), AllocError
     reply.put(out)
 }
 
-/// Whether a reply has this text. A call that memory ended has written a front of it, and is made again.
+/// Whether a reply has this text. A call that memory ended has written a prefix of it, and is made again.
 fn prints(rt: &impl Abort, alloc: Global, reply: &KernelReply<'_>, text: &str) {
     let mut out = Vec::new(alloc);
     if put_once(reply, &mut out).is_err() {

@@ -272,7 +272,7 @@ fn is_refused(end: Result<(), SimFault>) -> bool {
     end == Err(SimFault::Memory) || end == Err(SimFault::Write)
 }
 
-/// What is written for a script that is played to its end. A run that memory ended has written a front of it, and is made again.
+/// What is written for a script that is played to its end. A run that memory ended has written a prefix of it, and is made again.
 fn written_for(rt: &impl Abort, alloc: Global, script: &[u8], name: &str) -> Vec<u8> {
     let mut written = Vec::new(alloc);
     let end = run(alloc, script, &mut written);

@@ -1,6 +1,7 @@
 //! Requests, probes and queries.
 
-ghost use Rattle.std.specs.Prelude.{◌≡◌, ◌≢◌, ◌<◌, ◌≤◌, ◌+◌, true, false, length, Some, None, Err, IfOk, OnOk, IfErr, OnErr, if◌then◌else◌};
+ghost use Rattle.std.specs.Prelude.{◌≡◌, ◌<◌, ◌≤◌, ◌+◌, true, false, length, Some, None, Err, IfOk, OnOk, OnErr, if◌then◌else◌};
+ghost use Rattle.wl_draft.specs.Refusals.{RefusesBy};
 ghost use Rattle.wl_grammar.specs.Grammar.{IsOperation};
 ghost use Rattle.wl_agent.specs.Tab.{asked, queried, issue, ask_refusal, query_refusal, live_refusal, is_supported, keeps_number, kept_numbers, live_numbers, live_limit};
 ghost use Rattle.wl_agent.specs.Kept.{can_become};
@@ -17,9 +18,10 @@ use wl_limits::texts::NAME_LIMIT;
 impl Agent {
     /// Asks for a lock.
     pub fn request(&mut self, name: &str, mode: Mode) -> Result<Pending, AgentFault>
-        ensures ok { OnOk result ((self.new ≡ asked mode false name.now self.old) × (ask_refusal self.old name.now ≡ None)) }
+        ensures ok { OnOk result ((self.new ≡ asked mode false name.now self.old)
+            × (ask_refusal self.old name.now ≡ None)) }
         ensures pending { IfOk result (λ p. (p.tab ≡ self.old.tab) × (p.number ≡ length self.old.issued)) }
-        ensures refused { IfErr result (λ e. e ≢ AgentFault.Memory → ask_refusal self.old name.now ≡ Some e) }
+        ensures refused { RefusesBy result (ask_refusal self.old name.now) AgentFault.Memory }
         ensures memory { result ≡ Err AgentFault.Memory → ask_refusal self.old name.now ≡ None }
         ensures err { OnErr result (self.new ≡ self.old) }
     {
@@ -30,9 +32,10 @@ impl Agent {
 
     /// Asks for a lock that is to be had at once or not at all.
     pub fn probe(&mut self, name: &str, mode: Mode) -> Result<Probe, AgentFault>
-        ensures ok { OnOk result ((self.new ≡ asked mode true name.now self.old) × (ask_refusal self.old name.now ≡ None)) }
+        ensures ok { OnOk result ((self.new ≡ asked mode true name.now self.old)
+            × (ask_refusal self.old name.now ≡ None)) }
         ensures probe { IfOk result (λ p. (p.tab ≡ self.old.tab) × (p.number ≡ length self.old.issued)) }
-        ensures refused { IfErr result (λ e. e ≢ AgentFault.Memory → ask_refusal self.old name.now ≡ Some e) }
+        ensures refused { RefusesBy result (ask_refusal self.old name.now) AgentFault.Memory }
         ensures memory { result ≡ Err AgentFault.Memory → ask_refusal self.old name.now ≡ None }
         ensures err { OnErr result (self.new ≡ self.old) }
     {
@@ -45,7 +48,7 @@ impl Agent {
     pub fn query(&mut self) -> Result<Asking, AgentFault>
         ensures ok { OnOk result ((self.new ≡ queried self.old) × (query_refusal self.old ≡ None)) }
         ensures asking { IfOk result (λ q. (q.tab ≡ self.old.tab) × (q.number ≡ length self.old.issued)) }
-        ensures refused { IfErr result (λ e. e ≢ AgentFault.Memory → query_refusal self.old ≡ Some e) }
+        ensures refused { RefusesBy result (query_refusal self.old) AgentFault.Memory }
         ensures memory { result ≡ Err AgentFault.Memory → query_refusal self.old ≡ None }
         ensures err { OnErr result (self.new ≡ self.old) }
     {
@@ -60,9 +63,10 @@ impl Agent {
 
     /// Issues a request or a probe.
     fn ask(&mut self, name: &str, mode: Mode, if_available: bool) -> Result<u32, AgentFault>
-        ensures ok { OnOk result ((self.new ≡ asked mode if_available name.now self.old) × (ask_refusal self.old name.now ≡ None)) }
+        ensures ok { OnOk result ((self.new ≡ asked mode if_available name.now self.old)
+            × (ask_refusal self.old name.now ≡ None)) }
         ensures number { IfOk result (λ n. n ≡ length self.old.issued) }
-        ensures refused { IfErr result (λ e. e ≢ AgentFault.Memory → ask_refusal self.old name.now ≡ Some e) }
+        ensures refused { RefusesBy result (ask_refusal self.old name.now) AgentFault.Memory }
         ensures memory { result ≡ Err AgentFault.Memory → ask_refusal self.old name.now ≡ None }
         ensures err { OnErr result (self.new ≡ self.old) }
     {
@@ -109,7 +113,8 @@ impl Agent {
         requires few { live_numbers self.old < live_limit self.old.in_parts }
         requires becomes { can_become operation status ≡ true }
         requires spoken { IsOperation operation }
-        requires numbers { length self.old.issued + kept_numbers self.old + (if keeps_number (Some status) then 2 else 1) ≤ self.old.numbers }
+        requires numbers { length self.old.issued + kept_numbers self.old
+            + (if keeps_number (Some status) then 2 else 1) ≤ self.old.numbers }
         ensures ok { OnOk result (self.new ≡ issue operation status self.old) }
         ensures number { IfOk result (λ n. n ≡ length self.old.issued) }
         ensures err { OnErr result (self.new ≡ self.old) }

@@ -1,6 +1,7 @@
 //! What the tab sends.
 
-ghost use Rattle.std.specs.Prelude.{◌≡◌, ◌≢◌, Some, None, Err, IfOk, OnOk, IfErr, OnErr};
+ghost use Rattle.std.specs.Prelude.{◌≡◌, ◌≢◌, Some, None, Err, IfOk, OnOk, OnErr};
+ghost use Rattle.wl_draft.specs.Refusals.{RefusesBy};
 ghost use Rattle.std.specs.List.{AllByRecursion};
 ghost use Rattle.wl_grammar.specs.Grammar.{IsWellFormed};
 ghost use Rattle.wl_agent.specs.Tab.{command_frame, report_frames, message_refusal, report_refusal, due, is_report_due};
@@ -26,7 +27,7 @@ impl Agent {
         ensures message { IfOk result (λ f. f ≡ command_frame self.now number) }
         ensures spoken { IfOk result IsWellFormed }
         ensures allowed { OnOk result (message_refusal self.now number ≡ None) }
-        ensures refused { IfErr result (λ e. e ≢ MessageFault.Memory → message_refusal self.now number ≡ Some e) }
+        ensures refused { RefusesBy result (message_refusal self.now number) MessageFault.Memory }
         ensures memory { result ≡ Err MessageFault.Memory → message_refusal self.now number ≡ None }
     {
         if self.entered == 0 {
@@ -47,7 +48,7 @@ impl Agent {
         ensures report { IfOk result (λ frames. frames ≡ report_frames self.now) }
         ensures spoken { IfOk result (λ frames. AllByRecursion IsWellFormed frames) }
         ensures allowed { OnOk result (report_refusal self.now ≡ None) }
-        ensures refused { IfErr result (λ e. e ≢ MessageFault.Memory → report_refusal self.now ≡ Some e) }
+        ensures refused { RefusesBy result (report_refusal self.now) MessageFault.Memory }
         ensures memory { result ≡ Err MessageFault.Memory → report_refusal self.now ≡ None }
     {
         if self.entered == 0 {

@@ -77,7 +77,8 @@ impl Agent {
 
     /// Takes a request back, by a command whose number it answers. It takes no memory.
     pub fn abort(&mut self, pending: Pending) -> Result<u32, AbortFault>
-        ensures ok { OnOk result ((self.new ≡ aborted pending.number self.old) × (abort_refusal self.old pending ≡ None)) }
+        ensures ok { OnOk result ((self.new ≡ aborted pending.number self.old)
+            × (abort_refusal self.old pending ≡ None)) }
         ensures number { IfOk result (λ n. n ≡ length self.old.issued) }
         ensures refused { IfErr result (λ e. abort_refusal self.old pending ≡ Some e) }
         ensures err { OnErr result (self.new ≡ self.old) }

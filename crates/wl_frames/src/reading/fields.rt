@@ -1,6 +1,6 @@
 //! Reading the fields that several kinds of frames have: each answers the field and the bytes after it.
 
-ghost use Rattle.std.specs.Prelude.{◌≡◌, ℕ, List, Option};
+ghost use Rattle.std.specs.Prelude.{ℕ, List, Option};
 ghost use Rattle.std.specs.Int.{w16, w32};
 ghost use Rattle.wl_frames.specs.Reading.{Gives, byte_at, number_at, generation_at, tab_at, mode_at, flag_at, held_at, taken_at, short_text_at, long_text_at, text_of, channel_at, lock_name_at, data_at, origin_text_of, origin_at, items_at, list_at};
 

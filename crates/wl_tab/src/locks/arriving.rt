@@ -3,7 +3,7 @@
 ghost use Rattle.std.specs.Prelude.{◌≡◌, ◌≢◌, true, IfOk, OnOk, OnErr};
 ghost use Rattle.wl_agent.specs.Delivery.{delivery};
 ghost use Rattle.wl_tab.specs.Tabs.{told};
-ghost use Rattle.wl_tab.specs.Arrivals.{arrival, of_unheard, generation_in, part_in, parts_in};
+ghost use Rattle.wl_tab.specs.Arrivals.{arrival, generation_in, part_in, parts_in};
 ghost use Rattle.wl_tab.specs.TabTokens.{ended_before, has_snapshot, said_of_told, entered_by};
 
 use crate::locks::TabLocks;
@@ -80,7 +80,7 @@ fn said_of_told(
             Some(snapshot) => Said::Whole { number, snapshot },
             None => unreachable!(),
         },
-        Delivered::Dropped(unheard) => Said::Dropped(reason_of(unheard)),
+        Delivered::Dropped(unheard) => Said::Dropped(Reason::AtTab(unheard)),
     }
 }
 
@@ -121,19 +121,5 @@ fn parts_in(frame: &Frame) -> u16
     match frame {
         Frame::Snapshot(snapshot) => snapshot.parts,
         _ => 0,
-    }
-}
-
-/// Why a frame was dropped. No frame that is sent to a tab is of a wrong kind, and want of memory is no drop of the tab's.
-fn reason_of(unheard: Unheard) -> Reason
-    ensures { result ≡ of_unheard unheard }
-{
-    match unheard {
-        Unheard::OldGeneration => Reason::OldGeneration,
-        Unheard::LaterGeneration => Reason::LaterGeneration,
-        Unheard::Held => Reason::Held,
-        Unheard::Over => Reason::Over,
-        Unheard::Twice => Reason::Twice,
-        Unheard::Odd | Unheard::WrongKind | Unheard::Memory => Reason::Odd,
     }
 }

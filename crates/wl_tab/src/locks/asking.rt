@@ -1,6 +1,7 @@
 //! Requests, probes and queries, whose tokens are kept.
 
-ghost use Rattle.std.specs.Prelude.{◌≡◌, ◌≢◌, true, false, length, Some, None, IfOk, OnOk, IfErr, OnErr};
+ghost use Rattle.std.specs.Prelude.{◌≡◌, true, false, length, None, IfOk, OnOk, OnErr};
+ghost use Rattle.wl_draft.specs.Refusals.{RefusesBy};
 ghost use Rattle.wl_grammar.specs.declared.frame.Operation.TheVariants.{Request};
 ghost use Rattle.wl_agent.specs.Tab.{asked, queried, ask_refusal, query_refusal};
 
@@ -14,9 +15,10 @@ use wl_grammar::Operation;
 impl TabLocks {
     /// Asks for a lock, and gives the command's number. The room for its token is made first.
     pub(crate) fn request(&mut self, name: &Name, mode: Mode) -> Result<u32, AgentFault>
-        ensures ok { OnOk result ((self.new ≡ asked mode false name.now self.old) × (ask_refusal self.old name.now ≡ None)) }
+        ensures ok { OnOk result ((self.new ≡ asked mode false name.now self.old)
+            × (ask_refusal self.old name.now ≡ None)) }
         ensures number { IfOk result (λ n. n ≡ length self.old.issued) }
-        ensures refused { IfErr result (λ e. e ≢ AgentFault.Memory → ask_refusal self.old name.now ≡ Some e) }
+        ensures refused { RefusesBy result (ask_refusal self.old name.now) AgentFault.Memory }
         ensures err { OnErr result (self.new ≡ self.old) }
     {
         let operation = asking(self.alloc, name, mode, false)?;
@@ -32,9 +34,10 @@ impl TabLocks {
 
     /// Asks for a lock that is to be had at once or not at all, and gives the command's number.
     pub(crate) fn probe(&mut self, name: &Name, mode: Mode) -> Result<u32, AgentFault>
-        ensures ok { OnOk result ((self.new ≡ asked mode true name.now self.old) × (ask_refusal self.old name.now ≡ None)) }
+        ensures ok { OnOk result ((self.new ≡ asked mode true name.now self.old)
+            × (ask_refusal self.old name.now ≡ None)) }
         ensures number { IfOk result (λ n. n ≡ length self.old.issued) }
-        ensures refused { IfErr result (λ e. e ≢ AgentFault.Memory → ask_refusal self.old name.now ≡ Some e) }
+        ensures refused { RefusesBy result (ask_refusal self.old name.now) AgentFault.Memory }
         ensures err { OnErr result (self.new ≡ self.old) }
     {
         let operation = asking(self.alloc, name, mode, true)?;
@@ -52,7 +55,7 @@ impl TabLocks {
     pub(crate) fn query(&mut self) -> Result<u32, AgentFault>
         ensures ok { OnOk result ((self.new ≡ queried self.old) × (query_refusal self.old ≡ None)) }
         ensures number { IfOk result (λ n. n ≡ length self.old.issued) }
-        ensures refused { IfErr result (λ e. e ≢ AgentFault.Memory → query_refusal self.old ≡ Some e) }
+        ensures refused { RefusesBy result (query_refusal self.old) AgentFault.Memory }
         ensures err { OnErr result (self.new ≡ self.old) }
     {
         self.kept.reserve(1)?;

@@ -13,7 +13,8 @@ impl TabLocks {
     /// Takes a request back that is asked. It takes no memory.
     pub(crate) fn abort(&mut self, number: u32) -> Abortion
         ensures said { result ≡ abortion number self.old }
-        ensures new { self.new ≡ (if is_pending self.old number && is_asked (status_of self.old number) then aborted number self.old else self.old) }
+        ensures new { self.new ≡ (if is_pending self.old number && is_asked (status_of self.old number)
+            then aborted number self.old else self.old) }
     {
         let Some(place) = place_of(&self.kept, number) else {
             return Abortion::Nothing;

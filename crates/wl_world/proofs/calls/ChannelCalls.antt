@@ -45,7 +45,7 @@ refusal_by l o d p =
 
 abbrev said_by : (l o d p : Bool) → Said → Said
 said_by l o d p s =
-    cond l (cond o (cond d (refused refusal.DataTooLong) (cond p (refused refusal.PostsUsedUp) s)) (refused refusal.InvalidState)) (refused refusal.NoChannel)
+    cond l (cond o (cond d (refused (refusal.Channel fault.DataTooLong)) (cond p (refused (refusal.Channel fault.PostsUsedUp)) s)) (refused refusal.InvalidState)) (refused refusal.NoChannel)
 
 refused-by : (l o d p : Bool) (s : Said) (e : ChannelRefusal) → refusal_by l o d p ≡ Some e → said_by l o d p s ≡ refused (of_posting e)
 refused-by true true true p s e h = let k : why.Fault fault.DataTooLong ≡ e = cc in ap (λ x. refused (of_posting x)) k

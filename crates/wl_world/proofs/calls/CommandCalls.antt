@@ -16,7 +16,7 @@ use Rattle.wl_tab.specs.TabTokens.{abortion}
 use Rattle.wl_supervisor.specs.declared.supervisor.Supervisor.{Supervisor}
 use Rattle.wl_supervisor.specs.Supervised.{kernel_of}
 use Rattle.wl_world.specs.World.{WorldState, Deed, tab_of, lives, acts, issues, asks, queries, aborts, releases, resends, resent, nothing}
-use Rattle.wl_world.specs.Replies.{asking, querying, aborting, releasing, resending, issued_next, some_resent, of_agent}
+use Rattle.wl_world.specs.Replies.{asking, querying, aborting, releasing, resending, issued_next, some_resent}
 use Rattle.wl_world.specs.Parts.{world_of, issued_in}
 
 -- ---- a new command
@@ -46,7 +46,7 @@ asks-done w t m f name live r = rw (live, r) refl
 pub asking-dead : (w : WorldState) (t : ℕ) (name : List ℕ) → lives w t ≡ false → asking w t name ≡ refused refusal.NoTab
 asking-dead w t name dead = rw dead refl
 
-pub asking-refused : (w : WorldState) (t : ℕ) (name : List ℕ) (e : AgentFault) → lives w t ≡ true → ask_refusal (tab_of w t) name ≡ Some e → asking w t name ≡ refused (of_agent e)
+pub asking-refused : (w : WorldState) (t : ℕ) (name : List ℕ) (e : AgentFault) → lives w t ≡ true → ask_refusal (tab_of w t) name ≡ Some e → asking w t name ≡ refused (refusal.Ask e)
 asking-refused w t name e live r = rw (live, r) refl
 
 pub asking-done : (w : WorldState) (t : ℕ) (name : List ℕ) → lives w t ≡ true → ask_refusal (tab_of w t) name ≡ None → asking w t name ≡ issued_next w t
@@ -66,7 +66,7 @@ queries-done w t live r = rw (live, r) refl
 pub querying-dead : (w : WorldState) (t : ℕ) → lives w t ≡ false → querying w t ≡ refused refusal.NoTab
 querying-dead w t dead = rw dead refl
 
-pub querying-refused : (w : WorldState) (t : ℕ) (e : AgentFault) → lives w t ≡ true → query_refusal (tab_of w t) ≡ Some e → querying w t ≡ refused (of_agent e)
+pub querying-refused : (w : WorldState) (t : ℕ) (e : AgentFault) → lives w t ≡ true → query_refusal (tab_of w t) ≡ Some e → querying w t ≡ refused (refusal.Ask e)
 querying-refused w t e live r = rw (live, r) refl
 
 pub querying-done : (w : WorldState) (t : ℕ) → lives w t ≡ true → query_refusal (tab_of w t) ≡ None → querying w t ≡ issued_next w t

@@ -33,11 +33,11 @@ use Rattle.wl_bag.specs.declared.message.Message.TheVariants.{Up, Down, Across}
 use Rattle.wl_bag.specs.Messages.{is_sent, sent_all}
 use Rattle.wl_tab.specs.Tabs.{channels_in, tab_in}
 use Rattle.wl_tab.specs.Arrivals.{arrival, told_said}
-use Rattle.wl_supervisor.specs.Supervising.{brought, of_dropped, of_start, starting, stopping, taken_said, taking_said, telling}
+use Rattle.wl_supervisor.specs.Supervising.{brought, starting, stopping, taken_said, taking_said, telling}
 use Rattle.wl_world.specs.declared.event.Event.{Event}
 use Rattle.wl_world.specs.declared.event.Event.TheVariants as event
 use Rattle.wl_world.specs.World.{WorldState, Deed, acts, becomes, channels_of, deed, greets, happens, lives, nothing, resent, starts, stops, tab_of, tells, where_allowed, is_corrupt, forgery}
-use Rattle.wl_world.specs.Replies.{delivering, greeting, hearing, letter_of, of_agent, of_channel, of_open, reached, read_letter, reply_of, said_of, sendings, some_resent, some_forged}
+use Rattle.wl_world.specs.Replies.{delivering, greeting, hearing, letter_of, reached, read_letter, reply_of, said_of, sendings, some_resent, some_forged}
 use Rattle.wl_world.specs.Refusals.{AreSame, RefusedChangesNothing}
 use Rattle.wl_world.proofs.calls.ChannelCalls.{open_beyond}
 
@@ -137,7 +137,7 @@ not_closed : (n own : Bool) (s : Said) (r : Refusal) → IsDone s → (n ≡ fal
 not_closed true own s r done beyond h = absurd (done r h)
 not_closed false own s r done beyond h = beyond refl
 
-not_posted : (n own d p : Bool) (s : Said) (r : Refusal) → IsDone s → (n ≡ false → own ≡ false) → cond n (cond own (cond d (refused refusal.DataTooLong) (cond p (refused refusal.PostsUsedUp) s)) (refused refusal.InvalidState)) (refused refusal.NoChannel) ≡ said.Refused r → not (is_some (cond d (Some fault.DataTooLong) (cond p (Some fault.PostsUsedUp) (cond own None (Some fault.ForeignChannel))))) ≡ false
+not_posted : (n own d p : Bool) (s : Said) (r : Refusal) → IsDone s → (n ≡ false → own ≡ false) → cond n (cond own (cond d (refused (refusal.Channel fault.DataTooLong)) (cond p (refused (refusal.Channel fault.PostsUsedUp)) s)) (refused refusal.InvalidState)) (refused refusal.NoChannel) ≡ said.Refused r → not (is_some (cond d (Some fault.DataTooLong) (cond p (Some fault.PostsUsedUp) (cond own None (Some fault.ForeignChannel))))) ≡ false
 not_posted n own true p s r done beyond h = refl
 not_posted n own false true s r done beyond h = refl
 not_posted n false false false s r done beyond h = refl
@@ -186,7 +186,7 @@ taken-done b t (up.Report x) = joined-done t
 taken-done b t (up.ReportPart x) = either-done (is_joined (seat_of b t)) _ _ (joined-done t) (part-done x.part x.parts)
 
 taking-done : (s : Stamped) (t : Taking) → IsDone (taking_said s t)
-taking-done s (Drops why) = dropped-done (of_dropped why)
+taking-done s (Drops why) = dropped-done (reason.AtBroker why)
 taking-done s (Does b outs) = taken-done b s.tab s.inner
 
 brought-done : (s : Stamped) (o : Option BrokerState) → IsDone (brought s o)
@@ -215,7 +215,7 @@ stops-refused w (Some b) r h = undone w (may_stop w.kernel) _ (not_so (may_stop 
 
 starts-refused : (w : WorldState) (ts : List ℕ) (o : Option BrokerState) (r : Refusal) → starting w.kernel ts o ≡ said.Refused r → DoesNothing w (starts w ts o)
 starts-refused w ts (Some b) r h = idle w
-starts-refused w ts None r h = undone w (not (is_some (start_refusal ts w.kernel))) _ (not_allowed of_start (start_refusal ts w.kernel) (said.Started w.kernel.generation) r (λ q e. cc) h)
+starts-refused w ts None r h = undone w (not (is_some (start_refusal ts w.kernel))) _ (not_allowed refusal.Start (start_refusal ts w.kernel) (said.Started w.kernel.generation) r (λ q e. cc) h)
 
 greets-refused : (w : WorldState) (t : ℕ) (o : Option BrokerState) (r : Refusal) → greeting w.kernel t o ≡ said.Refused r → DoesNothing w (greets w t o)
 greets-refused w t None r h = idle w
@@ -223,22 +223,22 @@ greets-refused w t (Some b) r h = undone w (lives w t) _ (not_so (lives w t) sai
 
 -- ---- events
 
-asked : (w : WorldState) (t : ℕ) (name : List ℕ) (d : Deed) (r : Refusal) → cond (lives w t) (refused_or (option_map of_agent (ask_refusal (tab_of w t) name)) (said.Issued t (length (tab_of w t).issued))) (refused refusal.NoTab) ≡ said.Refused r → DoesNothing w (where_allowed (lives w t && not (is_some (ask_refusal (tab_of w t) name))) w d)
+asked : (w : WorldState) (t : ℕ) (name : List ℕ) (d : Deed) (r : Refusal) → cond (lives w t) (refused_or (option_map refusal.Ask (ask_refusal (tab_of w t) name)) (said.Issued t (length (tab_of w t).issued))) (refused refusal.NoTab) ≡ said.Refused r → DoesNothing w (where_allowed (lives w t && not (is_some (ask_refusal (tab_of w t) name))) w d)
 asked w t name d r h =
     let o = ask_refusal (tab_of w t) name in
     undone w (lives w t && not (is_some o)) d
-    (of_life (lives w t) (not (is_some o)) _ refusal.NoTab r (not_allowed of_agent o (said.Issued t (length (tab_of w t).issued)) r (λ q e. cc)) h)
+    (of_life (lives w t) (not (is_some o)) _ refusal.NoTab r (not_allowed refusal.Ask o (said.Issued t (length (tab_of w t).issued)) r (λ q e. cc)) h)
 
 refused-deed : (w : WorldState) (e : Event) (r : Refusal) → said_of w e ≡ said.Refused r → DoesNothing w (deed w e)
 unfolding said_of deed
-refused-deed w (event.Open t p) r h = undone w _ _ (not_allowed of_open (open_refusal t p w.kernel) (said.Opened t p) r (λ q e. cc) h)
-refused-deed w (event.OpenTwo t p) r h = undone w _ _ (not_allowed of_open (open_refusal t p w.kernel) (said.OpenedTwo t p) r (λ q e. cc) h)
+refused-deed w (event.Open t p) r h = undone w _ _ (not_allowed refusal.Open (open_refusal t p w.kernel) (said.Opened t p) r (λ q e. cc) h)
+refused-deed w (event.OpenTwo t p) r h = undone w _ _ (not_allowed refusal.Open (open_refusal t p w.kernel) (said.OpenedTwo t p) r (λ q e. cc) h)
 refused-deed w (event.Ask t mode name) r h = asked w t name _ r h
 refused-deed w (event.Probe t mode name) r h = asked w t name _ r h
 refused-deed w (event.Query t) r h =
     let o = query_refusal (tab_of w t) in
     undone w (lives w t && not (is_some o)) _
-    (of_life (lives w t) (not (is_some o)) _ refusal.NoTab r (not_allowed of_agent o (said.Issued t (length (tab_of w t).issued)) r (λ q e. cc)) h)
+    (of_life (lives w t) (not (is_some o)) _ refusal.NoTab r (not_allowed refusal.Ask o (said.Issued t (length (tab_of w t).issued)) r (λ q e. cc)) h)
 refused-deed w (event.Abort t k) r h =
     let a = tab_of w t in
     undone w (lives w t && is_pending a k && is_asked (status_of a k)) _
@@ -251,7 +251,7 @@ refused-deed w (event.Resend t) r h = resent-same w t (lives w t) (resent w t (t
 refused-deed w (event.Channel t name) r h =
     let o = channel_refusal name (channels_of w t) in
     undone w (lives w t && not (is_some o)) _
-    (of_life (lives w t) (not (is_some o)) _ refusal.NoTab r (not_allowed of_channel o (said.ChannelOpened (length (channels_of w t).objects)) r (λ q e. cc)) h)
+    (of_life (lives w t) (not (is_some o)) _ refusal.NoTab r (not_allowed refusal.Channel o (said.ChannelOpened (length (channels_of w t).objects)) r (λ q e. cc)) h)
 refused-deed w (event.Post t k bytes) r h =
     let c = channels_of w t in
     let d = ltb 16384 (length bytes) in

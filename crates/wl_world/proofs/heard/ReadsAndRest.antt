@@ -225,7 +225,7 @@ record IsReadIn (es : List Event) (w : WorldState) (t k : ℕ) : Type 0 where
   took : inbox_at (objects_of w t) k ++ taken_in t k es w ≡ reads_in t k es w ++ rest
   waits : is_open_at (objects_of (run es w) t) k ≡ true → rest ≡ inbox_at (objects_of (run es w) t) k
 
--- what is read at an event is a front of what waits
+-- what is read at an event is a prefix of what waits
 abbrev HasFront : List Letter → List Letter → Type 0
 HasFront all front = (rest : List Letter) × (all ≡ front ++ rest)
 

@@ -67,7 +67,8 @@ impl Parts {
 
     /// These messages are sent.
     pub fn send(&mut self, messages: Vec<Message>) -> Result<Vec<Sent>, AllocError>
-        ensures bag { OnOk result (self.new ≡ record self.old { bag = sent_all messages.items self.old.bag }) }
+        ensures bag { OnOk result (self.new
+            ≡ record self.old { bag = sent_all messages.items self.old.bag }) }
         ensures sent { IfOk result (λ sent. sent.items ≡ sendings messages.items self.old.bag) }
     {
         send_all(self.alloc, &mut self.bag, messages)

@@ -3,12 +3,12 @@
 ghost use Rattle.std.specs.Prelude.{◌≡◌, ◌≢◌, IfOk, OnOk};
 ghost use Rattle.wl_said.specs.declared.said.Said.TheVariants as said;
 ghost use Rattle.wl_world.specs.World.{tab_of, asks, queries, aborts, releases, resends, resent};
-ghost use Rattle.wl_world.specs.Replies.{asking, querying, aborting, releasing, resending, some_resent, of_agent};
+ghost use Rattle.wl_world.specs.Replies.{asking, querying, aborting, releasing, resending, some_resent};
 ghost use Rattle.wl_world.specs.Parts.{issued_in};
 
 use crate::parts::{Done, Parts, refused, silent};
 use crate::sending;
-use std::alloc::{AllocError, Global};
+use std::alloc::AllocError;
 use wl_agent::AgentFault;
 use wl_bag::Message;
 use wl_draft::{Mode, Name};
@@ -27,7 +27,8 @@ impl Parts {
     ) -> Result<Done, AllocError>
         ensures world { OnOk result (self.new ≡ (asks self.old tab mode if_available name.now).world) }
         ensures said { IfOk result (λ done. done.said ≡ asking self.old tab name.now) }
-        ensures sends { IfOk result (λ done. done.sends.items ≡ (asks self.old tab mode if_available name.now).sends) }
+        ensures sends { IfOk result (λ done.
+            done.sends.items ≡ (asks self.old tab mode if_available name.now).sends) }
     {
         if !self.lives(tab) {
             return Ok(refused(self.alloc, Refusal::NoTab));
@@ -117,7 +118,8 @@ impl Parts {
     /// The tab has issued this command.
     fn issued(&self, tab: u16, number: u32) -> Result<Done, AllocError>
         ensures said { IfOk result (λ done. done.said ≡ said.Issued tab number) }
-        ensures sends { IfOk result (λ done. done.sends.items ≡ issued_in self.now.kernel tab (tab_of self.now tab) number) }
+        ensures sends { IfOk result (λ done.
+            done.sends.items ≡ issued_in self.now.kernel tab (tab_of self.now tab) number) }
     {
         let said = Said::Issued { tab, number };
         match self.tabs.get(&tab) {
@@ -145,14 +147,11 @@ fn resent_said(sends: &[Message]) -> Said
 
 /// Why a command was not issued, unless memory was refused.
 fn agent_refusal(fault: AgentFault) -> Result<Refusal, AllocError>
-    ensures refusal { IfOk result (λ refusal. refusal ≡ of_agent fault) }
+    ensures refusal { IfOk result (λ refusal. refusal ≡ Refusal.Ask fault) }
     ensures fault { OnOk result (fault ≢ AgentFault.Memory) }
 {
     match fault {
-        AgentFault::NotSupported => Ok(Refusal::NotSupported),
-        AgentFault::NameTooLong => Ok(Refusal::NameTooLong),
-        AgentFault::TooMany => Ok(Refusal::TooMany),
-        AgentFault::NumbersUsedUp => Ok(Refusal::NumbersUsedUp),
         AgentFault::Memory => Err(AllocError),
+        fault => Ok(Refusal::Ask(fault)),
     }
 }

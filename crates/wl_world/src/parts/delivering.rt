@@ -23,9 +23,12 @@ use wl_tab::tables;
 impl Parts {
     /// A message that was sent once comes.
     pub fn deliver(&mut self, message: &Message) -> Result<Done, AllocError>
-        ensures world { OnOk result (self.new ≡ (where_allowed (is_sent message.now self.old.bag) self.old (comes self.old message.now)).world) }
-        ensures said { IfOk result (λ done. done.said ≡ (if is_sent message.now self.old.bag then delivering self.old message.now else said.Refused NoMessage)) }
-        ensures sends { IfOk result (λ done. done.sends.items ≡ (where_allowed (is_sent message.now self.old.bag) self.old (comes self.old message.now)).sends) }
+        ensures world { OnOk result (self.new
+            ≡ (where_allowed (is_sent message.now self.old.bag) self.old (comes self.old message.now)).world) }
+        ensures said { IfOk result (λ done. done.said ≡ (if is_sent message.now self.old.bag
+            then delivering self.old message.now else said.Refused NoMessage)) }
+        ensures sends { IfOk result (λ done. done.sends.items
+            ≡ (where_allowed (is_sent message.now self.old.bag) self.old (comes self.old message.now)).sends) }
     {
         if !self.was_sent(message) {
             return Ok(refused(self.alloc, Refusal::NoMessage));
@@ -47,7 +50,8 @@ impl Parts {
     pub fn bring(&mut self, stamped: &Stamped) -> Result<Done, AllocError>
         ensures world { OnOk result (self.new ≡ (comes_up self.old stamped.now self.old.broker).world) }
         ensures said { IfOk result (λ done. done.said ≡ brought stamped.now self.old.broker) }
-        ensures sends { IfOk result (λ done. done.sends.items ≡ (comes_up self.old stamped.now self.old.broker).sends) }
+        ensures sends { IfOk result (λ done.
+            done.sends.items ≡ (comes_up self.old stamped.now self.old.broker).sends) }
     {
         let outcome = self.supervisor.take(self.alloc, stamped)?;
         of_broker(self.alloc, outcome)
@@ -56,9 +60,13 @@ impl Parts {
     /// A message from above comes to a tab.
     #[tactic(auto, unfolding(crate::specs::World::acts, wl_tab::specs::Arrivals::arrival))]
     pub fn hear(&mut self, addressed: &Addressed) -> Result<Done, AllocError>
-        ensures world { OnOk result (self.new ≡ (where_allowed (lives self.old addressed.now.tab) self.old (hears self.old addressed.now.tab (frame_of addressed.now.inner))).world) }
-        ensures said { IfOk result (λ done. done.said ≡ alive_or self.old addressed.now.tab (arrival (frame_of addressed.now.inner) (tab_of self.old addressed.now.tab))) }
-        ensures sends { IfOk result (λ done. done.sends.items ≡ (where_allowed (lives self.old addressed.now.tab) self.old (hears self.old addressed.now.tab (frame_of addressed.now.inner))).sends) }
+        ensures world { OnOk result (self.new ≡ (where_allowed (lives self.old addressed.now.tab) self.old
+            (hears self.old addressed.now.tab (frame_of addressed.now.inner))).world) }
+        ensures said { IfOk result (λ done. done.said ≡ alive_or self.old addressed.now.tab
+            (arrival (frame_of addressed.now.inner) (tab_of self.old addressed.now.tab))) }
+        ensures sends { IfOk result (λ done.
+            done.sends.items ≡ (where_allowed (lives self.old addressed.now.tab) self.old
+            (hears self.old addressed.now.tab (frame_of addressed.now.inner))).sends) }
     {
         let tab = addressed.tab;
         if !self.lives(tab) {
@@ -73,7 +81,8 @@ impl Parts {
     /// What a tab that has heard a frame sends, by what was said of it: its report, where it has entered a generation.
     fn reported(&self, tab: u16, said: &Said) -> Result<Vec<Message>, AllocError>
         requires { is_some (find self.now.tabs tab) ≡ true }
-        ensures { IfOk result (λ ms. ms.items ≡ reported_in self.now.kernel tab (tab_of self.now tab) said.now) }
+        ensures { IfOk result (λ ms.
+            ms.items ≡ reported_in self.now.kernel tab (tab_of self.now tab) said.now) }
     {
         let Said::Entered { .. } = said else {
             return Ok(Vec::new(self.alloc));

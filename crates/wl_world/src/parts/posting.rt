@@ -6,7 +6,7 @@ ghost use Rattle.wl_grammar.specs.declared.frame.Frame.TheVariants as frame;
 ghost use Rattle.wl_broadcast.specs.Channels.{after_hearing};
 ghost use Rattle.wl_said.specs.declared.said.Reached.TheVariants.{Took};
 ghost use Rattle.wl_world.specs.World.{opens_channel, posts, reads, closes, becomes, channels_of, where_allowed, lives};
-ghost use Rattle.wl_world.specs.Replies.{opening_channel, posting, reading, closing, hearing, alive_or, of_channel};
+ghost use Rattle.wl_world.specs.Replies.{opening_channel, posting, reading, closing, hearing, alive_or};
 ghost use Rattle.wl_world.specs.Merging.{count_below, merged, across_to, number_in, posted_said, hearing_said};
 ghost use Rattle.wl_world.specs.Parts.{crossed, of_posting};
 
@@ -43,7 +43,8 @@ impl Parts {
     pub fn post(&mut self, tab: u16, channel: usize, bytes: &Bytes) -> Result<Done, AllocError>
         ensures world { OnOk result (self.new ≡ (posts self.old tab channel bytes.now).world) }
         ensures said { IfOk result (λ done. done.said ≡ posting self.old tab channel bytes.now) }
-        ensures sends { IfOk result (λ done. done.sends.items ≡ (posts self.old tab channel bytes.now).sends) }
+        ensures sends { IfOk result (λ done.
+            done.sends.items ≡ (posts self.old tab channel bytes.now).sends) }
     {
         if !self.lives(tab) {
             return Ok(refused(self.alloc, Refusal::NoTab));
@@ -90,8 +91,11 @@ impl Parts {
     /// A post comes to another tab.
     #[tactic(auto, unfolding(crate::specs::World::becomes))]
     pub fn hear_post(&mut self, tab: u16, heard: &Heard) -> Result<Done, AllocError>
-        ensures world { OnOk result (self.new ≡ (where_allowed (lives self.old tab) self.old (becomes self.old tab (after_hearing (frame.Heard heard.now) (channels_of self.old tab)) [])).world) }
-        ensures said { IfOk result (λ done. done.said ≡ alive_or self.old tab (hearing tab heard.now (channels_of self.old tab))) }
+        ensures world { OnOk result
+            (self.new ≡ (where_allowed (lives self.old tab) self.old
+            (becomes self.old tab (after_hearing (frame.Heard heard.now) (channels_of self.old tab)) [])).world) }
+        ensures said { IfOk result (λ done.
+            done.said ≡ alive_or self.old tab (hearing tab heard.now (channels_of self.old tab))) }
         ensures sends { IfOk result (λ done. done.sends.items ≡ []) }
     {
         if !self.lives(tab) {
@@ -162,13 +166,12 @@ fn hearing_said(
 
 /// Why a channel was not opened, unless memory was refused.
 fn open_refusal(fault: ChannelFault) -> Result<Refusal, AllocError>
-    ensures refusal { IfOk result (λ refusal. refusal ≡ of_channel fault) }
+    ensures refusal { IfOk result (λ refusal. refusal ≡ Refusal.Channel fault) }
     ensures fault { OnOk result (fault ≢ ChannelFault.Memory) }
 {
     match fault {
-        ChannelFault::NameTooLong => Ok(Refusal::NameTooLong),
         ChannelFault::Memory => Err(AllocError),
-        _ => Ok(Refusal::TooManyChannels),
+        fault => Ok(Refusal::Channel(fault)),
     }
 }
 
@@ -180,9 +183,8 @@ fn post_refusal(refusal: ChannelRefusal) -> Result<Refusal, AllocError>
     match refusal {
         ChannelRefusal::NoChannel => Ok(Refusal::NoChannel),
         ChannelRefusal::Closed => Ok(Refusal::InvalidState),
-        ChannelRefusal::Fault(ChannelFault::DataTooLong) => Ok(Refusal::DataTooLong),
         ChannelRefusal::Fault(ChannelFault::Memory) => Err(AllocError),
-        ChannelRefusal::Fault(_) => Ok(Refusal::PostsUsedUp),
+        ChannelRefusal::Fault(fault) => Ok(Refusal::Channel(fault)),
     }
 }
 

@@ -3,7 +3,7 @@
 ghost use Rattle.std.specs.Prelude.{◌≡◌, ◌≢◌, IfOk, OnOk};
 ghost use Rattle.wl_supervisor.specs.Supervising.{killing, telling, stopping, starting};
 ghost use Rattle.wl_world.specs.World.{opens, opens_two, kills, tells, stops, starts, greets};
-ghost use Rattle.wl_world.specs.Replies.{opening, opening_two, greeting, of_open};
+ghost use Rattle.wl_world.specs.Replies.{opening, opening_two, greeting};
 
 use crate::parts::{Done, Parts, of_broker, refused, silent};
 use std::alloc::AllocError;
@@ -35,7 +35,8 @@ impl Parts {
     pub fn open_two(&mut self, tab: u16, partition: &Partition) -> Result<Done, AllocError>
         ensures world { OnOk result (self.new ≡ (opens_two self.old tab partition.now).world) }
         ensures said { IfOk result (λ done. done.said ≡ opening_two self.old.kernel tab partition.now) }
-        ensures sends { IfOk result (λ done. done.sends.items ≡ (opens_two self.old tab partition.now).sends) }
+        ensures sends { IfOk result (λ done.
+            done.sends.items ≡ (opens_two self.old tab partition.now).sends) }
     {
         let copy = partition.copy(self.alloc)?;
         match self.supervisor.open(tab, copy) {
@@ -147,13 +148,11 @@ impl Parts {
 
 /// Why a tab was not opened, unless memory was refused.
 fn open_refusal(fault: OpenFault) -> Result<Refusal, AllocError>
-    ensures refusal { IfOk result (λ refusal. refusal ≡ of_open fault) }
+    ensures refusal { IfOk result (λ refusal. refusal ≡ Refusal.Open fault) }
     ensures fault { OnOk result (fault ≢ OpenFault.Memory) }
 {
     match fault {
-        OpenFault::NumberTaken => Ok(Refusal::NumberTaken),
-        OpenFault::TooManyLiving => Ok(Refusal::TooManyLiving),
-        OpenFault::PartitionFull => Ok(Refusal::PartitionFull),
         OpenFault::Memory => Err(AllocError),
+        fault => Ok(Refusal::Open(fault)),
     }
 }

@@ -19,7 +19,7 @@ fn put_word_once(out: &mut Vec<u8>, text: &str) -> Result<(), AllocError> {
     put_word(out, text.as_bytes())
 }
 
-/// Whether a text has this word. A call that memory ended has written a front of it, and is made again.
+/// Whether a text has this word. A call that memory ended has written a prefix of it, and is made again.
 fn has_word(rt: &impl Abort, alloc: Global, text: &str, word: &str) {
     let mut out = Vec::new(alloc);
     if put_word_once(&mut out, text).is_err() {
@@ -131,7 +131,7 @@ fn put_message_once(out: &mut Vec<u8>, message: &Message) -> Result<(), AllocErr
     put_message(out, message)
 }
 
-/// Whether a message has this text. A call that memory ended has written a front of it, and is made again.
+/// Whether a message has this text. A call that memory ended has written a prefix of it, and is made again.
 fn has_text(rt: &impl Abort, alloc: Global, message: &Message, text: &str) {
     let mut out = Vec::new(alloc);
     if put_message_once(&mut out, message).is_err() {

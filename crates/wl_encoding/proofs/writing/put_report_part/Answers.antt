@@ -1,7 +1,7 @@
 use Rattle.std.proofs.Common.{append_assoc}
 use Rattle.std.proofs.lemmas.Result.{IfOk-equal}
 use Rattle.wl_grammar.specs.Grammar.{report_part}
-use Rattle.wl_encoding.proofs.Fronts.{IsFrontOf-trans}
+use Rattle.wl_encoding.proofs.Prefixes.{IsPrefixOf-trans}
 use Rattle.wl_encoding.proofs.writing.put_report_part.Goals as goal
 
 pub returns-clause-spelled : goal.returns-clause-spelled
@@ -20,9 +20,9 @@ returns-clause-spelled c =
 
 pub returns-clause-kept : goal.returns-clause-kept
 returns-clause-kept c =
-    IsFrontOf-trans _ _ _ c.put_kind.ensures.kept (
-    IsFrontOf-trans _ _ _ c.put_u32.ensures.kept (
-    IsFrontOf-trans _ _ _ c.put_u32-2.ensures.kept (
-    IsFrontOf-trans _ _ _ c.put_u16.ensures.kept (
-    IsFrontOf-trans _ _ _ c.put_u16-2.ensures.kept (
+    IsPrefixOf-trans _ _ _ c.put_kind.ensures.kept (
+    IsPrefixOf-trans _ _ _ c.put_u32.ensures.kept (
+    IsPrefixOf-trans _ _ _ c.put_u32-2.ensures.kept (
+    IsPrefixOf-trans _ _ _ c.put_u16.ensures.kept (
+    IsPrefixOf-trans _ _ _ c.put_u16-2.ensures.kept (
     c.put_entries.ensures.kept)))))
