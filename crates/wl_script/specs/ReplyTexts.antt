@@ -63,7 +63,7 @@ sent_text s =
 
 -- ---- refusals and drops
 
--- those of memory are never said
+-- those of memory no answer says: law_answers of wl_world
 unfoldable pub open_fault_text : OpenFault → List ℕ
 open_fault_text open_fault.NumberTaken = codes "NumberTaken"
 open_fault_text open_fault.TooManyLiving = codes "TooManyLiving"

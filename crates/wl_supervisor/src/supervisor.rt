@@ -1,6 +1,6 @@
 //! The supervisor, with the broker that is up.
 
-ghost use Rattle.std.specs.Prelude.{◌≡◌, ◌≢◌, [], None, IfOk, OnOk, OnErr, is_some, if◌then◌else◌};
+ghost use Rattle.std.specs.Prelude.{◌≡◌, ◌≢◌, [], None, Err, IfOk, OnOk, OnErr, is_some, if◌then◌else◌};
 ghost use Rattle.wl_draft.specs.Refusals.{RefusesBy};
 ghost use Rattle.wl_grammar.specs.Grammar.{TabsRiseFrom};
 ghost use Rattle.wl_broker.specs.Broker.{started, hellos};
@@ -79,6 +79,8 @@ impl Supervisor {
         ensures allowed { OnOk result (open_refusal tab partition (kernel_of self.old) ≡ None) }
         ensures refused { RefusesBy result
             (open_refusal tab partition (kernel_of self.old)) OpenFault.Memory }
+        ensures memory { result ≡ Err OpenFault.Memory
+            → open_refusal tab partition (kernel_of self.old) ≡ None }
         ensures err { OnErr result (self.new ≡ self.old) }
     {
         match self {
@@ -152,6 +154,7 @@ impl Supervisor {
     /// A command or a report comes to the broker.
     pub fn take(&mut self, alloc: Global, stamped: &Stamped) -> Result<Outcome, AllocError>
         ensures supervisor { OnOk result (self.new ≡ after_taking stamped.now self.old) }
+        ensures kernel { kernel_of self.new ≡ kernel_of self.old }
         ensures said { IfOk result (λ r. r.said ≡ brought stamped.now (broker_of self.old)) }
         ensures outs { IfOk result (λ r. r.outs ≡ outs_by_taking stamped.now self.old) }
     {
@@ -172,6 +175,7 @@ impl Supervisor {
     /// The broker is told that a tab is dead.
     pub fn tell(&mut self, alloc: Global, tab: u16) -> Result<Outcome, AllocError>
         ensures supervisor { OnOk result (self.new ≡ after_burial tab self.old) }
+        ensures kernel { kernel_of self.new ≡ kernel_of self.old }
         ensures said { IfOk result (λ r. r.said ≡ telling (kernel_of self.old) tab (broker_of self.old)) }
         ensures outs { IfOk result (λ r. r.outs ≡ outs_by_burial tab self.old) }
     {

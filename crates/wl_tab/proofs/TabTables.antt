@@ -1,13 +1,13 @@
 -- Tables of tabs as the entries of a `BTreeMap`: the row of a tab that has one, and what is written there.
-use Rattle.std.proofs.Common.{◌≡◌, ℕ, ◌+◌, ◌≤◌, Bool, true, false, cond, ltb, [], ◌∷◌, Some, None, sym, ap, ◌∙◌, arith}
-use Rattle.std.proofs.lemmas.Bool.{le-ltb}
+use Rattle.std.proofs.Common.{◌≡◌, ⊎_elim, ℕ, ◌+◌, ◌≤◌, Bool, true, false, cond, [], ◌∷◌, Some, None, is_some, refl, sym, ap, ◌∙◌, subst, arith}
+use Rattle.std.proofs.lemmas.Bool.{cases_eq}
 use Rattle.std.proofs.lemmas.Map.Keys.{IsStrictlyIncreasing-from_sorted, sorted_tail}
 use Rattle.std.specs.Ordering.{nat_cmp}
 use Rattle.std.specs.BTreeMap.{is_at}
 use Rattle.std.specs.Map.{lookup, set_value, keys_of}
 use Rattle.std.specs.List.Sorted.{IsStrictlySortedBy}
 use Rattle.wl_draft.specs.Tables.{Table, find, put, Rises}
-use Rattle.wl_draft.proofs.TableLemmas.{lookup-find}
+use Rattle.wl_draft.proofs.TableLemmas.{lookup-find, find-put_same, find-put_other}
 use Rattle.wl_draft.proofs.RisingTables.{written_same}
 use Rattle.wl_agent.proofs.Rows.{written}
 
@@ -21,10 +21,6 @@ rises : {X : Type 0} (es : Table X) → IsStrictlySortedBy nat_cmp (keys_of es) 
 rises [] o = tt
 rises (p ∷ ps) o = rises_from 0 p ps (omega arith) o
 
--- no number is below none
-pub ltb_zero : (k : ℕ) → ltb k 0 ≡ false
-ltb_zero k = le-ltb k 0 (omega arith)
-
 pub find_there : {X : Type 0} {x : X} (k : ℕ) (es : Table X) → Some x ≡ lookup (is_at (nat_cmp k)) es → find es k ≡ Some x
 find_there k es e = sym (lookup-find es k) ∙ sym e
 
@@ -35,11 +31,16 @@ find_absent k es e = sym (lookup-find es k) ∙ sym e
 pub written_as : {X : Type 0} {w x : X} (k : ℕ) (y : X) (es : Table X) {qs : Table X} → IsStrictlySortedBy nat_cmp (keys_of es) → Some x ≡ lookup (is_at (nat_cmp k)) es → qs ≡ set_value (is_at (nat_cmp k)) es w → w ≡ y → qs ≡ put k y es
 written_as k y es o e h v = written k _ _ es _ (rises es o) e h ∙ ap (λ z. put k z es) v
 
+-- a row that is there becomes another, and none comes or goes
+pub written_rows : {X : Type 0} {x : X} (k : ℕ) (w : X) (es : Table X) {qs : Table X} → IsStrictlySortedBy nat_cmp (keys_of es) → Some x ≡ lookup (is_at (nat_cmp k)) es → qs ≡ set_value (is_at (nat_cmp k)) es w → (t : ℕ) → is_some (find qs t) ≡ is_some (find es t)
+written_rows k w es o e h t =
+    ap (λ zs. is_some (find zs t)) (written_as k w es o e h refl)
+    ∙ ⊎_elim
+    (λ s. subst (λ z. is_some (find (put k w es) z) ≡ is_some (find es z)) s (ap is_some (find-put_same k w es) ∙ sym (ap is_some (find_there k es e))))
+    (λ n. ap is_some (find-put_other k w es t (λ z. n (sym z))))
+    (cases_eq k t)
+
 -- a row that is there becomes another, or stays
 pub written_if : {X : Type 0} {w x : X} (k : ℕ) (y : X) (b : Bool) (es : Table X) {qs : Table X} → IsStrictlySortedBy nat_cmp (keys_of es) → Some x ≡ lookup (is_at (nat_cmp k)) es → qs ≡ set_value (is_at (nat_cmp k)) es w → w ≡ cond b y x → qs ≡ cond b (put k y es) es
 written_if k y true es o e h v = written_as k y es o e h v
 written_if k y false es o e h v = written_same k _ _ es _ e h v
-
--- a row that was absent is put
-pub put_new : {X : Type 0} {x : X} (k : ℕ) (y : X) (es : Table X) {before after : Table X} → after ≡ put k x before → before ≡ es → x ≡ y → after ≡ put k y es
-put_new {x = x} k y es e same v = e ∙ ap (λ ts. put k x ts) same ∙ ap (λ z. put k z es) v

@@ -1,4 +1,4 @@
--- Tabs by their rows: how one without a row is born, and what a tab's tokens are told at once.
+-- Tabs by their rows, and what a tab's tokens are told at once.
 use Rattle.std.specs.Prelude.{ℕ, Bool, true, false, not, filter, Option, Some, None}
 use Rattle.wl_broadcast.specs.Channels.{ChannelState, no_channels}
 use Rattle.wl_agent.specs.declared.status.Status.{Status}
@@ -6,7 +6,7 @@ use Rattle.wl_agent.specs.declared.status.Status.TheVariants as status
 use Rattle.wl_agent.specs.Tab.{TabState, newborn}
 use Rattle.wl_limits.specs.declared.tabs.TheConstants.{COMMAND_LIMIT}
 
--- a tab or a channel table without a row is as it was born
+-- a tab has its rows from its opening on; one that was never opened is as a tab is born
 abbrev pub tab_in : ℕ → Option TabState → TabState
 tab_in t None = newborn t COMMAND_LIMIT
 tab_in t (Some a) = a

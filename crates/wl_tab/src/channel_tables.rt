@@ -1,6 +1,6 @@
-//! The table of the tabs' channels: a tab without a row has opened none.
+//! The table of the tabs' channels: each tab has a row from its opening on.
 
-ghost use Rattle.std.specs.Prelude.{◌≡◌, nat_lt, length, Some, None, Ok, Err, IfOk, OnOk, IfErr, OnErr, if◌then◌else◌};
+ghost use Rattle.std.specs.Prelude.{◌≡◌, nat_lt, length, true, is_some, Some, None, Ok, Err, IfOk, OnOk, IfErr, OnErr, if◌then◌else◌};
 ghost use Rattle.wl_draft.specs.Refusals.{RefusesBy};
 ghost use Rattle.wl_draft.specs.Tables.{find, put};
 ghost use Rattle.wl_broadcast.specs.Channels.{opened, open_refusal, posted, post_frame, name_at, taking, full, after_hearing, hearing_of, heard_refusal, read_at, closed_at, first_of, inbox_at, is_open_at};
@@ -8,8 +8,7 @@ ghost use Rattle.wl_tab.specs.Tabs.{channels_in};
 ghost use Rattle.wl_tab.specs.TabChannels.{number_refusal, posting_refusal};
 
 use crate::channels::{ChannelRefusal, TabChannels};
-use crate::tables::put_row;
-use std::alloc::{AllocError, Global};
+use std::alloc::AllocError;
 use std::collections::BTreeMap;
 use wl_broadcast::{ChannelFault, Hearing, Letter, Posted};
 use wl_draft::Name;
@@ -17,11 +16,11 @@ use wl_grammar::Frame;
 
 /// A tab opens a channel object.
 pub fn open_at(
-    alloc: Global,
     rows: &mut BTreeMap<u16, TabChannels>,
     tab: u16,
     name: &Name,
 ) -> Result<usize, ChannelFault>
+    requires there { is_some (find rows.old.entries tab) ≡ true }
     ensures ok { let c = channels_in tab (find rows.old.entries tab) in
         OnOk result (rows.new.entries ≡ put tab (opened name.now c) rows.old.entries) }
     ensures number { IfOk result (λ n. n ≡ length (channels_in tab (find rows.old.entries tab)).objects) }
@@ -31,40 +30,30 @@ pub fn open_at(
         (open_refusal name.now (channels_in tab (find rows.old.entries tab))) ChannelFault.Memory }
     ensures err { OnErr result (rows.new.entries ≡ rows.old.entries) }
 {
-    match rows.get_mut(&tab) {
-        Some(channels) => channels.open(name),
-        None => {
-            let mut channels = TabChannels::new(alloc, tab);
-            let number = channels.open(name)?;
-            put_row(rows, tab, channels)?;
-            Ok(number)
-        }
-    }
+    let Some(channels) = rows.get_mut(&tab) else {
+        unreachable!()
+    };
+    channels.open(name)
 }
 
 /// A post of another tab comes to a tab.
 pub fn hear_at(
-    alloc: Global,
     rows: &mut BTreeMap<u16, TabChannels>,
     tab: u16,
     frame: &Frame,
 ) -> Result<Hearing, AllocError>
-    requires { heard_refusal frame.now ≡ None }
+    requires there { is_some (find rows.old.entries tab) ≡ true }
+    requires heard { heard_refusal frame.now ≡ None }
     ensures ok { let c = channels_in tab (find rows.old.entries tab) in
         OnOk result (rows.new.entries ≡ put tab (after_hearing frame.now c) rows.old.entries) }
     ensures hearing { IfOk result (λ h.
         h ≡ hearing_of frame.now (channels_in tab (find rows.old.entries tab))) }
     ensures err { OnErr result (rows.new.entries ≡ rows.old.entries) }
 {
-    match rows.get_mut(&tab) {
-        Some(channels) => channels.heard(frame),
-        None => {
-            let mut channels = TabChannels::new(alloc, tab);
-            let hearing = channels.heard(frame)?;
-            put_row(rows, tab, channels)?;
-            Ok(hearing)
-        }
-    }
+    let Some(channels) = rows.get_mut(&tab) else {
+        unreachable!()
+    };
+    channels.heard(frame)
 }
 
 /// A tab posts on a channel object.
@@ -74,6 +63,7 @@ pub fn post_at(
     number: usize,
     bytes: &[u8],
 ) -> Result<Posted, ChannelRefusal>
+    requires there { is_some (find rows.old.entries tab) ≡ true }
     ensures ok { let c = channels_in tab (find rows.old.entries tab) in
         OnOk result (rows.new.entries ≡ put tab (posted number bytes.now c) rows.old.entries) }
     ensures allowed { OnOk result
@@ -87,10 +77,10 @@ pub fn post_at(
         (ChannelRefusal.Fault ChannelFault.Memory) }
     ensures err { OnErr result (rows.new.entries ≡ rows.old.entries) }
 {
-    match rows.get_mut(&tab) {
-        Some(channels) => channels.post(number, bytes),
-        None => Err(ChannelRefusal::NoChannel),
-    }
+    let Some(channels) = rows.get_mut(&tab) else {
+        unreachable!()
+    };
+    channels.post(number, bytes)
 }
 
 /// A tab takes the oldest post out of an inbox.
@@ -99,6 +89,7 @@ pub fn read_at(
     tab: u16,
     number: usize,
 ) -> Result<Option<Letter>, ChannelRefusal>
+    requires there { is_some (find rows.old.entries tab) ≡ true }
     ensures ok { let c = channels_in tab (find rows.old.entries tab) in
         OnOk result (rows.new.entries ≡ put tab (read_at number c) rows.old.entries) }
     ensures allowed { OnOk result (number_refusal number (channels_in tab (find rows.old.entries tab))
@@ -109,10 +100,10 @@ pub fn read_at(
         number_refusal number (channels_in tab (find rows.old.entries tab)) ≡ Some e) }
     ensures err { OnErr result (rows.new.entries ≡ rows.old.entries) }
 {
-    match rows.get_mut(&tab) {
-        Some(channels) => channels.read(number),
-        None => Err(ChannelRefusal::NoChannel),
-    }
+    let Some(channels) = rows.get_mut(&tab) else {
+        unreachable!()
+    };
+    channels.read(number)
 }
 
 /// A tab closes a channel object.
@@ -121,14 +112,15 @@ pub fn close_at(
     tab: u16,
     number: usize,
 ) -> Result<(), ChannelRefusal>
+    requires there { is_some (find rows.old.entries tab) ≡ true }
     ensures result { result ≡ (if nat_lt number (length (channels_in tab (find rows.old.entries tab)).objects)
         then Ok tt else Err ChannelRefusal.NoChannel) }
     ensures rows { let c = channels_in tab (find rows.old.entries tab) in
         rows.new.entries ≡ (if is_open_at c.objects number
         then put tab (closed_at number c) rows.old.entries else rows.old.entries) }
 {
-    match rows.get_mut(&tab) {
-        Some(channels) => channels.close(number),
-        None => Err(ChannelRefusal::NoChannel),
-    }
+    let Some(channels) = rows.get_mut(&tab) else {
+        unreachable!()
+    };
+    channels.close(number)
 }

@@ -62,7 +62,7 @@ impl From<ChannelFault> for ChannelRefusal {
 
 impl TabChannels {
     /// The channels of a tab that has opened none.
-    pub(crate) fn new(alloc: Global, tab: u16) -> TabChannels
+    pub fn new(alloc: Global, tab: u16) -> TabChannels
         ensures { result ≡ no_channels tab }
     {
         TabChannels {

@@ -77,7 +77,7 @@ pub enum Abortion {
 
 impl TabLocks {
     /// The locks of a tab that has issued nothing.
-    pub(crate) fn new(alloc: Global, tab: u16) -> TabLocks
+    pub fn new(alloc: Global, tab: u16) -> TabLocks
         ensures { result ≡ newborn tab COMMAND_LIMIT }
     {
         TabLocks {

@@ -1,6 +1,6 @@
-//! The tables of tabs: a tab without a row is as it was born.
+//! The table of the tabs' locks: each tab has a row from its opening on.
 
-ghost use Rattle.std.specs.Prelude.{◌≡◌, ◌&&◌, length, Some, None, IfOk, OnOk, OnErr, if◌then◌else◌};
+ghost use Rattle.std.specs.Prelude.{◌≡◌, ◌&&◌, ℕ, length, true, is_some, Some, None, IfOk, OnOk, OnErr, if◌then◌else◌};
 ghost use Rattle.wl_draft.specs.Refusals.{RefusesBy};
 ghost use Rattle.wl_draft.specs.Tables.{find, put};
 ghost use Rattle.wl_agent.specs.Tab.{asked, queried, aborted, released, ask_refusal, query_refusal, status_of, is_asked};
@@ -11,7 +11,7 @@ ghost use Rattle.wl_tab.specs.Arrivals.{arrival};
 ghost use Rattle.wl_tab.specs.TabTokens.{abortion};
 
 use crate::locks::{Abortion, TabLocks};
-use std::alloc::{AllocError, Global};
+use std::alloc::AllocError;
 use std::collections::BTreeMap;
 use wl_agent::AgentFault;
 use wl_draft::{Mode, Name};
@@ -29,13 +29,13 @@ pub fn put_row<T: Drop>(rows: &mut BTreeMap<u16, T>, tab: u16, row: T) -> Result
 
 /// A tab asks for a lock.
 pub fn ask_at(
-    alloc: Global,
     tabs: &mut BTreeMap<u16, TabLocks>,
     tab: u16,
     mode: Mode,
     if_available: bool,
     name: &Name,
 ) -> Result<u32, AgentFault>
+    requires there { is_some (find tabs.old.entries tab) ≡ true }
     ensures ok { let a = tab_in tab (find tabs.old.entries tab) in
         OnOk result (tabs.new.entries ≡ put tab (asked mode if_available name.now a) tabs.old.entries) }
     ensures number { IfOk result (λ n. n ≡ length (tab_in tab (find tabs.old.entries tab)).issued) }
@@ -44,15 +44,10 @@ pub fn ask_at(
         (ask_refusal (tab_in tab (find tabs.old.entries tab)) name.now) AgentFault.Memory }
     ensures err { OnErr result (tabs.new.entries ≡ tabs.old.entries) }
 {
-    match tabs.get_mut(&tab) {
-        Some(locks) => ask(locks, mode, if_available, name),
-        None => {
-            let mut locks = TabLocks::new(alloc, tab);
-            let number = ask(&mut locks, mode, if_available, name)?;
-            put_row(tabs, tab, locks)?;
-            Ok(number)
-        }
-    }
+    let Some(locks) = tabs.get_mut(&tab) else {
+        unreachable!()
+    };
+    ask(locks, mode, if_available, name)
 }
 
 fn ask(locks: &mut TabLocks, mode: Mode, if_available: bool, name: &Name) -> Result<u32, AgentFault>
@@ -70,11 +65,8 @@ fn ask(locks: &mut TabLocks, mode: Mode, if_available: bool, name: &Name) -> Res
 }
 
 /// A tab asks for a snapshot.
-pub fn query_at(
-    alloc: Global,
-    tabs: &mut BTreeMap<u16, TabLocks>,
-    tab: u16,
-) -> Result<u32, AgentFault>
+pub fn query_at(tabs: &mut BTreeMap<u16, TabLocks>, tab: u16) -> Result<u32, AgentFault>
+    requires there { is_some (find tabs.old.entries tab) ≡ true }
     ensures ok { let a = tab_in tab (find tabs.old.entries tab) in
         OnOk result (tabs.new.entries ≡ put tab (queried a) tabs.old.entries) }
     ensures number { IfOk result (λ n. n ≡ length (tab_in tab (find tabs.old.entries tab)).issued) }
@@ -83,77 +75,56 @@ pub fn query_at(
         (query_refusal (tab_in tab (find tabs.old.entries tab))) AgentFault.Memory }
     ensures err { OnErr result (tabs.new.entries ≡ tabs.old.entries) }
 {
-    match tabs.get_mut(&tab) {
-        Some(locks) => locks.query(),
-        None => {
-            let mut locks = TabLocks::new(alloc, tab);
-            let number = locks.query()?;
-            put_row(tabs, tab, locks)?;
-            Ok(number)
-        }
-    }
+    let Some(locks) = tabs.get_mut(&tab) else {
+        unreachable!()
+    };
+    locks.query()
 }
 
 /// A tab takes a request back.
 pub fn abort_at(tabs: &mut BTreeMap<u16, TabLocks>, tab: u16, number: u32) -> Abortion
+    requires there { is_some (find tabs.old.entries tab) ≡ true }
     ensures said { result ≡ abortion number (tab_in tab (find tabs.old.entries tab)) }
     ensures tabs { let a = tab_in tab (find tabs.old.entries tab) in
         tabs.new.entries ≡ (if is_pending a number && is_asked (status_of a number)
         then put tab (aborted number a) tabs.old.entries else tabs.old.entries) }
 {
-    match tabs.get_mut(&tab) {
-        Some(locks) => locks.abort(number),
-        None => Abortion::Nothing,
-    }
+    let Some(locks) = tabs.get_mut(&tab) else {
+        unreachable!()
+    };
+    locks.abort(number)
 }
 
 /// A tab releases a lock.
 pub fn release_at(tabs: &mut BTreeMap<u16, TabLocks>, tab: u16, number: u32) -> Option<u32>
+    requires there { is_some (find tabs.old.entries tab) ≡ true }
     ensures next { let a = tab_in tab (find tabs.old.entries tab) in result
         ≡ (if is_holding a number then Some (length a.issued) else None) }
     ensures tabs { let a = tab_in tab (find tabs.old.entries tab) in
         tabs.new.entries ≡ (if is_holding a number
         then put tab (released number a) tabs.old.entries else tabs.old.entries) }
 {
-    match tabs.get_mut(&tab) {
-        Some(locks) => locks.release(number),
-        None => None,
-    }
+    let Some(locks) = tabs.get_mut(&tab) else {
+        unreachable!()
+    };
+    locks.release(number)
 }
 
 /// A frame comes to a tab.
 pub fn deliver_at(
-    alloc: Global,
     tabs: &mut BTreeMap<u16, TabLocks>,
     tab: u16,
     frame: &Frame,
 ) -> Result<Said, AllocError>
+    requires there { is_some (find tabs.old.entries tab) ≡ true }
     ensures tabs { let a = tab_in tab (find tabs.old.entries tab) in
         OnOk result (tabs.new.entries ≡ put tab (told (delivery frame.now a).0) tabs.old.entries) }
     ensures said { IfOk result (λ said. said ≡ arrival frame.now (tab_in tab (find tabs.old.entries tab))) }
+    // No row comes or goes, though memory be refused.
+    ensures rows { (t : ℕ) → is_some (find tabs.new.entries t) ≡ is_some (find tabs.old.entries t) }
 {
-    match tabs.get_mut(&tab) {
-        Some(locks) => locks.deliver(frame),
-        None => {
-            let mut locks = TabLocks::new(alloc, tab);
-            let said = locks.deliver(frame)?;
-            put_row(tabs, tab, locks)?;
-            Ok(said)
-        }
-    }
-}
-
-/// A tab that has no row gets the one of its birth.
-pub fn keep_at(
-    alloc: Global,
-    tabs: &mut BTreeMap<u16, TabLocks>,
-    tab: u16,
-) -> Result<(), AllocError>
-    ensures { OnOk result (tabs.new.entries
-        ≡ put tab (tab_in tab (find tabs.old.entries tab)) tabs.old.entries) }
-{
-    match tabs.get_mut(&tab) {
-        Some(_) => Ok(()),
-        None => put_row(tabs, tab, TabLocks::new(alloc, tab)),
-    }
+    let Some(locks) = tabs.get_mut(&tab) else {
+        unreachable!()
+    };
+    locks.deliver(frame)
 }

@@ -3,10 +3,12 @@ pub mod SupervisorParts
 pub mod StampedMessages
 pub mod OneAfterAnother
 pub mod CommandCalls
+pub mod LivingRows
 pub mod MergedReaches
 pub mod PassedPosts
 pub mod ChannelCalls
 pub mod ChannelRows
 pub mod StepsAndSends
 pub mod RefusedEvents
+pub mod MemoryIsNeverSaid
 pub mod ReportCalls

@@ -1,6 +1,6 @@
 -- Only a helper: the world by its parts, and what tabs send, as the code has it.
-use Rattle.std.specs.Prelude.{◌≡◌, ℕ, map, List, [], ◌∷◌, ◌++◌, Bool, true, false, ◌==◌, if◌then◌else◌}
-use Rattle.wl_kernel.specs.Kernel.{KernelState, partition_number}
+use Rattle.std.specs.Prelude.{◌≡◌, ℕ, map, List, [], ◌∷◌, ◌++◌, Bool, true, false, ◌==◌, is_some, if◌then◌else◌}
+use Rattle.wl_kernel.specs.Kernel.{KernelState, is_living, partition_number}
 use Rattle.wl_draft.specs.Tables.{Table, find}
 use Rattle.wl_grammar.specs.declared.frame.Frame.{Frame}
 use Rattle.wl_grammar.specs.declared.frame.Frame.TheVariants as frame
@@ -64,8 +64,10 @@ stamped_in k t (frame.Report r) = passed_on k t (up.Report r) ∷ []
 stamped_in k t (frame.ReportPart r) = passed_on k t (up.ReportPart r) ∷ []
 stamped_in k t f = []
 
--- all events but a start and a stop
+-- all events but an opening, a start and a stop
 abbrev pub is_in_place : Event → Bool
+is_in_place (event.Open t p) = false
+is_in_place (event.OpenTwo t p) = false
 is_in_place event.Stop = false
 is_in_place (event.Start ts) = false
 is_in_place e = true
@@ -91,3 +93,12 @@ forged_in k t (forged.Post p) = crossed k t (frame.Post p)
 -- each row is its own tab's
 abbrev pub OwnRows : Table ChannelState → Type 0
 OwnRows rows = (t : ℕ) → (channels_in t (find rows t)).tab ≡ t
+
+-- each living tab has a row
+abbrev pub HasRows : {X : Type 0} → KernelState → Table X → Type 0
+HasRows k rows = (t : ℕ) → is_living k t ≡ true → is_some (find rows t) ≡ true
+
+pub record IsRowed (k : KernelState) (ts : Table TabState) (cs : Table ChannelState) : Type 0 where
+  pub tabs : HasRows k ts
+  pub channels : HasRows k cs
+  pub own : OwnRows cs

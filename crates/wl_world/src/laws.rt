@@ -6,7 +6,7 @@ ghost use Rattle.wl_world.specs.Heard.{HeardIsReadForAll, HeardPostsForAll, Hear
 ghost use Rattle.wl_world.specs.Holdings.{ExclusionForAll, OwnForAll};
 ghost use Rattle.wl_world.specs.Hostile.{HonestBefore, HonestUnlessNamed, TakesOwnAlone};
 ghost use Rattle.wl_world.specs.Orders.{CommandsInOrderForAll, GrantedWereHeldForAll, GrantsWereSentForAll, ManagerIsFoldForAll};
-ghost use Rattle.wl_world.specs.Refusals.{RefusedChangesNothing};
+ghost use Rattle.wl_world.specs.Refusals.{MemoryIsNeverSaid, RefusedChangesNothing};
 
 /// The laws of the whole, over its definitions alone: `refused` and `moves` of any world, all others for every list of events.
 ///
@@ -69,4 +69,10 @@ pub fn law_safety()
     ensures hellos { HellosOfShards }
     // Whatever came first among messages of two shards, one list gives each shard what came to it, if deaths came in one order.
     ensures order { InOneOrder }
+{}
+
+/// What no answer is, in any world.
+pub fn law_answers()
+    // No answer gives refused memory as its reason: an event that memory ended has none.
+    ensures memory { MemoryIsNeverSaid }
 {}

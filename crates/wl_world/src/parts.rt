@@ -1,6 +1,6 @@
 //! The parts of the world: tabs, channels, the supervisor with its broker, and the bag.
 
-ghost use Rattle.std.specs.Prelude.{◌≡◌, [], ◌++◌, IfOk, OnOk, is_some, map, slice_get};
+ghost use Rattle.std.specs.Prelude.{◌≡◌, [], ◌++◌, true, IfOk, OnOk, is_some, map, slice_get};
 ghost use Rattle.std.specs.Option.{option_copied};
 ghost use Rattle.wl_said.specs.declared.said.Said.TheVariants as said;
 ghost use Rattle.wl_tab.specs.TabTokens.{holdings_of};
@@ -38,13 +38,14 @@ pub struct Parts {
 
 impl Model for Parts {
     ghost use Rattle.wl_world.specs.World.{WorldState};
-    ghost use Rattle.wl_world.specs.Parts.{world_of, OwnRows};
+    ghost use Rattle.wl_supervisor.specs.Supervised.{kernel_of};
+    ghost use Rattle.wl_world.specs.Parts.{world_of, IsRowed};
 
     ghost Value = { WorldState };
 
     ghost view = { λ p. world_of p.tabs.entries p.channels.entries p.supervisor p.bag p.corrupt.items };
 
-    ghost invariant = { λ p. OwnRows p.channels.entries };
+    ghost invariant = { λ p. IsRowed (kernel_of p.supervisor) p.tabs.entries p.channels.entries };
 }
 
 /// What came of an event, and what was sent, in its order.
@@ -104,8 +105,20 @@ impl Parts {
     {
         match self.tabs.get(&tab) {
             Some(locks) => locks.add_holdings(holdings),
+            // It was never opened, and holds nothing.
             None => Ok(()),
         }
+    }
+
+    /// The locks of a living tab, which has its row.
+    fn locks(&self, tab: u16) -> &TabLocks
+        requires { lives self.now tab ≡ true }
+        ensures { result.now ≡ tab_of self.now tab }
+    {
+        let Some(locks) = self.tabs.get(&tab) else {
+            unreachable!()
+        };
+        locks
     }
 
     fn lives(&self, tab: u16) -> bool

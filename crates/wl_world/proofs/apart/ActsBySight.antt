@@ -102,7 +102,7 @@ all-from t s m i = ⊎_elim
 pub resending : (t : ℕ) → TabAct t
 resending t = record {
   may = λ s. s.living;
-  change = λ s. OfLocks s.tab;
+  change = λ s. OfNothing;
   sends = λ s. all_said t s;
   living = λ s e. e;
   from = all-from t;

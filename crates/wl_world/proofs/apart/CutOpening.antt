@@ -2,7 +2,8 @@
 use Rattle.std.proofs.Common.{◌≡◌, ⊎_elim, ℕ, Bool, true, false, cond, not, ◌&&◌, ◌||◌, eqb, List, [], ◌∷◌, ◌++◌, length, map, filter, Option, Some, None, is_some, refl, sym, ap, ◌∙◌, subst, append-nil, arith}
 use Rattle.std.specs.Prelude.{◌==◌, nat_le}
 use Rattle.wl_draft.proofs.RisingTables.{Rises-put, put-cases}
-use Rattle.wl_agent.specs.Tab.{TabState, newborn_two}
+use Rattle.wl_broadcast.specs.Channels.{ChannelState, no_channels}
+use Rattle.wl_agent.specs.Tab.{TabState, born}
 use Rattle.std.proofs.lemmas.Bool.{and_parts, or_cases, or_parts, or_from, cond-true, cond-false, eq-eqb}
 use Rattle.std.proofs.lemmas.Bool.Decides.{nat_tests}
 use Rattle.std.proofs.lemmas.List.Elements.{filter-append}
@@ -21,7 +22,7 @@ use Rattle.wl_bag.specs.declared.message.Message.TheVariants.{Up, Down, Across}
 use Rattle.wl_draft.specs.Membership.{In}
 use Rattle.wl_draft.proofs.Membership.{apart, either}
 use Rattle.wl_limits.specs.declared.tabs.TheConstants.{COMMAND_LIMIT}
-use Rattle.wl_world.specs.World.{WorldState, lives, with_kernel, opens, with_two, opens_two, kills}
+use Rattle.wl_world.specs.World.{WorldState, lives, with_kernel, with_rows, opens_as, kills}
 use Rattle.wl_world.specs.Apart.{was_opened_in, is_in, only, tab_at, kernel_for, up_for, world_for, part, is_own_open}
 use Rattle.wl_world.proofs.exclusion.OpenedTabs.{ended-opened}
 use Rattle.wl_world.proofs.exclusion.ActsWithinAGeneration.{after}
@@ -216,48 +217,7 @@ part-opening p k t e =
       own_room = ap (λ z. nat_le partition_limit (length z)) (living_of-part p k) ∙ s.own_room;
     })
 
-pub opens-Orderly : (p : Pair) (w : WorldState) (t : ℕ) (q : Pair) → Orderly p w → Orderly p (after w (opens w t q))
-opens-Orderly p w t q h =
-    allowed-Orderly p w (not (is_some (open_refusal t q w.kernel))) (with_kernel (kernel_opened t q w.kernel) w) h
-    (λ e. opening-Orderly p w t q h (none-from (open_refusal t q w.kernel) e))
-
--- a tab is not opened again
-again : (w : WorldState) (t : ℕ) (q : Pair) → is_opened w.kernel t ≡ true → after w (opens w t q) ≡ w
-again w t q e =
-    either (λ z. after w z ≡ w) (not (is_some (open_refusal t q w.kernel))) (with_kernel (kernel_opened t q w.kernel) w) (record { world = w; sends = [] })
-    (λ a. apart e (ap is_some (open_is_allowed t q w.kernel (none-from (open_refusal t q w.kernel) a)).1))
-    (λ _. refl)
-
-own-opens_again : (p : Pair) (w : WorldState) (t : ℕ) (q : Pair) → is_in p w.kernel t ≡ true → part p (after w (opens w t q)) ≡ after (part p w) (opens (part p w) t q)
-unfolding opened
-own-opens_again p w t q e =
-    let known : is_opened w.kernel t ≡ true = in-opened p w.kernel t e in
-    ap (part p) (again w t q known) ∙ sym (again (part p w) t q (ap is_some (own-tab p w.kernel t e) ∙ known))
-
-own-opens_new : (p : Pair) (w : WorldState) (t : ℕ) → Orderly p w → not (is_some (open_refusal t p w.kernel)) ≡ true → part p (after w (opens w t p)) ≡ after (part p w) (opens (part p w) t p)
-own-opens_new p w t h e =
-    let a : open_refusal t p w.kernel ≡ None = none-from (open_refusal t p w.kernel) e in
-    allowed-own p w (not (is_some (open_refusal t p (kernel_for p w.kernel)))) (not (is_some (open_refusal t p w.kernel)))
-    (with_kernel (kernel_opened t p (kernel_for p w.kernel)) (part p w)) (with_kernel (kernel_opened t p w.kernel) w)
-    (none-to _ (part-opening p w.kernel t a) ∙ sym e)
-    (λ _. in-opening p w t p h a ((pair_eq-decides p p).1 refl))
-
-pub own-opens : (p : Pair) (w : WorldState) (t : ℕ) (q : Pair) → is_own_open p w t q ≡ true → Orderly p w → part p (after w (opens w t q)) ≡ after (part p w) (opens (part p w) t q)
-own-opens p w t q e h = ⊎_elim
-    (λ y. own-opens_again p w t q y)
-    (λ y. let a = and_parts (not (is_some (open_refusal t q w.kernel))) (pair_eq q p) y in
-    let s : q ≡ p = (pair_eq-decides q p).0 a.1 in
-    subst (λ z. part p (after w (opens w t z)) ≡ after (part p w) (opens (part p w) t z)) (sym s)
-    (own-opens_new p w t h (subst (λ z. not (is_some (open_refusal t z w.kernel)) ≡ true) s a.0)))
-    (or_cases (is_in p w.kernel t) (not (is_some (open_refusal t q w.kernel)) && pair_eq q p) e)
-
-pub out-opens : (p : Pair) (w : WorldState) (t : ℕ) (q : Pair) → is_own_open p w t q ≡ false → Orderly p w → part p (after w (opens w t q)) ≡ part p w
-out-opens p w t q e h =
-    let n = or_parts (is_in p w.kernel t) (not (is_some (open_refusal t q w.kernel)) && pair_eq q p) e in
-    allowed-out p w (not (is_some (open_refusal t q w.kernel))) (with_kernel (kernel_opened t q w.kernel) w)
-    (λ a. out-opening p w t q h (none-from (open_refusal t q w.kernel) a) (sym (ap (λ b. b && pair_eq q p) a) ∙ n.1))
-
--- ---- a tab of the second kind is opened: a tab is opened, and has a row at once
+-- ---- its rows
 
 -- the new tab is of the partition where that is named
 new-opened : (t : ℕ) (q : Pair) (k : KernelState) → open_refusal t q k ≡ None → opened_tab (kernel_opened t q k) t ≡ Some (new_tab t q k.generation)
@@ -272,67 +232,75 @@ new-known : (t : ℕ) (q : Pair) (k : KernelState) → open_refusal t q k ≡ No
 unfolding opened
 new-known t q k a = ap is_some (new-opened t q k a)
 
-two-Orderly : (p : Pair) (v : WorldState) (t : ℕ) → opened v.kernel t ≡ true → Orderly p v → Orderly p (with_two t v)
-two-Orderly p v t e h = record {
-  kernel = h.kernel;
-  tabs = λ x i. ⊎_elim (λ c. ap (λ (z : ℕ × TabState). opened v.kernel z.0) c ∙ e) (λ j. h.tabs x j) (put-cases t (newborn_two t COMMAND_LIMIT) v.tabs i);
-  tabs_rise = Rises-put 0 t (newborn_two t COMMAND_LIMIT) v.tabs (omega arith) h.tabs_rise;
-  channels = h.channels;
-  channels_rise = h.channels_rise;
-  corrupt = h.corrupt;
-  broker = h.broker;
-  bag = h.bag;
-}
-
-own-two : (p : Pair) (v : WorldState) (t : ℕ) → is_in p v.kernel t ≡ true → Orderly p v → part p (with_two t v) ≡ with_two t (part p v)
-own-two p v t e h = ap (λ z. record (part p v) { tabs = z }) (only-put_in (is_in p v.kernel) t (newborn_two t COMMAND_LIMIT) 0 v.tabs e h.tabs_rise)
-
-out-two : (p : Pair) (v : WorldState) (t : ℕ) → is_in p v.kernel t ≡ false → part p (with_two t v) ≡ part p v
-out-two p v t e = ap (λ z. record (part p v) { tabs = z }) (only-put_out (is_in p v.kernel) t (newborn_two t COMMAND_LIMIT) v.tabs e)
-
--- the world in which the tab is opened, and has no row yet
+-- the world in which the tab is opened, and has no rows yet
 abbrev opening_world : WorldState → ℕ → Pair → WorldState
 opening_world w t q = record w { kernel = kernel_opened t q w.kernel }
 
-pub opens_two-Orderly : (p : Pair) (w : WorldState) (t : ℕ) (q : Pair) → Orderly p w → Orderly p (after w (opens_two w t q))
-opens_two-Orderly p w t q h =
-    allowed-Orderly p w (not (is_some (open_refusal t q w.kernel))) (with_kernel (kernel_opened t q w.kernel) (with_two t w)) h
-    (λ e. let a = none-from (open_refusal t q w.kernel) e in two-Orderly p (opening_world w t q) t (new-known t q w.kernel a) (opening-Orderly p w t q h a))
+module _ (p : Pair) (i : Bool) where
+  rows-Orderly : (v : WorldState) (t : ℕ) → opened v.kernel t ≡ true → Orderly p v → Orderly p (with_rows i t v)
+  rows-Orderly v t e h = record {
+    kernel = h.kernel;
+    tabs = λ x j. ⊎_elim (λ c. ap (λ (z : ℕ × TabState). opened v.kernel z.0) c ∙ e) (λ k. h.tabs x k) (put-cases t (born i t COMMAND_LIMIT) v.tabs j);
+    tabs_rise = Rises-put 0 t (born i t COMMAND_LIMIT) v.tabs (omega arith) h.tabs_rise;
+    channels = λ x j. ⊎_elim (λ c. ap (λ (z : ℕ × ChannelState). opened v.kernel z.0) c ∙ e) (λ k. h.channels x k) (put-cases t (no_channels t) v.channels j);
+    channels_rise = Rises-put 0 t (no_channels t) v.channels (omega arith) h.channels_rise;
+    corrupt = h.corrupt;
+    broker = h.broker;
+    bag = h.bag;
+  }
 
-again_two : (w : WorldState) (t : ℕ) (q : Pair) → is_opened w.kernel t ≡ true → after w (opens_two w t q) ≡ w
-again_two w t q e =
-    either (λ z. after w z ≡ w) (not (is_some (open_refusal t q w.kernel))) (with_kernel (kernel_opened t q w.kernel) (with_two t w)) (record { world = w; sends = [] })
-    (λ a. apart e (ap is_some (open_is_allowed t q w.kernel (none-from (open_refusal t q w.kernel) a)).1))
-    (λ _. refl)
+  own-rows : (v : WorldState) (t : ℕ) → is_in p v.kernel t ≡ true → Orderly p v → part p (with_rows i t v) ≡ with_rows i t (part p v)
+  own-rows v t e h =
+      let tabs = only-put_in (is_in p v.kernel) t (born i t COMMAND_LIMIT) 0 v.tabs e h.tabs_rise in
+      let channels = only-put_in (is_in p v.kernel) t (no_channels t) 0 v.channels e h.channels_rise in
+      λ j. record (part p v) { tabs = tabs j; channels = channels j }
 
-own-opens_two_again : (p : Pair) (w : WorldState) (t : ℕ) (q : Pair) → is_in p w.kernel t ≡ true → part p (after w (opens_two w t q)) ≡ after (part p w) (opens_two (part p w) t q)
-unfolding opened
-own-opens_two_again p w t q e =
-    let known : is_opened w.kernel t ≡ true = in-opened p w.kernel t e in
-    ap (part p) (again_two w t q known) ∙ sym (again_two (part p w) t q (ap is_some (own-tab p w.kernel t e) ∙ known))
+  out-rows : (v : WorldState) (t : ℕ) → is_in p v.kernel t ≡ false → part p (with_rows i t v) ≡ part p v
+  out-rows v t e =
+      let tabs = only-put_out (is_in p v.kernel) t (born i t COMMAND_LIMIT) v.tabs e in
+      let channels = only-put_out (is_in p v.kernel) t (no_channels t) v.channels e in
+      λ j. record (part p v) { tabs = tabs j; channels = channels j }
 
-own-opens_two_new : (p : Pair) (w : WorldState) (t : ℕ) → Orderly p w → not (is_some (open_refusal t p w.kernel)) ≡ true → part p (after w (opens_two w t p)) ≡ after (part p w) (opens_two (part p w) t p)
-own-opens_two_new p w t h e =
-    let a : open_refusal t p w.kernel ≡ None = none-from (open_refusal t p w.kernel) e in
-    let own : pair_eq p p ≡ true = (pair_eq-decides p p).1 refl in
-    allowed-own p w (not (is_some (open_refusal t p (kernel_for p w.kernel)))) (not (is_some (open_refusal t p w.kernel)))
-    (with_kernel (kernel_opened t p (kernel_for p w.kernel)) (with_two t (part p w))) (with_kernel (kernel_opened t p w.kernel) (with_two t w))
-    (none-to _ (part-opening p w.kernel t a) ∙ sym e)
-    (λ _. own-two p (opening_world w t p) t (new-in p t p w.kernel a ∙ own) (opening-Orderly p w t p h a) ∙ ap (with_two t) (in-opening p w t p h a own))
+  pub opens-Orderly : (w : WorldState) (t : ℕ) (q : Pair) → Orderly p w → Orderly p (after w (opens_as i w t q))
+  opens-Orderly w t q h =
+      allowed-Orderly p w (not (is_some (open_refusal t q w.kernel))) (with_kernel (kernel_opened t q w.kernel) (with_rows i t w)) h
+      (λ e. let a = none-from (open_refusal t q w.kernel) e in rows-Orderly (opening_world w t q) t (new-known t q w.kernel a) (opening-Orderly p w t q h a))
 
-pub own-opens_two : (p : Pair) (w : WorldState) (t : ℕ) (q : Pair) → is_own_open p w t q ≡ true → Orderly p w → part p (after w (opens_two w t q)) ≡ after (part p w) (opens_two (part p w) t q)
-own-opens_two p w t q e h = ⊎_elim
-    (λ y. own-opens_two_again p w t q y)
-    (λ y. let a = and_parts (not (is_some (open_refusal t q w.kernel))) (pair_eq q p) y in
-    let s : q ≡ p = (pair_eq-decides q p).0 a.1 in
-    subst (λ z. part p (after w (opens_two w t z)) ≡ after (part p w) (opens_two (part p w) t z)) (sym s)
-    (own-opens_two_new p w t h (subst (λ z. not (is_some (open_refusal t z w.kernel)) ≡ true) s a.0)))
-    (or_cases (is_in p w.kernel t) (not (is_some (open_refusal t q w.kernel)) && pair_eq q p) e)
+  -- a tab is not opened again
+  again : (w : WorldState) (t : ℕ) (q : Pair) → is_opened w.kernel t ≡ true → after w (opens_as i w t q) ≡ w
+  again w t q e =
+      either (λ z. after w z ≡ w) (not (is_some (open_refusal t q w.kernel))) (with_kernel (kernel_opened t q w.kernel) (with_rows i t w)) (record { world = w; sends = [] })
+      (λ a. apart e (ap is_some (open_is_allowed t q w.kernel (none-from (open_refusal t q w.kernel) a)).1))
+      (λ _. refl)
 
-pub out-opens_two : (p : Pair) (w : WorldState) (t : ℕ) (q : Pair) → is_own_open p w t q ≡ false → Orderly p w → part p (after w (opens_two w t q)) ≡ part p w
-out-opens_two p w t q e h =
-    let n = or_parts (is_in p w.kernel t) (not (is_some (open_refusal t q w.kernel)) && pair_eq q p) e in
-    allowed-out p w (not (is_some (open_refusal t q w.kernel))) (with_kernel (kernel_opened t q w.kernel) (with_two t w))
-    (λ a. let r = none-from (open_refusal t q w.kernel) a in
-    let other : pair_eq q p ≡ false = sym (ap (λ b. b && pair_eq q p) a) ∙ n.1 in
-    out-two p (opening_world w t q) t (new-in p t q w.kernel r ∙ other) ∙ out-opening p w t q h r other)
+  own-opens_again : (w : WorldState) (t : ℕ) (q : Pair) → is_in p w.kernel t ≡ true → part p (after w (opens_as i w t q)) ≡ after (part p w) (opens_as i (part p w) t q)
+  unfolding opened
+  own-opens_again w t q e =
+      let known : is_opened w.kernel t ≡ true = in-opened p w.kernel t e in
+      ap (part p) (again w t q known) ∙ sym (again (part p w) t q (ap is_some (own-tab p w.kernel t e) ∙ known))
+
+  own-opens_new : (w : WorldState) (t : ℕ) → Orderly p w → not (is_some (open_refusal t p w.kernel)) ≡ true → part p (after w (opens_as i w t p)) ≡ after (part p w) (opens_as i (part p w) t p)
+  own-opens_new w t h e =
+      let a : open_refusal t p w.kernel ≡ None = none-from (open_refusal t p w.kernel) e in
+      let own : pair_eq p p ≡ true = (pair_eq-decides p p).1 refl in
+      allowed-own p w (not (is_some (open_refusal t p (kernel_for p w.kernel)))) (not (is_some (open_refusal t p w.kernel)))
+      (with_kernel (kernel_opened t p (kernel_for p w.kernel)) (with_rows i t (part p w))) (with_kernel (kernel_opened t p w.kernel) (with_rows i t w))
+      (none-to _ (part-opening p w.kernel t a) ∙ sym e)
+      (λ _. own-rows (opening_world w t p) t (new-in p t p w.kernel a ∙ own) (opening-Orderly p w t p h a) ∙ ap (with_rows i t) (in-opening p w t p h a own))
+
+  pub own-opens : (w : WorldState) (t : ℕ) (q : Pair) → is_own_open p w t q ≡ true → Orderly p w → part p (after w (opens_as i w t q)) ≡ after (part p w) (opens_as i (part p w) t q)
+  own-opens w t q e h = ⊎_elim
+      (λ y. own-opens_again w t q y)
+      (λ y. let a = and_parts (not (is_some (open_refusal t q w.kernel))) (pair_eq q p) y in
+      let s : q ≡ p = (pair_eq-decides q p).0 a.1 in
+      subst (λ z. part p (after w (opens_as i w t z)) ≡ after (part p w) (opens_as i (part p w) t z)) (sym s)
+      (own-opens_new w t h (subst (λ z. not (is_some (open_refusal t z w.kernel)) ≡ true) s a.0)))
+      (or_cases (is_in p w.kernel t) (not (is_some (open_refusal t q w.kernel)) && pair_eq q p) e)
+
+  pub out-opens : (w : WorldState) (t : ℕ) (q : Pair) → is_own_open p w t q ≡ false → Orderly p w → part p (after w (opens_as i w t q)) ≡ part p w
+  out-opens w t q e h =
+      let n = or_parts (is_in p w.kernel t) (not (is_some (open_refusal t q w.kernel)) && pair_eq q p) e in
+      allowed-out p w (not (is_some (open_refusal t q w.kernel))) (with_kernel (kernel_opened t q w.kernel) (with_rows i t w))
+      (λ a. let r = none-from (open_refusal t q w.kernel) a in
+      let other : pair_eq q p ≡ false = sym (ap (λ b. b && pair_eq q p) a) ∙ n.1 in
+      out-rows (opening_world w t q) t (new-in p t q w.kernel r ∙ other) ∙ out-opening p w t q h r other)

@@ -20,7 +20,7 @@ use Rattle.wl_world.proofs.apart.CutKernel.{in-part}
 use Rattle.wl_world.proofs.apart.ToldApart.{opened, Posted, Orderly, TabAct, does, does-Orderly, own-does, out-does}
 use Rattle.wl_world.proofs.apart.ActsBySight.{asking, asks-does, querying, queries-does, aborting, aborts-does, releasing, releases-does, resending, resends-does, hearing, hears-does, opening, opens_channel-does, posting, posts-does, reading, reads-does, closing, closes-does, taking_in, takes_in-does, forging, forges-does}
 use Rattle.wl_world.proofs.apart.CutEvents.{allowed-Orderly, allowed-own, allowed-out, up-Orderly, own-up, out-up, tells-Orderly, own-tells, out-tells, greets-Orderly, own-greets, out-greets, corrupts-Orderly, own-corrupts, out-corrupts, stops-Orderly, own-stops, out-stops, starts-Orderly, own-starts, out-starts}
-use Rattle.wl_world.proofs.apart.CutOpening.{kills-Orderly, own-kills, out-kills, opens-Orderly, own-opens, out-opens, opens_two-Orderly, own-opens_two, out-opens_two}
+use Rattle.wl_world.proofs.apart.CutOpening.{kills-Orderly, own-kills, out-kills, opens-Orderly, own-opens, out-opens}
 
 -- ---- one event
 
@@ -69,8 +69,8 @@ tab_event p w t e d s h =
 
 law : (p : Pair) (w : WorldState) (e : Event) → Orderly p w → Law p w (kept p w e) (happens w e)
 unfolding happens deed
-law p w (event.Open t q) h = decided p w (is_own_open p w t q) (event.Open t q) _ (opens-Orderly p w t q h) (λ y. own-opens p w t q y h) (λ n. out-opens p w t q n h)
-law p w (event.OpenTwo t q) h = decided p w (is_own_open p w t q) (event.OpenTwo t q) _ (opens_two-Orderly p w t q h) (λ y. own-opens_two p w t q y h) (λ n. out-opens_two p w t q n h)
+law p w (event.Open t q) h = decided p w (is_own_open p w t q) (event.Open t q) _ (opens-Orderly p false w t q h) (λ y. own-opens p false w t q y h) (λ n. out-opens p false w t q n h)
+law p w (event.OpenTwo t q) h = decided p w (is_own_open p w t q) (event.OpenTwo t q) _ (opens-Orderly p true w t q h) (λ y. own-opens p true w t q y h) (λ n. out-opens p true w t q n h)
 law p w (event.Ask t mode name) h = tab_event p w t (event.Ask t mode name) (asking t mode false name) (λ v. asks-does v t mode false name) h
 law p w (event.Probe t mode name) h = tab_event p w t (event.Probe t mode name) (asking t mode true name) (λ v. asks-does v t mode true name) h
 law p w (event.Query t) h = tab_event p w t (event.Query t) (querying t) (λ v. queries-does v t) h

@@ -7,7 +7,7 @@ use Rattle.wl_grammar.specs.declared.frame.Heard.{Heard}
 use Rattle.wl_broadcast.specs.declared.letter.Posted.{Posted}
 use Rattle.wl_broadcast.specs.declared.letter.Hearing.{Hearing}
 use Rattle.wl_broadcast.specs.declared.letter.Hearing.TheVariants.{Old, New}
-use Rattle.wl_broadcast.specs.Channels.{ChannelState, Object, read_at, posted, post_frame, name_at, taking, full, after_hearing, hearing_of, is_old}
+use Rattle.wl_broadcast.specs.Channels.{ChannelState, Object, read_at, posted, post_frame, name_at, taking, full, hearing_of, is_old}
 use Rattle.wl_agent.specs.Tab.{TabState}
 use Rattle.wl_said.specs.declared.said.Said.TheVariants as said
 use Rattle.wl_said.specs.declared.said.Reason.TheVariants as reason
@@ -24,20 +24,10 @@ use Rattle.wl_world.specs.Replies.{posting, reached, hearing, letter_of, alive_o
 use Rattle.wl_world.specs.Merging.{merged, number_in, posted_said, hearing_said}
 use Rattle.wl_world.specs.Parts.{OwnRows, world_of, crossed, of_posting}
 use Rattle.wl_world.proofs.calls.MergedReaches.{merged-reached}
-use Rattle.wl_world.proofs.calls.ChannelCalls.{OwnRows-put, after_hearing-tab, posts-done, posts-refused, posting-done, posting-refused, reads-done, reads-refused}
+use Rattle.wl_world.proofs.calls.ChannelCalls.{posts-done, posts-refused, posting-done, posting-refused, reads-done, reads-refused}
 
 abbrev pub row_of : ℕ → Table ChannelState → ChannelState
 row_of t cs = channels_in t (find cs t)
-
--- a row that was put, or nothing
-pub own-after : {X E : Type 0} (r : Result X E) (t : ℕ) (c : ChannelState) (rows us : Table ChannelState) → OnOk r (us ≡ put t c rows) → OnErr r (us ≡ rows) → c.tab ≡ t → OwnRows rows → OwnRows us
-own-after (Ok x) t c rows us ok err e own = subst OwnRows (sym ok) (OwnRows-put t c rows e own)
-own-after (Err x) t c rows us ok err e own = subst OwnRows (sym err) own
-
--- a row that was put, or not
-pub own-after_if : (b : Bool) (t : ℕ) (c : ChannelState) (rows us : Table ChannelState) → us ≡ cond b (put t c rows) rows → c.tab ≡ t → OwnRows rows → OwnRows us
-own-after_if true t c rows us is e own = subst OwnRows (sym is) (OwnRows-put t c rows e own)
-own-after_if false t c rows us is e own = subst OwnRows (sym is) own
 
 -- ---- reading
 
@@ -119,7 +109,3 @@ heard-said ts cs s bag corrupt w v t x live h is =
     subst (λ (z : WorldState). lives z t ≡ true → hearing_said t x h ≡ alive_or z t (hearing t x (channels_of z t))) v
     (λ alive. let c = row_of t cs in ap (λ (g : Hearing). hearing_said t x g) is ∙ said-heard (is_old c x.source x.number) t x c.objects ∙ sym (rw alive refl))
     live
-
--- hearing leaves each row its tab's
-pub own-heard : (t : ℕ) (x : Heard) (cs us : Table ChannelState) → us ≡ put t (after_hearing (frame.Heard x) (row_of t cs)) cs → OwnRows cs → OwnRows us
-own-heard t x cs us is own = subst OwnRows (sym is) (OwnRows-put t (after_hearing (frame.Heard x) (row_of t cs)) cs (after_hearing-tab x (row_of t cs) ∙ own t) own)

@@ -1,11 +1,11 @@
 -- What a tab's command makes of its row is what it makes of the world.
-use Rattle.std.proofs.Common.{◌≡◌, ℕ, List, [], length, Bool, true, false, ◌&&◌, cond, Some, None, refl, sym, ap, ◌∙◌, subst}
+use Rattle.std.proofs.Common.{◌≡◌, ℕ, List, length, Bool, true, false, ◌&&◌, cond, Some, None, refl, sym, ap, ◌∙◌, subst}
 use Rattle.wl_draft.specs.declared.mode.Mode.{Mode}
 use Rattle.wl_draft.specs.Tables.{Table, find, put}
 use Rattle.wl_draft.proofs.TableLemmas.{find-put_same}
 use Rattle.wl_broadcast.specs.Channels.{ChannelState}
 use Rattle.wl_agent.specs.declared.fault.AgentFault.{AgentFault}
-use Rattle.wl_agent.specs.Tab.{TabState, asked, queried, aborted, released, ask_refusal, query_refusal, status_of, is_asked, due}
+use Rattle.wl_agent.specs.Tab.{TabState, asked, queried, aborted, released, ask_refusal, query_refusal, status_of, is_asked}
 use Rattle.wl_agent.specs.Tokens.{is_pending, is_holding}
 use Rattle.wl_said.specs.declared.said.Refusal.TheVariants as refusal
 use Rattle.wl_said.specs.Refused.{refused}
@@ -15,7 +15,7 @@ use Rattle.wl_tab.specs.Tabs.{tab_in}
 use Rattle.wl_tab.specs.TabTokens.{abortion}
 use Rattle.wl_supervisor.specs.declared.supervisor.Supervisor.{Supervisor}
 use Rattle.wl_supervisor.specs.Supervised.{kernel_of}
-use Rattle.wl_world.specs.World.{WorldState, Deed, tab_of, lives, acts, issues, asks, queries, aborts, releases, resends, resent, nothing}
+use Rattle.wl_world.specs.World.{WorldState, Deed, tab_of, lives, acts, issues, asks, queries, aborts, releases, resends, resent, nothing, where_allowed}
 use Rattle.wl_world.specs.Replies.{asking, querying, aborting, releasing, resending, issued_next, some_resent}
 use Rattle.wl_world.specs.Parts.{world_of, issued_in}
 
@@ -162,17 +162,11 @@ release-nothing k x e = release_none (is_holding x k) (length x.issued) e
 pub resends-dead : (w : WorldState) (t : ℕ) → lives w t ≡ false → resends w t ≡ nothing w
 resends-dead w t dead = rw dead refl
 
-pub resends-done : (w : WorldState) (t : ℕ) → lives w t ≡ true → resends w t ≡ acts w t (tab_of w t) (resent w t (tab_of w t))
-resends-done w t live = rw live refl
-
 pub resends-sends : (w : WorldState) (t : ℕ) → lives w t ≡ true → (resends w t).sends ≡ resent w t (tab_of w t)
-unfolding acts
 resends-sends w t live = rw live refl
 
--- a tab without a row has nothing to send again
-pub newborn-resent : (w : WorldState) (t : ℕ) → resent w t (tab_in t None) ≡ []
-unfolding due
-newborn-resent w t = refl
+pub resends-same : (w : WorldState) (t : ℕ) → (resends w t).world ≡ w
+resends-same w t = elim (lives w t) as (λ b. (where_allowed b w (record { world = w; sends = resent w t (tab_of w t) })).world ≡ w) [ true ↦ refl | false ↦ refl ]
 
 pub resending-dead : (w : WorldState) (t : ℕ) → lives w t ≡ false → resending w t ≡ refused refusal.NoTab
 resending-dead w t dead = rw dead refl

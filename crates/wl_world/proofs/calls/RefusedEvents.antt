@@ -31,12 +31,12 @@ use Rattle.wl_said.specs.Refused.{refused, refused_or}
 use Rattle.wl_bag.specs.declared.message.Message.{Message}
 use Rattle.wl_bag.specs.declared.message.Message.TheVariants.{Up, Down, Across}
 use Rattle.wl_bag.specs.Messages.{is_sent, sent_all}
-use Rattle.wl_tab.specs.Tabs.{channels_in, tab_in}
+use Rattle.wl_tab.specs.Tabs.{channels_in}
 use Rattle.wl_tab.specs.Arrivals.{arrival, told_said}
 use Rattle.wl_supervisor.specs.Supervising.{brought, starting, stopping, taken_said, taking_said, telling}
 use Rattle.wl_world.specs.declared.event.Event.{Event}
 use Rattle.wl_world.specs.declared.event.Event.TheVariants as event
-use Rattle.wl_world.specs.World.{WorldState, Deed, acts, becomes, channels_of, deed, greets, happens, lives, nothing, resent, starts, stops, tab_of, tells, where_allowed, is_corrupt, forgery}
+use Rattle.wl_world.specs.World.{WorldState, Deed, becomes, channels_of, deed, greets, happens, lives, nothing, resent, starts, stops, tab_of, tells, where_allowed, is_corrupt, forgery}
 use Rattle.wl_world.specs.Replies.{delivering, greeting, hearing, letter_of, reached, read_letter, reply_of, said_of, sendings, some_resent, some_forged}
 use Rattle.wl_world.specs.Refusals.{AreSame, RefusedChangesNothing}
 use Rattle.wl_world.proofs.calls.ChannelCalls.{open_beyond}
@@ -85,11 +85,9 @@ not_aborted false p a s r done h = refl
 
 -- ---- sending again, channels
 
-resent-same : (w : WorldState) (t : ℕ) (l : Bool) (ms : List Message) (r : Refusal) → cond l (some_resent ms) (refused refusal.NoTab) ≡ said.Refused r → DoesNothing w (where_allowed l w (acts w t (tab_of w t) ms))
-unfolding acts
+resent-same : (w : WorldState) (t : ℕ) (l : Bool) (ms : List Message) (r : Refusal) → cond l (some_resent ms) (refused refusal.NoTab) ≡ said.Refused r → DoesNothing w (where_allowed l w (record { world = w; sends = ms }))
 resent-same w t false ms r h = idle w
-resent-same w t true [] r h =
-    (record { tabs = put_again tab_in t (tab_of w t) w.tabs refl; channels = λ u. refl; kernel = refl; broker = refl; bag = refl; corrupt = refl }, refl)
+resent-same w t true [] r h = idle w
 resent-same w t true (m ∷ ms) r h = let bad : ⊥ = cc in absurd bad
 
 -- a forged post that nobody hears

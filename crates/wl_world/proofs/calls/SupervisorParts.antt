@@ -1,10 +1,10 @@
 -- What the supervisor becomes is what the world's kernel and broker become.
-use Rattle.std.proofs.Common.{◌≡◌, ℕ, List, [], not, is_some, true, false, cond, map, Option, Some, None, Result, Ok, Err, OnOk, refl}
+use Rattle.std.proofs.Common.{◌≡◌, ℕ, List, [], Bool, not, is_some, true, false, cond, map, Option, Some, None, Result, Ok, Err, OnOk, refl}
 use Rattle.wl_origin.specs.Order.{Pair}
 use Rattle.wl_draft.specs.Tables.{Table, put}
 use Rattle.wl_grammar.specs.declared.frame.Stamped.{Stamped}
-use Rattle.wl_broadcast.specs.Channels.{ChannelState}
-use Rattle.wl_agent.specs.Tab.{TabState, newborn_two}
+use Rattle.wl_broadcast.specs.Channels.{ChannelState, no_channels}
+use Rattle.wl_agent.specs.Tab.{TabState, born}
 use Rattle.wl_broker.specs.Broker.{BrokerState, started, hellos, Drops, Does, taking, burial}
 use Rattle.wl_kernel.specs.declared.fault.OpenFault.{OpenFault}
 use Rattle.wl_kernel.specs.Kernel.{open_refusal, opened, is_living, killed, may_stop, stopped, placed}
@@ -13,7 +13,7 @@ use Rattle.wl_limits.specs.declared.tabs.TheConstants.{COMMAND_LIMIT}
 use Rattle.wl_supervisor.specs.declared.supervisor.Supervisor.{Supervisor}
 use Rattle.wl_supervisor.specs.declared.supervisor.Supervisor.TheVariants.{Down, Up}
 use Rattle.wl_supervisor.specs.Supervised.{kernel_of, broker_of, with_kernel, begins as may_begin, begun, greeted, halted, after_taking, outs_by_taking, broker_after, outs_of, is_dead, after_burial, outs_by_burial}
-use Rattle.wl_world.specs.World.{with_kernel as kernel_deed, WorldState, from_broker, nothing, where_allowed, opens, with_two, opens_two, kills, tells, buries, stops, starts, begins, follows, comes_up}
+use Rattle.wl_world.specs.World.{with_kernel as kernel_deed, WorldState, from_broker, nothing, where_allowed, with_rows, opens_as, kills, tells, buries, stops, starts, begins, follows, comes_up}
 use Rattle.wl_world.specs.Parts.{world_of}
 
 -- what holds anyway holds after a success
@@ -23,26 +23,16 @@ always (Err e) p = tt
 
 -- ---- opening and killing
 
-pub opens-ok : (ts : Table TabState) (cs : Table ChannelState) (s : Supervisor) (bag : List Message) (corrupt : List ℕ) (t : ℕ) (p : Pair) → open_refusal t p (kernel_of s) ≡ None → world_of ts cs (with_kernel (opened t p (kernel_of s)) s) bag corrupt ≡ (opens (world_of ts cs s bag corrupt) t p).world
-opens-ok ts cs (Down k) bag corrupt t p e = rw e refl
-opens-ok ts cs (Up k b) bag corrupt t p e = rw e refl
+-- a tab has its rows from its opening on
+pub opens-ok : (i : Bool) (ts us : Table TabState) (cs ds : Table ChannelState) (s : Supervisor) (bag : List Message) (corrupt : List ℕ) (t : ℕ) (p : Pair) → open_refusal t p (kernel_of s) ≡ None → us ≡ put t (born i t COMMAND_LIMIT) ts → ds ≡ put t (no_channels t) cs → world_of us ds (with_kernel (opened t p (kernel_of s)) s) bag corrupt ≡ (opens_as i (world_of ts cs s bag corrupt) t p).world
+opens-ok i ts us cs ds (Down k) bag corrupt t p e row channels = rw (e, row, channels) refl
+opens-ok i ts us cs ds (Up k b) bag corrupt t p e row channels = rw (e, row, channels) refl
 
-pub opens-silent : (w : WorldState) (t : ℕ) (p : Pair) → (opens w t p).sends ≡ []
-opens-silent w t p = elim (open_refusal t p w.kernel) as (λ o. (where_allowed (not (is_some o)) w (kernel_deed (opened t p w.kernel) w)).sends ≡ []) [ None ↦ refl | Some f ↦ refl ]
+pub opens-silent : (i : Bool) (w : WorldState) (t : ℕ) (p : Pair) → (opens_as i w t p).sends ≡ []
+opens-silent i w t p = elim (open_refusal t p w.kernel) as (λ o. (where_allowed (not (is_some o)) w (kernel_deed (opened t p w.kernel) (with_rows i t w))).sends ≡ []) [ None ↦ refl | Some f ↦ refl ]
 
-pub opens-refused : (w : WorldState) (t : ℕ) (p : Pair) (f : OpenFault) → open_refusal t p w.kernel ≡ Some f → (opens w t p).world ≡ w
-opens-refused w t p f e = rw e refl
-
--- a tab of the second kind has its row from its opening on
-pub opens_two-ok : (ts us : Table TabState) (cs : Table ChannelState) (s : Supervisor) (bag : List Message) (corrupt : List ℕ) (t : ℕ) (p : Pair) → open_refusal t p (kernel_of s) ≡ None → us ≡ put t (newborn_two t COMMAND_LIMIT) ts → world_of us cs (with_kernel (opened t p (kernel_of s)) s) bag corrupt ≡ (opens_two (world_of ts cs s bag corrupt) t p).world
-opens_two-ok ts us cs (Down k) bag corrupt t p e row = rw (e, row) refl
-opens_two-ok ts us cs (Up k b) bag corrupt t p e row = rw (e, row) refl
-
-pub opens_two-silent : (w : WorldState) (t : ℕ) (p : Pair) → (opens_two w t p).sends ≡ []
-opens_two-silent w t p = elim (open_refusal t p w.kernel) as (λ o. (where_allowed (not (is_some o)) w (kernel_deed (opened t p w.kernel) (with_two t w))).sends ≡ []) [ None ↦ refl | Some f ↦ refl ]
-
-pub opens_two-refused : (w : WorldState) (t : ℕ) (p : Pair) (f : OpenFault) → open_refusal t p w.kernel ≡ Some f → (opens_two w t p).world ≡ w
-opens_two-refused w t p f e = rw e refl
+pub opens-refused : (i : Bool) (w : WorldState) (t : ℕ) (p : Pair) (f : OpenFault) → open_refusal t p w.kernel ≡ Some f → (opens_as i w t p).world ≡ w
+opens-refused i w t p f e = rw e refl
 
 pub kills-after : (ts : Table TabState) (cs : Table ChannelState) (s : Supervisor) (bag : List Message) (corrupt : List ℕ) (t : ℕ) → world_of ts cs (with_kernel (cond (is_living (kernel_of s) t) (killed t (kernel_of s)) (kernel_of s)) s) bag corrupt ≡ (kills (world_of ts cs s bag corrupt) t).world
 kills-after ts cs (Down k) bag corrupt t =

@@ -249,20 +249,25 @@ report-said w t x m i =
 pub resent-said : (w : WorldState) (t : ℕ) (x : TabState) (m : Message) → In m (resent w t x) → FromTab (IsHonest w t) t (partition_of w t) x m
 resent-said w t x m i = ⊎_elim (λ a. report-said w t x m a) (λ a. due-said w t x m a) (In-append_cases _ (map (command_message w t x) (due x)) i)
 
+-- an opened tab sends these, and is what it was
+sends-sound : (w : WorldState) (t : ℕ) (ms : List Message) → Sound w → was_opened w t ≡ true → ((m : Message) → In m ms → FromTab (IsHonest w t) t (partition_of w t) (tab_of w t) m) → Sound (record w { bag = sent_all ms w.bag })
+sends-sound w t ms s o from = grown-sound w s w.tabs (sent_all ms w.bag) (record {
+  entered = λ u. refl;
+  report = λ u. refl;
+  in_parts = λ u _. refl;
+  more = λ u. Grows-same _ _ refl;
+  sound = s.tabs;
+  unopened = s.unopened;
+  alive = λ u k a. inl a;
+  held = λ u k h. inl h;
+  keeps = λ m i. sent_all-keeps ms w.bag i;
+  comes = λ m i. ⊎_elim (λ a. inl a) (λ b. inr (t, o, from m b)) (sent_all-cases ms w.bag i);
+})
+
 pub resends-sound : (w : WorldState) (t : ℕ) → Sound w → Sound (after w (resends w t))
 resends-sound w t s =
-    allowed-sound w (lives w t) (acts w t (tab_of w t) (resent w t (tab_of w t))) s
-    (λ l. calm-sound w t (tab_of w t) (resent w t (tab_of w t)) s (record {
-      opened = living_opened _ l;
-      entered = refl;
-      report = refl;
-      in_parts = refl;
-      more = Grows-same _ _ refl;
-      sound = s.tabs t;
-      alive = λ k a. inl a;
-      held = λ k h. inl h;
-      sends = resent-said w t (tab_of w t);
-    }))
+    allowed-sound w (lives w t) (record { world = w; sends = resent w t (tab_of w t) }) s
+    (λ l. sends-sound w t (resent w t (tab_of w t)) s (living_opened _ l) (resent-said w t (tab_of w t)))
 
 -- ---- hearing
 
@@ -305,15 +310,4 @@ forgery-said w t (forged.Post p) c m i = let o = In-map_cases (forged_across t p
 pub forges-sound : (w : WorldState) (t : ℕ) (x : Forged) → Sound w → Sound (after w (forges w t x))
 forges-sound w t x s =
     allowed-sound w (is_corrupt w t && lives w t) (record { world = w; sends = forgery w t x }) s
-    (λ l. grown-sound w s w.tabs (sent_all (forgery w t x) w.bag) (record {
-      entered = λ u. refl;
-      report = λ u. refl;
-      in_parts = λ u _. refl;
-      more = λ u. Grows-same _ _ refl;
-      sound = s.tabs;
-      unopened = s.unopened;
-      alive = λ u k a. inl a;
-      held = λ u k h. inl h;
-      keeps = λ m i. sent_all-keeps (forgery w t x) w.bag i;
-      comes = λ m i. ⊎_elim (λ a. inl a) (λ b. inr (t, living_opened _ (and_parts _ _ l).1, forgery-said w t x (and_parts _ _ l).0 m b)) (sent_all-cases (forgery w t x) w.bag i);
-    }))
+    (λ l. sends-sound w t (forgery w t x) s (living_opened _ (and_parts _ _ l).1) (forgery-said w t x (and_parts _ _ l).0))

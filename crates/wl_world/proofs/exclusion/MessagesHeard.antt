@@ -129,7 +129,7 @@ module _ (w : WorldState) (s : Sound w) (cs : Table ChannelState) where
   channel-lists None l = tt
   channel-lists (Some b) l = l
 
-  channel-sound : Sound (record w { channels = cs })
+  pub channel-sound : Sound (record w { channels = cs })
   channel-sound = record {
     positive = s.positive;
     current = s.current;

@@ -1,5 +1,5 @@
 -- Tabs are opened and killed.
-use Rattle.std.proofs.Common.{◌≡◌, ◌⊎◌, inl, inr, ⊎_elim, ℕ, ◌<◌, ◌≤◌, true, false, cond, not, List, [], length, map, Option, Some, None, is_some, refl, sym, ap, ◌∙◌, subst, arith, le_refl}
+use Rattle.std.proofs.Common.{◌≡◌, ◌⊎◌, inl, inr, ⊎_elim, ℕ, ◌<◌, ◌≤◌, Bool, true, false, cond, not, List, [], length, map, Option, Some, None, is_some, refl, sym, ap, ◌∙◌, subst, arith, le_refl}
 use Rattle.std.specs.Prelude.{◌==◌, nat_le, ◌||◌}
 use Rattle.std.proofs.lemmas.Bool.{cases_Bool, or_parts, not-true}
 use Rattle.wl_origin.specs.Order.{Pair}
@@ -9,19 +9,21 @@ use Rattle.wl_grammar.specs.declared.frame.Upward.{Upward}
 use Rattle.wl_grammar.specs.declared.frame.Upward.TheVariants as up
 use Rattle.wl_grammar.specs.declared.frame.Downward.TheVariants as down
 use Rattle.wl_broker.specs.Broker.{BrokerState, Partial, Told, manager_of, partial_of, told_of, generation_of}
+use Rattle.wl_broadcast.specs.Channels.{no_channels}
 use Rattle.wl_draft.specs.Tables.{put}
-use Rattle.wl_agent.specs.Tab.{TabState, newborn_two, status_of, is_held, operation_of, keeps_number}
+use Rattle.wl_agent.specs.Tab.{TabState, born, status_of, is_held, operation_of, keeps_number}
 use Rattle.wl_kernel.specs.declared.fault.OpenFault.TheVariants.{NumberTaken, TooManyLiving, PartitionFull}
 use Rattle.wl_kernel.specs.Kernel.{KernelState, OpenedTab, tab_in, is_opened, number_beside, open_refusal, opened, ended, killed, lives as lives_in, living_tabs, living_of, living_limit, partition_limit}
 use Rattle.wl_draft.specs.Membership.{In}
 use Rattle.wl_draft.proofs.Membership.{apart, either, In-nil}
 use Rattle.wl_limits.specs.declared.tabs.TheConstants.{COMMAND_LIMIT}
-use Rattle.wl_world.specs.World.{WorldState, tab_of, lives, partition_of, opens, with_two, opens_two, kills, with_kernel}
+use Rattle.wl_world.specs.World.{WorldState, tab_of, lives, partition_of, with_rows, opens_as, kills, with_kernel}
 use Rattle.wl_world.specs.Holdings.{IsHonest}
 use Rattle.wl_world.proofs.exclusion.HeldAfterSettling.{Compatible-fewer}
 use Rattle.wl_world.proofs.exclusion.Invariant.{Sound, Covered, Claim, Counts, stands, reported, carried, generation, broker_of, limit, came, is_named_dead, was_opened, IsBorn, IsSaid, KeepsOf, SoundTab, opening_in, opening, Alive, HasGrant, Cause, row_at, Lists, up_message, down_message}
 use Rattle.wl_world.proofs.exclusion.GrownTabs.{Grows, Grown, grown-sound}
 use Rattle.wl_world.proofs.exclusion.ActsWithinAGeneration.{after, allowed-sound, each_tab, Grows-same}
+use Rattle.wl_world.proofs.exclusion.MessagesHeard.{channel-sound}
 use Rattle.wl_world.proofs.exclusion.OpenedTabs.{each_opened, ended-opening, ended-opened, ended-lives, ended-number}
 
 -- ---- a tab dies
@@ -166,12 +168,7 @@ not_opened k t p =
     (λ _ e. apart refl e)
     (λ n _. (or_parts _ _ n).1)
 
-pub opens-sound : (w : WorldState) (t : ℕ) (p : Pair) → Sound w → Sound (after w (opens w t p))
-opens-sound w t p s =
-    allowed-sound w (not (is_some (open_refusal t p w.kernel))) (with_kernel (opened t p w.kernel) w) s
-    (λ n. opened-sound w s t p (not_opened w.kernel t p (not-true _ n)))
-
--- ---- a tab of the second kind is opened
+-- ---- its rows
 
 pub born-sound : (t : ℕ) (x : TabState) → IsBorn t x → SoundTab t x
 born-sound t x e = subst (SoundTab t) (sym e.1) (record {
@@ -186,9 +183,9 @@ born-sound t x e = subst (SoundTab t) (sym e.1) (record {
 })
 
 -- until it is opened nothing tells of which kind it is
-two-grown : (w : WorldState) (t : ℕ) → Sound w → was_opened w t ≡ false → Grown w (put t (newborn_two t COMMAND_LIMIT) w.tabs) w.bag
-two-grown w t s un =
-    let y = newborn_two t COMMAND_LIMIT in
+row-grown : (i : Bool) (w : WorldState) (t : ℕ) → Sound w → was_opened w t ≡ false → Grown w (put t (born i t COMMAND_LIMIT) w.tabs) w.bag
+row-grown i w t s un =
+    let y = born i t COMMAND_LIMIT in
     let o = (s.unopened t un).1 in
     let none = ap (λ z. z.issued) o in
     record {
@@ -196,18 +193,20 @@ two-grown w t s un =
       report = each_tab (λ u z. z.report ≡ (tab_of w u).report) t y w.tabs (sym (ap (λ z. z.report) o)) (λ u n. refl);
       in_parts = each_tab (λ u z. was_opened w u ≡ true → z.in_parts ≡ (tab_of w u).in_parts) t y w.tabs (λ e. apart e un) (λ u n _. refl);
       more = each_tab (λ u z. Grows (tab_of w u).issued z.issued) t y w.tabs (Grows-same _ _ (sym none)) (λ u n. Grows-same _ _ refl);
-      sound = each_tab SoundTab t y w.tabs (born-sound t y (true, refl)) (λ u n. s.tabs u);
-      unopened = each_tab (λ u z. was_opened w u ≡ false → IsBorn u z) t y w.tabs (λ _. (true, refl)) (λ u n. s.unopened u);
+      sound = each_tab SoundTab t y w.tabs (born-sound t y (i, refl)) (λ u n. s.tabs u);
+      unopened = each_tab (λ u z. was_opened w u ≡ false → IsBorn u z) t y w.tabs (λ _. (i, refl)) (λ u n. s.unopened u);
       alive = each_tab (λ u z. (k : ℕ) → Alive (status_of z k) → Alive (status_of (tab_of w u) k) ⊎ (length (tab_of w u).issued ≤ k)) t y w.tabs (λ k a. apart a refl) (λ u n k a. inl a);
       held = each_tab (λ u z. (k : ℕ) → is_held (status_of z k) ≡ true → (is_held (status_of (tab_of w u) k) ≡ true) ⊎ HasGrant w.bag u (tab_of w u).entered k) t y w.tabs (λ k a. apart a refl) (λ u n k a. inl a);
       keeps = λ m i. i;
       comes = λ m i. inl i;
     }
 
-pub two-sound : (w : WorldState) (t : ℕ) → Sound w → was_opened w t ≡ false → Sound (with_two t w)
-two-sound w t s un = grown-sound w s (put t (newborn_two t COMMAND_LIMIT) w.tabs) w.bag (two-grown w t s un)
+rows-sound : (i : Bool) (w : WorldState) (t : ℕ) → Sound w → was_opened w t ≡ false → Sound (with_rows i t w)
+rows-sound i w t s un =
+    let ts = put t (born i t COMMAND_LIMIT) w.tabs in
+    channel-sound (record w { tabs = ts }) (grown-sound w s ts w.bag (row-grown i w t s un)) (put t (no_channels t) w.channels)
 
-pub opens_two-sound : (w : WorldState) (t : ℕ) (p : Pair) → Sound w → Sound (after w (opens_two w t p))
-opens_two-sound w t p s =
-    allowed-sound w (not (is_some (open_refusal t p w.kernel))) (with_kernel (opened t p w.kernel) (with_two t w)) s
-    (λ n. let un = not_opened w.kernel t p (not-true _ n) in opened-sound (with_two t w) (two-sound w t s un) t p un)
+pub opens-sound : (i : Bool) (w : WorldState) (t : ℕ) (p : Pair) → Sound w → Sound (after w (opens_as i w t p))
+opens-sound i w t p s =
+    allowed-sound w (not (is_some (open_refusal t p w.kernel))) (with_kernel (opened t p w.kernel) (with_rows i t w)) s
+    (λ n. let un = not_opened w.kernel t p (not-true _ n) in opened-sound (with_rows i t w) (rows-sound i w t s un) t p un)

@@ -21,7 +21,7 @@ use Rattle.wl_world.specs.declared.event.Event.TheVariants as event
 use Rattle.wl_world.specs.World.{WorldState, empty_world, lives, channels_of, becomes, hears, comes_up, comes, buries, tells, deed, happens, run}
 use Rattle.wl_world.proofs.exclusion.Invariant.{Sound, Claim, stands, reported, carried}
 use Rattle.wl_world.proofs.exclusion.ActsWithinAGeneration.{after, allowed-sound, asks-sound, queries-sound, aborts-sound, releases-sound, resends-sound, forges-sound}
-use Rattle.wl_world.proofs.exclusion.OpeningAndKilling.{born-sound, opens-sound, opens_two-sound, kills-sound}
+use Rattle.wl_world.proofs.exclusion.OpeningAndKilling.{born-sound, opens-sound, kills-sound}
 use Rattle.wl_world.proofs.exclusion.Corrupting.{corrupts-sound}
 use Rattle.wl_world.proofs.exclusion.Starting.{greets-sound, stops-sound, starts-sound}
 use Rattle.wl_world.proofs.exclusion.CommandsTaken.{taking-sound}
@@ -89,8 +89,8 @@ tells-sound w (Some b) e s t =
 
 pub happens-sound : (w : WorldState) (e : Event) → Sound w → Sound (happens w e)
 unfolding happens deed
-happens-sound w (event.Open t p) s = opens-sound w t p s
-happens-sound w (event.OpenTwo t p) s = opens_two-sound w t p s
+happens-sound w (event.Open t p) s = opens-sound false w t p s
+happens-sound w (event.OpenTwo t p) s = opens-sound true w t p s
 happens-sound w (event.Ask t mode name) s = asks-sound w t mode false name s
 happens-sound w (event.Probe t mode name) s = asks-sound w t mode true name s
 happens-sound w (event.Query t) s = queries-sound w t s

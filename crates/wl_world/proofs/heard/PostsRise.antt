@@ -38,8 +38,8 @@ owned : (es : List Event) (w : WorldState) → Owned w → Owned (run es w)
 owned [] w h = h
 owned (e ∷ es) w h = owned es (happens w e) (happens-owned w e h)
 
-empty-owned : Owned empty_world
-empty-owned t = refl
+pub empty-owned : Owned empty_world
+empty-owned = record { own = λ t. refl; unopened = λ t n. refl }
 
 pub run-owned : (events : List Event) → Owned (run events empty_world)
 run-owned events = owned events empty_world empty-owned
@@ -125,7 +125,7 @@ step-sent done e w r own h t x i = ⊎_elim
           made = λ h. apart o.0 (subst (λ z. IsHonest z x.source) (sym r) (honest-till done (e ∷ []) x.source h));
           another = o.1;
         }
-    go (calls u call s cause sent) j = new-sent done e t x w r u call cause (sent (Across t x) j)
+    go (calls u call live s cause sent) j = new-sent done e t x w r u call cause (sent (Across t x) j)
 
 all-sent : (done es : List Event) → AllSent done (run done empty_world) → AllSent (done ++ es) (run (done ++ es) empty_world)
 all-sent done [] h = subst (λ z. AllSent z (run z empty_world)) (sym (append-nil done)) h
@@ -213,7 +213,7 @@ module _ (done : List Event) (e : Event) (es : List Event) (t k : ℕ) where
     where
       go : (call : Call) → Caused w t e call → IsLetterFor k call c l → name_at (objects_of (run whole empty_world) t) k ≡ name_at c.objects k → IsPostFor whole t k l
       go (Posts j bytes) cause letter name =
-          subst (IsPostFor whole t k) (sym (letter.0 ∙ ap (λ z. record { source = z; number = c.posts; bytes = bytes }) (run-owned done t)))
+          subst (IsPostFor whole t k) (sym (letter.0 ∙ ap (λ z. record { source = z; number = c.posts; bytes = bytes }) ((run-owned done).own t)))
           (record {
             object = j;
             posted = record {

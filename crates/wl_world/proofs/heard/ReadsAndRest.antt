@@ -21,7 +21,7 @@ use Rattle.wl_world.specs.World.{WorldState, empty_world, channels_of, lives, De
 use Rattle.wl_world.specs.Replies.{open_or, read_letter, reading, said_of, reply_of}
 use Rattle.wl_world.specs.Heard.{objects_of, takes_at, taken_in, letters_in, told_by, read_in, HeardTillClosedForAll, HeardIsReadForAll}
 use Rattle.wl_world.proofs.heard.ChannelSteps.{Caused, Owned, Calling, stays, called, calling, happens-owned}
-use Rattle.wl_world.proofs.heard.PostsRise.{open-there, run-owned, taken-closed}
+use Rattle.wl_world.proofs.heard.PostsRise.{open-there, empty-owned, run-owned, taken-closed}
 
 -- ---- inboxes
 
@@ -310,7 +310,7 @@ told-all t k (e ∷ es) w = ap₂ ◌++◌ (told-reads t k w e) (told-all t k es
 
 pub heard-is_read : HeardIsReadForAll
 heard-is_read events t k =
-    let read = run-read events empty_world t k (λ t. refl) in
+    let read = run-read events empty_world t k empty-owned in
     record { rest = read.rest; took = read.took ∙ ap (λ ls. ls ++ read.rest) (sym (told-all t k events empty_world)); waits = read.waits }
 
 pub heard-till_closed : HeardTillClosedForAll

@@ -32,7 +32,7 @@ use Rattle.wl_world.proofs.order.BrokerIsPicked.{seat_by, Tied, Kept, own-tab}
 use Rattle.wl_world.proofs.order.TakenIsPicked.{Tells}
 use Rattle.wl_world.proofs.order.PickedIsTaken.{death-same, burial-follows, taking-follows}
 use Rattle.wl_world.proofs.order.OneGeneration.{AnswerDown, Speaks, taking-speaks, burial-speaks}
-use Rattle.wl_world.proofs.order.WithoutBroker.{Based, Quiet, quiet-allowed, asks-quiet, queries-quiet, aborts-quiet, releases-quiet, resends-quiet, hears-quiet, becomes-quiet, hello-quiet, opens-quiet, opens_two-quiet, kills-quiet, opens_channel-quiet, posts-quiet, reads-quiet, closes-quiet, corrupts-quiet, forges-quiet}
+use Rattle.wl_world.proofs.order.WithoutBroker.{Based, Quiet, quiet-allowed, asks-quiet, queries-quiet, aborts-quiet, releases-quiet, resends-quiet, hears-quiet, becomes-quiet, hello-quiet, opens-quiet, kills-quiet, opens_channel-quiet, posts-quiet, reads-quiet, closes-quiet, corrupts-quiet, forges-quiet}
 
 -- ---- the invariant
 
@@ -277,8 +277,8 @@ starts-ordering g w k ts y None v s =
 
 step : (g : ℕ) (w : WorldState) (k : Picked) (e : Event) → Ordering g w k → Sound (happens w e) → Ordering g (happens w e) (picks g w k e)
 unfolding happens deed picks
-step g w k (event.Open t p) y s = quiet-ordering g w _ k y s (opens-quiet w t p y.based)
-step g w k (event.OpenTwo t p) y s = quiet-ordering g w _ k y s (opens_two-quiet w t p y.sound y.based)
+step g w k (event.Open t p) y s = quiet-ordering g w _ k y s (opens-quiet false w t p y.sound y.based)
+step g w k (event.OpenTwo t p) y s = quiet-ordering g w _ k y s (opens-quiet true w t p y.sound y.based)
 step g w k (event.Ask t mode name) y s = quiet-ordering g w _ k y s (asks-quiet w t mode false name y.based)
 step g w k (event.Probe t mode name) y s = quiet-ordering g w _ k y s (asks-quiet w t mode true name y.based)
 step g w k (event.Query t) y s = quiet-ordering g w _ k y s (queries-quiet w t y.based)

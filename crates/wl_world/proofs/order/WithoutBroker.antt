@@ -15,7 +15,7 @@ use Rattle.wl_broadcast.specs.Channels.{ChannelState, open_refusal as channel_re
 use Rattle.wl_broker.specs.Broker.{Told, at_once, in_part, told_of, hello_to}
 use Rattle.wl_agent.specs.declared.delivered.Delivered.{Delivered}
 use Rattle.wl_agent.specs.declared.delivered.Delivered.TheVariants as heard
-use Rattle.wl_agent.specs.Tab.{TabState, newborn_two, report_bodies, issue, finish, asked, queried, aborted, released, enter, enter_first, enter_later, report_of}
+use Rattle.wl_agent.specs.Tab.{TabState, born, report_bodies, issue, finish, asked, queried, aborted, released, enter, enter_first, enter_later, report_of}
 use Rattle.wl_agent.specs.Delivery.{has_entered, delivery}
 use Rattle.wl_kernel.specs.Kernel.{open_refusal, opened, killed}
 use Rattle.wl_kernel.specs.Routes.{hearers, frame_of}
@@ -29,7 +29,7 @@ use Rattle.wl_bag.proofs.Same.{sent_all-keeps, sent_all-cases}
 use Rattle.wl_limits.specs.declared.tabs.TheConstants.{COMMAND_LIMIT}
 use Rattle.wl_tab.specs.Tabs.{told}
 use Rattle.wl_world.specs.declared.event.Forged.{Forged}
-use Rattle.wl_world.specs.World.{WorldState, tab_of, partition_of, Deed, nothing, where_allowed, acts, stamped, issues, asks, queries, aborts, releases, resends, becomes, across, report_if_entered, hears, with_kernel, opens, with_two, opens_two, kills, lives, channels_of, opens_channel, posts, reads, closes, is_corrupt, taken_over, corrupts, forgery, forges}
+use Rattle.wl_world.specs.World.{WorldState, tab_of, partition_of, Deed, nothing, where_allowed, acts, stamped, issues, asks, queries, aborts, releases, resent, resends, becomes, across, report_if_entered, hears, with_kernel, with_rows, opens_as, kills, lives, channels_of, opens_channel, posts, reads, closes, is_corrupt, taken_over, corrupts, forgery, forges}
 use Rattle.wl_world.specs.Holdings.{IsHonest}
 use Rattle.wl_world.proofs.exclusion.Invariant.{Sound, SoundTab, was_opened, HasGrant, up_message}
 use Rattle.wl_world.proofs.exclusion.ToldParts.{body-told}
@@ -146,8 +146,28 @@ pub releases-quiet : (w : WorldState) (t k : ℕ) → Based w → Quiet w (after
 unfolding finish
 releases-quiet w t k b = quiet-allowed w _ (issues w t (released k (tab_of w t))) b (λ _. issues-quiet w t (released k (tab_of w t)) _ b refl refl)
 
+-- a tab sends these, and is what it was
+sends-quiet : (w : WorldState) (t : ℕ) (ms : List Message) → Based w → ((m : Message) → In m ms → Fine (IsHonest w t) t (tab_of w t) m) → Quiet w (record w { bag = sent_all ms w.bag })
+sends-quiet w t ms b fine = record {
+  broker = refl;
+  stable = λ u o. (o, refl);
+  issued = λ u. Grows-same _ _ refl;
+  keeps = λ m i. sent_all-keeps ms w.bag i;
+  grants = λ u g n h. (h.0, h.1, ⊎_elim (λ a. a) (λ a. absurd (fine _ a)) (sent_all-cases ms w.bag h.2), h.3, h.4, h.5);
+  honest = λ u h. h;
+  based = record {
+    own = b.own;
+    said = λ u p v x is i h. ⊎_elim
+        (λ a. b.said u p v x is a h)
+        (λ a. let f = fine _ a in subst (λ n. IsHonest w n → x.base ≤ length (tab_of w n).issued) (sym f.0) (λ y. fine-told (tab_of w t) v x is (f.1 y)) h)
+        (sent_all-cases ms w.bag i);
+  };
+}
+
 pub resends-quiet : (w : WorldState) (t : ℕ) → Based w → Quiet w (after w (resends w t))
-resends-quiet w t b = quiet-allowed w _ _ b (λ _. acts-quiet w t (tab_of w t) _ b (Grows-same _ _ refl) (b.own t) (λ m i. fine-from (IsHonest w t) t (partition_of w t) (tab_of w t) m (b.own t) (resent-said w t (tab_of w t) m i)))
+resends-quiet w t b =
+    quiet-allowed w (lives w t) (record { world = w; sends = resent w t (tab_of w t) }) b
+    (λ _. sends-quiet w t (resent w t (tab_of w t)) b (λ m i. fine-from (IsHonest w t) t (partition_of w t) (tab_of w t) m (b.own t) (resent-said w t (tab_of w t) m i)))
 
 -- ---- a message comes to a tab
 
@@ -213,24 +233,11 @@ becomes-quiet w t c ms b other = bag-quiet w (put t c w.channels) ms b other
 pub hello-quiet : (w : WorldState) (t g : ℕ) → Based w → Quiet w (record w { bag = sent_all (Down Kernel (hello_to g t) ∷ []) w.bag })
 hello-quiet w t g b = bag-quiet w w.channels (Down Kernel (hello_to g t) ∷ []) b (λ m i. subst IsOther (sym (In-one i)) tt)
 
-pub opens-quiet : (w : WorldState) (t : ℕ) (p : Pair) → Based w → Quiet w (after w (opens w t p))
-opens-quiet w t p b =
-    quiet-allowed w (not (is_some (open_refusal t p w.kernel))) (with_kernel (opened t p w.kernel) w) b
-    (λ n. let un = not_opened w.kernel t p (not-true _ n) in record {
-      broker = refl;
-      stable = each_opened (λ u o q. was_opened w u ≡ true → (is_some o ≡ true) × (q ≡ partition_of w u)) w.kernel t p un (λ q o. apart o un) (λ u d o. (o, refl));
-      issued = λ u. Grows-same _ _ refl;
-      keeps = λ m i. i;
-      grants = λ u g k h. h;
-      honest = λ u h. h;
-      based = record { own = b.own; said = b.said };
-    })
-
-pub opens_two-quiet : (w : WorldState) (t : ℕ) (p : Pair) → Sound w → Based w → Quiet w (after w (opens_two w t p))
-opens_two-quiet w t p s b =
-    quiet-allowed w (not (is_some (open_refusal t p w.kernel))) (with_kernel (opened t p w.kernel) (with_two t w)) b
+pub opens-quiet : (i : Bool) (w : WorldState) (t : ℕ) (p : Pair) → Sound w → Based w → Quiet w (after w (opens_as i w t p))
+opens-quiet i w t p s b =
+    quiet-allowed w (not (is_some (open_refusal t p w.kernel))) (with_kernel (opened t p w.kernel) (with_rows i t w)) b
     (λ n. let un = not_opened w.kernel t p (not-true _ n) in
-    let y = newborn_two t COMMAND_LIMIT in record {
+    let y = born i t COMMAND_LIMIT in record {
       broker = refl;
       stable = each_opened (λ u o q. was_opened w u ≡ true → (is_some o ≡ true) × (q ≡ partition_of w u)) w.kernel t p un (λ q o. apart o un) (λ u d o. (o, refl));
       issued = each_tab (λ u z. Grows (tab_of w u).issued z.issued) t y w.tabs (Grows-same _ _ (sym (ap (λ z. z.issued) (s.unopened t un).1))) (λ u n. Grows-same _ _ refl);
@@ -297,20 +304,4 @@ corrupts-quiet w t b =
 pub forges-quiet : (w : WorldState) (t : ℕ) (x : Forged) → Based w → Quiet w (after w (forges w t x))
 forges-quiet w t x b =
     quiet-allowed w (is_corrupt w t && lives w t) (record { world = w; sends = forgery w t x }) b
-    (λ l.
-    let fine = λ (m : Message) (i : In m (forgery w t x)). fine-from (IsHonest w t) t (partition_of w t) (tab_of w t) m (b.own t) (forgery-said w t x (and_parts _ _ l).0 m i) in
-    record {
-      broker = refl;
-      stable = λ u o. (o, refl);
-      issued = λ u. Grows-same _ _ refl;
-      keeps = λ m i. sent_all-keeps (forgery w t x) w.bag i;
-      grants = λ u g n h. (h.0, h.1, ⊎_elim (λ a. a) (λ a. absurd (fine _ a)) (sent_all-cases (forgery w t x) w.bag h.2), h.3, h.4, h.5);
-      honest = λ u h. h;
-      based = record {
-        own = b.own;
-        said = λ u p v y is i h. ⊎_elim
-            (λ a. b.said u p v y is a h)
-            (λ a. let f = fine _ a in absurd (apart (and_parts _ _ l).0 (subst (IsHonest w) f.0 h)))
-            (sent_all-cases (forgery w t x) w.bag i);
-      };
-    })
+    (λ l. sends-quiet w t (forgery w t x) b (λ m i. fine-from (IsHonest w t) t (partition_of w t) (tab_of w t) m (b.own t) (forgery-said w t x (and_parts _ _ l).0 m i)))

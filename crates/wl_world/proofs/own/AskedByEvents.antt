@@ -12,7 +12,7 @@ use Rattle.wl_grammar.specs.declared.frame.Stamped.{Stamped}
 use Rattle.wl_broker.specs.Broker.{BrokerState, Taking, Drops, Does, taking, is_lock}
 use Rattle.wl_broadcast.specs.Channels.{ChannelState}
 use Rattle.wl_agent.specs.declared.delivered.Delivered.{Delivered}
-use Rattle.wl_agent.specs.Tab.{TabState, newborn_two, operation_of, is_held, issue, finish, asked, queried, aborted, released, enter_first, enter_later, enter}
+use Rattle.wl_agent.specs.Tab.{TabState, born, operation_of, is_held, issue, finish, asked, queried, aborted, released, enter_first, enter_later, enter}
 use Rattle.wl_agent.specs.Delivery.{has_entered, delivery}
 use Rattle.wl_kernel.specs.Routes.{frame_of}
 use Rattle.wl_bag.specs.declared.message.Message.{Message}
@@ -23,7 +23,7 @@ use Rattle.wl_limits.specs.declared.tabs.TheConstants.{COMMAND_LIMIT}
 use Rattle.wl_tab.specs.Tabs.{told}
 use Rattle.wl_world.specs.declared.event.Event.{Event}
 use Rattle.wl_world.specs.declared.event.Event.TheVariants as event
-use Rattle.wl_world.specs.World.{WorldState, empty_world, with_two, tab_of, lives, Deed, nothing, where_allowed, acts, issues, asks, queries, aborts, releases, resends, becomes, report_if_entered, hears, follows, comes_up, comes, tells, stops, starts, greets, deed, happens, run}
+use Rattle.wl_world.specs.World.{WorldState, empty_world, with_rows, tab_of, lives, Deed, nothing, where_allowed, acts, issues, asks, queries, aborts, releases, resends, becomes, report_if_entered, hears, follows, comes_up, comes, tells, stops, starts, greets, deed, happens, run}
 use Rattle.wl_world.specs.Holdings.{asking, WasAsked, Own}
 use Rattle.wl_world.proofs.calls.StepsAndSends.{run-push}
 use Rattle.wl_world.proofs.exclusion.Invariant.{Sound, SoundTab}
@@ -100,7 +100,7 @@ unfolding finish
 releases-adds e w t k = allowed-adds e w _ (issues w t (released k (tab_of w t))) (issues-adds e w t (released k (tab_of w t)) (Release k) refl (λ l. apart l refl))
 
 resends-adds : (e : Event) (w : WorldState) (t : ℕ) → AddsBy e w (resends w t)
-resends-adds e w t = allowed-adds e w (lives w t) _ (acts-adds e w t (tab_of w t) _ (λ k lt. inl (lt, refl)))
+resends-adds e w t = allowed-adds e w (lives w t) _ (λ u k lt. inl (lt, refl))
 
 -- ---- what comes to a tab adds no command
 
@@ -155,13 +155,13 @@ greets-adds : (e : Event) (w : WorldState) (t : ℕ) (v : Option BrokerState) �
 greets-adds e w t None = none-added e w (nothing w) refl
 greets-adds e w t (Some b) = allowed-adds e w _ _ (λ u k lt. inl (lt, refl))
 
-two-adds : (e : Event) (w : WorldState) (t : ℕ) → (u : ℕ) → Adds e u (tab_of w u) (tab_of (with_two t w) u)
-two-adds e w t = each_tab (λ u z. Adds e u (tab_of w u) z) t (newborn_two t COMMAND_LIMIT) w.tabs (λ k lt. absurd (omega arith)) (λ u n k lt. inl (lt, refl))
+rows-adds : (i : Bool) (e : Event) (w : WorldState) (t : ℕ) → (u : ℕ) → Adds e u (tab_of w u) (tab_of (with_rows i t w) u)
+rows-adds i e w t = each_tab (λ u z. Adds e u (tab_of w u) z) t (born i t COMMAND_LIMIT) w.tabs (λ k lt. absurd (omega arith)) (λ u n k lt. inl (lt, refl))
 
 deed-adds : (e : Event) (w : WorldState) → Sound w → AddsBy e w (deed w e)
 unfolding deed
-deed-adds (event.Open t p) w s = allowed-adds (event.Open t p) w _ _ (λ u k lt. inl (lt, refl))
-deed-adds (event.OpenTwo t p) w s = allowed-adds (event.OpenTwo t p) w _ _ (two-adds (event.OpenTwo t p) w t)
+deed-adds (event.Open t p) w s = allowed-adds (event.Open t p) w _ _ (rows-adds false (event.Open t p) w t)
+deed-adds (event.OpenTwo t p) w s = allowed-adds (event.OpenTwo t p) w _ _ (rows-adds true (event.OpenTwo t p) w t)
 deed-adds (event.Ask t mode name) w s = asks-adds (event.Ask t mode name) w t mode false name refl
 deed-adds (event.Probe t mode name) w s = asks-adds (event.Probe t mode name) w t mode true name refl
 deed-adds (event.Query t) w s = queries-adds (event.Query t) w t

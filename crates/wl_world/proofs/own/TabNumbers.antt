@@ -10,7 +10,7 @@ use Rattle.wl_broker.specs.Broker.{BrokerState, Taking, Drops, Does, taking}
 use Rattle.wl_broadcast.specs.Channels.{ChannelState}
 use Rattle.wl_agent.specs.declared.delivered.Delivered.{Delivered}
 use Rattle.wl_agent.specs.declared.delivered.Delivered.TheVariants as heard
-use Rattle.wl_agent.specs.Tab.{TabState, newborn_two, status_of, issue, finish, ended, asked, queried, aborted, released, enter_first, enter_later, enter}
+use Rattle.wl_agent.specs.Tab.{TabState, born, status_of, issue, finish, ended, asked, queried, aborted, released, enter_first, enter_later, enter}
 use Rattle.wl_agent.specs.Delivery.{noted, becomes as becomes_status, after_answer, after_part, told_by_answer, part_refusal, parts_of, with_part_come, has_entered, delivery}
 use Rattle.wl_kernel.specs.Routes.{frame_of}
 use Rattle.wl_bag.specs.declared.message.Message.{Message}
@@ -21,7 +21,7 @@ use Rattle.wl_limits.specs.declared.tabs.TheConstants.{COMMAND_LIMIT}
 use Rattle.wl_tab.specs.Tabs.{told}
 use Rattle.wl_world.specs.declared.event.Event.{Event}
 use Rattle.wl_world.specs.declared.event.Event.TheVariants as event
-use Rattle.wl_world.specs.World.{WorldState, empty_world, with_two, tab_of, lives, Deed, nothing, where_allowed, acts, asks, queries, aborts, releases, resends, becomes, report_if_entered, hears, follows, comes_up, comes, tells, stops, starts, greets, deed, happens, run}
+use Rattle.wl_world.specs.World.{WorldState, empty_world, with_rows, tab_of, lives, Deed, nothing, where_allowed, acts, asks, queries, aborts, releases, resends, becomes, report_if_entered, hears, follows, comes_up, comes, tells, stops, starts, greets, deed, happens, run}
 use Rattle.wl_world.proofs.exclusion.GrownTabs.{tab_at}
 use Rattle.wl_world.proofs.exclusion.ActsWithinAGeneration.{each_tab}
 
@@ -103,7 +103,7 @@ unfolding finish
 releases-keeps w t k = allowed-keeps w _ _ (acts-keeps w t (released k (tab_of w t)) _ refl)
 
 resends-keeps : (w : WorldState) (t : ℕ) → Keeps w (resends w t)
-resends-keeps w t = allowed-keeps w _ _ (acts-keeps w t (tab_of w t) _ refl)
+resends-keeps w t = allowed-keeps w _ _ (λ u. refl)
 
 hears-keeps : (w : WorldState) (t : ℕ) (f : Frame) → Keeps w (hears w t f)
 hears-keeps w t f =
@@ -139,14 +139,14 @@ greets-keeps : (w : WorldState) (t : ℕ) (v : Option BrokerState) → Keeps w (
 greets-keeps w t None = same-keeps w (nothing w) refl
 greets-keeps w t (Some b) = allowed-keeps w _ _ (λ u. refl)
 
--- a tab that is opened with a row has its own number, as it had without one
-two-keeps : (w : WorldState) (t : ℕ) → IsNumbered w → (u : ℕ) → (tab_of (with_two t w) u).tab ≡ (tab_of w u).tab
-two-keeps w t own = each_tab (λ u z. z.tab ≡ (tab_of w u).tab) t (newborn_two t COMMAND_LIMIT) w.tabs (sym (own t)) (λ u n. refl)
+-- a tab that is opened has its own number, as it had before
+rows-keeps : (i : Bool) (w : WorldState) (t : ℕ) → IsNumbered w → (u : ℕ) → (tab_of (with_rows i t w) u).tab ≡ (tab_of w u).tab
+rows-keeps i w t own = each_tab (λ u z. z.tab ≡ (tab_of w u).tab) t (born i t COMMAND_LIMIT) w.tabs (sym (own t)) (λ u n. refl)
 
 deed-keeps : (w : WorldState) → IsNumbered w → (e : Event) → Keeps w (deed w e)
 unfolding deed
-deed-keeps w own (event.Open t p) = allowed-keeps w _ _ (λ u. refl)
-deed-keeps w own (event.OpenTwo t p) = allowed-keeps w _ _ (two-keeps w t own)
+deed-keeps w own (event.Open t p) = allowed-keeps w _ _ (rows-keeps false w t own)
+deed-keeps w own (event.OpenTwo t p) = allowed-keeps w _ _ (rows-keeps true w t own)
 deed-keeps w own (event.Ask t mode name) = asks-keeps w t mode false name
 deed-keeps w own (event.Probe t mode name) = asks-keeps w t mode true name
 deed-keeps w own (event.Query t) = queries-keeps w t

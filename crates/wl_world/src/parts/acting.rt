@@ -20,6 +20,8 @@ impl Parts {
         ensures sends { IfOk result (λ r. r.1.sends.items ≡ (deed self event.now).sends) }
     {
         match event {
+            Event::Open { tab, partition } => self.open(*tab, partition),
+            Event::OpenTwo { tab, partition } => self.open_two(*tab, partition),
             Event::Start(listed) => self.start(listed.as_slice()),
             Event::Stop => Ok(self.stop()),
             _ => {
@@ -30,7 +32,7 @@ impl Parts {
         }
     }
 
-    /// An event other than a start or a stop happens.
+    /// An event other than an opening, a start or a stop happens.
     #[tactic(auto, unfolding(crate::specs::World::deed, crate::specs::Replies::said_of))]
     fn act_in_place(&mut self, event: &Event) -> Result<Done, AllocError>
         requires { is_in_place event.now ≡ true }
@@ -39,8 +41,6 @@ impl Parts {
         ensures sends { IfOk result (λ done. done.sends.items ≡ (deed self.old event.now).sends) }
     {
         match event {
-            Event::Open { tab, partition } => self.open(*tab, partition),
-            Event::OpenTwo { tab, partition } => self.open_two(*tab, partition),
             Event::Ask { tab, mode, name } => self.ask(*tab, *mode, false, name),
             Event::Probe { tab, mode, name } => self.ask(*tab, *mode, true, name),
             Event::Query { tab } => self.query(*tab),
@@ -61,7 +61,9 @@ impl Parts {
             Event::Hello { tab } => self.greet(*tab),
             Event::Corrupt { tab } => self.corrupt(*tab),
             Event::Forge { tab, forged } => self.forge(*tab, forged),
-            Event::Stop | Event::Start(_) => unreachable!(),
+            Event::Open { .. } | Event::OpenTwo { .. } | Event::Stop | Event::Start(_) => {
+                unreachable!()
+            }
         }
     }
 

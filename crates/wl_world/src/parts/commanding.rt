@@ -1,12 +1,12 @@
 //! Tabs ask for locks, give them up, and send again.
 
-ghost use Rattle.std.specs.Prelude.{◌≡◌, ◌≢◌, IfOk, OnOk};
+ghost use Rattle.std.specs.Prelude.{◌≡◌, ◌≢◌, true, IfOk, OnOk};
 ghost use Rattle.wl_said.specs.declared.said.Said.TheVariants as said;
-ghost use Rattle.wl_world.specs.World.{tab_of, asks, queries, aborts, releases, resends, resent};
+ghost use Rattle.wl_world.specs.World.{tab_of, lives, asks, queries, aborts, releases, resends};
 ghost use Rattle.wl_world.specs.Replies.{asking, querying, aborting, releasing, resending, some_resent};
 ghost use Rattle.wl_world.specs.Parts.{issued_in};
 
-use crate::parts::{Done, Parts, refused, silent};
+use crate::parts::{Done, Parts, refused};
 use crate::sending;
 use std::alloc::AllocError;
 use wl_agent::AgentFault;
@@ -33,7 +33,7 @@ impl Parts {
         if !self.lives(tab) {
             return Ok(refused(self.alloc, Refusal::NoTab));
         }
-        match tables::ask_at(self.alloc, &mut self.tabs, tab, mode, if_available, name) {
+        match tables::ask_at(&mut self.tabs, tab, mode, if_available, name) {
             Ok(number) => self.issued(tab, number),
             Err(fault) => Ok(refused(self.alloc, agent_refusal(fault)?)),
         }
@@ -49,7 +49,7 @@ impl Parts {
         if !self.lives(tab) {
             return Ok(refused(self.alloc, Refusal::NoTab));
         }
-        match tables::query_at(self.alloc, &mut self.tabs, tab) {
+        match tables::query_at(&mut self.tabs, tab) {
             Ok(number) => self.issued(tab, number),
             Err(fault) => Ok(refused(self.alloc, agent_refusal(fault)?)),
         }
@@ -89,48 +89,30 @@ impl Parts {
     }
 
     /// A tab sends again whatever may have been lost.
-    #[tactic(auto, unfolding(crate::specs::World::acts))]
-    pub fn resend(&mut self, tab: u16) -> Result<Done, AllocError>
-        ensures world { OnOk result (self.new ≡ (resends self.old tab).world) }
-        ensures said { IfOk result (λ done. done.said ≡ resending self.old tab) }
-        ensures sends { IfOk result (λ done. done.sends.items ≡ (resends self.old tab).sends) }
+    pub fn resend(&self, tab: u16) -> Result<Done, AllocError>
+        ensures said { IfOk result (λ done. done.said ≡ resending self.now tab) }
+        ensures sends { IfOk result (λ done. done.sends.items ≡ (resends self.now tab).sends) }
+        ensures world { (resends self.now tab).world ≡ self.now }
     {
         if !self.lives(tab) {
             return Ok(refused(self.alloc, Refusal::NoTab));
         }
-        let sends = self.resent(tab)?;
-        tables::keep_at(self.alloc, &mut self.tabs, tab)?;
+        let sends = sending::resent(self.alloc, self.supervisor.tabs(), tab, self.locks(tab))?;
         let said = resent_said(&sends);
         Ok(Done { said, sends })
     }
 
-    /// What the tab sends again.
-    fn resent(&self, tab: u16) -> Result<Vec<Message>, AllocError>
-        ensures { IfOk result (λ ms. ms.items ≡ resent self.now tab (tab_of self.now tab)) }
-    {
-        match self.tabs.get(&tab) {
-            Some(locks) => sending::resent(self.alloc, self.supervisor.tabs(), tab, locks),
-            // It has entered no generation.
-            None => Ok(Vec::new(self.alloc)),
-        }
-    }
-
     /// The tab has issued this command.
     fn issued(&self, tab: u16, number: u32) -> Result<Done, AllocError>
+        requires { lives self.now tab ≡ true }
         ensures said { IfOk result (λ done. done.said ≡ said.Issued tab number) }
         ensures sends { IfOk result (λ done.
             done.sends.items ≡ issued_in self.now.kernel tab (tab_of self.now tab) number) }
     {
+        let kernel = self.supervisor.tabs();
+        let sends = sending::issued(self.alloc, kernel, tab, self.locks(tab), number)?;
         let said = Said::Issued { tab, number };
-        match self.tabs.get(&tab) {
-            Some(locks) => {
-                let kernel = self.supervisor.tabs();
-                let sends = sending::issued(self.alloc, kernel, tab, locks, number)?;
-                Ok(Done { said, sends })
-            }
-            // It has entered no generation.
-            None => Ok(silent(self.alloc, said)),
-        }
+        Ok(Done { said, sends })
     }
 }
 

@@ -1,7 +1,6 @@
 //! Messages come.
 
-ghost use Rattle.std.specs.Prelude.{◌≡◌, IfOk, OnOk, true, is_some, if◌then◌else◌};
-ghost use Rattle.wl_draft.specs.Tables.{find};
+ghost use Rattle.std.specs.Prelude.{◌≡◌, IfOk, OnOk, true, if◌then◌else◌};
 ghost use Rattle.wl_kernel.specs.Routes.{frame_of};
 ghost use Rattle.wl_said.specs.declared.said.Said.TheVariants as said;
 ghost use Rattle.wl_said.specs.declared.said.Refusal.TheVariants.{NoMessage};
@@ -73,25 +72,22 @@ impl Parts {
             return Ok(silent(self.alloc, Said::Dropped(Reason::DeadTab)));
         }
         let frame = frame_of(self.alloc, &addressed.inner)?;
-        let said = tables::deliver_at(self.alloc, &mut self.tabs, tab, &frame)?;
+        let said = tables::deliver_at(&mut self.tabs, tab, &frame)?;
         let sends = self.reported(tab, &said)?;
         Ok(Done { said, sends })
     }
 
     /// What a tab that has heard a frame sends, by what was said of it: its report, where it has entered a generation.
     fn reported(&self, tab: u16, said: &Said) -> Result<Vec<Message>, AllocError>
-        requires { is_some (find self.now.tabs tab) ≡ true }
+        requires { lives self.now tab ≡ true }
         ensures { IfOk result (λ ms.
             ms.items ≡ reported_in self.now.kernel tab (tab_of self.now tab) said.now) }
     {
         let Said::Entered { .. } = said else {
             return Ok(Vec::new(self.alloc));
         };
-        let Some(locks) = self.tabs.get(&tab) else {
-            unreachable!()
-        };
         let mut sends = Vec::new(self.alloc);
-        sending::add_report(self.supervisor.tabs(), tab, locks, &mut sends)?;
+        sending::add_report(self.supervisor.tabs(), tab, self.locks(tab), &mut sends)?;
         Ok(sends)
     }
 }

@@ -32,7 +32,7 @@ impl Parts {
         if !self.lives(tab) {
             return Ok(refused(self.alloc, Refusal::NoTab));
         }
-        match channel_tables::open_at(self.alloc, &mut self.channels, tab, name) {
+        match channel_tables::open_at(&mut self.channels, tab, name) {
             Ok(channel) => Ok(silent(self.alloc, Said::ChannelOpened { channel })),
             Err(fault) => Ok(refused(self.alloc, open_refusal(fault)?)),
         }
@@ -102,7 +102,7 @@ impl Parts {
             return Ok(silent(self.alloc, Said::Dropped(Reason::DeadTab)));
         }
         let frame = Frame::Heard(heard.copy(self.alloc)?);
-        let hearing = channel_tables::hear_at(self.alloc, &mut self.channels, tab, &frame)?;
+        let hearing = channel_tables::hear_at(&mut self.channels, tab, &frame)?;
         let said = hearing_said(self.alloc, tab, heard, hearing)?;
         Ok(silent(self.alloc, said))
     }

@@ -1,8 +1,12 @@
 //! Tabs are opened and killed, the broker starts and stops.
 
-ghost use Rattle.std.specs.Prelude.{◌≡◌, ◌≢◌, IfOk, OnOk};
+ghost use Rattle.std.specs.Prelude.{◌≡◌, ◌≢◌, option_map, IfOk, OnOk};
+ghost use Rattle.wl_agent.specs.Tab.{born};
+ghost use Rattle.wl_kernel.specs.Kernel.{open_refusal};
+ghost use Rattle.wl_limits.specs.declared.tabs.TheConstants.{COMMAND_LIMIT};
+ghost use Rattle.wl_said.specs.declared.said.Refusal.TheVariants.{Open};
 ghost use Rattle.wl_supervisor.specs.Supervising.{killing, telling, stopping, starting};
-ghost use Rattle.wl_world.specs.World.{opens, opens_two, kills, tells, stops, starts, greets};
+ghost use Rattle.wl_world.specs.World.{opens_as, opens, opens_two, kills, tells, stops, starts, greets};
 ghost use Rattle.wl_world.specs.Replies.{opening, opening_two, greeting};
 
 use crate::parts::{Done, Parts, of_broker, refused, silent};
@@ -12,41 +16,77 @@ use wl_grammar::{Addressed, Downward, Hello};
 use wl_kernel::OpenFault;
 use wl_origin::Partition;
 use wl_said::{Refusal, Said};
-use wl_tab::TabLocks;
 use wl_tab::tables::put_row;
+use wl_tab::{TabChannels, TabLocks};
 
 impl Parts {
-    pub fn open(&mut self, tab: u16, partition: &Partition) -> Result<Done, AllocError>
-        ensures world { OnOk result (self.new ≡ (opens self.old tab partition.now).world) }
-        ensures said { IfOk result (λ done. done.said ≡ opening self.old.kernel tab partition.now) }
-        ensures sends { IfOk result (λ done. done.sends.items ≡ (opens self.old tab partition.now).sends) }
+    pub fn open(self, tab: u16, partition: &Partition) -> Result<(Parts, Done), AllocError>
+        ensures world { IfOk result (λ r. r.0 ≡ (opens self tab partition.now).world) }
+        ensures said { IfOk result (λ r. r.1.said ≡ opening self.kernel tab partition.now) }
+        ensures sends { IfOk result (λ r. r.1.sends.items ≡ (opens self tab partition.now).sends) }
     {
-        let copy = partition.copy(self.alloc)?;
-        match self.supervisor.open(tab, copy) {
-            Ok(_) => {
-                let partition = partition.copy(self.alloc)?;
-                Ok(silent(self.alloc, Said::Opened { tab, partition }))
-            }
-            Err(fault) => Ok(refused(self.alloc, open_refusal(fault)?)),
+        let alloc = self.alloc;
+        let (parts, refusal) = self.open_with(tab, partition, TabLocks::new(alloc, tab))?;
+        if let Some(refusal) = refusal {
+            return Ok((parts, refused(alloc, refusal)));
         }
+        let partition = partition.copy(alloc)?;
+        Ok((parts, silent(alloc, Said::Opened { tab, partition })))
     }
 
     /// A tab is opened that may have more locks, and tells its reports in parts.
-    pub fn open_two(&mut self, tab: u16, partition: &Partition) -> Result<Done, AllocError>
-        ensures world { OnOk result (self.new ≡ (opens_two self.old tab partition.now).world) }
-        ensures said { IfOk result (λ done. done.said ≡ opening_two self.old.kernel tab partition.now) }
-        ensures sends { IfOk result (λ done.
-            done.sends.items ≡ (opens_two self.old tab partition.now).sends) }
+    pub fn open_two(self, tab: u16, partition: &Partition) -> Result<(Parts, Done), AllocError>
+        ensures world { IfOk result (λ r. r.0 ≡ (opens_two self tab partition.now).world) }
+        ensures said { IfOk result (λ r. r.1.said ≡ opening_two self.kernel tab partition.now) }
+        ensures sends { IfOk result (λ r. r.1.sends.items ≡ (opens_two self tab partition.now).sends) }
     {
-        let copy = partition.copy(self.alloc)?;
-        match self.supervisor.open(tab, copy) {
-            Ok(_) => {
-                put_row(&mut self.tabs, tab, TabLocks::new_two(self.alloc, tab))?;
-                let partition = partition.copy(self.alloc)?;
-                Ok(silent(self.alloc, Said::OpenedTwo { tab, partition }))
-            }
-            Err(fault) => Ok(refused(self.alloc, open_refusal(fault)?)),
+        let alloc = self.alloc;
+        let (parts, refusal) = self.open_with(tab, partition, TabLocks::new_two(alloc, tab))?;
+        if let Some(refusal) = refusal {
+            return Ok((parts, refused(alloc, refusal)));
         }
+        let partition = partition.copy(alloc)?;
+        Ok((parts, silent(alloc, Said::OpenedTwo { tab, partition })))
+    }
+
+    /// A tab is opened with these locks and no channel, unless the kernel refuses.
+    fn open_with(
+        self,
+        tab: u16,
+        partition: &Partition,
+        locks: TabLocks,
+    ) -> Result<(Parts, Option<Refusal>), AllocError>
+        requires born { locks ≡ born locks.in_parts tab COMMAND_LIMIT }
+        ensures world { IfOk result (λ r. r.0 ≡ (opens_as locks.in_parts self tab partition.now).world) }
+        ensures refusal { IfOk result (λ r.
+            r.1 ≡ option_map Open (open_refusal tab partition.now self.kernel)) }
+    {
+        let Parts {
+            alloc,
+            mut tabs,
+            mut channels,
+            mut supervisor,
+            bag,
+            corrupt,
+        } = self;
+        let copy = partition.copy(alloc)?;
+        let refusal = match supervisor.open(tab, copy) {
+            Ok(_) => {
+                put_row(&mut tabs, tab, locks)?;
+                put_row(&mut channels, tab, TabChannels::new(alloc, tab))?;
+                None
+            }
+            Err(fault) => Some(open_refusal(fault)?),
+        };
+        let parts = Parts {
+            alloc,
+            tabs,
+            channels,
+            supervisor,
+            bag,
+            corrupt,
+        };
+        Ok((parts, refusal))
     }
 
     pub fn kill(&mut self, tab: u16) -> Done

@@ -1,23 +1,25 @@
-use Rattle.std.proofs.Common.{refl}
+use Rattle.std.proofs.Common.{sym, ap, ◌∙◌}
+use Rattle.std.specs.Option.{is_some}
+use Rattle.std.proofs.lemmas.Bool.{false≢true}
 use Rattle.std.proofs.lemmas.Result.{IfOk-weaker, on_err_weaker}
 use Rattle.wl_draft.proofs.RisingTables.{written_same}
-use Rattle.wl_tab.proofs.TabTables.{find_there, find_absent, written_as, ltb_zero}
+use Rattle.wl_tab.proofs.TabTables.{find_there, find_absent, written_as}
 use Rattle.wl_tab.proofs.channel_tables.read_at.Goals as goal
 
-pub returns-in-Some-clause-ok : goal.returns-in-Some-clause-ok
-returns-in-Some-clause-ok c = rw (find_there c.args.tab c.args.rows.now.entries c.in-Some.ensures.value) (IfOk-weaker c.read.result _ _ (λ x e. written_as c.args.tab _ c.args.rows.now.entries c.in-Some.ensures.ordered c.in-Some.ensures.value (c.get_mut.follows.holds _).0 e.0) c.read.ensures.ok)
+pub unreachable-requires : goal.unreachable-requires
+unreachable-requires c = false≢true (sym (ap is_some (find_absent c.args.tab c.args.rows.now.entries c.in_default.ensures.value)) ∙ c.requires.there)
 
-pub returns-in-Some-clause-allowed : goal.returns-in-Some-clause-allowed
-returns-in-Some-clause-allowed c = rw (find_there c.args.tab c.args.rows.now.entries c.in-Some.ensures.value) (IfOk-weaker c.read.result _ _ (λ x e. e.1) c.read.ensures.ok)
+pub returns-clause-ok : goal.returns-clause-ok
+returns-clause-ok c = rw (find_there c.args.tab c.args.rows.now.entries c.in-Some.ensures.value) (IfOk-weaker c.read.result _ _ (λ x e. written_as c.args.tab _ c.args.rows.now.entries c.in-Some.ensures.ordered c.in-Some.ensures.value (c.get_mut.follows.holds _).0 e.0) c.read.ensures.ok)
 
-pub returns-in-Some-clause-letter : goal.returns-in-Some-clause-letter
-returns-in-Some-clause-letter c = rw (find_there c.args.tab c.args.rows.now.entries c.in-Some.ensures.value) c.read.ensures.letter
+pub returns-clause-allowed : goal.returns-clause-allowed
+returns-clause-allowed c = rw (find_there c.args.tab c.args.rows.now.entries c.in-Some.ensures.value) (IfOk-weaker c.read.result _ _ (λ x e. e.1) c.read.ensures.ok)
 
-pub returns-in-Some-clause-refused : goal.returns-in-Some-clause-refused
-returns-in-Some-clause-refused c = rw (find_there c.args.tab c.args.rows.now.entries c.in-Some.ensures.value) c.read.ensures.refused
+pub returns-clause-letter : goal.returns-clause-letter
+returns-clause-letter c = rw (find_there c.args.tab c.args.rows.now.entries c.in-Some.ensures.value) c.read.ensures.letter
 
-pub returns-in-Some-clause-err : goal.returns-in-Some-clause-err
-returns-in-Some-clause-err c = on_err_weaker c.read.result (λ e. written_same _ _ _ _ _ c.in-Some.ensures.value (c.get_mut.follows.holds _).0 e) c.read.ensures.err
+pub returns-clause-refused : goal.returns-clause-refused
+returns-clause-refused c = rw (find_there c.args.tab c.args.rows.now.entries c.in-Some.ensures.value) c.read.ensures.refused
 
-pub returns-in-None-clause-refused : goal.returns-in-None-clause-refused
-returns-in-None-clause-refused c = rw (find_absent c.args.tab c.args.rows.now.entries c.in-None.ensures.value, ltb_zero c.args.number) refl
+pub returns-clause-err : goal.returns-clause-err
+returns-clause-err c = on_err_weaker c.read.result (λ e. written_same _ _ _ _ _ c.in-Some.ensures.value (c.get_mut.follows.holds _).0 e) c.read.ensures.err

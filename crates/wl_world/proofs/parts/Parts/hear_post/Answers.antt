@@ -1,21 +1,29 @@
-use Rattle.std.proofs.Common.{◌≡◌, true, ap, ◌∙◌, arith}
+use Rattle.std.proofs.Common.{◌≡◌, true, ap, ◌∙◌, arith, refl}
 use Rattle.std.proofs.lemmas.Grind.{common_steps}
 use Rattle.wl_draft.specs.Tables.{find}
 use Rattle.wl_grammar.specs.declared.frame.Heard.{Heard}
 use Rattle.wl_grammar.specs.declared.frame.Frame.TheVariants as frame
-use Rattle.wl_broadcast.specs.Channels.{hearing_of}
+use Rattle.wl_broadcast.specs.Channels.{hearing_of, after_hearing}
 use Rattle.wl_tab.specs.Tabs.{channels_in}
+use Rattle.wl_supervisor.specs.Supervised.{kernel_of}
 use Rattle.wl_world.specs.World.{lives}
-use Rattle.wl_world.proofs.calls.ChannelRows.{own-heard, heard-said}
+use Rattle.wl_world.proofs.calls.ChannelRows.{row_of, heard-said}
+use Rattle.wl_world.proofs.calls.ChannelCalls.{after_hearing-tab}
+use Rattle.wl_world.proofs.calls.LivingRows.{channels-there, channels-put}
 use Rattle.wl_world.proofs.parts.Parts.hear_post.Goals as goal
+
+pub hear_at-requires : goal.hear_at-requires
+hear_at-requires c =
+    let live : lives c.args.self.now c.args.tab ≡ true = grind (arith, common_steps) in
+    record { there = channels-there c.self.inside.tabs.entries c.self.inside.channels.entries c.self.inside.supervisor c.self.inside.bag c.self.inside.corrupt.items c.args.self.now c.self.view_is c.args.tab live c.self.invariant; heard = refl }
 
 pub invariant_of-self-in_err-said : goal.invariant_of-self-in_err-said
 invariant_of-self-in_err-said c =
-    own-heard c.args.tab c.in_ok-copy.field-0 c.self.inside.channels.entries c.hear_at.new.rows.entries c.in_ok-hearing.ensures.ok c.self.invariant
+    channels-put (kernel_of c.self.inside.supervisor) c.args.tab (after_hearing (frame.Heard c.in_ok-copy.field-0) (row_of c.args.tab c.self.inside.channels.entries)) c.self.inside.tabs.entries c.self.inside.channels.entries c.hear_at.new.rows.entries c.in_ok-hearing.ensures.ok (after_hearing-tab c.in_ok-copy.field-0 (row_of c.args.tab c.self.inside.channels.entries) ∙ c.self.invariant.own c.args.tab) c.self.invariant
 
 pub invariant_of-self-2 : goal.invariant_of-self-2
 invariant_of-self-2 c =
-    own-heard c.args.tab c.in_ok-copy.field-0 c.self.inside.channels.entries c.hear_at.new.rows.entries c.in_ok-hearing.ensures.ok c.self.invariant
+    channels-put (kernel_of c.self.inside.supervisor) c.args.tab (after_hearing (frame.Heard c.in_ok-copy.field-0) (row_of c.args.tab c.self.inside.channels.entries)) c.self.inside.tabs.entries c.self.inside.channels.entries c.hear_at.new.rows.entries c.in_ok-hearing.ensures.ok (after_hearing-tab c.in_ok-copy.field-0 (row_of c.args.tab c.self.inside.channels.entries) ∙ c.self.invariant.own c.args.tab) c.self.invariant
 
 pub returns-clause-said : goal.returns-clause-said
 returns-clause-said c =
