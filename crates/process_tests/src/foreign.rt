@@ -6,22 +6,22 @@ use std::os::unix::net::UnixStream;
 use wl_process::Host;
 
 /// A welcome of tab 1 with the origin `https://a.test`.
-const WELCOME: [u8; 24] = [
+static WELCOME: [u8; 24] = [
     0, 0, 0, 20, 1, 20, 0, 1, 0, 14, b'h', b't', b't', b'p', b's', b':', b'/', b'/', b'a', b'.',
     b't', b'e', b's', b't',
 ];
 
 /// A hello of generation 1.
-const HELLO: [u8; 10] = [0, 0, 0, 6, 1, 16, 0, 0, 0, 1];
+static HELLO: [u8; 10] = [0, 0, 0, 6, 1, 16, 0, 0, 0, 1];
 
 /// An empty report, and a request of an exclusive lock with the name `a`.
-const REPORT_AND_REQUEST: [u8; 35] = [
+static REPORT_AND_REQUEST: [u8; 35] = [
     0, 0, 0, 12, 1, 2, 0, 0, 0, 1, 0, 0, 0, 0, 0, 0, 0, 0, 0, 15, 1, 1, 0, 0, 0, 1, 0, 0, 0, 0, 1,
     2, 0, 1, b'a',
 ];
 
 /// That the request is granted, of one command that was taken.
-const GRANTED: [u8; 19] = [0, 0, 0, 15, 1, 17, 0, 0, 0, 1, 0, 0, 0, 1, 0, 0, 0, 0, 2];
+static GRANTED: [u8; 19] = [0, 0, 0, 15, 1, 17, 0, 0, 0, 1, 0, 0, 0, 1, 0, 0, 0, 0, 2];
 
 /// Reads bytes, which have to be these.
 pub(crate) fn expect(link: &UnixStream, bytes: &[u8]) -> io::Result<()> {

@@ -20,13 +20,13 @@ const TURNS: u32 = 50;
 const POST_LEN: usize = 16_384;
 
 /// What is in the honest tabs' counters at their end.
-pub(crate) const ROUNDS_OF_TWO: &str = "60\n";
+pub(crate) static ROUNDS_OF_TWO: &str = "60\n";
 
 /// The counter of the hostile tabs' own origin.
-pub(crate) const OWN_COUNTER: &str = "OWN_COUNTER";
+pub(crate) static OWN_COUNTER: &str = "OWN_COUNTER";
 
 /// The counter of the other origin.
-pub(crate) const OTHER_COUNTER: &str = "OTHER_COUNTER";
+pub(crate) static OTHER_COUNTER: &str = "OTHER_COUNTER";
 
 /// A kind that no frame has, and a length that no frame has.
 const GARBAGE: [u8; 10] = [0, 0, 0, 2, 1, 99, 0xFF, 0xFF, 0xFF, 0xFF];

@@ -34,7 +34,7 @@ fn a_tab_without_a_welcome_ends(rt: HostRuntime) {
 }
 
 /// The start of generation 1, with no tab listed.
-const START: [u8; 12] = [0, 0, 0, 8, 1, 33, 0, 0, 0, 1, 0, 0];
+static START: [u8; 12] = [0, 0, 0, 8, 1, 33, 0, 0, 0, 1, 0, 0];
 
 /// That a request waits.
 const WAITING: u8 = 1;

@@ -12,11 +12,11 @@ use wl_kernel_process::{KernelWords, run_kernel};
 use wl_process::ProcessFault;
 use wl_tab_process::run_tab;
 
-const FORTY_ROUNDS: &str =
+static FORTY_ROUNDS: &str =
     "start\nopen https://a.test/ DIR/TAB\nopen https://a.test/ DIR/TAB\nopen https://a.test/ DIR/TAB\nopen https://a.test/ DIR/TAB\npause 50\nstop\nstart\npause 50\nstop\nstart\njoin\n";
 
 /// What a kernel prints of them, among other lines.
-const FORTY_LINES: [&str; 10] = [
+static FORTY_LINES: [&str; 10] = [
     "up 1\n",
     "opened 4 https://a.test\n",
     "stopped 1\n",
@@ -119,7 +119,7 @@ fn spent_generations_are_followed_by_others(rt: HostRuntime) {
 }
 
 /// One round of a tab.
-const ROUND: &str = "ask exclusive f\nwait 0\nadd DIR/COUNTER\nrelease 0\n";
+static ROUND: &str = "ask exclusive f\nwait 0\nadd DIR/COUNTER\nrelease 0\n";
 
 #[test]
 fn a_killed_tab_lets_go(rt: HostRuntime) {
@@ -190,7 +190,7 @@ fn a_tab_may_remove_its_socket(rt: HostRuntime) {
     assert!(&rt; played.is_success);
 }
 
-const BESIDE_HOSTILE_TABS: &str =
+static BESIDE_HOSTILE_TABS: &str =
     "open https://a.test/ DIR/OWN\nopen https://a.test/ DIR/OWN\nopen https://b.test/ DIR/OTHER\nopen https://b.test/ DIR/OTHER\nopen https://a.test/ DIR/TALKER\nopen https://a.test/ DIR/CLAIMER\nopen https://a.test/ DIR/GARBAGE\nopen https://a.test/ DIR/HALF\nstart\nopen https://a.test/ DIR/GARBAGE\nopen https://a.test/ DIR/HALF\njoin\n";
 
 /// Plays them: what the kernel printed, and what is in the honest tabs' counters then. No socket is left.
@@ -235,10 +235,10 @@ fn hostile_tabs_lose_nobody_a_lock(rt: HostRuntime) {
 }
 
 /// What a tab sees of a lock that it has and another request of its own.
-const HELD_BY_ONE: &str =
+static HELD_BY_ONE: &str =
     "{\"held\":[{\"clientId\":\"1\",\"mode\":\"exclusive\",\"name\":\"f\"}],\"pending\":[{\"clientId\":\"1\",\"mode\":\"shared\",\"name\":\"f\"}]}\n";
 
-const HELD_BY_TWO: &str =
+static HELD_BY_TWO: &str =
     "{\"held\":[{\"clientId\":\"2\",\"mode\":\"exclusive\",\"name\":\"f\"}],\"pending\":[{\"clientId\":\"2\",\"mode\":\"shared\",\"name\":\"f\"}]}\n";
 
 #[test]

@@ -15,35 +15,35 @@ use wl_frames::{Answer, Frame, Hello, Outcome, Sequence, SnapshotEntry};
 const NUMBERS: u32 = 1_000_000;
 
 /// The report of generation 1, base 0, without entries.
-const FIRST_REPORT: &[u8] = b"\0\0\0\x0c\x01\x02\0\0\0\x01\0\0\0\0\0\0";
+static FIRST_REPORT: &[u8] = b"\0\0\0\x0c\x01\x02\0\0\0\x01\0\0\0\0\0\0";
 
 /// The report of generation 2, base 2, without entries.
-const EMPTY_REPORT: &[u8] = b"\0\0\0\x0c\x01\x02\0\0\0\x02\0\0\0\x02\0\0";
+static EMPTY_REPORT: &[u8] = b"\0\0\0\x0c\x01\x02\0\0\0\x02\0\0\0\x02\0\0";
 
 /// The report of generation 2, base 1: number 0 waits for `a`, exclusive.
-const ASKED_REPORT: &[u8] = b"\0\0\0\x14\x01\x02\0\0\0\x02\0\0\0\x01\0\x01\0\0\0\0\x02\x02\x01a";
+static ASKED_REPORT: &[u8] = b"\0\0\0\x14\x01\x02\0\0\0\x02\0\0\0\x01\0\x01\0\0\0\0\x02\x02\x01a";
 
 /// The report of generation 2, base 1: number 0 holds `a`, exclusive.
-const HELD_REPORT: &[u8] = b"\0\0\0\x14\x01\x02\0\0\0\x02\0\0\0\x01\0\x01\0\0\0\0\x01\x02\x01a";
+static HELD_REPORT: &[u8] = b"\0\0\0\x14\x01\x02\0\0\0\x02\0\0\0\x01\0\x01\0\0\0\0\x01\x02\x01a";
 
 /// The report of generation 2, base 3: number 0 holds `a`, exclusive.
-const LATER_REPORT: &[u8] = b"\0\0\0\x14\x01\x02\0\0\0\x02\0\0\0\x03\0\x01\0\0\0\0\x01\x02\x01a";
+static LATER_REPORT: &[u8] = b"\0\0\0\x14\x01\x02\0\0\0\x02\0\0\0\x03\0\x01\0\0\0\0\x01\x02\x01a";
 
 /// The same in parts: part 0 of 1.
-const FIRST_PART: &[u8] = b"\0\0\0\x10\x02\x02\0\0\0\x01\0\0\0\0\0\0\0\x01\0\0";
+static FIRST_PART: &[u8] = b"\0\0\0\x10\x02\x02\0\0\0\x01\0\0\0\0\0\0\0\x01\0\0";
 
 /// Part 0 of 2 of generation 2, base 65, before its 64 entries.
-const PART_0: &[u8] = b"\0\0\x02\x10\x02\x02\0\0\0\x02\0\0\0\x41\0\0\0\x02\0\x40";
+static PART_0: &[u8] = b"\0\0\x02\x10\x02\x02\0\0\0\x02\0\0\0\x41\0\0\0\x02\0\x40";
 
 /// Part 1 of 2: number 64 waits for `b`, shared.
-const PART_1: &[u8] =
+static PART_1: &[u8] =
     b"\0\0\0\x18\x02\x02\0\0\0\x02\0\0\0\x41\0\x01\0\x02\0\x01\0\0\0\x40\x02\x01\x01b";
 
 /// Command 0 of generation 1: a request for `a`, exclusive.
-const REQUEST: &[u8] = b"\0\0\0\x0f\x01\x01\0\0\0\x01\0\0\0\0\x01\x02\0\x01a";
+static REQUEST: &[u8] = b"\0\0\0\x0f\x01\x01\0\0\0\x01\0\0\0\0\x01\x02\0\x01a";
 
 /// Command 3 of generation 2: the release of number 0.
-const RELEASE: &[u8] = b"\0\0\0\x0f\x01\x01\0\0\0\x02\0\0\0\x03\x02\0\0\0\0";
+static RELEASE: &[u8] = b"\0\0\0\x0f\x01\x01\0\0\0\x02\0\0\0\x03\x02\0\0\0\0";
 
 // ---- calls on a tab
 

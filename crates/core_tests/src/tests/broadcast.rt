@@ -127,20 +127,30 @@ fn is_letter(letter: &Letter, source: u16, number: u32) -> bool {
     letter.source == source && letter.number == number && letter.bytes.as_slice() == b"x".as_slice()
 }
 
-fn read_once(channels: &mut Channels, channel: &Channel) -> Result<Option<Letter>, ChannelFault> {
+fn read_once(channels: &mut Channels, channel: &Channel) -> Read {
     channels.read(channel)
 }
 
-/// Reads the channel's oldest post, which has to be this one.
-fn reads(channels: &mut Channels, channel: &Channel, source: u16, number: u32) -> bool {
-    match &read_once(channels, channel) {
+type Read = Result<Option<Letter>, ChannelFault>;
+
+fn is_read(read: &Read, source: u16, number: u32) -> bool {
+    match read {
         Ok(Some(letter)) => is_letter(letter, source, number),
         _ => false,
     }
 }
 
+/// Reads the channel's oldest post, which has to be this one.
+fn reads(channels: &mut Channels, channel: &Channel, source: u16, number: u32) -> bool {
+    is_read(&read_once(channels, channel), source, number)
+}
+
+fn is_nothing(read: &Read) -> bool {
+    matches!(read, Ok(None))
+}
+
 fn reads_nothing(channels: &mut Channels, channel: &Channel) -> bool {
-    matches!(&read_once(channels, channel), Ok(None))
+    is_nothing(&read_once(channels, channel))
 }
 
 fn is_refused<T>(answer: &Result<T, ChannelFault>, fault: ChannelFault) -> bool {

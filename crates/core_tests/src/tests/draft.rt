@@ -199,7 +199,7 @@ fn play(rt: &impl Abort, alloc: Global, row: &[Step]) {
 
 /// A probe behind the queue gets nothing, and one of another name is granted. Behind the aborted request the shared one moves up;
 /// the abort of a held lock releases it.
-const SHARED_EXCLUSIVE_SHARED: [Step; 15] = [
+static SHARED_EXCLUSIVE_SHARED: [Step; 15] = [
     Step::Make(Call::Request(1, Mode::Shared, "a"), &[(1, 0)]),
     Step::Make(Call::Request(2, Mode::Exclusive, "a"), &[]),
     Step::Make(Call::Request(3, Mode::Shared, "a"), &[]),
@@ -222,7 +222,7 @@ fn shared_exclusive_shared(rt: HostRuntime) {
     play(&rt, rt.alloc(), &SHARED_EXCLUSIVE_SHARED);
 }
 
-const TWO_REQUESTS: [Step; 3] = [
+static TWO_REQUESTS: [Step; 3] = [
     Step::Make(Call::Request(1, Mode::Exclusive, "a"), &[(1, 0)]),
     Step::Make(Call::Request(2, Mode::Exclusive, "a"), &[]),
     Step::Lists(&[1], &[2]),
@@ -234,7 +234,7 @@ fn snapshot_has_both_lists(rt: HostRuntime) {
 }
 
 /// Neither another number nor a waiting pair is released.
-const RELEASED: [Step; 11] = [
+static RELEASED: [Step; 11] = [
     Step::Make(Call::Request(0, Mode::Exclusive, "a"), &[(0, 0)]),
     Step::Make(Call::Request(1, Mode::Shared, "a"), &[]),
     Step::Make(Call::Request(2, Mode::Shared, "a"), &[]),
@@ -261,7 +261,7 @@ const OF_BOTH_NAMES: [Reported; 3] = [
     (6, false, Mode::Shared, "b"),
 ];
 
-const RESTORED: [Step; 9] = [
+static RESTORED: [Step; 9] = [
     Step::Make(Call::Restore(1, &HELD_A, false), &[]),
     Step::Make(Call::Restore(2, &OF_BOTH_NAMES, false), &[]),
     Step::Stands(2, 5, Standing::Held),
@@ -284,7 +284,7 @@ const HELD_AND_WAITING: [Reported; 2] = [
 ];
 
 /// Each kind of call.
-const TURNS: [Step; 10] = [
+static TURNS: [Step; 10] = [
     Step::Make(Call::Request(1, Mode::Shared, "a"), &[(1, 0)]),
     Step::Make(Call::Request(2, Mode::Exclusive, "a"), &[]),
     Step::Make(Call::Request(3, Mode::Shared, "a"), &[]),

@@ -16,7 +16,7 @@ const COMMAND: [u8; 19] = [0, 0, 0, 15, 1, 1, 0, 0, 0, 1, 0, 0, 0, 0, 1, 2, 0, 1
 
 // ---- an example of each kind
 
-const EXAMPLES: [&[u8]; 18] = [
+static EXAMPLES: [&[u8]; 18] = [
     &COMMAND,
     b"\x00\x00\x00\x0F\x01\x01\x00\x00\x00\x01\x00\x00\x00\x05\x02\x00\x00\x01\x02",
     b"\x00\x00\x00\x0F\x01\x01\x00\x00\x00\x01\x00\x00\x00\x05\x03\x00\x00\x00\x04",
@@ -344,7 +344,7 @@ fn one_command_frame(rt: HostRuntime) {
     assert_eq!(rt; feed.end(), Ok(()));
 }
 
-const FAULTS: [(&[u8], FrameFault); 27] = [
+static FAULTS: [(&[u8], FrameFault); 27] = [
     (b"\x00\x00\x00\x00", FrameFault::BadLength),
     (b"\x00\x00\x00\x01", FrameFault::BadLength),
     (b"\x00\x01\x00\x01", FrameFault::BadLength),
@@ -486,9 +486,9 @@ fn feed_ends(rt: HostRuntime) {
 }
 
 /// The fields of a report before its entries, and those of its only part.
-const REPORT: &[u8] = b"\x01\x02\x00\x00\x00\x01\x00\x00\x00\x64";
+static REPORT: &[u8] = b"\x01\x02\x00\x00\x00\x01\x00\x00\x00\x64";
 
-const REPORT_PART: &[u8] = b"\x02\x02\x00\x00\x00\x01\x00\x00\x00\x64\x00\x00\x00\x01";
+static REPORT_PART: &[u8] = b"\x02\x02\x00\x00\x00\x01\x00\x00\x00\x64\x00\x00\x00\x01";
 
 /// The bytes of a report or part of so many entries, behind its length.
 fn report_once(alloc: Global, length: u8, front: &[u8], count: u8) -> Result<Vec<u8>, AllocError> {

@@ -100,8 +100,8 @@ fn start(rt: &impl Abort, down: Down, listed: &[u16]) -> Started {
 }
 
 /// Whether the frame starts a broker of the generation with these tabs and their partitions.
-fn is_start(frame: Frame, generation: u32, list: &[(u16, u16)]) -> bool {
-    match &frame {
+fn is_start(frame: &Frame, generation: u32, list: &[(u16, u16)]) -> bool {
+    match frame {
         Frame::Start(start) => start.generation == generation && start.list.as_slice() == list,
         _ => false,
     }
@@ -117,7 +117,7 @@ fn started(
 ) -> Up {
     match start(rt, down, listed) {
         Ok((up, frame)) => {
-            assert!(rt; is_start(frame, generation, list));
+            assert!(rt; is_start(&frame, generation, list));
             up
         }
         Err(_refused) => panic!(rt; "the start was refused"),
@@ -209,12 +209,16 @@ fn up_once(tabs: &Tabs, tab: u16, frame: Frame) -> Result<Routed, RouteFault> {
     tabs.route_up(tab, frame)
 }
 
-/// Whether the broker of generation 1 reaches this tab with its granted answer.
-fn passes(up: &Up, tab: u16) -> bool {
-    match &down_once(up, granted(tab, 1)) {
+fn is_grant_for(routed: &RoutedDown, tab: u16) -> bool {
+    match routed {
         Ok((target, frame)) => *target == tab && is_granted(frame),
         Err(_) => false,
     }
+}
+
+/// Whether the broker of generation 1 reaches this tab with its granted answer.
+fn passes(up: &Up, tab: u16) -> bool {
+    is_grant_for(&down_once(up, granted(tab, 1)), tab)
 }
 
 /// Whether what a broker says over the link of generation 1 is refused so.
@@ -245,11 +249,19 @@ fn is_command(frame: &Frame, tab: u16, partition: u16) -> bool {
     }
 }
 
+/// What goes to the broker.
+fn given_to_broker(routed: &Result<Routed, RouteFault>) -> Option<&Frame> {
+    match routed {
+        Ok(Routed::Broker(frame)) => Some(frame),
+        _ => None,
+    }
+}
+
 /// Whether the tab's query goes to the broker under this partition number.
 fn is_stamped(tabs: &Tabs, tab: u16, partition: u16) -> bool {
-    match &up_once(tabs, tab, query()) {
-        Ok(Routed::Broker(frame)) => is_command(frame, tab, partition),
-        _ => false,
+    match given_to_broker(&up_once(tabs, tab, query())) {
+        Some(frame) => is_command(frame, tab, partition),
+        None => false,
     }
 }
 
@@ -498,9 +510,9 @@ fn is_part(frame: &Frame, tab: u16, partition: u16) -> bool {
 
 /// Whether a part of the tab's report goes to the broker under this partition number.
 fn is_reported(alloc: Global, tabs: &Tabs, tab: u16, partition: u16) -> bool {
-    match &up_once(tabs, tab, part(alloc)) {
-        Ok(Routed::Broker(frame)) => is_part(frame, tab, partition),
-        _ => false,
+    match given_to_broker(&up_once(tabs, tab, part(alloc))) {
+        Some(frame) => is_part(frame, tab, partition),
+        None => false,
     }
 }
 

@@ -81,7 +81,7 @@ fn expect_same(rt: &impl Abort, alloc: Global, a: &Partition, url: &str, want: b
 
 // RFC 6454, section 5: two origins are the same where scheme, host and port are. Section 4: a URL with no port has its
 // scheme's default port.
-const EQUAL: [(&str, bool); 5] = [
+static EQUAL: [(&str, bool); 5] = [
     ("https://a.test:443/x", true),
     ("http://a.test/", false),
     ("https://b.test/", false),
@@ -103,7 +103,7 @@ const B: &str = "https://b.test/";
 
 /// A top, a page under it, a page at the top, and whether those two are in one partition: they are where both origins are the
 /// same.
-const PAIRS: [(&str, &str, &str, bool); 5] = [
+static PAIRS: [(&str, &str, &str, bool); 5] = [
     (A, A, A, true),
     ("https://a.test:443/x", A, A, true),
     (B, A, A, false),
@@ -163,7 +163,7 @@ fn expect_text(rt: &impl Abort, alloc: Global, url: &str, text: &str) {
     assert!(rt; is_text(&partition_of(rt, alloc, url), text), "of {url}");
 }
 
-const TEXTS: [(&str, &str); 16] = [
+static TEXTS: [(&str, &str); 16] = [
     // URL Standard, section 4.1: the special schemes with their default ports, which RFC 6454, section 6.2 leaves out.
     ("http://a.test:80/", "http://a.test"),
     ("https://a.test:443/", "https://a.test"),
@@ -201,7 +201,7 @@ fn ascii_origins(rt: HostRuntime) {
 }
 
 /// URLs whose reading and copying takes most memory.
-const LONGER: [(&str, &str); 2] = [
+static LONGER: [(&str, &str); 2] = [
     (
         "https://faß.example:8443/x",
         "https://xn--fa-hia.example:8443",
@@ -236,7 +236,7 @@ fn refuses_pair(rt: &impl Abort, alloc: Global, top: &str, own: &str, fault: Ori
 }
 
 // The top-level URL is refused first.
-const PAIR_REFUSALS: [(&str, &str, OriginFault); 6] = [
+static PAIR_REFUSALS: [(&str, &str, OriginFault); 6] = [
     ("data:,x", "a b", OriginFault::Security),
     ("a b", "data:,x", OriginFault::BadUrl),
     (A, "data:,x", OriginFault::Security),
@@ -258,7 +258,7 @@ fn origins_5(rt: HostRuntime) {
     refuses(&rt, rt.alloc(), "a b", OriginFault::BadUrl);
 }
 
-const REFUSALS: [(&str, OriginFault); 13] = [
+static REFUSALS: [(&str, OriginFault); 13] = [
     // URL Standard, section 4.7: any other scheme has an opaque origin, and so has a blob URL of one.
     ("data:,x", OriginFault::Security),
     ("file:///x", OriginFault::Security),
@@ -397,7 +397,7 @@ fn expect_order(rt: &impl Abort, alloc: Global, rising: &[(&str, &str)]) {
 }
 
 // By scheme, then domains before IPv4 before IPv6, then by port, as numbers.
-const RISING: [(&str, &str); 9] = [
+static RISING: [(&str, &str); 9] = [
     ("ftp://b.test", "ftp://b.test"),
     ("http://a.test:9", "http://a.test:9"),
     ("http://a.test:10", "http://a.test:10"),
@@ -415,7 +415,7 @@ fn order_agrees_with_equality(rt: HostRuntime) {
 }
 
 // The top-level origins decide first.
-const RISING_PAIRS: [(&str, &str); 4] = [
+static RISING_PAIRS: [(&str, &str); 4] = [
     ("http://b.test", "https://b.test"),
     ("https://a.test", "http://b.test"),
     ("https://a.test", "https://a.test"),

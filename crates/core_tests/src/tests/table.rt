@@ -3,6 +3,7 @@
 //! growth of each call can be refused in its turn (`rt try --test --fail-alloc 1..`), and the rows pass.
 
 use std::alloc::{AllocError, Global};
+use std::marker::Model;
 use std::process::Abort;
 use std::test::Fail;
 use wl_fakes::dice::Dice;
@@ -19,7 +20,7 @@ const CLIENTS: u64 = 40;
 
 const NUMBERS: u64 = 12;
 
-const NAMES: [&str; 8] = ["", "a", "b", "c", "d", "e", "f", "g"];
+static NAMES: [&str; 8] = ["", "a", "b", "c", "d", "e", "f", "g"];
 
 // ---- one call on both tables
 
@@ -183,6 +184,15 @@ struct Both {
     indexed: IndexedTable,
 }
 
+// Contracts see nothing of the two, which keeps the proofs of all that plays on them small.
+impl Model for Both {
+    ghost use Rattle.std.specs.Prelude.{⊤};
+
+    ghost Value = { ⊤ };
+
+    ghost view = { λ _. tt };
+}
+
 impl Both {
     fn new(alloc: Global) -> Both {
         Both {
@@ -300,6 +310,40 @@ impl Both {
         }
         Ok(())
     }
+
+    fn play_all(&mut self, rt: &impl Abort, rows: &[&[Step<'_>]]) -> Result<(), AllocError> {
+        for row in rows {
+            self.play(rt, row)?;
+        }
+        Ok(())
+    }
+
+    /// Client 1 takes all others up to the 64th, of one name.
+    fn take_shared(&mut self, rt: &impl Abort) -> Result<(), AllocError> {
+        for number in 2..64 {
+            let pairs = [(1, number)];
+            let request = Call::Request(Mode::Shared, "b");
+            self.step(rt, Step::Make(1, number, request, &pairs))?;
+        }
+        Ok(())
+    }
+
+    /// All 64 are taken, one of them is replaced, and all end.
+    fn take_many(&mut self, rt: &impl Abort) -> Result<(), AllocError> {
+        self.play(rt, &FIRST_TWO)?;
+        self.take_shared(rt)?;
+        self.play(rt, &GIVEN_BACK)
+    }
+
+    /// The snapshot of the indexed one after a row.
+    fn rows_after(
+        &mut self,
+        rt: &impl Abort,
+        row: &[Step<'_>],
+    ) -> Result<(Vec<Row>, Vec<Row>), AllocError> {
+        self.play(rt, row)?;
+        rows_of(&self.indexed)
+    }
 }
 
 fn are(granted: &[Grant], pairs: &[(u16, u32)]) -> bool {
@@ -326,26 +370,23 @@ enum Step<'a> {
 /// Plays rows one after another on two new tables.
 fn play(rt: &impl Abort, alloc: Global, rows: &[&[Step<'_>]]) -> Result<(), AllocError> {
     let mut both = Both::new(alloc);
-    for row in rows {
-        both.play(rt, row)?;
-    }
-    Ok(())
+    both.play_all(rt, rows)
 }
 
 /// A shared lock is held, an exclusive one waits for it, and another shared one waits behind.
-const SHARED_THEN_EXCLUSIVE: [Step<'static>; 3] = [
+static SHARED_THEN_EXCLUSIVE: [Step<'static>; 3] = [
     Step::Make(1, 0, Call::Request(Mode::Shared, "a"), &[(1, 0)]),
     Step::Make(2, 0, Call::Request(Mode::Exclusive, "a"), &[]),
     Step::Make(3, 0, Call::Request(Mode::Shared, "a"), &[]),
 ];
 
-const PROBED: [Step<'static>; 3] = [
+static PROBED: [Step<'static>; 3] = [
     Step::Make(4, 0, Call::Probe(Mode::Shared, "a"), &[]),
     Step::Stands(4, 0, Standing::Absent),
     Step::Lists(1, 2),
 ];
 
-const ABORTED_THEN_RELEASED: [Step<'static>; 6] = [
+static ABORTED_THEN_RELEASED: [Step<'static>; 6] = [
     Step::Make(2, 0, Call::Abort, &[(3, 0)]),
     Step::Make(2, 2, Call::Request(Mode::Exclusive, "a"), &[]),
     Step::Make(1, 0, Call::Release, &[]),
@@ -371,13 +412,13 @@ fn an_abort_lets_those_behind_it_pass(rt: HostRuntime) -> Result<(), Fail> {
 }
 
 /// An exclusive lock is held, and another one waits for it.
-const TWO_EXCLUSIVE: [Step<'static>; 3] = [
+static TWO_EXCLUSIVE: [Step<'static>; 3] = [
     Step::Make(1, 0, Call::Request(Mode::Exclusive, "a"), &[(1, 0)]),
     Step::Make(2, 0, Call::Request(Mode::Exclusive, "a"), &[]),
     Step::Lists(1, 1),
 ];
 
-const HELD_ABORTED: [Step<'static>; 2] = [
+static HELD_ABORTED: [Step<'static>; 2] = [
     Step::Make(1, 0, Call::Abort, &[(2, 0)]),
     Step::Stands(1, 0, Standing::Absent),
 ];
@@ -388,7 +429,7 @@ fn an_abort_of_a_held_lock_releases_it(rt: HostRuntime) -> Result<(), Fail> {
     Ok(())
 }
 
-const RELEASED_TWICE: [Step<'static>; 5] = [
+static RELEASED_TWICE: [Step<'static>; 5] = [
     Step::Make(1, 0, Call::Request(Mode::Shared, "a"), &[(1, 0)]),
     Step::Stands(1, 0, Standing::Held),
     Step::Make(1, 0, Call::Release, &[]),
@@ -408,7 +449,7 @@ const HELD: [Reported; 1] = [(0, true, Mode::Exclusive, "a")];
 const WAITS: [Reported; 1] = [(0, false, Mode::Exclusive, "a")];
 
 /// Client 2 has reported, and the other one has not.
-const FIRST_REPORT: [Step<'static>; 2] = [
+static FIRST_REPORT: [Step<'static>; 2] = [
     Step::Make(
         2,
         0,
@@ -421,7 +462,7 @@ const FIRST_REPORT: [Step<'static>; 2] = [
     Step::Stands(2, 0, Standing::Waiting),
 ];
 
-const LAST_REPORT: [Step<'static>; 2] = [
+static LAST_REPORT: [Step<'static>; 2] = [
     Step::Make(
         1,
         0,
@@ -434,7 +475,7 @@ const LAST_REPORT: [Step<'static>; 2] = [
     Step::Lists(1, 1),
 ];
 
-const LAST_REPORT_HOLDS: [Step<'static>; 2] = [
+static LAST_REPORT_HOLDS: [Step<'static>; 2] = [
     Step::Make(
         1,
         0,
@@ -459,7 +500,7 @@ fn a_reported_lock_stays_held(rt: HostRuntime) -> Result<(), Fail> {
     Ok(())
 }
 
-const DEATH: [Step<'static>; 2] = [
+static DEATH: [Step<'static>; 2] = [
     Step::Make(1, 0, Call::End { settle: true }, &[(2, 0)]),
     Step::Lists(1, 0),
 ];
@@ -471,7 +512,7 @@ fn a_death_hands_over(rt: HostRuntime) -> Result<(), Fail> {
 }
 
 /// What is left is grantable, and is granted by the next call that settles, whatever its name.
-const SETTLED_LATER: [Step<'static>; 5] = [
+static SETTLED_LATER: [Step<'static>; 5] = [
     Step::Make(1, 0, Call::End { settle: false }, &[]),
     Step::Stands(2, 0, Standing::Waiting),
     Step::Grantable(2, 0),
@@ -485,7 +526,7 @@ fn what_was_not_settled_is_settled_later(rt: HostRuntime) -> Result<(), Fail> {
     Ok(())
 }
 
-const OTHER_PARTITION: [Step<'static>; 1] = [Step::Make(
+static OTHER_PARTITION: [Step<'static>; 1] = [Step::Make(
     3,
     0,
     Call::Restore {
@@ -508,23 +549,12 @@ const LONGEST: &str =
     nnnnnnnnnnnnnnnnnnnnnnnnnnnnnnnnnnnnnnnnnnnnnnnnnnnnnnn";
 
 /// A lock of the empty name, and one of the longest.
-const FIRST_TWO: [Step<'static>; 2] = [
+static FIRST_TWO: [Step<'static>; 2] = [
     Step::Make(1, 0, Call::Request(Mode::Exclusive, ""), &[(1, 0)]),
     Step::Make(1, 1, Call::Request(Mode::Exclusive, LONGEST), &[(1, 1)]),
 ];
 
-/// Client 1 takes all others up to the 64th, of one name.
-fn take_shared(rt: &impl Abort, both: &mut Both) -> Result<(), AllocError> {
-    for number in 2..64 {
-        both.step(
-            rt,
-            Step::Make(1, number, Call::Request(Mode::Shared, "b"), &[(1, number)]),
-        )?;
-    }
-    Ok(())
-}
-
-const GIVEN_BACK: [Step<'static>; 6] = [
+static GIVEN_BACK: [Step<'static>; 6] = [
     Step::Lists(64, 0),
     Step::Make(1, 0, Call::Abort, &[]),
     Step::Make(1, 65, Call::Request(Mode::Shared, "b"), &[(1, 65)]),
@@ -533,12 +563,9 @@ const GIVEN_BACK: [Step<'static>; 6] = [
     Step::Lists(0, 0),
 ];
 
-/// All 64 are taken, one of them is replaced, and all end.
 fn take_many(rt: &impl Abort, alloc: Global) -> Result<(), AllocError> {
     let mut both = Both::new(alloc);
-    both.play(rt, &FIRST_TWO)?;
-    take_shared(rt, &mut both)?;
-    both.play(rt, &GIVEN_BACK)
+    both.take_many(rt)
 }
 
 #[test]
@@ -551,8 +578,7 @@ fn a_client_has_many_locks(rt: HostRuntime) -> Result<(), Fail> {
 /// The snapshot of an indexed table in which one exclusive lock is held and another one waits.
 fn rows_of_two(rt: &impl Abort, alloc: Global) -> Result<(Vec<Row>, Vec<Row>), AllocError> {
     let mut both = Both::new(alloc);
-    both.play(rt, &TWO_EXCLUSIVE)?;
-    rows_of(&both.indexed)
+    both.rows_after(rt, &TWO_EXCLUSIVE)
 }
 
 #[test]
@@ -719,21 +745,20 @@ impl Game {
         Ok(held.saturating_add(waiting))
     }
 
-    /// All calls, and how many entries there were at most after a round.
-    fn play(&mut self, rt: &impl Abort) -> Result<usize, AllocError> {
+    /// All calls; how many locks they were granted, and how many entries there were at most after a round.
+    fn play(&mut self, rt: &impl Abort) -> Result<(usize, usize), AllocError> {
         let mut most: usize = 0;
         for _ in 0..CALLS / ROUND {
             most = most.max(self.round(rt)?);
         }
-        Ok(most)
+        Ok((self.granted, most))
     }
 }
 
 /// How many locks random calls were granted, and how many entries there were at most after a round.
 fn play_random(rt: &impl Abort, alloc: Global) -> Result<(usize, usize), AllocError> {
     let mut game = Game::new(alloc);
-    let most = game.play(rt)?;
-    Ok((game.granted, most))
+    game.play(rt)
 }
 
 #[test]

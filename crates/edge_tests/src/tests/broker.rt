@@ -17,7 +17,7 @@ use wl_table::IndexedTable;
 type TestedBroker = Broker<IndexedTable>;
 
 /// A report in one part is a report.
-const ONE_PART: Row = Row {
+static ONE_PART: Row = Row {
     name: "one-part",
     input: "
         00000016 01 20 0001 0001 02 02 00000001 00000000 0000 0001 0000
@@ -27,7 +27,7 @@ const ONE_PART: Row = Row {
 };
 
 /// The second part comes first and again, and the first one makes the tab join with the entries by part.
-const TWO_PARTS: Row = Row {
+static TWO_PARTS: Row = Row {
     name: "two-parts",
     input: "
         0000001E 01 20 0001 0001 02 02 00000002 00000002 0001 0002 0001 00000001 02 01 0161

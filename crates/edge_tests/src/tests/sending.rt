@@ -7,7 +7,7 @@ use wl_frames::{Answer, Frame, Hello, Outcome};
 use wl_process::append;
 
 /// A hello, and that a lock is granted.
-const GATHERED: [u8; 29] = [
+static GATHERED: [u8; 29] = [
     0, 0, 0, 6, 1, 16, 0, 0, 0, 1, 0, 0, 0, 15, 1, 17, 0, 0, 0, 1, 0, 0, 0, 1, 0, 0, 0, 0, 2,
 ];
 

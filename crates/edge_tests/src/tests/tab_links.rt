@@ -24,7 +24,7 @@ use wl_workers::tab_writer::{WriteEnd, tab_writer};
 use wl_workers::uplink::Uplink;
 
 /// Hellos of the generations 1, 2 and 3.
-const HELLOS: [u8; 30] = [
+static HELLOS: [u8; 30] = [
     0, 0, 0, 6, 1, 16, 0, 0, 0, 1, 0, 0, 0, 6, 1, 16, 0, 0, 0, 2, 0, 0, 0, 6, 1, 16, 0, 0, 0, 3,
 ];
 

@@ -8,7 +8,7 @@ pub struct Row {
     pub output: &'static str,
 }
 
-pub const FIRST_GRANT: Row = Row {
+pub static FIRST_GRANT: Row = Row {
     name: "first-grant",
     input: "
         00000008 01 21 00000001 0000
@@ -19,7 +19,7 @@ pub const FIRST_GRANT: Row = Row {
 };
 
 /// The first grant, after a report in one part.
-pub const REPORT_IN_ONE_PART: Row = Row {
+pub static REPORT_IN_ONE_PART: Row = Row {
     name: "report in one part",
     input: "
         00000008 01 21 00000001 0000
@@ -29,7 +29,7 @@ pub const REPORT_IN_ONE_PART: Row = Row {
     output: "00000013 01 22 0001 01 11 00000001 00000001 00000000 02",
 };
 
-pub const HANDOVER: Row = Row {
+pub static HANDOVER: Row = Row {
     name: "handover",
     input: "
         00000008 01 21 00000001 0000
@@ -47,7 +47,7 @@ pub const HANDOVER: Row = Row {
     ",
 };
 
-pub const SHARED_THEN_EXCLUSIVE: Row = Row {
+pub static SHARED_THEN_EXCLUSIVE: Row = Row {
     name: "shared-then-exclusive",
     input: "
         00000008 01 21 00000001 0000
@@ -66,7 +66,7 @@ pub const SHARED_THEN_EXCLUSIVE: Row = Row {
     ",
 };
 
-pub const PROBE_BEHIND_QUEUE: Row = Row {
+pub static PROBE_BEHIND_QUEUE: Row = Row {
     name: "probe-behind-queue",
     input: "
         00000008 01 21 00000001 0000
@@ -87,7 +87,7 @@ pub const PROBE_BEHIND_QUEUE: Row = Row {
     ",
 };
 
-pub const ABORT_UNBLOCKS: Row = Row {
+pub static ABORT_UNBLOCKS: Row = Row {
     name: "abort-unblocks",
     input: "
         00000008 01 21 00000001 0000
@@ -111,7 +111,7 @@ pub const ABORT_UNBLOCKS: Row = Row {
     ",
 };
 
-pub const RELEASE_HANDS_OVER: Row = Row {
+pub static RELEASE_HANDS_OVER: Row = Row {
     name: "release-hands-over",
     input: "
         00000008 01 21 00000001 0000
@@ -142,7 +142,7 @@ pub const RELEASE_HANDS_OVER: Row = Row {
     ",
 };
 
-pub const LATE_GRANT_AFTER_ABORT: Row = Row {
+pub static LATE_GRANT_AFTER_ABORT: Row = Row {
     name: "late-grant-after-abort",
     input: "
         00000008 01 21 00000001 0000
@@ -160,7 +160,7 @@ pub const LATE_GRANT_AFTER_ABORT: Row = Row {
     ",
 };
 
-pub const REPEATED_REQUEST: Row = Row {
+pub static REPEATED_REQUEST: Row = Row {
     name: "repeated-request",
     input: "
         00000008 01 21 00000001 0000
@@ -180,7 +180,7 @@ pub const REPEATED_REQUEST: Row = Row {
     ",
 };
 
-pub const RESTART_WHILE_ASKED: Row = Row {
+pub static RESTART_WHILE_ASKED: Row = Row {
     name: "restart-while-asked",
     input: "
         00000010 01 21 00000002 0002 0001 0001 0002 0001
@@ -194,7 +194,7 @@ pub const RESTART_WHILE_ASKED: Row = Row {
     ",
 };
 
-pub const RESTART_WHILE_HELD: Row = Row {
+pub static RESTART_WHILE_HELD: Row = Row {
     name: "restart-while-held",
     input: "
         00000010 01 21 00000002 0002 0001 0001 0002 0001
@@ -207,7 +207,7 @@ pub const RESTART_WHILE_HELD: Row = Row {
     ",
 };
 
-pub const DEATH_HANDS_OVER: Row = Row {
+pub static DEATH_HANDS_OVER: Row = Row {
     name: "death-hands-over",
     input: "
         00000008 01 21 00000001 0000
@@ -226,7 +226,7 @@ pub const DEATH_HANDS_OVER: Row = Row {
     ",
 };
 
-pub const OTHER_ORIGIN_UNBLOCKED: Row = Row {
+pub static OTHER_ORIGIN_UNBLOCKED: Row = Row {
     name: "other-origin-unblocked",
     input: "
         00000014 01 21 00000002 0003 0001 0001 0002 0001 0003 0003
@@ -240,7 +240,7 @@ pub const OTHER_ORIGIN_UNBLOCKED: Row = Row {
     ",
 };
 
-pub const ORIGINS_APART: Row = Row {
+pub static ORIGINS_APART: Row = Row {
     name: "origins-apart",
     input: "
         00000014 01 21 00000001 0003 0001 0001 0002 0001 0003 0003
@@ -261,7 +261,7 @@ pub const ORIGINS_APART: Row = Row {
     ",
 };
 
-pub const REFUSALS: Row = Row {
+pub static REFUSALS: Row = Row {
     name: "refusals",
     input: "
         00000008 01 21 00000001 0000
@@ -404,7 +404,7 @@ pub const REFUSALS: Row = Row {
     ",
 };
 
-pub const SNAPSHOT: Row = Row {
+pub static SNAPSHOT: Row = Row {
     name: "snapshot",
     input: "
         00000008 01 21 00000001 0000
@@ -425,7 +425,7 @@ pub const SNAPSHOT: Row = Row {
     ",
 };
 
-pub const MISSING_TAB: Row = Row {
+pub static MISSING_TAB: Row = Row {
     name: "missing-tab",
     input: "00000010 01 21 00000002 0002 0001 0001 0002 0001",
     output: "
@@ -434,7 +434,7 @@ pub const MISSING_TAB: Row = Row {
     ",
 };
 
-pub const OUT_OF_TURN: Row = Row {
+pub static OUT_OF_TURN: Row = Row {
     name: "out-of-turn",
     input: "
         00000008 01 21 00000001 0000
@@ -449,7 +449,7 @@ pub const OUT_OF_TURN: Row = Row {
     ",
 };
 
-pub const HELD_NEWCOMER: Row = Row {
+pub static HELD_NEWCOMER: Row = Row {
     name: "held-newcomer",
     input: "
         00000008 01 21 00000001 0000
@@ -458,7 +458,7 @@ pub const HELD_NEWCOMER: Row = Row {
     output: "",
 };
 
-pub const COMMANDS: Row = Row {
+pub static COMMANDS: Row = Row {
     name: "commands",
     input: "
         0000000C 01 21 00000001 0001 0001 0001
@@ -475,7 +475,7 @@ pub const COMMANDS: Row = Row {
     ",
 };
 
-pub const SNAPSHOT_OF_65: Row = Row {
+pub static SNAPSHOT_OF_65: Row = Row {
     name: "snapshot-of-65",
     input: "
         00000008 01 21 00000001 0000
