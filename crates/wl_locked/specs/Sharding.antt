@@ -49,10 +49,13 @@ works_of shards (Dead tab) = deaths_below tab shards
 abbrev pub opening_of : Run → ℕ → BrokerState
 opening_of run shard = started run.generation (listed_of (is_of run.shards shard) run.listed)
 
--- the hellos of the shards below this one, by rising shard
+-- the hellos of a shard, and those of the shards below one, by rising shard
+abbrev pub hellos_of : Run → ℕ → List Addressed
+hellos_of run shard = hellos run.generation (listed_of (is_of run.shards shard) run.listed)
+
 abbrev pub hellos_below : Run → ℕ → List Addressed
 hellos_below run zero = []
-hellos_below run (suc shard) = hellos_below run shard ++ hellos run.generation (listed_of (is_of run.shards shard) run.listed)
+hellos_below run (suc shard) = hellos_below run shard ++ hellos_of run shard
 
 -- the receipts of one shard, and those of each lane
 abbrev pub receipts_of : ℕ → List (List Receipt) → List Receipt

@@ -8,11 +8,12 @@ ghost use Rattle.wl_locked.specs.Closing.{IsClosed, IsCompared};
 ghost use Rattle.wl_locked.specs.declared.receipt.Receipt.{Receipt};
 ghost use Rattle.wl_locked.specs.declared.shards.TheConstants.{SHARD_LIMIT};
 
-use crate::answering::answer;
+use crate::answering::answered;
 use crate::event::{BookEvent, Reply};
 use crate::lane::{Generation, Kept, Lane, gather};
 use crate::marking::compare;
 use crate::receipt::{CloseFault, History, NotStepped, Receipt, Step};
+use crate::room;
 use std::alloc::{AllocError, Global};
 use std::marker::Model;
 use std::sync::ledger;
@@ -148,12 +149,9 @@ impl<J: Generation> Book<J> {
         ensures spent { (result ≡ Err NotStepped.GenerationSpent) ↔ (length self.old ≡ J.limit) }
         ensures err { OnErr result ((self.new ≡ self.old) × (lane.new ≡ lane.old)) }
     {
-        if self.is_spent() {
-            return Err(NotStepped::GenerationSpent);
-        }
-        lane.receipts.reserve(1)?;
+        room::for_receipt(self.is_spent(), &mut lane.receipts)?;
         let (receipt, kept) = self.store(&mut lane.share, event, copied)?;
-        lane.receipts.push(kept).unwrap();
+        lane.receipts.push_reserved(kept);
         Ok(receipt)
     }
 
@@ -183,30 +181,14 @@ impl<J: Generation> Book<J> {
         if self.is_spent() {
             return Err(NotStepped::GenerationSpent);
         }
-        let (first, second) = copied?;
-        self.steps.reserve(1)?;
-        self.marks.reserve(1)?;
-        let (stored, reply, also) = answer(&mut self.broker, &event)?;
+        let copies = room::for_step_of(self.is_spent(), &mut self.steps, &mut self.marks, copied)?;
         let place = self.steps.len() as u32;
+        let (step, receipts) = answered(&mut self.broker, place, event, copies)?;
         self.calls.audit(share);
         self.calls.add(share, 1);
-        self.steps.push_reserved(Step {
-            event,
-            reply: stored,
-        });
+        self.steps.push_reserved(step);
         self.marks.push_reserved(false);
-        Ok((
-            Receipt {
-                place,
-                event: first,
-                reply,
-            },
-            Receipt {
-                place,
-                event: second,
-                reply: also,
-            },
-        ))
+        Ok(receipts)
     }
 
     /// Compares the history with the lanes' receipts, by marking their places. It takes no memory.

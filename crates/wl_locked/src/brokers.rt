@@ -3,11 +3,10 @@
 ghost use Rattle.std.specs.Prelude.{◌≡◌, ◌≢◌, ◌<◌, ◌≤◌, ◌++◌, [], ℕ, List, length, replicate, slice_index_or, IfErr, IfOk, OnOk, OnErr};
 ghost use Rattle.wl_locked.specs.declared.receipt.Step.{Step};
 ghost use Rattle.wl_grammar.specs.Grammar.{TabsRiseFrom};
-ghost use Rattle.wl_broker.specs.Broker.{hellos};
 ghost use Rattle.wl_broker.specs.Shards.{is_of, listed_of};
 ghost use Rattle.wl_locked.specs.Blanks.{HaveParts, AreNamed};
 ghost use Rattle.wl_locked.specs.History.{IsAnswer};
-ghost use Rattle.wl_locked.specs.Sharding.{IsGathered, IsRoomy, IsRun, IsShardFault, IsShardHistory, hellos_below, opening_of, receipts_of, with_receipt};
+ghost use Rattle.wl_locked.specs.Sharding.{IsGathered, IsRoomy, IsRun, IsShardFault, IsShardHistory, hellos_below, hellos_of, opening_of, receipts_of, with_receipt};
 ghost use Rattle.wl_locked.specs.declared.shards.TheConstants.{SHARD_LIMIT};
 
 use crate::event::Reply;
@@ -84,8 +83,8 @@ fn open_shard<J: Shards, const SHARD: u16>(
     requires run { IsRun J.run beginning.now }
     ensures parts { IfOk result (λ r. r.1.parts ≡ J.run.lanes) }
     ensures amount { IfOk result (λ r. r.1.amount ≡ 0) }
-    ensures greetings { OnOk result (greetings.new.items ≡ greetings.old.items
-        ++ hellos J.run.generation (listed_of (is_of J.run.shards SHARD) J.run.listed)) }
+    ensures greetings { OnOk result (greetings.new.items
+        ≡ greetings.old.items ++ hellos_of J.run SHARD) }
 {
     let part = listed_in(beginning, SHARD)?;
     let (broker, share, hellos) = LockedBroker::open(
@@ -98,6 +97,43 @@ fn open_shard<J: Shards, const SHARD: u16>(
     let mut hellos = hellos.into_vec();
     greetings.append(&mut hellos)?;
     Ok((broker, share))
+}
+
+/// Four shards that are open, each with the share that its part of a lane is cut from.
+#[derive(Drop)]
+struct Four<J: Shards, const A: u16, const B: u16, const C: u16, const D: u16> {
+    a: (LockedBroker<At<J, A>>, Share<At<J, A>>),
+    b: (LockedBroker<At<J, B>>, Share<At<J, B>>),
+    c: (LockedBroker<At<J, C>>, Share<At<J, C>>),
+    d: (LockedBroker<At<J, D>>, Share<At<J, D>>),
+}
+
+/// Opens four shards, one after another.
+fn open_four<J: Shards, const A: u16, const B: u16, const C: u16, const D: u16>(
+    beginning: &Beginning<'_>,
+    blanks: (Blank, Blank, Blank, Blank),
+    greetings: &mut Vec<Addressed>,
+) -> Result<Four<J, A, B, C, D>, AllocError>
+    requires shards { 0 < beginning.now.shards }
+    requires list { TabsRiseFrom 1 beginning.now.list.now }
+    requires names { (blanks.0.name ≡ J.names A) × (blanks.1.name ≡ J.names B)
+        × (blanks.2.name ≡ J.names C) × (blanks.3.name ≡ J.names D) }
+    requires parts { (blanks.0.parts ≡ J.run.lanes) × (blanks.1.parts ≡ J.run.lanes)
+        × (blanks.2.parts ≡ J.run.lanes) × (blanks.3.parts ≡ J.run.lanes) }
+    requires run { IsRun J.run beginning.now }
+    ensures parts { IfOk result (λ four. (four.a.1.parts ≡ J.run.lanes) × (four.b.1.parts ≡ J.run.lanes)
+        × (four.c.1.parts ≡ J.run.lanes) × (four.d.1.parts ≡ J.run.lanes)) }
+    ensures amounts { IfOk result (λ four. (four.a.1.amount ≡ 0) × (four.b.1.amount ≡ 0)
+        × (four.c.1.amount ≡ 0) × (four.d.1.amount ≡ 0)) }
+    ensures greetings { OnOk result (greetings.new.items
+        ≡ (((greetings.old.items ++ hellos_of J.run A) ++ hellos_of J.run B) ++ hellos_of J.run C)
+        ++ hellos_of J.run D) }
+{
+    let a = open_shard::<J, A>(beginning, blanks.0, greetings)?;
+    let b = open_shard::<J, B>(beginning, blanks.1, greetings)?;
+    let c = open_shard::<J, C>(beginning, blanks.2, greetings)?;
+    let d = open_shard::<J, D>(beginning, blanks.3, greetings)?;
+    Ok(Four { a, b, c, d })
 }
 
 impl<J: Shards> Brokers<J> {
@@ -116,34 +152,47 @@ impl<J: Shards> Brokers<J> {
         ensures hellos { IfOk result (λ r. r.2.items ≡ hellos_below J.run SHARD_LIMIT) }
     {
         let mut greetings = Vec::new(beginning.alloc);
-        let (zero, zero_share) = open_shard::<J, 0>(beginning, blanks.zero, &mut greetings)?;
-        let (one, one_share) = open_shard::<J, 1>(beginning, blanks.one, &mut greetings)?;
-        let (two, two_share) = open_shard::<J, 2>(beginning, blanks.two, &mut greetings)?;
-        let (three, three_share) = open_shard::<J, 3>(beginning, blanks.three, &mut greetings)?;
-        let (four, four_share) = open_shard::<J, 4>(beginning, blanks.four, &mut greetings)?;
-        let (five, five_share) = open_shard::<J, 5>(beginning, blanks.five, &mut greetings)?;
-        let (six, six_share) = open_shard::<J, 6>(beginning, blanks.six, &mut greetings)?;
-        let (seven, seven_share) = open_shard::<J, 7>(beginning, blanks.seven, &mut greetings)?;
-        let (eight, eight_share) = open_shard::<J, 8>(beginning, blanks.eight, &mut greetings)?;
-        let (nine, nine_share) = open_shard::<J, 9>(beginning, blanks.nine, &mut greetings)?;
-        let (ten, ten_share) = open_shard::<J, 10>(beginning, blanks.ten, &mut greetings)?;
-        let (eleven, eleven_share) = open_shard::<J, 11>(beginning, blanks.eleven, &mut greetings)?;
-        let (twelve, twelve_share) = open_shard::<J, 12>(beginning, blanks.twelve, &mut greetings)?;
-        let (thirteen, thirteen_share) = open_shard::<J, 13>(
+        let first = open_four::<J, 0, 1, 2, 3>(
             beginning,
-            blanks.thirteen,
+            (blanks.zero, blanks.one, blanks.two, blanks.three),
             &mut greetings,
         )?;
-        let (fourteen, fourteen_share) = open_shard::<J, 14>(
+        let second = open_four::<J, 4, 5, 6, 7>(
             beginning,
-            blanks.fourteen,
+            (blanks.four, blanks.five, blanks.six, blanks.seven),
             &mut greetings,
         )?;
-        let (fifteen, fifteen_share) = open_shard::<J, 15>(
+        let third = open_four::<J, 8, 9, 10, 11>(
             beginning,
-            blanks.fifteen,
+            (blanks.eight, blanks.nine, blanks.ten, blanks.eleven),
             &mut greetings,
         )?;
+        let fourth = open_four::<J, 12, 13, 14, 15>(
+            beginning,
+            (
+                blanks.twelve,
+                blanks.thirteen,
+                blanks.fourteen,
+                blanks.fifteen,
+            ),
+            &mut greetings,
+        )?;
+        let (zero, zero_share) = first.a;
+        let (one, one_share) = first.b;
+        let (two, two_share) = first.c;
+        let (three, three_share) = first.d;
+        let (four, four_share) = second.a;
+        let (five, five_share) = second.b;
+        let (six, six_share) = second.c;
+        let (seven, seven_share) = second.d;
+        let (eight, eight_share) = third.a;
+        let (nine, nine_share) = third.b;
+        let (ten, ten_share) = third.c;
+        let (eleven, eleven_share) = third.d;
+        let (twelve, twelve_share) = fourth.a;
+        let (thirteen, thirteen_share) = fourth.b;
+        let (fourteen, fourteen_share) = fourth.c;
+        let (fifteen, fifteen_share) = fourth.d;
         let brokers = Brokers {
             zero,
             one,

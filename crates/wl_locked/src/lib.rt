@@ -11,6 +11,7 @@ pub mod lane;
 pub mod locked;
 mod marking;
 pub mod receipt;
+mod room;
 pub mod shard_lane;
 pub mod sharded;
 pub mod shards;
