@@ -16,7 +16,7 @@ use std::process::Child;
 use std::sync::{Arc, Condvar, Mutex, Wait};
 use wl_board::{Birth, Board};
 use wl_frames::{Dead, Frame, Hello, Origin, PairWelcome, Upward, Welcome, encode};
-use wl_kernel::{OpenFault, Routed};
+use wl_kernel::{OpenFault, RouteFault, Routed};
 use wl_limits::brokers::LAST_GENERATION;
 use wl_limits::tabs::LAST_TAB;
 use wl_origin::Partition;
@@ -88,6 +88,75 @@ pub(crate) struct Opened {
     pub(crate) death: Vec<u8>,
 }
 
+impl Opened {
+    /// A tab of the partition of this number, for which nothing is put yet.
+    fn new(alloc: Global, tab: u16, partition: u16) -> Result<Opened, AllocError> {
+        let death = death_of(alloc, tab)?;
+        let (post, taking) = Post::new(alloc, partition, tab)?;
+        let post = Arc::new(alloc, post)?;
+        Ok(Opened {
+            tab,
+            post,
+            taking,
+            death,
+        })
+    }
+}
+
+/// What tells the broker that the tab is dead.
+fn death_of(alloc: Global, tab: u16) -> Result<Vec<u8>, AllocError> {
+    let mut death = Vec::new(alloc);
+    append_last(alloc, &mut death, Frame::Dead(Dead { tab }))?;
+    Ok(death)
+}
+
+/// Appends the encoding of a frame that is not needed any more.
+fn append_last(alloc: Global, bytes: &mut Vec<u8>, frame: Frame) -> Result<(), AllocError> {
+    append(alloc, bytes, &frame)
+}
+
+/// The origins of a page, of which its welcome tells.
+#[derive(Drop)]
+struct Origins {
+    /// That of the page at the top, where the welcome tells of both.
+    top: Option<Origin>,
+    own: Origin,
+}
+
+impl Origins {
+    fn new(alloc: Global, partition: &Partition, is_pair: bool) -> Result<Origins, AllocError> {
+        let own = origin_of(alloc, partition.text())?;
+        let top = match is_pair {
+            true => Some(origin_of(alloc, partition.top_text())?),
+            false => None,
+        };
+        Ok(Origins { top, own })
+    }
+
+    /// The welcome of a tab.
+    fn welcome(self, tab: u16) -> Frame {
+        let Origins { top, own } = self;
+        match top {
+            Some(top) => Frame::PairWelcome(PairWelcome { tab, top, own }),
+            None => Frame::Welcome(Welcome { tab, origin: own }),
+        }
+    }
+}
+
+fn origin_of(alloc: Global, text: &str) -> Result<Origin, AllocError> {
+    Ok(Origin::new(String::from_str(alloc, text)?))
+}
+
+/// A tab that has sent something.
+#[derive(Clone, Copy)]
+struct Sender {
+    tab: u16,
+    /// The number of its partition.
+    partition: u16,
+    /// The generation of the broker that runs.
+    current: Option<u32>,
+}
+
 #[derive(Drop)]
 pub(crate) struct Hub {
     alloc: Global,
@@ -144,33 +213,32 @@ impl Hub {
         partition: Partition,
         is_pair: bool,
     ) -> Result<Opened, Unopened> {
-        let alloc = self.alloc;
-        let top = Origin::new(String::from_str(alloc, partition.top_text())?);
-        let own = Origin::new(String::from_str(alloc, partition.text())?);
+        let origins = Origins::new(self.alloc, &partition, is_pair)?;
         let mut supervisor = self.supervisor.lock(rt);
         let (tab, number) = self.enter(rt, &mut supervisor, partition)?;
-        let mut death = Vec::new(alloc);
-        append(alloc, &mut death, &Frame::Dead(Dead { tab }))?;
-        let (post, taking) = Post::new(alloc, number, tab)?;
-        let post = Arc::new(alloc, post)?;
-        self.ends.lock(rt).begin(tab)?;
-        self.posts.lock(rt).insert(tab, Arc::try_clone(&post)?)?;
-        let welcome = if is_pair {
-            Frame::PairWelcome(PairWelcome { tab, top, own })
-        } else {
-            Frame::Welcome(Welcome { tab, origin: own })
-        };
-        post.put(rt, number, welcome);
+        let opened = self.begin(rt, tab, number)?;
+        opened.post.put(rt, number, origins.welcome(tab));
         if let Some(generation) = supervisor.current() {
-            post.put(rt, number, Frame::Hello(Hello { generation }));
+            opened
+                .post
+                .put(rt, number, Frame::Hello(Hello { generation }));
         }
         drop(supervisor);
-        Ok(Opened {
-            tab,
-            post,
-            taking,
-            death,
-        })
+        Ok(opened)
+    }
+
+    /// Begins the life of a tab of the partition of this number: it has an outbox, and its end can be waited for.
+    fn begin<R: Wait>(&self, rt: &R, tab: u16, partition: u16) -> Result<Opened, AllocError> {
+        let opened = Opened::new(self.alloc, tab, partition)?;
+        self.ends.lock(rt).begin(tab)?;
+        self.keep_post(rt, tab, &opened.post)?;
+        Ok(opened)
+    }
+
+    fn keep_post<R: Wait>(&self, rt: &R, tab: u16, post: &Arc<Post>) -> Result<(), AllocError> {
+        let post = Arc::try_clone(post)?;
+        let _new = self.posts.lock(rt).insert(tab, post)?;
+        Ok(())
     }
 
     /// Draws a number, enters the tab in the table, and brings it to life on the board.
@@ -221,29 +289,56 @@ impl Hub {
         tab: u16,
         frame: Frame,
         bytes: &mut Vec<u8>,
-    ) -> Result<(), wl_kernel::RouteFault> {
-        let supervisor = self.supervisor.lock(rt);
-        let routed = supervisor.route_up(tab, frame)?;
-        let Some(partition) = supervisor.partition_number(tab) else {
-            return Err(wl_kernel::RouteFault::NoTab);
-        };
-        let current = supervisor.current();
-        drop(supervisor);
-        match routed {
-            Routed::Broker(frame) => {
-                if let (Some(sent), Some(generation)) = (generation_of(&frame), current) {
-                    if sent < generation {
-                        self.put(rt, tab, partition, Frame::Hello(Hello { generation }));
-                    }
-                }
-                append(self.alloc, bytes, &frame)?;
-            }
-            Routed::Tabs(heard) => {
+    ) -> Result<(), RouteFault> {
+        match self.route_up(rt, tab, frame)? {
+            (sender, Routed::Broker(frame)) => self.up_to_broker(rt, sender, &frame, bytes),
+            (sender, Routed::Tabs(heard)) => {
                 for (target, frame) in heard.into_vec() {
-                    self.put(rt, target, partition, frame);
+                    self.put(rt, target, sender.partition, frame);
                 }
+                Ok(())
             }
         }
+    }
+
+    /// Where a tab's frame goes, and who has sent it.
+    fn route_up<R: Wait>(
+        &self,
+        rt: &R,
+        tab: u16,
+        frame: Frame,
+    ) -> Result<(Sender, Routed), RouteFault> {
+        let supervisor = self.supervisor.lock(rt);
+        let sender = supervisor.partition_number(tab).map(|partition| Sender {
+            tab,
+            partition,
+            current: supervisor.current(),
+        });
+        let routed = supervisor.route_up(tab, frame);
+        drop(supervisor);
+        match (routed, sender) {
+            (Ok(routed), Some(sender)) => Ok((sender, routed)),
+            (Err(fault), _) => Err(fault),
+            (Ok(_), None) => Err(RouteFault::NoTab),
+        }
+    }
+
+    /// Appends a stamped frame to those that go to the broker. Who sent it for a generation that has ended is told of the current
+    /// one.
+    fn up_to_broker<R: Wait>(
+        &self,
+        rt: &R,
+        sender: Sender,
+        frame: &Frame,
+        bytes: &mut Vec<u8>,
+    ) -> Result<(), RouteFault> {
+        if let (Some(sent), Some(generation)) = (generation_of(frame), sender.current) {
+            if sent < generation {
+                let hello = Frame::Hello(Hello { generation });
+                self.put(rt, sender.tab, sender.partition, hello);
+            }
+        }
+        append(self.alloc, bytes, frame)?;
         Ok(())
     }
 
@@ -316,20 +411,21 @@ impl Hub {
     /// Starts the next generation over this link. Nothing is sent over it before its Start frame.
     pub(crate) fn install<R: Host>(&self, rt: &R, stream: UnixStream) -> Result<u32, ProcessFault> {
         let mut supervisor = self.supervisor.lock(rt);
-        let Ok(Some((generation, frame))) = supervisor.start() else {
-            return Err(ProcessFault::Memory);
-        };
         let mut bytes = Vec::new(self.alloc);
-        let appended = append(self.alloc, &mut bytes, &frame);
-        let mut link = self.link.lock(rt);
-        *link = Some(Link { generation, stream });
-        if let Some(link) = &mut *link {
-            let _ = link.stream.write_all(bytes.as_slice());
-        }
-        drop(link);
+        let (generation, appended) = start(self.alloc, &mut supervisor, &mut bytes)?;
+        self.set_link(rt, Link { generation, stream }, bytes.as_slice());
         drop(supervisor);
         appended?;
         Ok(generation)
+    }
+
+    /// This is the current broker's link from now on, over which these bytes go first.
+    fn set_link<R: Host>(&self, rt: &R, current: Link, bytes: &[u8]) {
+        let mut link = self.link.lock(rt);
+        *link = Some(current);
+        if let Some(link) = &mut *link {
+            let _ = link.stream.write_all(bytes);
+        }
     }
 
     /// The broker of this generation has no link any more.
@@ -359,6 +455,18 @@ impl Hub {
         if let Some(process) = &mut *self.broker.lock(rt) {
             process.stop();
         }
+    }
+}
+
+/// Starts the next generation, gives its number, and appends its Start frame, if there is memory for that.
+fn start(
+    alloc: Global,
+    supervisor: &mut Supervisor,
+    bytes: &mut Vec<u8>,
+) -> Result<(u32, Result<(), AllocError>), ProcessFault> {
+    match supervisor.start() {
+        Ok(Some((generation, frame))) => Ok((generation, append_last(alloc, bytes, frame))),
+        _ => Err(ProcessFault::Memory),
     }
 }
 

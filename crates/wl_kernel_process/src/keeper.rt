@@ -1,7 +1,7 @@
 //! The keeper of the broker: one thread that starts each generation's process, and reads its link to its end.
 
 use crate::hub::{BrokerProcess, Hub};
-use crate::listening::{Started, start_child};
+use crate::listening::{Started, end, start_child};
 use std::alloc::Global;
 use std::net::Shutdown;
 use std::os::unix::net::UnixStream;
@@ -70,12 +70,6 @@ impl BrokerWords {
         }
         Err(ProcessFault::Device)
     }
-}
-
-/// Kills a process, unless it has ended, and waits for it.
-fn end(child: &mut Child) {
-    let _ = child.kill();
-    let _ = child.wait();
 }
 
 /// Keeps a broker as long as one is wanted. Where brokers end at once again and again, it pauses before the next.

@@ -2,11 +2,12 @@
 
 use crate::hub::{Hub, Opened, Stop, Unopened};
 use crate::keeper::{BrokerWords, keep};
-use crate::listening::start_child;
+use crate::listening::{Started, start_child};
 use crate::tab_link::{TabHandle, TabProcess};
-use std::alloc::Global;
+use std::alloc::{AllocError, Global};
 use std::io::Write;
 use std::sync::{Arc, Mutex};
+use std::thread::JoinHandle;
 use std::time::Duration;
 use std::{io, thread};
 use wl_kernel::OpenFault;
@@ -63,12 +64,7 @@ pub fn run_kernel<R: Host>(rt: R, alloc: Global, words: KernelWords) -> Result<(
             limit,
         },
     )?;
-    let keeper = {
-        let (hub, words) = (Arc::try_clone(&hub)?, Arc::try_clone(&words)?);
-        thread::spawn(&rt, move || keep(&rt, alloc, &hub, &words)).map_err(
-            |_| ProcessFault::Device,
-        )?
-    };
+    let keeper = start_keeper(rt, alloc, &hub, &words)?;
     let mut kernel = Kernel {
         alloc,
         hub,
@@ -83,6 +79,17 @@ pub fn run_kernel<R: Host>(rt: R, alloc: Global, words: KernelWords) -> Result<(
         Some(fault) => Err(fault),
         None => Ok(()),
     }
+}
+
+/// Starts the thread that keeps the broker.
+fn start_keeper<R: Host>(
+    rt: R,
+    alloc: Global,
+    hub: &Arc<Hub>,
+    words: &Arc<BrokerWords>,
+) -> Result<JoinHandle<()>, ProcessFault> {
+    let (hub, words) = (Arc::try_clone(hub)?, Arc::try_clone(words)?);
+    thread::spawn(&rt, move || keep(&rt, alloc, &hub, &words)).map_err(|_| ProcessFault::Device)
 }
 
 impl Kernel {
@@ -120,21 +127,8 @@ impl Kernel {
     ) -> Result<(), ProcessFault> {
         match line {
             KernelLine::Blank => {}
-            KernelLine::Start => {
-                let reply = match self.hub.order_start(&rt)? {
-                    Some(generation) => KernelReply::Up(generation),
-                    None => KernelReply::AlreadyUp,
-                };
-                reply.put(out)?;
-            }
-            KernelLine::Stop => {
-                let reply = match self.hub.order_stop(&rt)? {
-                    Stop::Stopped(generation) => KernelReply::Stopped(generation),
-                    Stop::AlreadyDown => KernelReply::AlreadyDown,
-                    Stop::GenerationsUsedUp => KernelReply::GenerationsUsedUp,
-                };
-                reply.put(out)?;
-            }
+            KernelLine::Start => self.order_start(&rt)?.put(out)?,
+            KernelLine::Stop => self.order_stop(&rt)?.put(out)?,
             KernelLine::Open { url, file } => {
                 let read = partition(self.alloc, url.as_str());
                 self.open(rt, read, false, file.as_str(), out)?;
@@ -147,11 +141,30 @@ impl Kernel {
             KernelLine::Pause { milliseconds } => {
                 thread::sleep(&rt, Duration::from_millis(u64::from(milliseconds)));
             }
-            KernelLine::Join => {
-                for (tab, status) in self.hub.wait_for_all(&rt)? {
-                    KernelReply::Ended { tab, status }.put(out)?;
-                }
-            }
+            KernelLine::Join => self.join(&rt, out)?,
+        }
+        Ok(())
+    }
+
+    fn order_start<R: Host>(&self, rt: &R) -> Result<KernelReply<'static>, ProcessFault> {
+        Ok(match self.hub.order_start(rt)? {
+            Some(generation) => KernelReply::Up(generation),
+            None => KernelReply::AlreadyUp,
+        })
+    }
+
+    fn order_stop<R: Host>(&self, rt: &R) -> Result<KernelReply<'static>, ProcessFault> {
+        Ok(match self.hub.order_stop(rt)? {
+            Stop::Stopped(generation) => KernelReply::Stopped(generation),
+            Stop::AlreadyDown => KernelReply::AlreadyDown,
+            Stop::GenerationsUsedUp => KernelReply::GenerationsUsedUp,
+        })
+    }
+
+    /// Waits for the ends of all tabs, and appends those that are not told yet.
+    fn join<R: Host>(&self, rt: &R, out: &mut Vec<u8>) -> Result<(), ProcessFault> {
+        for (tab, status) in self.hub.wait_for_all(rt)? {
+            KernelReply::Ended { tab, status }.put(out)?;
         }
         Ok(())
     }
@@ -165,32 +178,34 @@ impl Kernel {
         file: &str,
         out: &mut Vec<u8>,
     ) -> Result<(), ProcessFault> {
-        let partition = match read {
-            Ok(partition) => partition,
+        match read {
+            Ok(partition) => self.open_in(rt, partition, is_pair, file, out),
             Err(fault) => {
                 unread_reply(fault)?.put(out)?;
-                return Ok(());
+                Ok(())
             }
-        };
+        }
+    }
+
+    /// The same in a partition.
+    fn open_in<R: Host>(
+        &mut self,
+        rt: R,
+        partition: Partition,
+        is_pair: bool,
+        file: &str,
+        out: &mut Vec<u8>,
+    ) -> Result<(), ProcessFault> {
         self.let_go_of_the_dead(&rt);
-        let top = String::from_str(self.alloc, partition.top_text())?;
-        let origin = String::from_str(self.alloc, partition.text())?;
-        let opened = match self.hub.open(&rt, partition, is_pair) {
-            Ok(opened) => opened,
-            Err(fault) => {
-                unopened_reply(fault)?.put(out)?;
-                return Ok(());
+        let texts = Texts::new(self.alloc, &partition)?;
+        match self.hub.open(&rt, partition, is_pair) {
+            Ok(opened) => {
+                let tab = opened.tab;
+                self.start(rt, opened, file)?;
+                texts.reply(tab, is_pair).put(out)?;
             }
-        };
-        let tab = opened.tab;
-        self.start(rt, opened, file)?;
-        let (top, origin) = (top.as_str(), origin.as_str());
-        let reply = if is_pair {
-            KernelReply::OpenedTwo { tab, top, origin }
-        } else {
-            KernelReply::Opened { tab, origin }
-        };
-        reply.put(out)?;
+            Err(fault) => unopened_reply(fault)?.put(out)?,
+        }
         Ok(())
     }
 
@@ -212,23 +227,13 @@ impl Kernel {
     /// Starts the process of a tab, and the threads of its link.
     fn start<R: Host>(&mut self, rt: R, opened: Opened, file: &str) -> Result<(), ProcessFault> {
         self.tabs.reserve(1)?;
+        let started = self.start_process(&rt, opened.tab, file)?;
         let Opened {
             tab,
             post,
             taking,
             death,
         } = opened;
-        let directory = self.words.directory.as_str();
-        let path = format!(in self.alloc; "{directory}/tab{tab}.sock")?;
-        // A path that begins like an option is spelled in another way.
-        let here = if file.starts_with('-') { "./" } else { "" };
-        let script = format!(in self.alloc; "{here}{file}")?;
-        let started = start_child(
-            &rt,
-            self.words.program.as_str(),
-            path.as_str(),
-            &["tab", "--socket", path.as_str(), script.as_str()],
-        )?;
         let process = TabProcess {
             tab,
             child: Mutex::new(started.child),
@@ -242,6 +247,26 @@ impl Kernel {
             return Err(ProcessFault::Device);
         }
         Ok(())
+    }
+
+    /// Starts the process of a tab with a script, and accepts its link.
+    fn start_process<R: Host>(
+        &self,
+        rt: &R,
+        tab: u16,
+        file: &str,
+    ) -> Result<Started, ProcessFault> {
+        let directory = self.words.directory.as_str();
+        let path = format!(in self.alloc; "{directory}/tab{tab}.sock")?;
+        // A path that begins like an option is spelled in another way.
+        let here = if file.starts_with('-') { "./" } else { "" };
+        let script = format!(in self.alloc; "{here}{file}")?;
+        start_child(
+            rt,
+            self.words.program.as_str(),
+            path.as_str(),
+            &["tab", "--socket", path.as_str(), script.as_str()],
+        )
     }
 
     /// Kills the process of a tab, and waits until the tab is buried.
@@ -275,6 +300,31 @@ impl Kernel {
             handle.join(rt);
         }
         hub
+    }
+}
+
+/// The texts of a partition's two origins.
+#[derive(Drop)]
+struct Texts {
+    top: String,
+    origin: String,
+}
+
+impl Texts {
+    fn new(alloc: Global, partition: &Partition) -> Result<Texts, AllocError> {
+        let top = String::from_str(alloc, partition.top_text())?;
+        let origin = String::from_str(alloc, partition.text())?;
+        Ok(Texts { top, origin })
+    }
+
+    /// What is printed for a tab that was opened.
+    fn reply(&self, tab: u16, is_pair: bool) -> KernelReply<'_> {
+        let (top, origin) = (self.top.as_str(), self.origin.as_str());
+        if is_pair {
+            KernelReply::OpenedTwo { tab, top, origin }
+        } else {
+            KernelReply::Opened { tab, origin }
+        }
     }
 }
 

@@ -30,8 +30,7 @@ pub(crate) fn start_child<R: Host>(
     let removed = remove(rt, path);
     let mut started = started?;
     if let Err(fault) = removed {
-        let _ = started.child.kill();
-        let _ = started.child.wait();
+        end(&mut started.child);
         return Err(fault);
     }
     Ok(started)
@@ -52,11 +51,7 @@ fn start_listened<R: Host>(
     words: &[&str],
 ) -> io::Result<Started> {
     listener.set_nonblocking(true)?;
-    let mut command = Command::new(rt.alloc(), program)?;
-    for word in words {
-        command.arg(*word)?;
-    }
-    let mut child = rt.start(&mut command)?;
+    let mut child = start_program(rt, program, words)?;
     match accept(rt, listener, &mut child) {
         Ok(link) => {
             if link.is_none() {
@@ -65,11 +60,24 @@ fn start_listened<R: Host>(
             Ok(Started { child, link })
         }
         Err(error) => {
-            let _ = child.kill();
-            let _ = child.wait();
+            end(&mut child);
             Err(error)
         }
     }
+}
+
+fn start_program<R: Host>(rt: &R, program: &str, words: &[&str]) -> io::Result<Child> {
+    let mut command = Command::new(rt.alloc(), program)?;
+    for word in words {
+        command.arg(*word)?;
+    }
+    rt.start(&mut command)
+}
+
+/// Kills a process, unless it has ended, and waits for it.
+pub(crate) fn end(child: &mut Child) {
+    let _ = child.kill();
+    let _ = child.wait();
 }
 
 /// Accepts the link of a child. None where the child ended first, or did not connect in time.

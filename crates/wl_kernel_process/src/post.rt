@@ -19,6 +19,16 @@ struct Putting {
     ghost puts: { takes pass ≡ false },
 }
 
+impl Putting {
+    /// Puts a frame that comes from the partition of this number.
+    fn put<R: Wait>(&mut self, rt: &R, partition: u16, frame: Frame) {
+        let outbox = &*self.outbox;
+        if let Ok(parcel) = Parcel::new(partition, outbox.partition(), outbox.tab(), frame) {
+            let _full = outbox.put(rt, &mut self.pass, parcel);
+        }
+    }
+}
+
 /// A tab's outbox, and the bell of the thread that empties it.
 #[derive(Drop)]
 pub(crate) struct Post {
@@ -67,13 +77,9 @@ impl Post {
     /// Puts a frame that comes from the partition of this number, and rings the bell. From another partition than the tab's,
     /// or where the outbox is full, it is lost.
     pub(crate) fn put<R: Wait>(&self, rt: &R, partition: u16, frame: Frame) {
-        let mut guard = self.putting.lock(rt);
-        let putting = &mut *guard;
-        let outbox = &*putting.outbox;
-        if let Ok(parcel) = Parcel::new(partition, outbox.partition(), outbox.tab(), frame) {
-            let _full = outbox.put(rt, &mut putting.pass, parcel);
-        }
-        drop(guard);
+        let mut putting = self.putting.lock(rt);
+        putting.put(rt, partition, frame);
+        drop(putting);
         self.bell.unpark();
     }
 }

@@ -273,6 +273,34 @@ fn write_link<R: Host>(
     Ok(end)
 }
 
+/// Starts the thread that reads a tab's link. None where there can be no thread.
+fn start_reader<R: Host>(
+    rt: R,
+    alloc: Global,
+    hub: &Arc<Hub>,
+    process: &Arc<TabProcess>,
+) -> Result<Option<JoinHandle<()>>, AllocError> {
+    let (hub, process) = (Arc::try_clone(hub)?, Arc::try_clone(process)?);
+    Ok(thread::spawn(&rt, move || read_and_bury(&rt, alloc, &hub, &process)).ok())
+}
+
+/// Starts the thread that writes to a tab's link. None where there can be no thread.
+fn start_writer<R: Host>(
+    rt: R,
+    alloc: Global,
+    hub: &Arc<Hub>,
+    process: &Arc<TabProcess>,
+    post: &Arc<Post>,
+    taking: Taking,
+) -> Result<Option<JoinHandle<()>>, AllocError> {
+    let (hub, process) = (Arc::try_clone(hub)?, Arc::try_clone(process)?);
+    let post = Arc::try_clone(post)?;
+    Ok(thread::spawn(&rt, move || {
+        write_link_or_end(&rt, alloc, &hub, &process, &post, taking);
+    })
+    .ok())
+}
+
 /// A tab as the script has it: its process, and the threads of its link.
 #[derive(Drop)]
 pub(crate) struct TabHandle {
@@ -299,18 +327,8 @@ impl TabHandle {
                 return Err(ProcessFault::Memory);
             }
         };
-        let reader = {
-            let (hub, process) = (Arc::try_clone(hub)?, Arc::try_clone(&process)?);
-            thread::spawn(&rt, move || read_and_bury(&rt, alloc, &hub, &process)).ok()
-        };
-        let writer = {
-            let (hub, process) = (Arc::try_clone(hub)?, Arc::try_clone(&process)?);
-            let post = Arc::try_clone(post)?;
-            thread::spawn(&rt, move || {
-                write_link_or_end(&rt, alloc, &hub, &process, &post, taking);
-            })
-            .ok()
-        };
+        let reader = start_reader(rt, alloc, hub, &process)?;
+        let writer = start_writer(rt, alloc, hub, &process, post, taking)?;
         let has_failed = reader.is_none() || writer.is_none();
         if has_failed {
             process.kill(&rt);
