@@ -306,19 +306,19 @@ fn report(alloc: Global) -> Upward {
 }
 
 /// Asserts why a message is dropped.
-fn drops(rt: &impl Abort, broker: &mut TestedBroker, stamped: &Stamped, want: Dropped) {
-    let answer = match broker.take(stamped) {
-        Err(Dropped::Memory) => broker.take(stamped),
+fn drops(rt: &impl Abort, broker: &mut TestedBroker, stamped: Stamped, want: Dropped) {
+    let answer = match broker.take(&stamped) {
+        Err(Dropped::Memory) => broker.take(&stamped),
         answer => answer,
     };
     assert_eq!(rt; answer.err(), Some(want));
 }
 
 /// Asserts that a message is taken with no frames.
-fn keeps(rt: &impl Abort, broker: &mut TestedBroker, stamped: &Stamped) {
-    let outs = match broker.take(stamped) {
+fn keeps(rt: &impl Abort, broker: &mut TestedBroker, stamped: Stamped) {
+    let outs = match broker.take(&stamped) {
         Ok(outs) => outs,
-        Err(_) => broker.take(stamped).expect(rt, "memory is back"),
+        Err(_) => broker.take(&stamped).expect(rt, "memory is back"),
     };
     assert!(rt; outs.as_slice().is_empty());
 }
@@ -327,16 +327,16 @@ fn keeps(rt: &impl Abort, broker: &mut TestedBroker, stamped: &Stamped) {
 fn parts_that_do_not_fit(rt: HostRuntime) {
     let alloc = rt.alloc();
     let (mut broker, _hellos) = start(&rt, alloc, 2, &[(2, 1)]);
+    keeps(&rt, &mut broker, part_in(&rt, alloc, 1, 1, 0));
     let second = part_in(&rt, alloc, 1, 1, 0);
-    keeps(&rt, &mut broker, &second);
-    drops(&rt, &mut broker, &second, Dropped::PartTwice);
+    drops(&rt, &mut broker, second, Dropped::PartTwice);
     let whole = stamped(1, 1, report(alloc));
-    drops(&rt, &mut broker, &whole, Dropped::BadReport);
+    drops(&rt, &mut broker, whole, Dropped::BadReport);
     let not_below = part_in(&rt, alloc, 1, 0, 1);
-    drops(&rt, &mut broker, &not_below, Dropped::BadReport);
+    drops(&rt, &mut broker, not_below, Dropped::BadReport);
     let elsewhere = part_in(&rt, alloc, 3, 0, 0);
-    drops(&rt, &mut broker, &elsewhere, Dropped::Misplaced);
-    let outs = bury(&rt, &mut broker, 1);
-    assert!(&rt; outs.as_slice().is_empty());
-    drops(&rt, &mut broker, &second, Dropped::DeadTab);
+    drops(&rt, &mut broker, elsewhere, Dropped::Misplaced);
+    assert!(&rt; bury(&rt, &mut broker, 1).as_slice().is_empty());
+    let second = part_in(&rt, alloc, 1, 1, 0);
+    drops(&rt, &mut broker, second, Dropped::DeadTab);
 }

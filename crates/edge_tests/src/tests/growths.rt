@@ -136,22 +136,28 @@ fn dies(alloc: Global, tab: u16) -> Step {
 
 // ---- rows
 
+/// Adds a step, if it could be made.
+fn add(steps: &mut Vec<Step>, step: Result<Step, AllocError>) -> Result<(), AllocError> {
+    steps.push(step?)?;
+    Ok(())
+}
+
 /// Two tabs' reports, and a request.
 fn three_steps(alloc: Global) -> Result<Vec<Step>, AllocError> {
     let mut steps = Vec::new(alloc);
-    steps.push(reports(alloc, 1))?;
-    steps.push(reports(alloc, 2))?;
-    steps.push(asks(alloc, 1, 0, Outcome::Granted)?)?;
+    add(&mut steps, Ok(reports(alloc, 1)))?;
+    add(&mut steps, Ok(reports(alloc, 2)))?;
+    add(&mut steps, asks(alloc, 1, 0, Outcome::Granted))?;
     Ok(steps)
 }
 
 /// A tab's report, its request, and its death twice.
 fn four_steps(alloc: Global) -> Result<Vec<Step>, AllocError> {
     let mut steps = Vec::new(alloc);
-    steps.push(reports(alloc, 1))?;
-    steps.push(asks(alloc, 1, 0, Outcome::Granted)?)?;
-    steps.push(dies(alloc, 1))?;
-    steps.push(dies(alloc, 1))?;
+    add(&mut steps, Ok(reports(alloc, 1)))?;
+    add(&mut steps, asks(alloc, 1, 0, Outcome::Granted))?;
+    add(&mut steps, Ok(dies(alloc, 1)))?;
+    add(&mut steps, Ok(dies(alloc, 1)))?;
     Ok(steps)
 }
 
@@ -164,15 +170,15 @@ fn handing_over(alloc: Global) -> Result<Vec<Step>, AllocError> {
     for time in 1..TIMES {
         let number = time.wrapping_mul(2);
         let last = number.wrapping_sub(2);
-        steps.push(asks(alloc, 2, last, Outcome::Waiting)?)?;
-        steps.push(hands_over(alloc, 1, last, 2, last)?)?;
-        steps.push(asks(alloc, 1, number, Outcome::Waiting)?)?;
-        steps.push(hands_over(alloc, 2, last, 1, number)?)?;
+        add(&mut steps, asks(alloc, 2, last, Outcome::Waiting))?;
+        add(&mut steps, hands_over(alloc, 1, last, 2, last))?;
+        add(&mut steps, asks(alloc, 1, number, Outcome::Waiting))?;
+        add(&mut steps, hands_over(alloc, 2, last, 1, number))?;
     }
     let last = TIMES.wrapping_mul(2).wrapping_sub(2);
-    steps.push(asks(alloc, 2, last, Outcome::Waiting)?)?;
-    steps.push(hands_over(alloc, 1, last, 2, last)?)?;
-    steps.push(releases(alloc, 2, last)?)?;
+    add(&mut steps, asks(alloc, 2, last, Outcome::Waiting))?;
+    add(&mut steps, hands_over(alloc, 1, last, 2, last))?;
+    add(&mut steps, releases(alloc, 2, last))?;
     Ok(steps)
 }
 
@@ -220,6 +226,36 @@ fn lane_of(event: &BookEvent, lanes: usize) -> usize {
     usize::from(tab).checked_rem(lanes).unwrap_or(0)
 }
 
+/// Has a lane take the step at a place of a row.
+fn take_step<J: Generation, R: Wait + Abort>(
+    rt: &R,
+    alloc: Global,
+    broker: &LockedBroker<J>,
+    lane: &mut Lane<J>,
+    row: &[Step],
+    place: usize,
+) {
+    let step = row.get(place).expect(rt, "a step of the row");
+    let receipt = take(rt, alloc, broker, lane, &step.event).expect(rt, "a step");
+    assert!(rt;
+        receipt.place as usize == place && is_of(&receipt, row),
+        "at {place}"
+    );
+}
+
+/// Has a lane take an event for which no step is left.
+fn find_spent<J: Generation, R: Wait + Abort>(
+    rt: &R,
+    broker: &LockedBroker<J>,
+    lane: &mut Lane<J>,
+) {
+    let count = lane.count();
+    let query = command(1, 1, Operation::Query);
+    let spent = broker.take(rt, lane, query);
+    assert_eq!(rt; spent.err(), Some(NotStepped::GenerationSpent));
+    assert_eq!(rt; lane.count(), count);
+}
+
 /// Has lanes take the steps of a row, and then one event more, for which no step is left.
 fn take_row<J: Generation, R: Wait + Abort>(
     rt: &R,
@@ -231,18 +267,24 @@ fn take_row<J: Generation, R: Wait + Abort>(
     for (place, step) in row.iter().enumerate() {
         let number = lane_of(&step.event, lanes.len());
         let lane = lanes.get_mut(number).expect(rt, "a lane");
-        let receipt = take(rt, alloc, broker, lane, &step.event).expect(rt, "a step");
-        assert!(rt;
-            receipt.place as usize == place && is_of(&receipt, row),
-            "at {place}"
-        );
+        take_step(rt, alloc, broker, lane, row, place);
     }
-    let lane = lanes.get_mut(0).expect(rt, "a lane");
-    let count = lane.count();
-    let query = command(1, 1, Operation::Query);
-    let spent = broker.take(rt, lane, query);
-    assert_eq!(rt; spent.err(), Some(NotStepped::GenerationSpent));
-    assert_eq!(rt; lane.count(), count);
+    find_spent(rt, broker, lanes.get_mut(0).expect(rt, "a lane"));
+}
+
+/// Compares the receipts of lanes with the steps of a row.
+fn are_of_row<J: Generation>(rt: &impl Abort, lanes: &[Lane<J>], row: &[Step]) {
+    for lane in lanes {
+        assert!(rt; lane.receipts().iter().all(|receipt| is_of(receipt, row)));
+    }
+}
+
+/// Compares a history with the steps of a row.
+fn is_row(rt: &impl Abort, steps: &[Step], row: &[Step]) {
+    assert_eq!(rt; steps.len(), row.len());
+    for (step, wanted) in steps.iter().zip(row) {
+        assert!(rt; step.event == wanted.event && step.reply == wanted.reply);
+    }
 }
 
 /// Plays a row on a broker that may take no more steps than the row has. Nothing but the broker itself is refused.
@@ -262,14 +304,9 @@ fn play_named<J: Generation, R: Wait + Abort>(
 {
     let (broker, mut lanes, _hellos) = LockedBroker::<J>::new(alloc, blank, 1, &[], limit, lanes)?;
     take_row(rt, alloc, &broker, lanes.as_mut_slice(), row);
-    for lane in &lanes {
-        assert!(rt; lane.receipts().iter().all(|receipt| is_of(receipt, row)));
-    }
+    are_of_row(rt, lanes.as_slice(), row);
     let history = broker.close(lanes).expect(rt, "the steps of the lanes");
-    assert_eq!(rt; history.steps().len(), row.len());
-    for (step, wanted) in history.steps().iter().zip(row) {
-        assert!(rt; step.event == wanted.event && step.reply == wanted.reply);
-    }
+    is_row(rt, history.steps(), row);
     Ok(())
 }
 

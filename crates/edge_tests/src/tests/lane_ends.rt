@@ -76,32 +76,37 @@ fn lost_and_granted(alloc: Global) -> Result<Answers, AllocError> {
     Ok(Answers { left })
 }
 
-fn end_lanes<R: Wait + Clock + Abort>(rt: &R, alloc: Global) -> Result<(), AllocError> {
-    let mut desk = lost_and_granted(alloc)?;
+/// Has a lane with endless works end, and compares its steps, its cause and how many works it was given.
+fn ends<G: Gate, O: Outlet, R: Wait + Clock + Abort>(
+    rt: &R,
+    mut desk: Answers,
+    gate: &G,
+    outlet: &mut O,
+    want: (u32, Cause, u32),
+) {
     let mut endless = Endless { given: 0 };
-    let end = lane(rt, 0, &mut endless, &mut desk, &Shut, &mut Refusing);
-    assert_eq!(rt; (end.steps, end.why, endless.given), (1, Cause::Shut, 2));
+    let end = lane(rt, 0, &mut endless, &mut desk, gate, outlet);
+    assert_eq!(rt; (end.steps, end.why, endless.given), want);
+}
 
-    let mut desk = lost_and_granted(alloc)?;
-    let mut endless = Endless { given: 0 };
-    let end = lane(rt, 0, &mut endless, &mut desk, &Open, &mut Refusing);
-    assert_eq!(rt; (end.steps, end.why, endless.given), (1, Cause::Outlet, 2));
-
+/// The answers above, and then that the generation is spent.
+fn then_spent(alloc: Global) -> Result<Answers, AllocError> {
     let mut desk = lost_and_granted(alloc)?;
     desk.left.push_back(Err(NotStepped::GenerationSpent))?;
-    let mut endless = Endless { given: 0 };
-    let mut outlet = Counter { frames: 0 };
-    let end = lane(rt, 0, &mut endless, &mut desk, &Open, &mut outlet);
-    assert_eq!(rt; (end.steps, end.why, endless.given), (1, Cause::Spent, 3));
-    assert_eq!(rt; outlet.frames, 1);
+    Ok(desk)
+}
 
-    let mut desk = lost_and_granted(alloc)?;
-    let mut endless = Endless { given: 0 };
-    let end = lane(rt, 0, &mut endless, &mut desk, &Open, &mut outlet);
-    assert_eq!(rt;
-        (end.steps, end.why, endless.given),
-        (1, Cause::Spent, EVENT_LIMIT)
-    );
+fn end_lanes<R: Wait + Clock + Abort>(rt: &R, alloc: Global) -> Result<(), AllocError> {
+    let shut = (1, Cause::Shut, 2);
+    ends(rt, lost_and_granted(alloc)?, &Shut, &mut Refusing, shut);
+    let refused = (1, Cause::Outlet, 2);
+    ends(rt, lost_and_granted(alloc)?, &Open, &mut Refusing, refused);
+    let mut outlet = Counter { frames: 0 };
+    let spent = (1, Cause::Spent, 3);
+    ends(rt, then_spent(alloc)?, &Open, &mut outlet, spent);
+    assert_eq!(rt; outlet.frames, 1);
+    let all_seen = (1, Cause::Spent, EVENT_LIMIT);
+    ends(rt, lost_and_granted(alloc)?, &Open, &mut outlet, all_seen);
     Ok(())
 }
 

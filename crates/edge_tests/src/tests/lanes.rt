@@ -430,6 +430,33 @@ fn lanes_of<J: Shards>(
         .collect::<Vec<ShardLane<J>>>(alloc)
 }
 
+/// How the lanes of a broker end, each with a list of works, and the lanes that are handed back.
+fn run_scripts<J: Shards + Send + Sync, G: Gate + Sync, R: Threads + Wait + Clock + Abort + Sync>(
+    rt: &R,
+    alloc: Global,
+    broker: &Sharded<J>,
+    lanes: Vec<ShardLane<J>>,
+    scripts: Vec<VecDeque<Work>>,
+    gate: &G,
+) -> Result<(Vec<LaneEnd>, Vec<ShardLane<J>>), AllocError> {
+    let mut jobs = jobs_of(alloc, lanes, broker.shards(), scripts)?;
+    run_jobs(rt, broker, jobs.as_mut_slice(), gate);
+    let ends = ends_of(rt, alloc, jobs.as_slice())?;
+    Ok((ends, lanes_of(alloc, jobs)?))
+}
+
+/// Closes a broker with the lanes that are handed back.
+fn close<J: Shards>(
+    broker: Sharded<J>,
+    mut lanes: Vec<ShardLane<J>>,
+    handed: Handed,
+) -> Result<Vec<History>, (u16, CloseFault)> {
+    if handed == Handed::First {
+        lanes.truncate(1);
+    }
+    broker.close(lanes)
+}
+
 /// Runs a lane for each list of works, up to 16. No tab is listed.
 fn run_named<J: Shards + Send + Sync, G: Gate + Sync, R: Threads + Wait + Clock + Abort + Sync>(
     rt: &R,
@@ -450,16 +477,10 @@ fn run_named<J: Shards + Send + Sync, G: Gate + Sync, R: Threads + Wait + Clock 
         ≡ record { generation = 1; listed = []; shards = shards; lanes = lanes; limit = limit } }
 {
     let (broker, lanes, _hellos) = Sharded::<J>::new(alloc, blanks, 1, &[], limit, lanes, shards)?;
-    let mut jobs = jobs_of(alloc, lanes, shards, scripts)?;
-    run_jobs(rt, &broker, jobs.as_mut_slice(), gate);
-    let ends = ends_of(rt, alloc, jobs.as_slice())?;
-    let mut lanes = lanes_of(alloc, jobs)?;
-    if handed == Handed::First {
-        lanes.truncate(1);
-    }
+    let (ends, lanes) = run_scripts(rt, alloc, &broker, lanes, scripts, gate)?;
     Ok(Ran {
         ends,
-        closed: broker.close(lanes),
+        closed: close(broker, lanes, handed),
     })
 }
 

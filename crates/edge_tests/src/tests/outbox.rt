@@ -63,14 +63,24 @@ fn put_all<R: Wait + Abort>(rt: &R, outbox: &Outbox, pass: &mut Pass, from: u32,
     }
 }
 
+/// The generation of the next parcel, if there is one.
+fn next_generation<R: Wait>(rt: &R, outbox: &Outbox, pass: &mut Pass) -> Option<u32>
+    requires { IsOf pass.old outbox.now × (takes pass.old ≡ true) }
+    ensures { IsOf pass.new outbox.now × (takes pass.new ≡ true) }
+{
+    match &outbox.take(rt, pass) {
+        Some(parcel) => generation_of(parcel.frame()),
+        None => None,
+    }
+}
+
 /// Takes parcels, which are of these generations.
 fn take_all<R: Wait + Abort>(rt: &R, outbox: &Outbox, pass: &mut Pass, from: u32, to: u32)
     requires { IsOf pass.old outbox.now × (takes pass.old ≡ true) }
     ensures { IsOf pass.new outbox.now × (takes pass.new ≡ true) }
 {
     for generation in from..to {
-        let next = outbox.take(rt, pass).expect(rt, "the next parcel");
-        assert_eq!(rt; generation_of(next.frame()), Some(generation));
+        assert_eq!(rt; next_generation(rt, outbox, pass), Some(generation));
     }
 }
 
@@ -116,8 +126,7 @@ fn take_both<R: Wait + Abort>(rt: &R, outbox: &Outbox, pass: &mut Pass)
     let mut next = 0u32;
     let mut next_other = 500u32;
     for _ in 0..200 {
-        let parcel = outbox.take(rt, pass).expect(rt, "a parcel");
-        let generation = generation_of(parcel.frame()).expect(rt, "a hello");
+        let generation = next_generation(rt, outbox, pass).expect(rt, "a hello");
         if generation < 500 {
             assert_eq!(rt; generation, next);
             next = next.wrapping_add(1);

@@ -17,7 +17,7 @@ use std::thread::Threads;
 use wl_fakes::dice::Dice;
 use wl_frames::Mode;
 use wl_locked::{
-    Blanks, BookEvent, LANE_LIMIT, NotStepped, Receipt, ShardLane, Sharded, Shards, Work,
+    Blanks, BookEvent, History, LANE_LIMIT, NotStepped, Receipt, ShardLane, Sharded, Shards, Work,
 };
 use wl_workers::Cause;
 
@@ -64,12 +64,41 @@ fn answered<J: Shards, R: Wait + Abort>(
 }
 
 /// The place of a step, or that its generation is spent.
-fn place_of(answer: Result<Receipt, NotStepped>) -> Result<Option<u32>, AllocError> {
+fn place_of(answer: &Result<Receipt, NotStepped>) -> Result<Option<u32>, AllocError> {
     match answer {
         Ok(receipt) => Ok(Some(receipt.place)),
         Err(NotStepped::GenerationSpent) => Ok(None),
         Err(NotStepped::Memory) => Err(AllocError),
     }
+}
+
+/// Has a work done, whose step has this place; None where the generation is spent.
+fn step<J: Shards, R: Wait + Abort>(
+    rt: &R,
+    alloc: Global,
+    broker: &Sharded<J>,
+    lane: &mut ShardLane<J>,
+    work: Work,
+    place: Option<u32>,
+) -> Result<(), AllocError> {
+    let Work { shard, event } = work;
+    let found = place_of(&answered(rt, alloc, broker, lane, shard, event))?;
+    assert_eq!(rt; found, place);
+    Ok(())
+}
+
+/// The report of a tab whose partition has its number.
+fn report_of(alloc: Global, tab: u16) -> BookEvent {
+    report_in(alloc, tab, tab)
+}
+
+/// The request of tab 1 in shard 1.
+fn asked(alloc: Global) -> Result<Work, AllocError> {
+    let request = request(alloc, Mode::Exclusive, false, "a")?;
+    Ok(Work {
+        shard: 1,
+        event: command_in(1, 1, 0, request),
+    })
 }
 
 /// Uses up the two steps of shard 1. Shard 0 has its own.
@@ -79,16 +108,36 @@ fn step_through<J: Shards, R: Wait + Abort>(
     broker: &Sharded<J>,
     lane: &mut ShardLane<J>,
 ) -> Result<(), AllocError> {
-    let first = answered(rt, alloc, broker, lane, 1, report_in(alloc, 1, 1));
-    assert_eq!(rt; place_of(first)?, Some(0));
-    let second = answered(rt, alloc, broker, lane, 1, report_in(alloc, 3, 3));
-    assert_eq!(rt; place_of(second)?, Some(1));
-    let asked = request(alloc, Mode::Exclusive, false, "a")?;
-    let spent = answered(rt, alloc, broker, lane, 1, command_in(1, 1, 0, asked));
-    assert_eq!(rt; place_of(spent)?, None);
-    let other = answered(rt, alloc, broker, lane, 0, report_in(alloc, 2, 2));
-    assert_eq!(rt; place_of(other)?, Some(0));
+    for (shard, tab, place) in [(1, 1, 0), (1, 3, 1)] {
+        let event = report_of(alloc, tab);
+        step(rt, alloc, broker, lane, Work { shard, event }, Some(place))?;
+    }
+    step(rt, alloc, broker, lane, asked(alloc)?, None)?;
+    let event = report_of(alloc, 2);
+    step(rt, alloc, broker, lane, Work { shard: 0, event }, Some(0))?;
     assert_eq!(rt; counts(lane), (1, 2));
+    Ok(())
+}
+
+/// The steps of each of two shards.
+fn are_one_and_two(rt: &impl Abort, histories: &[History]) {
+    let steps = |shard: usize| histories.get(shard).map(|history| history.steps().len());
+    assert_eq!(rt;
+        (histories.len(), steps(0), steps(1)),
+        (2, Some(1), Some(2))
+    );
+}
+
+/// The same for each lane of a broker.
+fn step_all<J: Shards, R: Wait + Abort>(
+    rt: &R,
+    alloc: Global,
+    broker: &Sharded<J>,
+    lanes: &mut [ShardLane<J>],
+) -> Result<(), AllocError> {
+    for lane in lanes.iter_mut() {
+        step_through(rt, alloc, broker, lane)?;
+    }
     Ok(())
 }
 
@@ -103,15 +152,9 @@ fn use_up_named<J: Shards, R: Wait + Abort>(
 {
     let (broker, mut lanes, hellos) = Sharded::<J>::new(alloc, blanks, 1, &[], 2, 1, 2)?;
     assert!(rt; hellos.as_slice().is_empty());
-    for lane in lanes.iter_mut() {
-        step_through(rt, alloc, &broker, lane)?;
-    }
+    step_all(rt, alloc, &broker, lanes.as_mut_slice())?;
     let histories = broker.close(lanes).expect(rt, "the steps of one lane");
-    let steps = |shard: usize| histories.get(shard).map(|history| history.steps().len());
-    assert_eq!(rt;
-        (histories.len(), steps(0), steps(1)),
-        (2, Some(1), Some(2))
-    );
+    are_one_and_two(rt, histories.as_slice());
     Ok(())
 }
 

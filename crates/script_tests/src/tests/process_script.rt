@@ -31,9 +31,17 @@ fn is_refused<L: Drop>(read: Result<L, Unread>) -> bool {
     matches!(&read, Err(Unread::Form))
 }
 
+/// Whether a line was read as this one.
+fn is_line<L: PartialEq>(read: &Result<L, Unread>, line: &L) -> bool {
+    match read {
+        Ok(read) => read == line,
+        Err(_) => false,
+    }
+}
+
 fn is_kernel_line(rt: &impl Abort, alloc: Global, text: &str, line: KernelLine) {
-    let read = kernel_line(alloc, text.as_bytes()).expect(rt, "a line");
-    assert_eq!(rt; read, line, "of {text}");
+    let read = kernel_line(alloc, text.as_bytes());
+    assert!(rt; is_line(&read, &line), "of {text}");
 }
 
 fn opens(rt: &impl Abort, alloc: Global, text: &str, url: &str, file: &str) {
@@ -148,8 +156,8 @@ fn other_kernel_lines(rt: HostRuntime) {
 }
 
 fn is_tab_line(rt: &impl Abort, alloc: Global, text: &str, line: TabLine) {
-    let read = tab_line(alloc, text.as_bytes()).expect(rt, "a line");
-    assert_eq!(rt; read, line, "of {text}");
+    let read = tab_line(alloc, text.as_bytes());
+    assert!(rt; is_line(&read, &line), "of {text}");
 }
 
 #[test]

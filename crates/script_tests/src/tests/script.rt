@@ -5,7 +5,7 @@ pub mod rows;
 mod texts;
 
 use super::again::{append, bytes};
-use rows::{JOINED_1, Row, Step};
+use rows::{JOINED_1, Row};
 use std::alloc::{AllocError, Global};
 use std::io::Read;
 use std::process::Abort;
@@ -30,20 +30,32 @@ impl Play {
 
     /// One more line, and what is written for it.
     fn line(&mut self, line: &str, replies: &[&str]) -> Result<(), AllocError> {
-        self.script.extend_from_slice(line.as_bytes())?;
-        self.script.extend_from_slice(b"\n")?;
+        self.say(line)?;
         for reply in replies {
-            self.output.extend_from_slice(reply.as_bytes())?;
-            self.output.extend_from_slice(b"\n")?;
+            self.hear(reply)?;
         }
         Ok(())
     }
 
-    fn steps(&mut self, steps: &[Step]) -> Result<(), AllocError> {
-        for (line, replies) in steps {
-            self.line(line, replies)?;
+    /// The lines of a part of a row, and what is written for them.
+    fn part(&mut self, part: &str) -> Result<(), AllocError> {
+        for line in part.lines() {
+            match line.strip_prefix("> ") {
+                Some(said) => self.say(said)?,
+                None => self.hear(line)?,
+            }
         }
         Ok(())
+    }
+
+    fn say(&mut self, line: &str) -> Result<(), AllocError> {
+        self.script.extend_from_slice(line.as_bytes())?;
+        self.script.extend_from_slice(b"\n")
+    }
+
+    fn hear(&mut self, reply: &str) -> Result<(), AllocError> {
+        self.output.extend_from_slice(reply.as_bytes())?;
+        self.output.extend_from_slice(b"\n")
     }
 
     fn expect(&self, rt: &impl Abort, alloc: Global, name: &str) {
@@ -90,7 +102,7 @@ fn expect<S: Read + Copy + Drop>(
 fn play_of_once(alloc: Global, row: &Row) -> Result<Play, AllocError> {
     let mut play = Play::new(alloc);
     for part in row.parts {
-        play.steps(part)?;
+        play.part(part)?;
     }
     Ok(play)
 }
@@ -249,22 +261,12 @@ fn partitions_under_another_top(rt: HostRuntime) {
 
 #[test]
 fn refused_pairs(rt: HostRuntime) {
-    let alloc = rt.alloc();
-    let play = match parts::refused_pairs(alloc) {
-        Ok(play) => play,
-        Err(_) => parts::refused_pairs(alloc).expect(&rt, "memory is back"),
-    };
-    play.expect(&rt, alloc, "refused pairs");
+    expect_row(&rt, rt.alloc(), &parts::REFUSED_PAIRS);
 }
 
 #[test]
 fn forged_parts(rt: HostRuntime) {
-    let alloc = rt.alloc();
-    let play = match parts::forged_parts(alloc) {
-        Ok(play) => play,
-        Err(_) => parts::forged_parts(alloc).expect(&rt, "memory is back"),
-    };
-    play.expect(&rt, alloc, "forged parts");
+    expect_row(&rt, rt.alloc(), &parts::FORGED_PARTS);
 }
 
 fn letters(alloc: Global, count: usize) -> Result<String, AllocError> {
@@ -277,7 +279,7 @@ fn letters(alloc: Global, count: usize) -> Result<String, AllocError> {
 
 fn refusals_once(alloc: Global) -> Result<Play, AllocError> {
     let mut play = Play::new(alloc);
-    play.steps(JOINED_1)?;
+    play.part(JOINED_1)?;
     play.line("ask 1 exclusive -x", &["NotSupportedError"])?;
     let asked = ["1#0", "m3 1>b gen 1 #0 request exclusive %"];
     play.line("ask 1 exclusive %", &asked)?;

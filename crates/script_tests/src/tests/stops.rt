@@ -258,7 +258,7 @@ struct Tally {
     locks: usize,
 }
 
-const NO_RUN: Tally = Tally { runs: 0, locks: 0 };
+static NO_RUN: Tally = Tally { runs: 0, locks: 0 };
 
 impl Tally {
     fn add(&mut self, more: Tally) {

@@ -234,27 +234,34 @@ fn ends_with(
     Ok(again.events().len() == world.events().len() && holds(&world, held)? && holds(&again, held)?)
 }
 
-fn check(rt: &impl Abort, alloc: Global, row: &[&[Line]], held: &[Held]) {
-    let ends = match ends_with(rt, alloc, row, held) {
-        Ok(ends) => ends,
-        Err(AllocError) => ends_with(rt, alloc, row, held).expect(rt, "memory is back"),
-    };
-    assert!(rt; ends);
+/// Lines, and the locks that living tabs hold after them.
+#[derive(Clone, Copy)]
+struct Row {
+    lines: &'static [&'static [Line]],
+    held: &'static [Held],
 }
 
-#[test]
-fn what_is_granted_is_held_once_the_tab_hears_of_it(rt: HostRuntime) {
-    let alloc = rt.alloc();
-    check(
-        &rt,
-        alloc,
-        &[&FIRST, &SECOND, &THIRD, &FOURTH, &QUEUED, &UNBLOCKED],
-        &[],
-    );
-    check(
-        &rt,
-        alloc,
-        &[
+/// Plays a row, and plays it again where memory was refused.
+fn is_so(rt: &impl Abort, alloc: Global, row: &Row) -> bool {
+    match ends_with(rt, alloc, row.lines, row.held) {
+        Ok(ends) => ends,
+        Err(AllocError) => ends_with(rt, alloc, row.lines, row.held).expect(rt, "memory is back"),
+    }
+}
+
+fn check(rt: &impl Abort, alloc: Global, rows: &[Row]) {
+    for (place, row) in rows.iter().enumerate() {
+        assert!(rt; is_so(rt, alloc, row), "row {place}");
+    }
+}
+
+static WHAT_IS_GRANTED_IS_HELD_ONCE_THE_TAB_HEARS_OF_IT: [Row; 2] = [
+    Row {
+        lines: &[&FIRST, &SECOND, &THIRD, &FOURTH, &QUEUED, &UNBLOCKED],
+        held: &[],
+    },
+    Row {
+        lines: &[
             &FIRST,
             &SECOND,
             &THIRD,
@@ -263,17 +270,22 @@ fn what_is_granted_is_held_once_the_tab_hears_of_it(rt: HostRuntime) {
             &UNBLOCKED,
             &[Line::Deliver(10), Line::Deliver(19)],
         ],
-        &[(1, 0, Mode::Shared, "a"), (3, 0, Mode::Shared, "a")],
+        held: &[(1, 0, Mode::Shared, "a"), (3, 0, Mode::Shared, "a")],
+    },
+];
+
+#[test]
+fn what_is_granted_is_held_once_the_tab_hears_of_it(rt: HostRuntime) {
+    check(
+        &rt,
+        rt.alloc(),
+        &WHAT_IS_GRANTED_IS_HELD_ONCE_THE_TAB_HEARS_OF_IT,
     );
 }
 
-#[test]
-fn a_release_hands_over(rt: HostRuntime) {
-    let alloc = rt.alloc();
-    check(
-        &rt,
-        alloc,
-        &[
+static RELEASE_HANDS_OVER: [Row; 3] = [
+    Row {
+        lines: &[
             &FIRST,
             &SECOND,
             &THIRD,
@@ -288,12 +300,10 @@ fn a_release_hands_over(rt: HostRuntime) {
                 Line::Release(1, 0),
             ],
         ],
-        &[(3, 0, Mode::Shared, "a")],
-    );
-    check(
-        &rt,
-        alloc,
-        &[
+        held: &[(3, 0, Mode::Shared, "a")],
+    },
+    Row {
+        lines: &[
             &FIRST,
             &SECOND,
             &THIRD,
@@ -311,12 +321,10 @@ fn a_release_hands_over(rt: HostRuntime) {
                 Line::Deliver(24),
             ],
         ],
-        &[],
-    );
-    check(
-        &rt,
-        alloc,
-        &[
+        held: &[],
+    },
+    Row {
+        lines: &[
             &FIRST,
             &SECOND,
             &THIRD,
@@ -335,28 +343,27 @@ fn a_release_hands_over(rt: HostRuntime) {
                 Line::Deliver(26),
             ],
         ],
-        &[(2, 2, Mode::Exclusive, "a")],
-    );
-}
+        held: &[(2, 2, Mode::Exclusive, "a")],
+    },
+];
 
 #[test]
-fn a_grant_that_comes_after_the_abort_is_dropped(rt: HostRuntime) {
-    let alloc = rt.alloc();
-    check(
-        &rt,
-        alloc,
-        &[
+fn a_release_hands_over(rt: HostRuntime) {
+    check(&rt, rt.alloc(), &RELEASE_HANDS_OVER);
+}
+
+static GRANT_THAT_COMES_AFTER_THE_ABORT_IS_DROPPED: [Row; 2] = [
+    Row {
+        lines: &[
             &FIRST,
             &SECOND,
             &CONTENDED,
             &[Line::Abort(1, 0), Line::Deliver(6)],
         ],
-        &[],
-    );
-    check(
-        &rt,
-        alloc,
-        &[
+        held: &[],
+    },
+    Row {
+        lines: &[
             &FIRST,
             &SECOND,
             &CONTENDED,
@@ -367,17 +374,22 @@ fn a_grant_that_comes_after_the_abort_is_dropped(rt: HostRuntime) {
                 Line::Deliver(11),
             ],
         ],
-        &[(2, 0, Mode::Exclusive, "a")],
+        held: &[(2, 0, Mode::Exclusive, "a")],
+    },
+];
+
+#[test]
+fn a_grant_that_comes_after_the_abort_is_dropped(rt: HostRuntime) {
+    check(
+        &rt,
+        rt.alloc(),
+        &GRANT_THAT_COMES_AFTER_THE_ABORT_IS_DROPPED,
     );
 }
 
-#[test]
-fn a_command_that_comes_again_is_done_once(rt: HostRuntime) {
-    let alloc = rt.alloc();
-    check(
-        &rt,
-        alloc,
-        &[
+static COMMAND_THAT_COMES_AGAIN_IS_DONE_ONCE: [Row; 2] = [
+    Row {
+        lines: &[
             &FIRST,
             &[
                 Line::Ask(1, Mode::Shared, "a"),
@@ -387,12 +399,10 @@ fn a_command_that_comes_again_is_done_once(rt: HostRuntime) {
                 Line::Deliver(4),
             ],
         ],
-        &[(1, 0, Mode::Shared, "a")],
-    );
-    check(
-        &rt,
-        alloc,
-        &[
+        held: &[(1, 0, Mode::Shared, "a")],
+    },
+    Row {
+        lines: &[
             &FIRST,
             &[
                 Line::Ask(1, Mode::Shared, "a"),
@@ -406,17 +416,18 @@ fn a_command_that_comes_again_is_done_once(rt: HostRuntime) {
                 Line::Deliver(7),
             ],
         ],
-        &[],
-    );
-}
+        held: &[],
+    },
+];
 
 #[test]
-fn what_was_asked_is_asked_again_of_the_next_broker(rt: HostRuntime) {
-    let alloc = rt.alloc();
-    check(
-        &rt,
-        alloc,
-        &[
+fn a_command_that_comes_again_is_done_once(rt: HostRuntime) {
+    check(&rt, rt.alloc(), &COMMAND_THAT_COMES_AGAIN_IS_DONE_ONCE);
+}
+
+static WHAT_WAS_ASKED_IS_ASKED_AGAIN_OF_THE_NEXT_BROKER: [Row; 2] = [
+    Row {
+        lines: &[
             &FIRST,
             &SECOND,
             &CONTENDED,
@@ -430,12 +441,10 @@ fn what_was_asked_is_asked_again_of_the_next_broker(rt: HostRuntime) {
                 Line::Deliver(6),
             ],
         ],
-        &[],
-    );
-    check(
-        &rt,
-        alloc,
-        &[
+        held: &[],
+    },
+    Row {
+        lines: &[
             &FIRST,
             &SECOND,
             &CONTENDED,
@@ -450,41 +459,45 @@ fn what_was_asked_is_asked_again_of_the_next_broker(rt: HostRuntime) {
                 Line::Deliver(13),
             ],
         ],
-        &[(2, 0, Mode::Exclusive, "a")],
+        held: &[(2, 0, Mode::Exclusive, "a")],
+    },
+];
+
+#[test]
+fn what_was_asked_is_asked_again_of_the_next_broker(rt: HostRuntime) {
+    check(
+        &rt,
+        rt.alloc(),
+        &WHAT_WAS_ASKED_IS_ASKED_AGAIN_OF_THE_NEXT_BROKER,
     );
 }
+
+static WHAT_IS_HELD_OUTLIVES_THE_BROKER: [Row; 1] = [Row {
+    lines: &[
+        &FIRST,
+        &SECOND,
+        &CONTENDED,
+        &[
+            Line::Deliver(6),
+            Line::Stop,
+            Line::Start(&[1, 2]),
+            Line::Deliver(9),
+            Line::Deliver(10),
+            Line::Deliver(12),
+            Line::Deliver(11),
+        ],
+    ],
+    held: &[(1, 0, Mode::Exclusive, "a")],
+}];
 
 #[test]
 fn what_is_held_outlives_the_broker(rt: HostRuntime) {
-    let alloc = rt.alloc();
-    check(
-        &rt,
-        alloc,
-        &[
-            &FIRST,
-            &SECOND,
-            &CONTENDED,
-            &[
-                Line::Deliver(6),
-                Line::Stop,
-                Line::Start(&[1, 2]),
-                Line::Deliver(9),
-                Line::Deliver(10),
-                Line::Deliver(12),
-                Line::Deliver(11),
-            ],
-        ],
-        &[(1, 0, Mode::Exclusive, "a")],
-    );
+    check(&rt, rt.alloc(), &WHAT_IS_HELD_OUTLIVES_THE_BROKER);
 }
 
-#[test]
-fn what_was_held_is_released_at_the_next_broker(rt: HostRuntime) {
-    let alloc = rt.alloc();
-    check(
-        &rt,
-        alloc,
-        &[
+static WHAT_WAS_HELD_IS_RELEASED_AT_THE_NEXT_BROKER: [Row; 2] = [
+    Row {
+        lines: &[
             &FIRST,
             &[
                 Line::Ask(1, Mode::Exclusive, "a"),
@@ -499,12 +512,10 @@ fn what_was_held_is_released_at_the_next_broker(rt: HostRuntime) {
                 Line::Deliver(5),
             ],
         ],
-        &[(1, 0, Mode::Exclusive, "a")],
-    );
-    check(
-        &rt,
-        alloc,
-        &[
+        held: &[(1, 0, Mode::Exclusive, "a")],
+    },
+    Row {
+        lines: &[
             &FIRST,
             &[
                 Line::Ask(1, Mode::Exclusive, "a"),
@@ -521,28 +532,31 @@ fn what_was_held_is_released_at_the_next_broker(rt: HostRuntime) {
                 Line::Deliver(9),
             ],
         ],
-        &[],
+        held: &[],
+    },
+];
+
+#[test]
+fn what_was_held_is_released_at_the_next_broker(rt: HostRuntime) {
+    check(
+        &rt,
+        rt.alloc(),
+        &WHAT_WAS_HELD_IS_RELEASED_AT_THE_NEXT_BROKER,
     );
 }
 
-#[test]
-fn a_death_hands_over(rt: HostRuntime) {
-    let alloc = rt.alloc();
-    check(
-        &rt,
-        alloc,
-        &[
+static DEATH_HANDS_OVER: [Row; 2] = [
+    Row {
+        lines: &[
             &FIRST,
             &SECOND,
             &CONTENDED,
             &[Line::Deliver(6), Line::Query(1), Line::Kill(1)],
         ],
-        &[],
-    );
-    check(
-        &rt,
-        alloc,
-        &[
+        held: &[],
+    },
+    Row {
+        lines: &[
             &FIRST,
             &SECOND,
             &CONTENDED,
@@ -555,160 +569,163 @@ fn a_death_hands_over(rt: HostRuntime) {
                 Line::Deliver(10),
             ],
         ],
-        &[(2, 0, Mode::Exclusive, "a")],
-    );
+        held: &[(2, 0, Mode::Exclusive, "a")],
+    },
+];
+
+#[test]
+fn a_death_hands_over(rt: HostRuntime) {
+    check(&rt, rt.alloc(), &DEATH_HANDS_OVER);
 }
+
+static PARTITION_WAITS_FOR_NO_OTHER_PARTITION: [Row; 1] = [Row {
+    lines: &[
+        &FIRST,
+        &SECOND,
+        &[
+            Line::Open(3, "http://b.test/"),
+            Line::Hello(3),
+            Line::Deliver(5),
+            Line::Deliver(6),
+            Line::Ask(3, Mode::Exclusive, "a"),
+            Line::Stop,
+            Line::Start(&[1, 2, 3]),
+            Line::Deliver(10),
+            Line::Deliver(11),
+            Line::Deliver(12),
+        ],
+    ],
+    held: &[(3, 0, Mode::Exclusive, "a")],
+}];
 
 #[test]
 fn a_partition_waits_for_no_other_partition(rt: HostRuntime) {
-    let alloc = rt.alloc();
-    check(
-        &rt,
-        alloc,
-        &[
-            &FIRST,
-            &SECOND,
-            &[
-                Line::Open(3, "http://b.test/"),
-                Line::Hello(3),
-                Line::Deliver(5),
-                Line::Deliver(6),
-                Line::Ask(3, Mode::Exclusive, "a"),
-                Line::Stop,
-                Line::Start(&[1, 2, 3]),
-                Line::Deliver(10),
-                Line::Deliver(11),
-                Line::Deliver(12),
-            ],
-        ],
-        &[(3, 0, Mode::Exclusive, "a")],
-    );
+    check(&rt, rt.alloc(), &PARTITION_WAITS_FOR_NO_OTHER_PARTITION);
 }
+
+static EACH_PARTITION_HAS_NAMES_OF_ITS_OWN: [Row; 1] = [Row {
+    lines: &[&[
+        Line::Open(1, URL),
+        Line::Open(2, "https://a.test:443/x"),
+        Line::Open(3, "http://a.test/"),
+        Line::Start(&[1, 2, 3]),
+        Line::Deliver(1),
+        Line::Deliver(2),
+        Line::Deliver(3),
+        Line::Deliver(4),
+        Line::Deliver(5),
+        Line::Deliver(6),
+        Line::Ask(1, Mode::Exclusive, "a"),
+        Line::Deliver(7),
+        Line::Ask(3, Mode::Exclusive, "a"),
+        Line::Deliver(9),
+        Line::Ask(2, Mode::Exclusive, "a"),
+        Line::Deliver(11),
+        Line::Deliver(8),
+        Line::Deliver(10),
+        Line::Deliver(12),
+    ]],
+    held: &[(1, 0, Mode::Exclusive, "a"), (3, 0, Mode::Exclusive, "a")],
+}];
 
 #[test]
 fn each_partition_has_names_of_its_own(rt: HostRuntime) {
-    let alloc = rt.alloc();
-    check(
-        &rt,
-        alloc,
-        &[&[
-            Line::Open(1, URL),
-            Line::Open(2, "https://a.test:443/x"),
-            Line::Open(3, "http://a.test/"),
-            Line::Start(&[1, 2, 3]),
-            Line::Deliver(1),
-            Line::Deliver(2),
+    check(&rt, rt.alloc(), &EACH_PARTITION_HAS_NAMES_OF_ITS_OWN);
+}
+
+static QUERY_CHANGES_NOTHING: [Row; 1] = [Row {
+    lines: &[
+        &FIRST,
+        &SECOND,
+        &[
+            Line::Ask(1, Mode::Exclusive, "a"),
+            Line::Deliver(5),
+            Line::Deliver(6),
+            Line::Ask(2, Mode::Shared, "a"),
+            Line::Deliver(7),
+            Line::Query(1),
+            Line::Deliver(9),
+            Line::Deliver(10),
+            Line::Query(2),
+            Line::Deliver(11),
+            Line::Deliver(11),
+            Line::Deliver(13),
+        ],
+    ],
+    held: &[(1, 0, Mode::Exclusive, "a")],
+}];
+
+#[test]
+fn a_query_changes_nothing(rt: HostRuntime) {
+    check(&rt, rt.alloc(), &QUERY_CHANGES_NOTHING);
+}
+
+static COMMAND_OUT_OF_TURN_IS_TAKEN_IN_TURN: [Row; 1] = [Row {
+    lines: &[
+        &FIRST,
+        &[
+            Line::Ask(1, Mode::Shared, "a"),
+            Line::Ask(1, Mode::Shared, "b"),
+            Line::Deliver(4),
             Line::Deliver(3),
             Line::Deliver(4),
             Line::Deliver(5),
             Line::Deliver(6),
-            Line::Ask(1, Mode::Exclusive, "a"),
-            Line::Deliver(7),
-            Line::Ask(3, Mode::Exclusive, "a"),
-            Line::Deliver(9),
-            Line::Ask(2, Mode::Exclusive, "a"),
-            Line::Deliver(11),
-            Line::Deliver(8),
-            Line::Deliver(10),
-            Line::Deliver(12),
-        ]],
-        &[(1, 0, Mode::Exclusive, "a"), (3, 0, Mode::Exclusive, "a")],
-    );
-}
-
-#[test]
-fn a_query_changes_nothing(rt: HostRuntime) {
-    let alloc = rt.alloc();
-    check(
-        &rt,
-        alloc,
-        &[
-            &FIRST,
-            &SECOND,
-            &[
-                Line::Ask(1, Mode::Exclusive, "a"),
-                Line::Deliver(5),
-                Line::Deliver(6),
-                Line::Ask(2, Mode::Shared, "a"),
-                Line::Deliver(7),
-                Line::Query(1),
-                Line::Deliver(9),
-                Line::Deliver(10),
-                Line::Query(2),
-                Line::Deliver(11),
-                Line::Deliver(11),
-                Line::Deliver(13),
-            ],
         ],
-        &[(1, 0, Mode::Exclusive, "a")],
-    );
-}
+    ],
+    held: &[(1, 0, Mode::Shared, "a"), (1, 1, Mode::Shared, "b")],
+}];
 
 #[test]
 fn a_command_out_of_turn_is_taken_in_turn(rt: HostRuntime) {
-    let alloc = rt.alloc();
-    check(
-        &rt,
-        alloc,
-        &[
-            &FIRST,
-            &[
-                Line::Ask(1, Mode::Shared, "a"),
-                Line::Ask(1, Mode::Shared, "b"),
-                Line::Deliver(4),
-                Line::Deliver(3),
-                Line::Deliver(4),
-                Line::Deliver(5),
-                Line::Deliver(6),
-            ],
-        ],
-        &[(1, 0, Mode::Shared, "a"), (1, 1, Mode::Shared, "b")],
-    );
+    check(&rt, rt.alloc(), &COMMAND_OUT_OF_TURN_IS_TAKEN_IN_TURN);
 }
+
+static WHAT_MAY_BE_LOST_IS_SENT_AGAIN: [Row; 1] = [Row {
+    lines: &[
+        &FIRST,
+        &[
+            Line::Resend(1),
+            Line::Ask(1, Mode::Shared, "a"),
+            Line::Resend(1),
+            Line::Deliver(2),
+            Line::Deliver(3),
+            Line::Deliver(4),
+            Line::Resend(1),
+        ],
+    ],
+    held: &[(1, 0, Mode::Shared, "a")],
+}];
 
 #[test]
 fn what_may_be_lost_is_sent_again(rt: HostRuntime) {
-    let alloc = rt.alloc();
-    check(
-        &rt,
-        alloc,
-        &[
-            &FIRST,
-            &[
-                Line::Resend(1),
-                Line::Ask(1, Mode::Shared, "a"),
-                Line::Resend(1),
-                Line::Deliver(2),
-                Line::Deliver(3),
-                Line::Deliver(4),
-                Line::Resend(1),
-            ],
-        ],
-        &[(1, 0, Mode::Shared, "a")],
-    );
+    check(&rt, rt.alloc(), &WHAT_MAY_BE_LOST_IS_SENT_AGAIN);
 }
+
+static PARTITION_RECOVERS_WHEN_ITS_MISSING_TAB_IS_DEAD: [Row; 1] = [Row {
+    lines: &[&[
+        Line::Open(1, URL),
+        Line::Open(2, URL),
+        Line::Start(&[1, 2]),
+        Line::Deliver(1),
+        Line::Deliver(3),
+        Line::Ask(1, Mode::Shared, "a"),
+        Line::Deliver(4),
+        Line::Kill(2),
+        Line::Deliver(2),
+        Line::Tell(2),
+        Line::Deliver(4),
+        Line::Deliver(5),
+    ]],
+    held: &[(1, 0, Mode::Shared, "a")],
+}];
 
 #[test]
 fn a_partition_recovers_when_its_missing_tab_is_dead(rt: HostRuntime) {
-    let alloc = rt.alloc();
     check(
         &rt,
-        alloc,
-        &[&[
-            Line::Open(1, URL),
-            Line::Open(2, URL),
-            Line::Start(&[1, 2]),
-            Line::Deliver(1),
-            Line::Deliver(3),
-            Line::Ask(1, Mode::Shared, "a"),
-            Line::Deliver(4),
-            Line::Kill(2),
-            Line::Deliver(2),
-            Line::Tell(2),
-            Line::Deliver(4),
-            Line::Deliver(5),
-        ]],
-        &[(1, 0, Mode::Shared, "a")],
+        rt.alloc(),
+        &PARTITION_RECOVERS_WHEN_ITS_MISSING_TAB_IS_DEAD,
     );
 }
 
@@ -730,33 +747,36 @@ const BESIEGED: [Line; 14] = [
     Line::Corrupt(2),
 ];
 
+static HONEST_HOLDER_STAYS: [Row; 1] = [Row {
+    lines: &[&FIRST, &SECOND, &BESIEGED],
+    held: &[(1, 0, Mode::Exclusive, "a")],
+}];
+
 #[test]
 fn an_honest_holder_stays(rt: HostRuntime) {
-    let row: [&[Line]; 3] = [&FIRST, &SECOND, &BESIEGED];
-    check(&rt, rt.alloc(), &row, &[(1, 0, Mode::Exclusive, "a")]);
+    check(&rt, rt.alloc(), &HONEST_HOLDER_STAYS);
 }
+
+static PAGE_UNDER_ANOTHER_TOP_SHARES_NO_LOCK: [Row; 1] = [Row {
+    lines: &[
+        &FIRST,
+        &[
+            Line::OpenTwo(2, "https://t.test/", URL),
+            Line::Hello(2),
+            Line::Deliver(3),
+            Line::Deliver(4),
+            Line::Ask(1, Mode::Exclusive, "a"),
+            Line::Deliver(5),
+            Line::Deliver(6),
+            Line::Ask(2, Mode::Exclusive, "a"),
+            Line::Deliver(7),
+            Line::Deliver(8),
+        ],
+    ],
+    held: &[(1, 0, Mode::Exclusive, "a"), (2, 0, Mode::Exclusive, "a")],
+}];
 
 #[test]
 fn a_page_under_another_top_shares_no_lock(rt: HostRuntime) {
-    let alloc = rt.alloc();
-    check(
-        &rt,
-        alloc,
-        &[
-            &FIRST,
-            &[
-                Line::OpenTwo(2, "https://t.test/", URL),
-                Line::Hello(2),
-                Line::Deliver(3),
-                Line::Deliver(4),
-                Line::Ask(1, Mode::Exclusive, "a"),
-                Line::Deliver(5),
-                Line::Deliver(6),
-                Line::Ask(2, Mode::Exclusive, "a"),
-                Line::Deliver(7),
-                Line::Deliver(8),
-            ],
-        ],
-        &[(1, 0, Mode::Exclusive, "a"), (2, 0, Mode::Exclusive, "a")],
-    );
+    check(&rt, rt.alloc(), &PAGE_UNDER_ANOTHER_TOP_SHARES_NO_LOCK);
 }
