@@ -117,7 +117,7 @@ impl Locks {
 
     /// Takes a request back that is asked, and gives the number of the command; None where the number is no such request.
     pub(crate) fn abort(&mut self, number: u32) -> Option<u32> {
-        let _fate = self.settle(number);
+        let _ = self.settle(number);
         let place = self.place_of(number)?;
         let token = self.tokens.remove(place);
         match abort(&mut self.agent, token) {
@@ -131,7 +131,7 @@ impl Locks {
 
     /// Lets go of a lock that is held, and gives the number of the command; None where the number is no such lock.
     pub(crate) fn release(&mut self, number: u32) -> Option<u32> {
-        let _fate = self.settle(number);
+        let _ = self.settle(number);
         let place = self.place_of(number)?;
         let token = self.tokens.remove(place);
         match release(&mut self.agent, token) {

@@ -4,7 +4,7 @@ use crate::locks::{Fate, Locks};
 use std::alloc::Global;
 use std::io::Write;
 use std::os::unix::net::UnixStream;
-use std::sync::{Condvar, CondvarTimeouts, Mutex, MutexGuard};
+use std::sync::{Condvar, CondvarTimeouts, Mutex};
 use std::time::Duration;
 use wl_agent::{AgentFault, Delivered, MessageFault, Snapshot};
 use wl_frames::{Frame, Mode, Name};
@@ -64,11 +64,14 @@ impl Page {
         let Some(locks) = &self.locks else {
             return Ok(());
         };
-        match locks.message(number) {
-            Ok(frame) => {
-                append(self.alloc, &mut self.bytes, &frame)?;
-                Ok(())
-            }
+        let said = locks.message(number);
+        self.append_said(&said)
+    }
+
+    /// Appends what the agent says of a command, which is nothing before a generation is entered.
+    fn append_said(&mut self, said: &Result<Frame, MessageFault>) -> Result<(), ProcessFault> {
+        match said {
+            Ok(frame) => self.append_one(frame),
             Err(MessageFault::Memory) => Err(ProcessFault::Memory),
             Err(_) => Ok(()),
         }
@@ -81,13 +84,21 @@ impl Page {
         };
         let due = locks.resend()?;
         if due.report {
-            match locks.report_frames() {
-                Ok(frames) => self.append_all(frames.as_slice())?,
-                Err(MessageFault::Memory) => return Err(ProcessFault::Memory),
-                Err(_) => {}
-            }
+            self.say_report()?;
         }
         self.say_from(0, due.numbers.as_slice())
+    }
+
+    /// Appends the report, where a generation is entered.
+    fn say_report(&mut self) -> Result<(), ProcessFault> {
+        let Some(locks) = &self.locks else {
+            return Ok(());
+        };
+        match &locks.report_frames() {
+            Ok(frames) => self.append_all(frames.as_slice()),
+            Err(MessageFault::Memory) => Err(ProcessFault::Memory),
+            Err(_) => Ok(()),
+        }
     }
 
     /// Appends the commands of these numbers that are not below the base of a report, which tells of those below.
@@ -100,9 +111,14 @@ impl Page {
         Ok(())
     }
 
+    fn append_one(&mut self, frame: &Frame) -> Result<(), ProcessFault> {
+        append(self.alloc, &mut self.bytes, frame)?;
+        Ok(())
+    }
+
     fn append_all(&mut self, frames: &[Frame]) -> Result<(), ProcessFault> {
         for frame in frames {
-            append(self.alloc, &mut self.bytes, frame)?;
+            self.append_one(frame)?;
         }
         Ok(())
     }
@@ -118,18 +134,106 @@ impl Page {
         written.map_err(|_| ProcessFault::Write)
     }
 
-    /// Takes in a frame that has come. The first one has to be a welcome.
-    fn take(&mut self, frame: Frame) -> Result<(), ProcessFault> {
+    /// Says and writes the message of a command.
+    fn tell(&mut self, number: u32) -> Result<(), ProcessFault> {
+        self.say(number)?;
+        self.send()
+    }
+
+    fn ask(&mut self, mode: Mode, name: &Name) -> Result<(), Undone> {
         let Some(locks) = &mut self.locks else {
-            self.locks = Some(welcomed(self.alloc, &frame)?);
-            self.has_come = true;
             return Ok(());
         };
-        let delivered = locks.deliver(&frame);
-        if let Delivered::Entered(frames) = &delivered {
+        let number = locks.request(name, mode)?;
+        Ok(self.tell(number)?)
+    }
+
+    fn probe(&mut self, mode: Mode, name: &Name) -> Result<(), Undone> {
+        let Some(locks) = &mut self.locks else {
+            return Ok(());
+        };
+        let number = locks.probe(name, mode)?;
+        Ok(self.tell(number)?)
+    }
+
+    fn release(&mut self, number: u32) -> Result<(), ProcessFault> {
+        let Some(locks) = &mut self.locks else {
+            return Ok(());
+        };
+        match locks.release(number) {
+            Some(next) => self.tell(next),
+            None => Ok(()),
+        }
+    }
+
+    fn abort(&mut self, number: u32) -> Result<(), ProcessFault> {
+        let Some(locks) = &mut self.locks else {
+            return Ok(());
+        };
+        match locks.abort(number) {
+            Some(next) => self.tell(next),
+            None => Ok(()),
+        }
+    }
+
+    /// Issues a query, and gives its number; None before the welcome.
+    fn query(&mut self) -> Result<Option<u32>, Undone> {
+        let Some(locks) = &mut self.locks else {
+            return Ok(None);
+        };
+        let number = locks.query()?;
+        self.tell(number)?;
+        Ok(Some(number))
+    }
+
+    /// How the waiting for a number ends; None where it is asked still, and is awaited from now on.
+    fn look(&mut self, number: u32) -> Option<Result<Option<Snapshot>, Undone>> {
+        if let Some(fault) = self.end {
+            return Some(Err(Undone::Fault(fault)));
+        }
+        match settle(self, number) {
+            Some(told) => Some(Ok(told)),
+            None => {
+                self.awaited = Some(number);
+                self.has_come = false;
+                None
+            }
+        }
+    }
+
+    /// Nothing was heard for a while: what may not have come is sent again, unless that was done too often.
+    fn resend(&mut self, patience: &mut Patience) -> Result<(), Undone> {
+        match patience.quiet() {
+            Next::Resend => {
+                self.say_again()?;
+                Ok(self.send()?)
+            }
+            Next::GiveUp => Err(Undone::Failed),
+        }
+    }
+
+    /// Takes in a frame that has come. The first one has to be a welcome.
+    fn take(&mut self, frame: &Frame) -> Result<(), ProcessFault> {
+        let Some(locks) = &mut self.locks else {
+            return self.welcome(frame);
+        };
+        let delivered = locks.deliver(frame);
+        self.hear(&delivered)
+    }
+
+    /// The tab is welcomed by this frame.
+    fn welcome(&mut self, frame: &Frame) -> Result<(), ProcessFault> {
+        self.locks = Some(welcomed(self.alloc, frame)?);
+        self.has_come = true;
+        Ok(())
+    }
+
+    /// A frame was delivered, and this came of it.
+    fn hear(&mut self, delivered: &Delivered) -> Result<(), ProcessFault> {
+        if let Delivered::Entered(frames) = delivered {
             return self.enter(frames.as_slice());
         }
-        let settled = settled_by(&delivered);
+        let settled = settled_by(delivered);
         if settled.is_some() && settled == self.awaited {
             self.has_come = true;
         }
@@ -147,7 +251,7 @@ impl Page {
         self.say_from(base_of(report), due.numbers.as_slice())
     }
 
-    fn take_all(&mut self, frames: Vec<Frame>) -> Result<(), ProcessFault> {
+    fn take_all(&mut self, frames: &[Frame]) -> Result<(), ProcessFault> {
         for frame in frames {
             self.take(frame)?;
         }
@@ -203,7 +307,7 @@ impl SharedPage {
     /// Takes in frames that have come, and wakes the script where they may end its waiting.
     pub(crate) fn take<R: Host>(&self, rt: &R, frames: Vec<Frame>) -> Result<(), ProcessFault> {
         let mut page = self.page.lock(rt);
-        let taken = page.take_all(frames);
+        let taken = page.take_all(frames.as_slice());
         let has_come = page.has_come;
         drop(page);
         if has_come {
@@ -246,63 +350,28 @@ impl SharedPage {
     }
 
     pub(crate) fn ask<R: Host>(&self, rt: &R, mode: Mode, name: &Name) -> Result<(), Undone> {
-        let mut guard = self.page.lock(rt);
-        let page = &mut *guard;
-        if let Some(locks) = &mut page.locks {
-            let number = locks.request(name, mode)?;
-            page.say(number)?;
-            page.send()?;
-        }
-        Ok(())
+        self.page.lock(rt).ask(mode, name)
     }
 
     pub(crate) fn probe<R: Host>(&self, rt: &R, mode: Mode, name: &Name) -> Result<(), Undone> {
-        let mut guard = self.page.lock(rt);
-        let page = &mut *guard;
-        if let Some(locks) = &mut page.locks {
-            let number = locks.probe(name, mode)?;
-            page.say(number)?;
-            page.send()?;
-        }
-        Ok(())
+        self.page.lock(rt).probe(mode, name)
     }
 
     pub(crate) fn release<R: Host>(&self, rt: &R, number: u32) -> Result<(), ProcessFault> {
-        let mut guard = self.page.lock(rt);
-        let page = &mut *guard;
-        if let Some(locks) = &mut page.locks {
-            if let Some(next) = locks.release(number) {
-                page.say(next)?;
-                page.send()?;
-            }
-        }
-        Ok(())
+        self.page.lock(rt).release(number)
     }
 
     pub(crate) fn abort<R: Host>(&self, rt: &R, number: u32) -> Result<(), ProcessFault> {
-        let mut guard = self.page.lock(rt);
-        let page = &mut *guard;
-        if let Some(locks) = &mut page.locks {
-            if let Some(next) = locks.abort(number) {
-                page.say(next)?;
-                page.send()?;
-            }
-        }
-        Ok(())
+        self.page.lock(rt).abort(number)
     }
 
     /// Issues a query, waits for it, and gives its answer; None where it is lost.
     pub(crate) fn query<R: Host>(&self, rt: &R) -> Result<Option<Snapshot>, Undone> {
-        let mut guard = self.page.lock(rt);
-        let page = &mut *guard;
-        let Some(locks) = &mut page.locks else {
-            return Ok(None);
-        };
-        let number = locks.query()?;
-        page.say(number)?;
-        page.send()?;
-        drop(guard);
-        self.wait(rt, number)
+        let asked = self.page.lock(rt).query()?;
+        match asked {
+            Some(number) => self.wait(rt, number),
+            None => Ok(None),
+        }
     }
 
     /// Waits until a number is not asked any more, and gives the answer of a query that is whole. It is woken by the delivery
@@ -311,27 +380,16 @@ impl SharedPage {
         let mut patience = Patience::new();
         let mut page = self.page.lock(rt);
         for _ in rt.forever() {
-            if let Some(fault) = page.end {
-                return Err(Undone::Fault(fault));
+            if let Some(over) = page.look(number) {
+                return over;
             }
-            if let Some(told) = settle(&mut page, number) {
-                return Ok(told);
-            }
-            page.awaited = Some(number);
-            page.has_come = false;
             let quiet = Duration::from_millis(QUIET);
             let (woken, result) = self.came.wait_timeout_while(rt, page, quiet, |page| {
                 !page.has_come && page.end.is_none()
             });
             page = woken;
             if result.timed_out() {
-                match patience.quiet() {
-                    Next::Resend => {
-                        page.say_again()?;
-                        page.send()?;
-                    }
-                    Next::GiveUp => return Err(Undone::Failed),
-                }
+                page.resend(&mut patience)?;
             }
         }
         unreachable!()
@@ -348,7 +406,7 @@ fn welcomed(alloc: Global, frame: &Frame) -> Result<Locks, ProcessFault> {
 }
 
 /// What became of a number that is not asked any more; None of one that is.
-fn settle(page: &mut MutexGuard<'_, Page>, number: u32) -> Option<Option<Snapshot>> {
+fn settle(page: &mut Page, number: u32) -> Option<Option<Snapshot>> {
     let Some(locks) = &mut page.locks else {
         return Some(None);
     };

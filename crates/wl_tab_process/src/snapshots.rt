@@ -26,10 +26,14 @@ fn infos_value(alloc: Global, infos: &[LockInfo]) -> Result<Value, AllocError> {
     Ok(Value::Array(values))
 }
 
-/// The text of the two lists, with no space.
-pub(crate) fn snapshot_json(alloc: Global, snapshot: &Snapshot) -> Result<String, AllocError> {
+fn lists_value(alloc: Global, snapshot: &Snapshot) -> Result<Value, AllocError> {
     let held = infos_value(alloc, snapshot.held.as_slice())?;
     let pending = infos_value(alloc, snapshot.pending.as_slice())?;
-    let value = json!(in alloc; {"held": held, "pending": pending})?;
+    json!(in alloc; {"held": held, "pending": pending})
+}
+
+/// The text of the two lists, with no space.
+pub(crate) fn snapshot_json(alloc: Global, snapshot: &Snapshot) -> Result<String, AllocError> {
+    let value = lists_value(alloc, snapshot)?;
     value.to_string(alloc)
 }

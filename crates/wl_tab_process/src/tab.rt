@@ -2,12 +2,14 @@
 
 use crate::page::{SharedPage, Undone};
 use crate::snapshots::snapshot_json;
-use std::alloc::Global;
+use std::alloc::{AllocError, Global};
 use std::io::{ErrorKind, Read};
 use std::net::Shutdown;
 use std::os::unix::net::UnixStream;
 use std::sync::Arc;
 use std::thread;
+use std::thread::JoinHandle;
+use wl_agent::Snapshot;
 use wl_frames::device::{PIECE_LEN, READ_LIMIT};
 use wl_process::{Host, Incoming, ProcessFault, line_number, read_script};
 use wl_process_script::{TabLine, count_of, put_count, read_tab_line};
@@ -21,6 +23,20 @@ pub fn run_tab<R: Host>(
     script: &str,
 ) -> Result<(), ProcessFault> {
     let link = rt.connect(socket).map_err(ProcessFault::of_device)?;
+    let (page, reader) = start_reader(rt, alloc, &link)?;
+    let ran = run(&rt, alloc, &page, script);
+    // What has come and was not read is read to the end now.
+    let _ = link.shutdown(Shutdown::Both);
+    reader.join(&rt);
+    ran
+}
+
+/// Starts the thread that reads this link, and gives what it shares with the script.
+fn start_reader<R: Host>(
+    rt: R,
+    alloc: Global,
+    link: &UnixStream,
+) -> Result<(Arc<SharedPage>, JoinHandle<()>), ProcessFault> {
     let writing = link.try_clone().map_err(ProcessFault::of_device)?;
     let reading = link.try_clone().map_err(ProcessFault::of_device)?;
     let page = Arc::new(alloc, SharedPage::new(alloc, writing))?;
@@ -36,11 +52,7 @@ pub fn run_tab<R: Host>(
         })
         .map_err(|_| ProcessFault::Device)?
     };
-    let ran = run(&rt, alloc, &page, script);
-    // What has come and was not read is read to the end now.
-    let _ = link.shutdown(Shutdown::Both);
-    reader.join(&rt);
-    ran
+    Ok((page, reader))
 }
 
 /// Delivers what comes over the link, to its end.
@@ -51,6 +63,14 @@ fn read_link<R: Host>(
     link: &UnixStream,
 ) -> Result<(), ProcessFault> {
     let mut incoming = Incoming::new(alloc, link);
+    deliver_all(rt, page, &mut incoming)
+}
+
+fn deliver_all<R: Host>(
+    rt: &R,
+    page: &SharedPage,
+    incoming: &mut Incoming<'_>,
+) -> Result<(), ProcessFault> {
     for _reads in 0..READ_LIMIT {
         let Some(frames) = incoming.next()? else {
             return Ok(());
@@ -77,49 +97,74 @@ fn run<R: Host>(rt: &R, alloc: Global, page: &SharedPage, path: &str) -> Result<
     page.wait_for_welcome(rt)?;
     for (index, text) in script.as_slice().split(|byte| *byte == b'\n').enumerate() {
         page.check(rt)?;
-        let number = line_number(index, text)?;
-        let line = match read_tab_line(alloc, text) {
-            Ok(line) => line,
-            Err(Unread::Form) => return Err(ProcessFault::Line(number)),
-            Err(Unread::Memory) => return Err(ProcessFault::Memory),
-        };
-        match obey(rt, alloc, page, line) {
-            Ok(()) => {}
-            Err(Undone::Refused) => return Err(ProcessFault::Line(number)),
-            Err(Undone::Failed) => return Err(ProcessFault::LineFailed(number)),
-            Err(Undone::Fault(fault)) => return Err(fault),
-        }
+        run_line(rt, alloc, page, line_number(index, text)?, text)?;
     }
     Ok(())
 }
 
+/// Runs the line of this number.
+fn run_line<R: Host>(
+    rt: &R,
+    alloc: Global,
+    page: &SharedPage,
+    number: u64,
+    text: &[u8],
+) -> Result<(), ProcessFault> {
+    match &read_tab_line(alloc, text) {
+        Ok(line) => at_line(number, obey(rt, alloc, page, line)),
+        Err(Unread::Form) => Err(ProcessFault::Line(number)),
+        Err(Unread::Memory) => Err(ProcessFault::Memory),
+    }
+}
+
+/// What came of the line of this number.
+fn at_line(number: u64, done: Result<(), Undone>) -> Result<(), ProcessFault> {
+    match done {
+        Ok(()) => Ok(()),
+        Err(Undone::Refused) => Err(ProcessFault::Line(number)),
+        Err(Undone::Failed) => Err(ProcessFault::LineFailed(number)),
+        Err(Undone::Fault(fault)) => Err(fault),
+    }
+}
+
 /// Does what a line says.
-fn obey<R: Host>(rt: &R, alloc: Global, page: &SharedPage, line: TabLine) -> Result<(), Undone> {
+fn obey<R: Host>(rt: &R, alloc: Global, page: &SharedPage, line: &TabLine) -> Result<(), Undone> {
     match line {
-        TabLine::Blank => {}
-        TabLine::Ask { mode, name } => page.ask(rt, mode, &name)?,
-        TabLine::Probe { mode, name } => page.probe(rt, mode, &name)?,
-        TabLine::Wait { number } => {
-            let _answer = page.wait(rt, number)?;
-        }
-        TabLine::Release { number } => page.release(rt, number)?,
-        TabLine::Abort { number } => page.abort(rt, number)?,
-        TabLine::Query => {
-            let answer = page.query(rt)?;
-            let text = match answer {
-                Some(snapshot) => snapshot_json(alloc, &snapshot),
-                None => String::from_str(alloc, "lost"),
-            };
-            let Ok(text) = text else {
-                return Err(Undone::Fault(ProcessFault::Memory));
-            };
-            if println!(rt; "{}", text.as_str()).is_err() {
-                return Err(Undone::Fault(ProcessFault::Write));
-            }
-        }
-        TabLine::Add { file } => add(rt, alloc, file.as_str())?,
+        TabLine::Blank => Ok(()),
+        TabLine::Ask { mode, name } => page.ask(rt, *mode, name),
+        TabLine::Probe { mode, name } => page.probe(rt, *mode, name),
+        TabLine::Wait { number } => wait(rt, page, *number),
+        TabLine::Release { number } => Ok(page.release(rt, *number)?),
+        TabLine::Abort { number } => Ok(page.abort(rt, *number)?),
+        TabLine::Query => print_snapshot(rt, alloc, page),
+        TabLine::Add { file } => add(rt, alloc, file.as_str()),
+    }
+}
+
+/// Waits until a number is not asked any more.
+fn wait<R: Host>(rt: &R, page: &SharedPage, number: u32) -> Result<(), Undone> {
+    let _answer = page.wait(rt, number)?;
+    Ok(())
+}
+
+/// Asks for a snapshot, and prints it.
+fn print_snapshot<R: Host>(rt: &R, alloc: Global, page: &SharedPage) -> Result<(), Undone> {
+    let answer = page.query(rt)?;
+    let Ok(text) = text_of(alloc, answer.as_ref()) else {
+        return Err(Undone::Fault(ProcessFault::Memory));
+    };
+    if println!(rt; "{}", text.as_str()).is_err() {
+        return Err(Undone::Fault(ProcessFault::Write));
     }
     Ok(())
+}
+
+/// What is printed for the answer of a query.
+fn text_of(alloc: Global, answer: Option<&Snapshot>) -> Result<String, AllocError> {
+    match answer {
+        Some(snapshot) => snapshot_json(alloc, snapshot),
+        None => String::from_str(alloc, "lost"),
+    }
 }
 
 /// Adds one to the number of a counter's file. It is written over the old one, which is never longer, so that the file has
