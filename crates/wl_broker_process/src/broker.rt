@@ -16,7 +16,7 @@ use std::rt::Clock;
 use std::sync::{Arc, Mutex, Wait};
 use std::thread;
 use wl_frames::device::{BUNDLE_LEN, READ_LIMIT};
-use wl_frames::{Frame, Start};
+use wl_frames::{Addressed, Frame, Start};
 use wl_locked::{Blanks, NotStepped, Outs, Receipt, ShardLane, Sharded, Shards, Work};
 use wl_process::{Host, Incoming, ProcessFault, append};
 use wl_workers::{Cause, Desk, Gate, Intake, LaneEnd, Outlet, OutletFault, lane};
@@ -52,18 +52,27 @@ impl Outbound {
         Ok((Arc::try_clone(&outbound)?, outbound))
     }
 
+    /// Writes what was gathered.
     fn flush<R: Wait>(&self, rt: &R) -> Result<(), OutletFault> {
         let mut gathered = self.gathered.lock(rt);
         if gathered.is_empty() {
             return Ok(());
         }
-        let written = self.link.lock(rt).write_all(gathered.as_slice());
+        let is_written = self.write(rt, gathered.as_slice());
         gathered.clear();
-        if written.is_err() {
+        if !is_written {
             *self.fault.lock(rt) = Some(ProcessFault::Write);
             return Err(OutletFault::Write);
         }
         Ok(())
+    }
+
+    fn write<R: Wait>(&self, rt: &R, bytes: &[u8]) -> bool {
+        self.link.lock(rt).write_all(bytes).is_ok()
+    }
+
+    fn fault<R: Wait>(&self, rt: &R) -> Option<ProcessFault> {
+        *self.fault.lock(rt)
     }
 
     fn gather<R: Wait>(&self, rt: &R, frame: &Frame) -> Result<(), OutletFault> {
@@ -79,6 +88,20 @@ impl Outbound {
         }
         Ok(())
     }
+}
+
+/// What each lane sends by, over this link.
+fn outbounds_of(
+    alloc: Global,
+    lanes: u16,
+    writing: UnixStream,
+) -> Result<Vec<(Arc<Outbound>, Arc<Outbound>)>, AllocError> {
+    let link = Arc::new(alloc, Mutex::new(writing))?;
+    let mut outbounds = Vec::new(alloc);
+    for _lane in 0..lanes {
+        outbounds.push(Outbound::pair(alloc, &link)?)?;
+    }
+    Ok(outbounds)
 }
 
 /// A lane's intake. What the lane has gathered is written before it reads the link or sleeps. Contracts see it as the number of
@@ -181,6 +204,21 @@ struct Job<'a, 'l, J: Shards> {
     end: Option<LaneEnd>,
 }
 
+impl<'a, 'l, J: Shards> Job<'a, 'l, J> {
+    /// Whether its lane has spent what it may do.
+    fn is_spent(&self) -> bool {
+        match &self.end {
+            Some(end) => end.why == Cause::Spent,
+            None => false,
+        }
+    }
+
+    /// Whether its lane ended before its events did, or could not send.
+    fn has_failed<R: Wait>(&self, rt: &R, end: &LaneEnd) -> bool {
+        end.why != Cause::Ended || self.outlet.outbound.fault(rt).is_some()
+    }
+}
+
 /// The job of a lane.
 fn job_of<'a, 'l, J: Shards>(
     inbox: &'a Inbox<'l>,
@@ -219,16 +257,14 @@ fn jobs_of<'a, 'l, J: Shards>(
 ) -> Result<Vec<Job<'a, 'l, J>>, AllocError>
     requires { shards ≡ J.run.shards }
 {
-    lanes
-        .into_iter()
-        .zip(outbounds)
-        .enumerate()
-        .map(
-            move |(place, (lane, pair)): (usize, (ShardLane<J>, (Arc<Outbound>, Arc<Outbound>)))|
-                requires { shards ≡ J.run.shards }
-            { job_of(inbox, pair, shards, place, lane) },
-        )
-        .collect::<Vec<Job<'a, 'l, J>>>(alloc)
+    let mut jobs = Vec::new(alloc);
+    let mut lanes = lanes.into_iter();
+    for (place, pair) in outbounds.into_iter().enumerate() {
+        if let Some(lane) = lanes.next() {
+            jobs.push(job_of(inbox, pair, shards, place, lane))?;
+        }
+    }
+    Ok(jobs)
 }
 
 /// How a generation has ended, once all lanes have.
@@ -240,19 +276,33 @@ fn end_of<R: Host, J: Shards>(
     if jobs.iter().any(|job| job.end.is_none()) {
         return Err(ProcessFault::Device);
     }
-    let is_spent = jobs.iter().any(|job| match &job.end {
-        Some(end) => end.why == Cause::Spent,
-        None => false,
-    });
-    if is_spent {
+    if jobs.iter().any(|job| job.is_spent()) {
         return Ok(());
     }
     for job in jobs.iter() {
-        if let Some(fault) = *job.outlet.outbound.fault.lock(rt) {
+        if let Some(fault) = job.outlet.outbound.fault(rt) {
             return Err(fault);
         }
     }
     inbox.end(rt)
+}
+
+/// Runs all lanes to their ends, each in a thread, and tells how the generation has ended.
+fn run_lanes<R: Host, J: Shards + Send + Sync>(
+    rt: &R,
+    broker: &Sharded<J>,
+    inbox: &Inbox<'_>,
+    mut jobs: Vec<Job<'_, '_, J>>,
+    link: &UnixStream,
+) -> Result<(), ProcessFault> {
+    let threads = jobs.len().max(1);
+    thread::for_each_mut(
+        rt,
+        jobs.as_mut_slice(),
+        threads,
+        &|_place, job| { run_lane(rt, broker, inbox, job, link) },
+    );
+    end_of(rt, inbox, jobs.as_slice())
 }
 
 /// Runs one lane to its end, unless another one has no thread. A lane that ends before its events do ends the reading of the link, and
@@ -265,10 +315,20 @@ fn run_lane<R: Host, J: Shards>(
     link: &UnixStream,
 ) {
     if !inbox.meet(rt) {
-        let _ = link.shutdown(Shutdown::Both);
+        shut_down(link);
         inbox.shut(rt);
         return;
     }
+    let end = run_job(rt, broker, job);
+    if job.has_failed(rt, &end) {
+        shut_down(link);
+    }
+    inbox.shut(rt);
+    job.end = Some(end);
+}
+
+/// Runs a lane that has a thread, to its end, and writes what it has gathered last.
+fn run_job<R: Host, J: Shards>(rt: &R, broker: &Sharded<J>, job: &mut Job<'_, '_, J>) -> LaneEnd {
     let mut desk = LaneDesk {
         broker,
         lane: &mut job.lane,
@@ -282,11 +342,12 @@ fn run_lane<R: Host, J: Shards>(
         &mut job.outlet,
     );
     let _ = job.outlet.outbound.flush(rt);
-    if end.why != Cause::Ended || job.outlet.outbound.fault.lock(rt).is_some() {
-        let _ = link.shutdown(Shutdown::Both);
-    }
-    inbox.shut(rt);
-    job.end = Some(end);
+    end
+}
+
+/// Ends the reading and the writing of the link.
+fn shut_down(link: &UnixStream) {
+    let _ = link.shutdown(Shutdown::Both);
 }
 
 /// The Start frame that this frame has to be.
@@ -337,7 +398,7 @@ pub fn run_broker<R: Host>(
     let served = serve::<R, Brand>(
         &rt, alloc, blanks, start, lanes, shards, limit, rest, incoming,
     );
-    let _ = link.shutdown(Shutdown::Both);
+    shut_down(&link);
     served
 }
 
@@ -366,7 +427,6 @@ fn serve<R: Host, J: Shards + Send + Sync>(
       limit = limit;
     } }
 {
-    let link = incoming.link();
     let (broker, places, hellos) = Sharded::<J>::new(
         alloc,
         blanks,
@@ -376,35 +436,67 @@ fn serve<R: Host, J: Shards + Send + Sync>(
         lanes,
         shards,
     )?;
-    let writing = link.try_clone().map_err(ProcessFault::of_device)?;
-    greet(alloc, &writing, hellos)?;
-    let writing = Arc::new(alloc, Mutex::new(writing))?;
-    let mut outbounds = Vec::new(alloc);
-    for _lane in 0..lanes {
-        outbounds.push(Outbound::pair(alloc, &writing)?)?;
-    }
+    serve_link(
+        rt, alloc, &broker, places, hellos, lanes, shards, rest, incoming,
+    )
+}
+
+/// Greets the listed tabs, and serves what comes over the link.
+fn serve_link<R: Host, J: Shards + Send + Sync>(
+    rt: &R,
+    alloc: Global,
+    broker: &Sharded<J>,
+    places: Vec<ShardLane<J>>,
+    hellos: Outs,
+    lanes: u16,
+    shards: u16,
+    rest: Vec<Frame>,
+    incoming: Incoming<'_>,
+) -> Result<(), ProcessFault>
+    requires some { 0 < shards }
+    requires run { shards ≡ J.run.shards }
+{
+    let link = incoming.link();
+    let outbounds = greet(alloc, link, lanes, hellos)?;
     let inbox = Inbox::new(alloc, lanes, shards, incoming)?;
     // What came with the Start frame waits for the lanes, which answer it also where a fault stands behind it.
     inbox.begin(rt, rest);
-    let mut jobs = jobs_of(alloc, &inbox, outbounds, shards, places)?;
-    let threads = jobs.len().max(1);
-    thread::for_each_mut(
-        rt,
-        jobs.as_mut_slice(),
-        threads,
-        &|_place, job| { run_lane(rt, &broker, &inbox, job, link) },
-    );
-    end_of(rt, &inbox, jobs.as_slice())
+    match jobs_of(alloc, &inbox, outbounds, shards, places) {
+        Ok(jobs) => run_lanes(rt, broker, &inbox, jobs, link),
+        Err(AllocError) => Err(ProcessFault::Memory),
+    }
 }
 
-/// Greets the listed tabs, in one write.
-fn greet(alloc: Global, link: &UnixStream, hellos: Outs) -> Result<(), ProcessFault> {
+/// Greets the listed tabs, and gives what each lane sends by after that.
+fn greet(
+    alloc: Global,
+    link: &UnixStream,
+    lanes: u16,
+    hellos: Outs,
+) -> Result<Vec<(Arc<Outbound>, Arc<Outbound>)>, ProcessFault> {
+    let writing = link.try_clone().map_err(ProcessFault::of_device)?;
+    let greeting = greeting_of(alloc, hellos)?;
+    let mut writer = &writing;
+    if writer.write_all(greeting.as_slice()).is_err() {
+        return Err(ProcessFault::Write);
+    }
+    let outbounds = outbounds_of(alloc, lanes, writing)?;
+    Ok(outbounds)
+}
+
+/// The bytes that greet the listed tabs, for one write.
+fn greeting_of(alloc: Global, hellos: Outs) -> Result<Vec<u8>, AllocError> {
     let mut bytes = Vec::new(alloc);
     for hello in hellos.into_vec() {
-        append(alloc, &mut bytes, &Frame::Addressed(hello))?;
+        append_addressed(alloc, &mut bytes, hello)?;
     }
-    let mut writer = link;
-    writer
-        .write_all(bytes.as_slice())
-        .map_err(|_| ProcessFault::Write)
+    Ok(bytes)
+}
+
+fn append_addressed(
+    alloc: Global,
+    bytes: &mut Vec<u8>,
+    addressed: Addressed,
+) -> Result<(), AllocError> {
+    append(alloc, bytes, &Frame::Addressed(addressed))
 }

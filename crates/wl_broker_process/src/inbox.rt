@@ -112,23 +112,32 @@ impl<'a> Inbox<'a> {
     pub(crate) fn take<R: Wait>(&self, rt: &R, lane: usize) -> Option<Work> {
         let mailbox = self.mailboxes.get(lane)?;
         for _turns in rt.forever() {
-            if let Some(work) = mailbox.take_now(rt) {
-                return Some(work);
-            }
-            let goes_on = match self.take_turn(rt, mailbox) {
-                Some(incoming) => self.read(rt, lane, incoming),
-                None => false,
-            };
-            if goes_on {
-                continue;
-            }
-            match mailbox.take(rt) {
+            match self.look(rt, lane, mailbox) {
                 Woken::Work(work) => return Some(work),
                 Woken::Turn => {}
                 Woken::Closed => return None,
             }
         }
         None
+    }
+
+    /// The next work of a lane, if there is one. Else it reads the link, if it may, and looks again, or sleeps until it is woken.
+    fn look<R: Wait>(&self, rt: &R, lane: usize, mailbox: &Mailbox) -> Woken {
+        if let Some(work) = mailbox.take_now(rt) {
+            return Woken::Work(work);
+        }
+        if self.reads_on(rt, lane, mailbox) {
+            return Woken::Turn;
+        }
+        mailbox.take(rt)
+    }
+
+    /// Reads the link, if it is nobody's turn, and returns whether the lane goes on by itself then.
+    fn reads_on<R: Wait>(&self, rt: &R, lane: usize, mailbox: &Mailbox) -> bool {
+        match self.take_turn(rt, mailbox) {
+            Some(incoming) => self.read(rt, lane, incoming),
+            None => false,
+        }
     }
 
     /// No lane is to wait for anything any more.
@@ -167,29 +176,16 @@ impl<'a> Inbox<'a> {
     fn read<R: Wait>(&self, rt: &R, lane: usize, mut incoming: Incoming<'a>) -> bool {
         let came = incoming.next();
         let mut turn = self.turn.lock(rt);
-        let dealt = match came {
-            Ok(Some(frames)) => self.deal_frames(rt, lane, frames),
-            Ok(None) => {
-                *turn = Turn::Over(Ok(()));
-                self.shut(rt);
-                return false;
-            }
-            Err(fault) => Err(fault),
+        let dealt = self.deal_all(rt, lane, came);
+        *turn = turn_after(dealt, incoming);
+        let Ok(Some(dealt)) = dealt else {
+            self.shut(rt);
+            return false;
         };
-        match dealt {
-            Ok(dealt) => {
-                *turn = Turn::Free(incoming);
-                if dealt.offers() {
-                    self.offer_turn(rt, lane);
-                }
-                !dealt.leaves()
-            }
-            Err(fault) => {
-                *turn = Turn::Over(Err(fault));
-                self.shut(rt);
-                false
-            }
+        if dealt.offers() {
+            self.offer_turn(rt, lane);
         }
+        !dealt.leaves()
     }
 
     /// Has another lane read on that has nothing to do, if there is one, while this one has much.
@@ -198,6 +194,20 @@ impl<'a> Inbox<'a> {
             if place != lane && mailbox.offer_turn(rt) {
                 return;
             }
+        }
+    }
+
+    /// Deals what has come with a read; None where it was the last one.
+    fn deal_all<R: Wait>(
+        &self,
+        rt: &R,
+        lane: usize,
+        came: Result<Option<Vec<Frame>>, ProcessFault>,
+    ) -> Result<Option<Dealt>, ProcessFault> {
+        match came {
+            Ok(Some(frames)) => self.deal_frames(rt, lane, frames).map(Some),
+            Ok(None) => Ok(None),
+            Err(fault) => Err(fault),
         }
     }
 
@@ -212,18 +222,11 @@ impl<'a> Inbox<'a> {
         let mut dealt = Dealt { own: 0, others: 0 };
         let mut works = Vec::new(self.alloc);
         for frame in frames {
-            let (tab, event) = match frame {
-                Frame::Stamped(stamped) => (stamped.tab, BookEvent::Take(stamped)),
-                Frame::Dead(dead) => (dead.tab, BookEvent::Dead(dead.tab)),
-                _ => return Err(ProcessFault::Unexpected),
-            };
+            let (tab, event) = event_of(frame)?;
             let place = usize::from(tab) % self.mailboxes.len().max(1);
             let _lost = deal(&mut works, self.shards, event).is_err();
             while let Some(work) = works.pop() {
-                let coming = match self.mailboxes.get(place) {
-                    Some(mailbox) => mailbox.put(rt, work),
-                    None => 0,
-                };
+                let coming = self.put(rt, place, work);
                 if place == lane {
                     dealt.own = dealt.own.saturating_add(1);
                 } else {
@@ -232,5 +235,31 @@ impl<'a> Inbox<'a> {
             }
         }
         Ok(dealt)
+    }
+
+    /// Puts a work into the mailbox of this place, and returns for how many its lane will come now.
+    fn put<R: Wait>(&self, rt: &R, place: usize, work: Work) -> usize {
+        match self.mailboxes.get(place) {
+            Some(mailbox) => mailbox.put(rt, work),
+            None => 0,
+        }
+    }
+}
+
+/// The turn after what has come with a read was dealt.
+fn turn_after<'a>(dealt: Result<Option<Dealt>, ProcessFault>, incoming: Incoming<'a>) -> Turn<'a> {
+    match dealt {
+        Ok(Some(_)) => Turn::Free(incoming),
+        Ok(None) => Turn::Over(Ok(())),
+        Err(fault) => Turn::Over(Err(fault)),
+    }
+}
+
+/// The event of a frame that is dealt, with its tab.
+fn event_of(frame: Frame) -> Result<(u16, BookEvent), ProcessFault> {
+    match frame {
+        Frame::Stamped(stamped) => Ok((stamped.tab, BookEvent::Take(stamped))),
+        Frame::Dead(dead) => Ok((dead.tab, BookEvent::Dead(dead.tab))),
+        _ => Err(ProcessFault::Unexpected),
     }
 }

@@ -15,6 +15,21 @@ struct Queue {
     is_closed: bool,
 }
 
+impl Queue {
+    /// Puts a work behind the others, and returns for how many its lane will come now; 0 where it will not, and None where memory
+    /// is refused.
+    fn put(&mut self, work: Work) -> Option<usize> {
+        if self.works.push_back(work).is_err() {
+            return None;
+        }
+        if self.is_served {
+            Some(self.works.len())
+        } else {
+            Some(0)
+        }
+    }
+}
+
 #[derive(Drop)]
 pub(crate) struct Mailbox {
     queue: Mutex<Queue>,
@@ -48,17 +63,10 @@ impl Mailbox {
     /// Puts a work behind the others, and returns for how many its lane will come now; 0 where it will not. For want of memory the
     /// work is lost.
     pub(crate) fn put<R: Wait>(&self, rt: &R, work: Work) -> usize {
-        let mut queue = self.queue.lock(rt);
-        let is_put = queue.works.push_back(work).is_ok();
-        let coming = if is_put && queue.is_served {
-            queue.works.len()
-        } else {
-            0
+        let Some(coming) = self.queue.lock(rt).put(work) else {
+            return 0;
         };
-        drop(queue);
-        if is_put {
-            self.changed.notify_one();
-        }
+        self.changed.notify_one();
         coming
     }
 
