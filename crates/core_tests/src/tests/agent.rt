@@ -119,22 +119,29 @@ enum Told {
     Other,
 }
 
-fn heard(delivered: Delivered) -> Told {
+fn told_by(delivered: &Delivered) -> Told {
     match delivered {
-        Delivered::Granted(number) => Told::Granted(number),
-        Delivered::Waiting(number) => Told::Waiting(number),
-        Delivered::Lost(number) => Told::Lost(number),
-        Delivered::Taken(number) => Told::Taken(number),
-        Delivered::Part(number) => Told::Part(number),
-        Delivered::Whole(number) => Told::Whole(number),
-        Delivered::Dropped(reason) => Told::Dropped(reason),
+        Delivered::Granted(number) => Told::Granted(*number),
+        Delivered::Waiting(number) => Told::Waiting(*number),
+        Delivered::Lost(number) => Told::Lost(*number),
+        Delivered::Taken(number) => Told::Taken(*number),
+        Delivered::Part(number) => Told::Part(*number),
+        Delivered::Whole(number) => Told::Whole(*number),
+        Delivered::Dropped(reason) => Told::Dropped(*reason),
         _ => Told::Other,
     }
 }
 
+/// What comes of a frame, which is gone then.
+fn delivered(agent: &mut Agent, frame: Frame) -> Delivered {
+    let delivered = deliver(agent, &frame);
+    drop(frame);
+    delivered
+}
+
 /// What a frame that comes is to the tab.
 fn taken_as(agent: &mut Agent, frame: Frame) -> Told {
-    heard(deliver(agent, &frame))
+    told_by(&delivered(agent, frame))
 }
 
 /// Delivers a frame, and asserts what it is to the tab.
@@ -208,17 +215,23 @@ fn spells_all(rt: &impl Abort, alloc: Global, frames: Sequence<Frame>, want: &[u
     assert!(rt; rest.is_empty());
 }
 
-/// Asserts that a hello gives this report.
-fn enters(rt: &impl Abort, alloc: Global, agent: &mut Agent, generation: u32, want: &[u8]) {
-    match deliver(agent, &hello(generation)) {
-        Delivered::Entered(frames) => spells_all(rt, alloc, frames, want),
+/// The report that a hello gives.
+fn entering(rt: &impl Abort, agent: &mut Agent, generation: u32) -> Sequence<Frame> {
+    match delivered(agent, hello(generation)) {
+        Delivered::Entered(frames) => frames,
         _ => panic!(rt; "no generation was entered"),
     }
+}
+
+/// Asserts that a hello gives this report.
+fn enters(rt: &impl Abort, alloc: Global, agent: &mut Agent, generation: u32, want: &[u8]) {
+    spells_all(rt, alloc, entering(rt, agent, generation), want);
 }
 
 fn sends(rt: &impl Abort, alloc: Global, agent: &Agent, number: u32, want: &[u8]) {
     let frame = message(agent, number).expect(rt, "issued");
     assert!(rt; is_spelled(rt, alloc, &frame, want));
+    drop(frame);
 }
 
 fn reports(rt: &impl Abort, alloc: Global, agent: &Agent, want: &[u8]) {
@@ -409,6 +422,8 @@ fn agent_4(rt: HostRuntime) {
     let Foreign { value: pending } = other.settle(pending).expect_err(&rt, "foreign");
     assert_eq!(rt; pending.number(), 0);
     aborts(&rt, &mut agent, pending, 1);
+    other.die();
+    agent.die();
 }
 
 #[test]
@@ -423,6 +438,7 @@ fn late_grant_after_abort(rt: HostRuntime) {
     hears(&rt, &mut agent, taken, Told::Taken(1));
     // Nothing is held.
     enters(&rt, alloc, &mut agent, 2, EMPTY_REPORT);
+    agent.die();
 }
 
 #[test]
@@ -434,6 +450,7 @@ fn repeated_request(rt: HostRuntime) {
     hears(&rt, &mut agent, taken, Told::Taken(1));
     let gone = answer(1, 0, Outcome::Gone, 2);
     hears(&rt, &mut agent, gone, Told::Dropped(Unheard::Over));
+    agent.die();
 }
 
 #[test]
@@ -466,6 +483,7 @@ fn restart_while_held(rt: HostRuntime) {
     releases(&rt, &mut agent, lock, 1);
     // The report stays what it was on entering.
     reports(&rt, alloc, &agent, HELD_REPORT);
+    agent.die();
 }
 
 #[test]
@@ -493,6 +511,7 @@ fn snapshot_in_parts(rt: HostRuntime) {
     let first = part(0, 0, 2, Vec::new(alloc));
     hears(&rt, &mut agent, first, Told::Whole(0));
     is_answered(&rt, &mut agent, asking);
+    agent.die();
 }
 
 #[test]
@@ -502,6 +521,7 @@ fn snapshot_is_lost(rt: HostRuntime) {
     let gone = answer(1, 0, Outcome::Gone, 1);
     hears(&rt, &mut agent, gone, Told::Lost(0));
     is_lost(&rt, &mut agent, asking);
+    agent.die();
 }
 
 /// Issues requests for `b` from this number up to the last live one.
@@ -545,6 +565,7 @@ fn refusals(rt: HostRuntime) {
     refuses_query(&rt, &mut agent, AgentFault::TooMany);
     aborts(&rt, &mut agent, empty, 64);
     assert_eq!(rt; ask(&mut agent, &dead, "b", Mode::Shared), Ok(65));
+    agent.die();
 }
 
 /// A tab that holds `a`, probes for it and asks for a snapshot.
@@ -568,6 +589,7 @@ fn generations_1(rt: HostRuntime) {
     sends(&rt, alloc, &agent, 3, RELEASE);
     let taken = answer(2, 3, Outcome::Taken, 4);
     hears(&rt, &mut agent, taken, Told::Taken(3));
+    agent.die();
 }
 
 #[test]
@@ -614,6 +636,7 @@ fn report_in_parts(rt: HostRuntime) {
     fill(&rt, &mut agent, &dead, 65, 66);
     reports(&rt, alloc, &agent, &want);
     sends_again_all(&rt, &agent);
+    agent.die();
 }
 
 /// Asserts that the report is sent again, and all 66 requests.
@@ -633,8 +656,6 @@ fn more_live_numbers(rt: HostRuntime) {
     refuses_request(&rt, &mut agent, AgentFault::TooMany);
     refuses_query(&rt, &mut agent, AgentFault::TooMany);
     enters(&rt, alloc, &mut agent, 1, FIRST_PART);
-    match deliver(&mut agent, &hello(2)) {
-        Delivered::Entered(frames) => assert_eq!(rt; frames.as_slice().len(), 16),
-        _ => panic!(&rt; "no generation was entered"),
-    }
+    assert_eq!(rt; entering(&rt, &mut agent, 2).as_slice().len(), 16);
+    agent.die();
 }

@@ -1,11 +1,10 @@
 //! A tab's channels. Each call that may answer for want of memory is made again where it does, and has to answer as if it
 //! had not been refused: so these tests pass whichever allocation is refused.
 
-use super::again::{bytes, name};
+use super::again::{bytes, letters, name};
 use bytes::Bytes;
 use std::alloc::Global;
 use std::process::Abort;
-use std::str;
 use wl_broadcast::{Channel, ChannelFault, Channels, Foreign, Hearing, Letter, Posted};
 use wl_frames::{Frame, Heard};
 
@@ -37,6 +36,11 @@ fn close(rt: &impl Abort, channels: &mut Channels, channel: Channel) {
         Ok(()) => {}
         Err(_foreign) => panic!(rt; "the channel was refused"),
     }
+}
+
+/// Closes the last channel of a tab, and lets the tab go.
+fn close_last(rt: &impl Abort, mut channels: Channels, channel: Channel) {
+    close(rt, &mut channels, channel);
 }
 
 fn post_once(
@@ -95,7 +99,10 @@ fn hear(rt: &impl Abort, channels: &mut Channels, frame: &Frame) -> Hearing {
 
 /// How the post of tab 1 is heard.
 fn hear_post(rt: &impl Abort, alloc: Global, channels: &mut Channels, number: u32) -> Hearing {
-    hear(rt, channels, &heard(rt, alloc, 1, number))
+    let frame = heard(rt, alloc, 1, number);
+    let hearing = hear(rt, channels, &frame);
+    drop(frame);
+    hearing
 }
 
 fn is_new(hearing: &Hearing, takers: &[usize], filled: &[usize]) -> bool {
@@ -153,13 +160,6 @@ fn reads_nothing(channels: &mut Channels, channel: &Channel) -> bool {
     is_nothing(&read_once(channels, channel))
 }
 
-fn is_refused<T>(answer: &Result<T, ChannelFault>, fault: ChannelFault) -> bool {
-    match answer {
-        Ok(_) => false,
-        Err(refusal) => *refusal == fault,
-    }
-}
-
 /// Whether the name is not opened, for this cause.
 fn refuses_name(rt: &impl Abort, channels: &mut Channels, name: &str, fault: ChannelFault) -> bool {
     match open_once(channels, name) {
@@ -178,15 +178,15 @@ fn refuses_post(
     data: &[u8],
     fault: ChannelFault,
 ) -> bool {
-    is_refused(&post_once(channels, channel, data), fault)
+    post_once(channels, channel, data).err() == Some(fault)
 }
 
 fn refuses_read(channels: &mut Channels, channel: &Channel, fault: ChannelFault) -> bool {
-    is_refused(&read_once(channels, channel), fault)
+    read_once(channels, channel).err() == Some(fault)
 }
 
 fn refuses_frame(channels: &mut Channels, frame: &Frame, fault: ChannelFault) -> bool {
-    is_refused(&hear_once(channels, frame), fault)
+    hear_once(channels, frame).err() == Some(fault)
 }
 
 /// A channel of another tab, which is given back and not closed.
@@ -197,13 +197,27 @@ fn given_back(rt: &impl Abort, channels: &mut Channels, channel: Channel) -> Cha
     }
 }
 
+/// Whether this is the tab's first post, which channel 1 alone took.
+fn is_posted_to_twin(posted: &Posted) -> bool {
+    is_post(&posted.frame, 0)
+        && posted.took.as_slice() == [1].as_slice()
+        && posted.full.as_slice().is_empty()
+}
+
 /// Asserts that a post is taken by channel 1 alone, and that its frame is none that comes.
 fn posts_to_twin(rt: &impl Abort, channels: &mut Channels, sender: &Channel) {
     let posted = post(rt, channels, sender, b"x");
-    assert!(rt; is_post(&posted.frame, 0));
-    assert!(rt; posted.took.as_slice() == [1].as_slice());
-    assert!(rt; posted.full.as_slice().is_empty());
+    assert!(rt; is_posted_to_twin(&posted));
     assert!(rt; refuses_frame(channels, &posted.frame, ChannelFault::WrongKind));
+    drop(posted);
+}
+
+/// Whether a post is taken by no channel.
+fn posts_to_none(rt: &impl Abort, channels: &mut Channels, sender: &Channel, data: &[u8]) -> bool {
+    let posted = post(rt, channels, sender, data);
+    let is_taken_by_none = posted.took.as_slice().is_empty();
+    drop(posted);
+    is_taken_by_none
 }
 
 #[test]
@@ -216,7 +230,7 @@ fn broadcast(rt: HostRuntime) {
     assert!(rt; reads_nothing(&mut channels, &twin));
     assert!(rt; reads_nothing(&mut channels, &sender));
     close(&rt, &mut channels, sender);
-    close(&rt, &mut channels, twin);
+    close_last(&rt, channels, twin);
 }
 
 #[test]
@@ -228,7 +242,7 @@ fn broadcast_to_another_tab(rt: HostRuntime) {
     assert!(rt; hears_old(&rt, alloc, &mut channels, 0));
     assert!(rt; reads(&mut channels, &channel, 1, 0));
     assert!(rt; reads_nothing(&mut channels, &channel));
-    close(&rt, &mut channels, channel);
+    close_last(&rt, channels, channel);
 }
 
 #[test]
@@ -239,7 +253,7 @@ fn broadcast_1(rt: HostRuntime) {
     assert!(rt; hears_new(&rt, alloc, &mut channels, 1, &[0], &[]));
     assert!(rt; hears_old(&rt, alloc, &mut channels, 0));
     assert!(rt; channels.inbox(&channel) == Ok(1));
-    close(&rt, &mut channels, channel);
+    close_last(&rt, channels, channel);
 }
 
 #[test]
@@ -254,20 +268,26 @@ fn broadcast_2(rt: HostRuntime) {
     assert!(rt; hears_old(&rt, alloc, &mut channels, 256));
     assert!(rt; reads(&mut channels, &channel, 1, 0));
     assert!(rt; channels.inbox(&channel) == Ok(255));
-    close(&rt, &mut channels, channel);
+    close_last(&rt, channels, channel);
 }
 
 #[test]
 fn limit_of_names(rt: HostRuntime) {
     let alloc = rt.alloc();
     let mut channels = Channels::new(alloc, 1);
-    let longest = bytes(&rt, alloc, b'a', 255);
-    let longest = str::from_utf8(longest.as_slice()).expect(&rt, "a text");
-    let channel = opened(&rt, &mut channels, longest, 0);
+    let longest = letters(&rt, alloc, 255);
+    let channel = opened(&rt, &mut channels, longest.as_str(), 0);
     close(&rt, &mut channels, channel);
-    let too_long = bytes(&rt, alloc, b'a', 256);
-    let too_long = str::from_utf8(too_long.as_slice()).expect(&rt, "a text");
-    assert!(rt; refuses_name(&rt, &mut channels, too_long, ChannelFault::NameTooLong));
+    let too_long = letters(&rt, alloc, 256);
+    assert!(rt;
+        refuses_name(
+            &rt,
+            &mut channels,
+            too_long.as_str(),
+            ChannelFault::NameTooLong
+        )
+    );
+    drop(channels);
 }
 
 #[test]
@@ -276,12 +296,11 @@ fn limit_of_data(rt: HostRuntime) {
     let mut channels = Channels::new(alloc, 1);
     let channel = opened(&rt, &mut channels, "n", 0);
     let longest = bytes(&rt, alloc, 0, 16_384);
-    let posted = post(&rt, &mut channels, &channel, longest.as_slice());
-    assert!(rt; posted.took.as_slice().is_empty());
+    assert!(rt; posts_to_none(&rt, &mut channels, &channel, longest.as_slice()));
     let too_long = bytes(&rt, alloc, 0, 16_385);
     let too_long = too_long.as_slice();
     assert!(rt; refuses_post(&mut channels, &channel, too_long, ChannelFault::DataTooLong));
-    close(&rt, &mut channels, channel);
+    close_last(&rt, channels, channel);
 }
 
 #[test]
@@ -292,7 +311,7 @@ fn foreign_channel(rt: HostRuntime) {
     let mut others = Channels::new(alloc, 2);
     refuses_foreign(&rt, &mut others, &channel);
     let channel = given_back(&rt, &mut others, channel);
-    close(&rt, &mut channels, channel);
+    close_last(&rt, channels, channel);
 }
 
 /// Asserts that another tab has no such channel.

@@ -2,12 +2,10 @@
 //! A call that is refused memory leaves the lists as they were, is made again, and has to give its row's answer then: so these
 //! tests pass whichever allocation is refused.
 
+use super::again::{Reported, are, are_rows, entries_of, name_of};
 use std::alloc::{AllocError, Global};
 use std::process::Abort;
-use wl_draft::{Entry, Grant, Manager, Mode, Name, Row, Standing};
-
-/// An entry of a report: its number, whether it is held, its mode and its name.
-type Reported = (u32, bool, Mode, &'static str);
+use wl_draft::{Grant, Manager, Mode, Row, Standing};
 
 /// A call on a manager.
 #[derive(Clone, Copy)]
@@ -42,44 +40,41 @@ enum Step {
     Counts(usize, usize),
 }
 
-fn name_of(alloc: Global, text: &str) -> Result<Name, AllocError> {
-    Ok(Name::from(String::from_str(alloc, text)?))
-}
-
-fn entries_of(alloc: Global, report: &[Reported]) -> Result<Vec<Entry>, AllocError> {
-    let mut entries = Vec::new(alloc);
-    for (number, held, mode, name) in report {
-        let name = name_of(alloc, name)?;
-        entries.push(Entry {
-            number: *number,
-            held: *held,
-            mode: *mode,
-            name,
-        })?;
-    }
-    Ok(entries)
-}
-
 fn request(
     rt: &impl Abort,
+    alloc: Global,
     manager: &mut Manager,
     client: u16,
-    name: &Name,
+    name: &str,
     mode: Mode,
 ) -> Result<Vec<Grant>, AllocError> {
+    let name = name_of(alloc, name)?;
     assert_eq!(rt; manager.state(client, 0), Standing::Absent);
-    manager.request(client, 0, name, mode)
+    manager.request(client, 0, &name, mode)
 }
 
 fn probe(
     rt: &impl Abort,
+    alloc: Global,
     manager: &mut Manager,
     client: u16,
-    name: &Name,
+    name: &str,
     mode: Mode,
 ) -> Result<Vec<Grant>, AllocError> {
+    let name = name_of(alloc, name)?;
     assert_eq!(rt; manager.state(client, 1), Standing::Absent);
-    manager.probe(client, 1, name, mode)
+    manager.probe(client, 1, &name, mode)
+}
+
+fn restore(
+    alloc: Global,
+    manager: &mut Manager,
+    client: u16,
+    report: &[Reported],
+    settles: bool,
+) -> Result<Vec<Grant>, AllocError> {
+    let entries = entries_of(alloc, report)?;
+    manager.restore(client, entries.as_slice(), settles)
 }
 
 fn make(
@@ -89,23 +84,13 @@ fn make(
     call: Call,
 ) -> Result<Vec<Grant>, AllocError> {
     match call {
-        Call::Request(client, mode, name) => {
-            request(rt, manager, client, &name_of(alloc, name)?, mode)
-        }
-        Call::Probe(client, mode, name) => probe(rt, manager, client, &name_of(alloc, name)?, mode),
+        Call::Request(client, mode, name) => request(rt, alloc, manager, client, name, mode),
+        Call::Probe(client, mode, name) => probe(rt, alloc, manager, client, name, mode),
         Call::Release(client, number) => manager.release(client, number),
         Call::Abort(client, number) => manager.abort(client, number),
         Call::End(client, settles) => manager.end_client(client, settles),
-        Call::Restore(client, report, settles) => {
-            manager.restore(client, entries_of(alloc, report)?.as_slice(), settles)
-        }
+        Call::Restore(client, report, settles) => restore(alloc, manager, client, report, settles),
     }
-}
-
-fn are(granted: &[Grant], pairs: &[(u16, u32)]) -> bool {
-    granted.len() == pairs.len()
-        && granted.iter().zip(pairs).all(|(grant, pair)| grant.client == pair.0
-            && grant.number == pair.1)
 }
 
 /// Both lists of a manager.
@@ -151,21 +136,6 @@ fn grants(
     pairs: &[(u16, u32)],
 ) -> bool {
     are(granted_by(rt, alloc, manager, call).as_slice(), pairs)
-}
-
-fn is_row(row: &Row, client: u16) -> bool {
-    row.client == client
-        && row.number == 0
-        && row.name.as_str() == "a"
-        && row.mode == Mode::Exclusive
-}
-
-fn are_rows(rows: &[Row], clients: &[u16]) -> bool {
-    rows.len() == clients.len()
-        && rows
-            .iter()
-            .zip(clients)
-            .all(|(row, client)| is_row(row, *client))
 }
 
 fn are_lists(rows: &Rows, held: &[u16], waiting: &[u16]) -> bool {

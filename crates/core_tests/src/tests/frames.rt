@@ -1,7 +1,7 @@
 //! Frames: an example of each kind as bytes and as a value, streams in pieces, faults, and the limits of the forms. A call that
 //! is refused memory is made again, and has to give the row's answer then: so these tests pass whichever allocation is refused.
 
-use super::again::{bytes, is_spelled, name};
+use super::again::{bytes, is_spelled, letters, name, report_part};
 use bytes::Bytes;
 use std::alloc::{AllocError, Global};
 use std::process::Abort;
@@ -205,7 +205,10 @@ fn copy_of(rt: &impl Abort, alloc: Global, frame: &Frame) -> Frame {
 
 /// Whether a copy of the frame is spelled by these bytes.
 fn is_copy_spelled(rt: &impl Abort, alloc: Global, frame: &Frame, bytes: &[u8]) -> bool {
-    is_spelled(rt, alloc, &copy_of(rt, alloc, frame), bytes)
+    let copy = copy_of(rt, alloc, frame);
+    let is_copy_spelled = is_spelled(rt, alloc, &copy, bytes);
+    drop(copy);
+    is_copy_spelled
 }
 
 /// Whether the frame is an example of its kind, and it and a copy of it are spelled by these bytes.
@@ -525,13 +528,10 @@ fn at_most_64_entries(rt: HostRuntime) {
 
 // ---- which frames are well formed
 
-fn is_formed(frame: Frame) -> bool {
-    frame.is_well_formed()
-}
-
 /// Whether the frame is well formed is what is wanted.
 fn expect_form(rt: &impl Abort, frame: Frame, want: bool) {
-    assert!(rt; is_formed(frame) == want);
+    assert!(rt; frame.is_well_formed() == want);
+    drop(frame);
 }
 
 fn expect_name(rt: &impl Abort, alloc: Global, text: &str, want: bool) {
@@ -567,10 +567,9 @@ fn expect_post(rt: &impl Abort, alloc: Global, channel: &str, bytes: &[u8], want
 
 /// A text of so many letters is, or is not, a lock's and a channel's name.
 fn expect_long_name(rt: &impl Abort, alloc: Global, length: usize, want: bool) {
-    let letters = bytes(rt, alloc, b'x', length);
-    let text = str::from_utf8(letters.as_slice()).expect(rt, "a text");
-    expect_name(rt, alloc, text, want);
-    expect_post(rt, alloc, text, b"", want);
+    let text = letters(rt, alloc, length);
+    expect_name(rt, alloc, text.as_str(), want);
+    expect_post(rt, alloc, text.as_str(), b"", want);
 }
 
 #[test]
@@ -597,24 +596,14 @@ fn forms_of_data_and_numbers(rt: HostRuntime) {
     expect_form(&rt, Frame::Dead(Dead { tab: 0 }), false);
 }
 
-fn part(alloc: Global, part: u16, parts: u16) -> Frame {
-    Frame::ReportPart(ReportPart {
-        generation: 1,
-        base: 0,
-        part,
-        parts,
-        entries: Sequence::new(Vec::new(alloc)),
-    })
-}
-
 #[test]
 fn forms_of_parts(rt: HostRuntime) {
     let alloc = rt.alloc();
-    expect_form(&rt, part(alloc, 0, 1), true);
-    expect_form(&rt, part(alloc, 15, 16), true);
-    expect_form(&rt, part(alloc, 0, 0), false);
-    expect_form(&rt, part(alloc, 16, 16), false);
-    expect_form(&rt, part(alloc, 0, 17), false);
+    expect_form(&rt, report_part(alloc, 0, 1), true);
+    expect_form(&rt, report_part(alloc, 15, 16), true);
+    expect_form(&rt, report_part(alloc, 0, 0), false);
+    expect_form(&rt, report_part(alloc, 16, 16), false);
+    expect_form(&rt, report_part(alloc, 0, 17), false);
 }
 
 fn origin_once(alloc: Global, text: &str) -> Result<Origin, AllocError> {
@@ -644,9 +633,8 @@ fn expect_origin(rt: &impl Abort, alloc: Global, text: &str, want: bool) {
 }
 
 fn expect_long_origin(rt: &impl Abort, alloc: Global, length: usize, want: bool) {
-    let letters = bytes(rt, alloc, b'x', length);
-    let text = str::from_utf8(letters.as_slice()).expect(rt, "a text");
-    expect_origin(rt, alloc, text, want);
+    let text = letters(rt, alloc, length);
+    expect_origin(rt, alloc, text.as_str(), want);
 }
 
 #[test]

@@ -1,44 +1,49 @@
 //! The kernel's rows. Each call that may answer for want of memory is made again where it does, with the kernel as it was:
 //! so these tests pass whichever allocation is refused.
 
-use super::again::name;
+use super::again::{name, report_part};
+use super::origin::{pair_of, partition_of, refuses};
 use bytes::Bytes;
 use std::alloc::{AllocError, Global};
 use std::process::Abort;
 use wl_frames::{
-    Addressed, Answer, Command, Downward, Frame, Hello, Operation, Outcome, Post, ReportPart,
-    Sequence, Start, Upward,
+    Addressed, Answer, Command, Downward, Frame, Hello, Operation, Outcome, Post, Upward,
 };
 use wl_kernel::{
     Down, GenerationsUsedUp, KillFault, OpenFault, RouteFault, Routed, StartFault, Tabs, Up,
 };
-use wl_origin::{OriginFault, Partition, partition, partition_pair};
+use wl_origin::{OriginFault, Partition};
 
-/// What is told of the kernel: the generation, how many tabs live, and of the tabs 0 to 5 the partition numbers, and
-/// which live.
-type State = (u32, usize, [Option<u16>; 6], [bool; 6]);
+/// What is told of a tab: its partition number, and whether it lives.
+type Seen = (Option<u16>, bool);
+
+fn seen(tabs: &Tabs, tab: u16) -> Seen {
+    (tabs.partition_number(tab), tabs.is_living(tab))
+}
+
+/// What is told of the kernel: the generation, how many tabs live, and what is told of the tabs 0 to 5.
+type State = (u32, usize, [Seen; 6]);
 
 fn state(tabs: &Tabs) -> State {
     (
         tabs.generation(),
         tabs.living().len(),
-        [0, 1, 2, 3, 4, 5].map(|tab| tabs.partition_number(tab)),
-        [0, 1, 2, 3, 4, 5].map(|tab| tabs.is_living(tab)),
+        [
+            seen(tabs, 0),
+            seen(tabs, 1),
+            seen(tabs, 2),
+            seen(tabs, 3),
+            seen(tabs, 4),
+            seen(tabs, 5),
+        ],
     )
 }
 
 /// The partition of a page, at the top or under another one.
-fn read_partition(alloc: Global, top: Option<&str>, url: &str) -> Result<Partition, OriginFault> {
+fn partition_under(rt: &impl Abort, alloc: Global, top: Option<&str>, url: &str) -> Partition {
     match top {
-        Some(top) => partition_pair(alloc, top, url),
-        None => partition(alloc, url),
-    }
-}
-
-fn partition_of(rt: &impl Abort, alloc: Global, top: Option<&str>, url: &str) -> Partition {
-    match read_partition(alloc, top, url) {
-        Ok(partition) => partition,
-        Err(_) => read_partition(alloc, top, url).expect(rt, "memory is back"),
+        Some(top) => pair_of(rt, alloc, top, url),
+        None => partition_of(rt, alloc, url),
     }
 }
 
@@ -71,10 +76,10 @@ fn opens_under(
     expected: Result<u16, OpenFault>,
 ) {
     let before = state(tabs);
-    let mut answer = open_once(tabs, tab, partition_of(rt, alloc, top, url));
+    let mut answer = open_once(tabs, tab, partition_under(rt, alloc, top, url));
     if answer == Err(OpenFault::Memory) {
         assert!(rt; state(tabs) == before);
-        answer = open_once(tabs, tab, partition_of(rt, alloc, top, url));
+        answer = open_once(tabs, tab, partition_under(rt, alloc, top, url));
     }
     assert!(rt; answer == expected, "tab {tab}");
 }
@@ -118,6 +123,7 @@ fn started(
     match start(rt, down, listed) {
         Ok((up, frame)) => {
             assert!(rt; is_start(&frame, generation, list));
+            drop(frame);
             up
         }
         Err(_refused) => panic!(rt; "the start was refused"),
@@ -187,13 +193,6 @@ fn is_granted(frame: &Frame) -> bool {
     }
 }
 
-fn is_refused<T>(routed: &Result<T, RouteFault>, fault: RouteFault) -> bool {
-    match routed {
-        Ok(_) => false,
-        Err(refusal) => *refusal == fault,
-    }
-}
-
 /// Where a broker's frame goes over the link of generation 1.
 type RoutedDown = Result<(u16, Frame), RouteFault>;
 
@@ -218,51 +217,42 @@ fn is_grant_for(routed: &RoutedDown, tab: u16) -> bool {
 
 /// Whether the broker of generation 1 reaches this tab with its granted answer.
 fn passes(up: &Up, tab: u16) -> bool {
-    is_grant_for(&down_once(up, granted(tab, 1)), tab)
+    let routed = down_once(up, granted(tab, 1));
+    let passes = is_grant_for(&routed, tab);
+    drop(routed);
+    passes
 }
 
 /// Whether what a broker says over the link of generation 1 is refused so.
 fn refuses_down(up: &Up, frame: Frame, fault: RouteFault) -> bool {
-    is_refused(&down_once(up, frame), fault)
+    down_once(up, frame).err() == Some(fault)
 }
 
 /// Whether nothing passes while no broker runs.
 fn refuses_all(down: &Down) -> bool {
-    let routed = down_without_broker_once(down, granted(1, 1));
-    is_refused(&routed, RouteFault::StaleLink)
+    down_without_broker_once(down, granted(1, 1)).err() == Some(RouteFault::StaleLink)
 }
 
 /// Whether what a tab sends is refused so.
 fn refuses_up(up: &Up, tab: u16, frame: Frame, fault: RouteFault) -> bool {
-    is_refused(&up_once(up.tabs(), tab, frame), fault)
+    up_once(up.tabs(), tab, frame).err() == Some(fault)
 }
 
-/// Whether the frame is a tab's command, stamped so.
-fn is_command(frame: &Frame, tab: u16, partition: u16) -> bool {
-    match frame {
-        Frame::Stamped(stamped) => {
-            stamped.tab == tab
-                && stamped.partition == partition
-                && matches!(stamped.inner, Upward::Command(_))
-        }
-        _ => false,
-    }
-}
-
-/// What goes to the broker.
-fn given_to_broker(routed: &Result<Routed, RouteFault>) -> Option<&Frame> {
+/// What the broker gets of this tab under this partition number.
+fn stamped(routed: &Result<Routed, RouteFault>, tab: u16, partition: u16) -> Option<&Upward> {
     match routed {
-        Ok(Routed::Broker(frame)) => Some(frame),
+        Ok(Routed::Broker(Frame::Stamped(stamped)))
+            if stamped.tab == tab && stamped.partition == partition => { Some(&stamped.inner) }
         _ => None,
     }
 }
 
 /// Whether the tab's query goes to the broker under this partition number.
 fn is_stamped(tabs: &Tabs, tab: u16, partition: u16) -> bool {
-    match given_to_broker(&up_once(tabs, tab, query())) {
-        Some(frame) => is_command(frame, tab, partition),
-        None => false,
-    }
+    let routed = up_once(tabs, tab, query());
+    let is_stamped = matches!(stamped(&routed, tab, partition), Some(Upward::Command(_)));
+    drop(routed);
+    is_stamped
 }
 
 fn routed_post(
@@ -308,7 +298,10 @@ fn is_heard_by(routed: &Result<Routed, RouteFault>, tab: u16, hearers: &[u16]) -
 }
 
 fn is_posted(rt: &impl Abort, alloc: Global, tabs: &Tabs, tab: u16, hearers: &[u16]) -> bool {
-    is_heard_by(&routed_post(rt, alloc, tabs, tab), tab, hearers)
+    let routed = routed_post(rt, alloc, tabs, tab);
+    let is_posted = is_heard_by(&routed, tab, hearers);
+    drop(routed);
+    is_posted
 }
 
 /// The refusal to stop the last generation, which is this one.
@@ -443,15 +436,6 @@ fn missing_tab(rt: HostRuntime) {
     up.end();
 }
 
-/// Whether a page has no partition, since its origin is opaque.
-fn is_opaque(alloc: Global, url: &str) -> bool {
-    let mut answer = read_partition(alloc, None, url).err();
-    if answer == Some(OriginFault::Memory) {
-        answer = read_partition(alloc, None, url).err();
-    }
-    answer == Some(OriginFault::Security)
-}
-
 #[test]
 fn origins_apart(rt: HostRuntime) {
     let alloc = rt.alloc();
@@ -460,7 +444,8 @@ fn origins_apart(rt: HostRuntime) {
     opens(&rt, alloc, tabs, 1, "https://a.test/", Ok(1));
     opens(&rt, alloc, tabs, 2, "https://a.test:443/x", Ok(1));
     opens(&rt, alloc, tabs, 3, "http://a.test/", Ok(3));
-    assert!(rt; is_opaque(alloc, "data:,x"));
+    // A page whose origin is opaque has no partition.
+    refuses(&rt, alloc, "data:,x", OriginFault::Security);
     let up = started(&rt, down, &[1, 2, 3], 1, &[(1, 1), (2, 1), (3, 3)]);
     assert!(rt; is_stamped(up.tabs(), 1, 1));
     assert!(rt; is_stamped(up.tabs(), 3, 3));
@@ -485,35 +470,15 @@ fn tops_apart(rt: HostRuntime) {
     down.end();
 }
 
-/// The only part of an empty report, in generation 1.
-fn part(alloc: Global) -> Frame {
-    Frame::ReportPart(ReportPart {
-        generation: 1,
-        base: 0,
-        part: 0,
-        parts: 1,
-        entries: Sequence::new(Vec::new(alloc)),
-    })
-}
-
-/// Whether the frame is a part of a tab's report, stamped so.
-fn is_part(frame: &Frame, tab: u16, partition: u16) -> bool {
-    match frame {
-        Frame::Stamped(stamped) => {
-            stamped.tab == tab
-                && stamped.partition == partition
-                && matches!(stamped.inner, Upward::ReportPart(_))
-        }
-        _ => false,
-    }
-}
-
 /// Whether a part of the tab's report goes to the broker under this partition number.
 fn is_reported(alloc: Global, tabs: &Tabs, tab: u16, partition: u16) -> bool {
-    match given_to_broker(&up_once(tabs, tab, part(alloc))) {
-        Some(frame) => is_part(frame, tab, partition),
-        None => false,
-    }
+    let routed = up_once(tabs, tab, report_part(alloc, 0, 1));
+    let is_reported = matches!(
+        stamped(&routed, tab, partition),
+        Some(Upward::ReportPart(_))
+    );
+    drop(routed);
+    is_reported
 }
 
 #[test]
@@ -521,10 +486,10 @@ fn parts_go_up(rt: HostRuntime) {
     let alloc = rt.alloc();
     let mut up = two_tabs(&rt, alloc);
     assert!(rt; is_reported(alloc, up.tabs(), 2, 1));
-    assert!(rt; refuses_up(&up, 3, part(alloc), RouteFault::NoTab));
+    assert!(rt; refuses_up(&up, 3, report_part(alloc, 0, 1), RouteFault::NoTab));
     assert!(rt; up.tabs_mut().kill(2) == Ok(()));
-    assert!(rt; refuses_up(&up, 2, part(alloc), RouteFault::DeadTab));
-    assert!(rt; refuses_down(&up, part(alloc), RouteFault::WrongKind));
+    assert!(rt; refuses_up(&up, 2, report_part(alloc, 0, 1), RouteFault::DeadTab));
+    assert!(rt; refuses_down(&up, report_part(alloc, 0, 1), RouteFault::WrongKind));
     up.end();
 }
 

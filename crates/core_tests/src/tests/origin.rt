@@ -1,6 +1,7 @@
 //! Partitions by URL. A call that is refused memory is made again, and has to give the row's answer then: so these tests pass
 //! whichever allocation is refused.
 
+use super::again::letters;
 use std::alloc::{AllocError, Global};
 use std::cmp::Ordering;
 use std::process::Abort;
@@ -22,7 +23,7 @@ fn read(alloc: Global, url: &str) -> Result<Partition, OriginFault> {
 }
 
 /// The partition of a URL that has one.
-fn partition_of(rt: &impl Abort, alloc: Global, url: &str) -> Partition {
+pub fn partition_of(rt: &impl Abort, alloc: Global, url: &str) -> Partition {
     read(alloc, url).expect(rt, "an origin")
 }
 
@@ -40,7 +41,7 @@ fn read_pair(alloc: Global, top: &str, own: &str) -> Result<Partition, OriginFau
 }
 
 /// The partition of a pair of URLs that has one.
-fn pair_of(rt: &impl Abort, alloc: Global, top: &str, own: &str) -> Partition {
+pub fn pair_of(rt: &impl Abort, alloc: Global, top: &str, own: &str) -> Partition {
     read_pair(alloc, top, own).expect(rt, "two origins")
 }
 
@@ -65,14 +66,19 @@ fn is_copy(copy: &Partition, a: &Partition) -> bool {
 }
 
 fn copies(rt: &impl Abort, alloc: Global, a: &Partition) {
-    assert!(rt; is_copy(&copy_of(rt, alloc, a), a));
+    let copy = copy_of(rt, alloc, a);
+    assert!(rt; is_copy(&copy, a));
+    drop(copy);
 }
 
 // ---- which are the same
 
 /// Whether a URL has the partition.
 fn is_of(rt: &impl Abort, alloc: Global, a: &Partition, url: &str) -> bool {
-    are_same(a, &partition_of(rt, alloc, url))
+    let b = partition_of(rt, alloc, url);
+    let is_of = are_same(a, &b);
+    drop(b);
+    is_of
 }
 
 fn expect_same(rt: &impl Abort, alloc: Global, a: &Partition, url: &str, want: bool) {
@@ -95,6 +101,7 @@ fn equal_partitions(rt: HostRuntime) {
     for (url, want) in EQUAL.iter() {
         expect_same(&rt, rt.alloc(), &a, url, *want);
     }
+    drop(a);
 }
 
 const A: &str = "https://a.test/";
@@ -113,7 +120,9 @@ static PAIRS: [(&str, &str, &str, bool); 5] = [
 
 /// Asserts whether a page under a top is in the partition of a page at the top.
 fn expect_at_top(rt: &impl Abort, alloc: Global, top: &str, own: &str, url: &str, want: bool) {
-    expect_same(rt, alloc, &pair_of(rt, alloc, top, own), url, want);
+    let pair = pair_of(rt, alloc, top, own);
+    expect_same(rt, alloc, &pair, url, want);
+    drop(pair);
 }
 
 #[test]
@@ -132,6 +141,7 @@ fn expect_texts(rt: &impl Abort, alloc: Global, a: &Partition, top: &str, own: &
 fn expect_texts_of_pair(rt: &impl Abort, alloc: Global, urls: (&str, &str), texts: (&str, &str)) {
     let pair = pair_of(rt, alloc, urls.0, urls.1);
     expect_texts(rt, alloc, &pair, texts.0, texts.1);
+    drop(pair);
 }
 
 #[test]
@@ -142,7 +152,9 @@ fn texts_of_pairs(rt: HostRuntime) {
 }
 
 fn copies_of(rt: &impl Abort, alloc: Global, url: &str) {
-    copies(rt, alloc, &partition_of(rt, alloc, url));
+    let a = partition_of(rt, alloc, url);
+    copies(rt, alloc, &a);
+    drop(a);
 }
 
 #[test]
@@ -154,13 +166,11 @@ fn copy_is_equal(rt: HostRuntime) {
 
 // ---- texts
 
-fn is_text(a: &Partition, text: &str) -> bool {
-    a.text() == text
-}
-
 /// Asserts the text of a URL's origin.
 fn expect_text(rt: &impl Abort, alloc: Global, url: &str, text: &str) {
-    assert!(rt; is_text(&partition_of(rt, alloc, url), text), "of {url}");
+    let a = partition_of(rt, alloc, url);
+    assert!(rt; a.text() == text, "of {url}");
+    drop(a);
 }
 
 static TEXTS: [(&str, &str); 16] = [
@@ -226,7 +236,7 @@ fn refused_memory_of_pairs(rt: HostRuntime) {
 
 // ---- refusals
 
-fn refuses(rt: &impl Abort, alloc: Global, url: &str, fault: OriginFault) {
+pub fn refuses(rt: &impl Abort, alloc: Global, url: &str, fault: OriginFault) {
     assert_eq!(rt; read(alloc, url).err(), Some(fault), "of {url}");
 }
 
@@ -285,17 +295,6 @@ fn refusals(rt: HostRuntime) {
 }
 
 // ---- long URLs
-
-fn repeated(alloc: Global, count: usize) -> Result<String, AllocError> {
-    "x".repeat(alloc, count)
-}
-
-fn letters(rt: &impl Abort, alloc: Global, count: usize) -> String {
-    match repeated(alloc, count) {
-        Ok(text) => text,
-        Err(_) => repeated(alloc, count).expect(rt, "memory is back"),
-    }
-}
 
 fn path_of(alloc: Global, path: &str) -> Result<String, AllocError> {
     format!(in alloc; "https://a.test/{path}")

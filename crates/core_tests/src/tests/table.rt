@@ -2,12 +2,13 @@
 //! that is refused for memory is made again, once the table was seen to be as before, and then gives the row's answer: so each
 //! growth of each call can be refused in its turn (`rt try --test --fail-alloc 1..`), and the rows pass.
 
+use super::again::{Reported, are, are_rows, entries_of, name_of};
 use std::alloc::{AllocError, Global};
 use std::marker::Model;
 use std::process::Abort;
 use std::test::Fail;
 use wl_fakes::dice::Dice;
-use wl_table::{Entry, Grant, IndexedTable, LockTable, Mode, Name, PlainTable, Row, Standing};
+use wl_table::{Grant, IndexedTable, LockTable, Mode, PlainTable, Row, Standing};
 
 /// How many random calls are made.
 const CALLS: u64 = 10_000;
@@ -23,9 +24,6 @@ const NUMBERS: u64 = 12;
 static NAMES: [&str; 8] = ["", "a", "b", "c", "d", "e", "f", "g"];
 
 // ---- one call on both tables
-
-/// An entry of a report: its number, whether it is held, its mode and its name.
-type Reported = (u32, bool, Mode, &'static str);
 
 /// A call that changes a table.
 #[derive(Clone, Copy)]
@@ -43,34 +41,18 @@ enum Call<'a> {
     },
 }
 
-fn name_of(alloc: Global, text: &str) -> Result<Name, AllocError> {
-    Ok(Name::from(String::from_str(alloc, text)?))
-}
-
-fn entries_of(alloc: Global, report: &[Reported]) -> Result<Vec<Entry>, AllocError> {
-    let mut entries = Vec::new(alloc);
-    for (number, held, mode, name) in report {
-        let name = name_of(alloc, name)?;
-        entries.push(Entry {
-            number: *number,
-            held: *held,
-            mode: *mode,
-            name,
-        })?;
-    }
-    Ok(entries)
-}
-
 /// Asks for a pair, or gives it back if it is there.
 fn request<T: LockTable>(
+    alloc: Global,
     table: &mut T,
     client: u16,
     number: u32,
-    name: &Name,
+    name: &str,
     mode: Mode,
 ) -> Result<Vec<Grant>, AllocError> {
+    let name = name_of(alloc, name)?;
     if table.state(client, number) == Standing::Absent {
-        table.request(client, number, name, mode)
+        table.request(client, number, &name, mode)
     } else {
         table.release(client, number)
     }
@@ -78,17 +60,30 @@ fn request<T: LockTable>(
 
 /// Probes a pair, or gives it back if it is there.
 fn probe<T: LockTable>(
+    alloc: Global,
     table: &mut T,
     client: u16,
     number: u32,
-    name: &Name,
+    name: &str,
     mode: Mode,
 ) -> Result<Vec<Grant>, AllocError> {
+    let name = name_of(alloc, name)?;
     if table.state(client, number) == Standing::Absent {
-        table.probe(client, number, name, mode)
+        table.probe(client, number, &name, mode)
     } else {
         table.release(client, number)
     }
+}
+
+fn restore<T: LockTable>(
+    alloc: Global,
+    table: &mut T,
+    client: u16,
+    report: &[Reported],
+    settle: bool,
+) -> Result<Vec<Grant>, AllocError> {
+    let entries = entries_of(alloc, report)?;
+    table.restore(client, entries.as_slice(), settle)
 }
 
 fn make<T: LockTable>(
@@ -99,14 +94,12 @@ fn make<T: LockTable>(
     call: Call<'_>,
 ) -> Result<Vec<Grant>, AllocError> {
     match call {
-        Call::Request(mode, name) => request(table, client, number, &name_of(alloc, name)?, mode),
-        Call::Probe(mode, name) => probe(table, client, number, &name_of(alloc, name)?, mode),
+        Call::Request(mode, name) => request(alloc, table, client, number, name, mode),
+        Call::Probe(mode, name) => probe(alloc, table, client, number, name, mode),
         Call::Release => table.release(client, number),
         Call::Abort => table.abort(client, number),
         Call::End { settle } => table.end_client(client, settle),
-        Call::Restore { report, settle } => {
-            table.restore(client, entries_of(alloc, report)?.as_slice(), settle)
-        }
+        Call::Restore { report, settle } => restore(alloc, table, client, report, settle),
     }
 }
 
@@ -123,8 +116,11 @@ fn seen<T: LockTable>(table: &T, client: u16, number: u32) -> Seen {
     )
 }
 
+/// Both lists of a table.
+type Rows = (Vec<Row>, Vec<Row>);
+
 /// The snapshot, asked for again where memory was refused.
-fn rows_of<T: LockTable>(table: &T) -> Result<(Vec<Row>, Vec<Row>), AllocError> {
+fn rows_of<T: LockTable>(table: &T) -> Result<Rows, AllocError> {
     match table.snapshot() {
         Err(_) => table.snapshot(),
         answer => answer,
@@ -139,22 +135,27 @@ const SEEN_NUMBERS: u16 = 3;
 /// The content of a table: its snapshot, and what it answers of some pairs.
 #[derive(Drop, PartialEq, Eq)]
 struct Content {
-    held: Vec<Row>,
-    waiting: Vec<Row>,
+    rows: Rows,
     pairs: [Seen; SEEN_PAIRS],
 }
 
-fn content_of<T: LockTable>(table: &T) -> Result<Content, AllocError> {
-    let (held, waiting) = rows_of(table)?;
+fn pairs_of<T: LockTable>(table: &T) -> [Seen; SEEN_PAIRS] {
     let mut pairs = [(Standing::Absent, false, 0, 0); SEEN_PAIRS];
     for (place, pair) in (0..=u16::MAX).zip(pairs.iter_mut()) {
         *pair = seen(table, place / SEEN_NUMBERS, u32::from(place % SEEN_NUMBERS));
     }
+    pairs
+}
+
+fn content_of<T: LockTable>(table: &T) -> Result<Content, AllocError> {
     Ok(Content {
-        held,
-        waiting,
-        pairs,
+        rows: rows_of(table)?,
+        pairs: pairs_of(table),
     })
+}
+
+fn is_content_of<T: LockTable>(table: &T, content: &Content) -> Result<bool, AllocError> {
+    Ok(content_of(table)? == *content)
 }
 
 /// Makes a call. Where memory is refused the content is as before, and the call is made again.
@@ -169,7 +170,7 @@ fn make_again<T: LockTable>(
     let before = content_of(table)?;
     match make(alloc, table, client, number, call) {
         Err(_) => {
-            assert!(rt; content_of(table)? == before, "{client} {number}");
+            assert!(rt; is_content_of(table, &before)?, "{client} {number}");
             make(alloc, table, client, number, call)
         }
         answer => answer,
@@ -248,8 +249,21 @@ impl Both {
     ) -> Result<Vec<Grant>, AllocError> {
         let indexed = self.make_indexed(rt, client, number, call)?;
         let plain = self.make_plain(rt, client, number, call)?;
-        assert_eq!(rt; plain.as_slice(), indexed.as_slice());
-        Ok(indexed)
+        Ok(agreed(rt, plain, indexed))
+    }
+
+    /// Makes a call on both, which are looked at before it and after it.
+    fn make_seen(
+        &mut self,
+        rt: &impl Abort,
+        client: u16,
+        number: u32,
+        call: Call<'_>,
+    ) -> Result<Vec<Grant>, AllocError> {
+        self.look(rt, client, number);
+        let granted = self.make(rt, client, number, call)?;
+        self.look(rt, client, number);
+        Ok(granted)
     }
 
     /// The same, where memory may be refused.
@@ -263,8 +277,7 @@ impl Both {
         let alloc = self.alloc;
         let indexed = make_again(rt, alloc, &mut self.indexed, client, number, call)?;
         let plain = make_again(rt, alloc, &mut self.plain, client, number, call)?;
-        assert_eq!(rt; plain.as_slice(), indexed.as_slice());
-        Ok(indexed)
+        Ok(agreed(rt, plain, indexed))
     }
 
     /// What both answer of a pair and of its client.
@@ -276,30 +289,49 @@ impl Both {
 
     /// Compares the snapshots, and answers how many are held and how many wait.
     fn compare(&self, rt: &impl Abort) -> Result<(usize, usize), AllocError> {
-        let (plain_held, plain_waiting) = rows_of(&self.plain)?;
-        let (held, waiting) = rows_of(&self.indexed)?;
-        assert_eq!(rt; plain_held.as_slice(), held.as_slice());
-        assert_eq!(rt; plain_waiting.as_slice(), waiting.as_slice());
-        Ok((held.len(), waiting.len()))
+        let plain = rows_of(&self.plain)?;
+        let indexed = rows_of(&self.indexed)?;
+        expect_same_rows(rt, &plain, &indexed);
+        Ok((indexed.0.len(), indexed.1.len()))
+    }
+
+    /// Makes a call that grants these pairs, and looks at its own pair afterwards.
+    fn grants(
+        &mut self,
+        rt: &impl Abort,
+        client: u16,
+        number: u32,
+        call: Call<'_>,
+        pairs: &[(u16, u32)],
+    ) -> Result<(), AllocError> {
+        let granted = self.make_again(rt, client, number, call)?;
+        assert!(rt; are(granted.as_slice(), pairs), "{client} {number}");
+        self.look(rt, client, number);
+        Ok(())
+    }
+
+    fn stands(&self, rt: &impl Abort, client: u16, number: u32, standing: Standing) {
+        assert_eq!(rt; self.look(rt, client, number).0, standing);
+    }
+
+    fn is_grantable(&self, rt: &impl Abort, client: u16, number: u32) {
+        assert!(rt; self.look(rt, client, number).1, "{client} {number}");
+    }
+
+    fn lists(&self, rt: &impl Abort, counts: (usize, usize)) -> Result<(), AllocError> {
+        assert_eq!(rt; self.compare(rt)?, counts);
+        Ok(())
     }
 
     /// Takes a step, and looks at its pair afterwards.
     fn step(&mut self, rt: &impl Abort, step: Step<'_>) -> Result<(), AllocError> {
         match step {
             Step::Make(client, number, call, pairs) => {
-                let granted = self.make_again(rt, client, number, call)?;
-                assert!(rt; are(granted.as_slice(), pairs), "{client} {number}");
-                self.look(rt, client, number);
+                return self.grants(rt, client, number, call, pairs);
             }
-            Step::Stands(client, number, standing) => {
-                assert_eq!(rt; self.look(rt, client, number).0, standing);
-            }
-            Step::Grantable(client, number) => {
-                assert!(rt; self.look(rt, client, number).1, "{client} {number}");
-            }
-            Step::Lists(held, waiting) => {
-                assert_eq!(rt; self.compare(rt)?, (held, waiting));
-            }
+            Step::Stands(client, number, standing) => self.stands(rt, client, number, standing),
+            Step::Grantable(client, number) => self.is_grantable(rt, client, number),
+            Step::Lists(held, waiting) => return self.lists(rt, (held, waiting)),
         }
         Ok(())
     }
@@ -323,7 +355,7 @@ impl Both {
         for number in 2..64 {
             let pairs = [(1, number)];
             let request = Call::Request(Mode::Shared, "b");
-            self.step(rt, Step::Make(1, number, request, &pairs))?;
+            self.grants(rt, 1, number, request, &pairs)?;
         }
         Ok(())
     }
@@ -336,20 +368,21 @@ impl Both {
     }
 
     /// The snapshot of the indexed one after a row.
-    fn rows_after(
-        &mut self,
-        rt: &impl Abort,
-        row: &[Step<'_>],
-    ) -> Result<(Vec<Row>, Vec<Row>), AllocError> {
+    fn rows_after(&mut self, rt: &impl Abort, row: &[Step<'_>]) -> Result<Rows, AllocError> {
         self.play(rt, row)?;
         rows_of(&self.indexed)
     }
 }
 
-fn are(granted: &[Grant], pairs: &[(u16, u32)]) -> bool {
-    granted.len() == pairs.len()
-        && granted.iter().zip(pairs).all(|(grant, pair)| grant.client == pair.0
-            && grant.number == pair.1)
+/// What both tables granted, which has to be the same.
+fn agreed(rt: &impl Abort, plain: Vec<Grant>, indexed: Vec<Grant>) -> Vec<Grant> {
+    assert_eq!(rt; plain.as_slice(), indexed.as_slice());
+    indexed
+}
+
+fn expect_same_rows(rt: &impl Abort, plain: &Rows, indexed: &Rows) {
+    assert_eq!(rt; plain.0.as_slice(), indexed.0.as_slice());
+    assert_eq!(rt; plain.1.as_slice(), indexed.1.as_slice());
 }
 
 // ---- worked rows
@@ -368,9 +401,11 @@ enum Step<'a> {
 }
 
 /// Plays rows one after another on two new tables.
-fn play(rt: &impl Abort, alloc: Global, rows: &[&[Step<'_>]]) -> Result<(), AllocError> {
+fn play(rt: &impl Abort, alloc: Global, rows: &[&[Step<'_>]]) -> Result<(), Fail> {
     let mut both = Both::new(alloc);
-    both.play_all(rt, rows)
+    let played = both.play_all(rt, rows);
+    drop(both);
+    Ok(played?)
 }
 
 /// A shared lock is held, an exclusive one waits for it, and another shared one waits behind.
@@ -397,8 +432,7 @@ static ABORTED_THEN_RELEASED: [Step<'static>; 6] = [
 
 #[test]
 fn a_probe_behind_the_queue_gets_nothing(rt: HostRuntime) -> Result<(), Fail> {
-    play(&rt, rt.alloc(), &[&SHARED_THEN_EXCLUSIVE, &PROBED])?;
-    Ok(())
+    play(&rt, rt.alloc(), &[&SHARED_THEN_EXCLUSIVE, &PROBED])
 }
 
 #[test]
@@ -407,8 +441,7 @@ fn an_abort_lets_those_behind_it_pass(rt: HostRuntime) -> Result<(), Fail> {
         &rt,
         rt.alloc(),
         &[&SHARED_THEN_EXCLUSIVE, &PROBED, &ABORTED_THEN_RELEASED],
-    )?;
-    Ok(())
+    )
 }
 
 /// An exclusive lock is held, and another one waits for it.
@@ -425,8 +458,7 @@ static HELD_ABORTED: [Step<'static>; 2] = [
 
 #[test]
 fn an_abort_of_a_held_lock_releases_it(rt: HostRuntime) -> Result<(), Fail> {
-    play(&rt, rt.alloc(), &[&TWO_EXCLUSIVE, &HELD_ABORTED])?;
-    Ok(())
+    play(&rt, rt.alloc(), &[&TWO_EXCLUSIVE, &HELD_ABORTED])
 }
 
 static RELEASED_TWICE: [Step<'static>; 5] = [
@@ -439,8 +471,7 @@ static RELEASED_TWICE: [Step<'static>; 5] = [
 
 #[test]
 fn a_lock_is_over_once_it_is_released(rt: HostRuntime) -> Result<(), Fail> {
-    play(&rt, rt.alloc(), &[&RELEASED_TWICE])?;
-    Ok(())
+    play(&rt, rt.alloc(), &[&RELEASED_TWICE])
 }
 
 /// A report of one exclusive entry of the name `a`, under number 0, which is held or waits.
@@ -490,14 +521,12 @@ static LAST_REPORT_HOLDS: [Step<'static>; 2] = [
 
 #[test]
 fn the_last_report_settles(rt: HostRuntime) -> Result<(), Fail> {
-    play(&rt, rt.alloc(), &[&FIRST_REPORT, &LAST_REPORT])?;
-    Ok(())
+    play(&rt, rt.alloc(), &[&FIRST_REPORT, &LAST_REPORT])
 }
 
 #[test]
 fn a_reported_lock_stays_held(rt: HostRuntime) -> Result<(), Fail> {
-    play(&rt, rt.alloc(), &[&FIRST_REPORT, &LAST_REPORT_HOLDS])?;
-    Ok(())
+    play(&rt, rt.alloc(), &[&FIRST_REPORT, &LAST_REPORT_HOLDS])
 }
 
 static DEATH: [Step<'static>; 2] = [
@@ -507,8 +536,7 @@ static DEATH: [Step<'static>; 2] = [
 
 #[test]
 fn a_death_hands_over(rt: HostRuntime) -> Result<(), Fail> {
-    play(&rt, rt.alloc(), &[&TWO_EXCLUSIVE, &DEATH])?;
-    Ok(())
+    play(&rt, rt.alloc(), &[&TWO_EXCLUSIVE, &DEATH])
 }
 
 /// What is left is grantable, and is granted by the next call that settles, whatever its name.
@@ -522,8 +550,7 @@ static SETTLED_LATER: [Step<'static>; 5] = [
 
 #[test]
 fn what_was_not_settled_is_settled_later(rt: HostRuntime) -> Result<(), Fail> {
-    play(&rt, rt.alloc(), &[&TWO_EXCLUSIVE, &SETTLED_LATER])?;
-    Ok(())
+    play(&rt, rt.alloc(), &[&TWO_EXCLUSIVE, &SETTLED_LATER])
 }
 
 static OTHER_PARTITION: [Step<'static>; 1] = [Step::Make(
@@ -539,8 +566,7 @@ static OTHER_PARTITION: [Step<'static>; 1] = [Step::Make(
 #[test]
 fn one_partition_does_not_wait_for_another(rt: HostRuntime) -> Result<(), Fail> {
     play(&rt, rt.alloc(), &[&TWO_EXCLUSIVE])?;
-    play(&rt, rt.alloc(), &[&OTHER_PARTITION])?;
-    Ok(())
+    play(&rt, rt.alloc(), &[&OTHER_PARTITION])
 }
 
 const LONGEST: &str =
@@ -563,39 +589,33 @@ static GIVEN_BACK: [Step<'static>; 6] = [
     Step::Lists(0, 0),
 ];
 
-fn take_many(rt: &impl Abort, alloc: Global) -> Result<(), AllocError> {
+fn take_many(rt: &impl Abort, alloc: Global) -> Result<(), Fail> {
     let mut both = Both::new(alloc);
-    both.take_many(rt)
+    let taken = both.take_many(rt);
+    drop(both);
+    Ok(taken?)
 }
 
 #[test]
 fn a_client_has_many_locks(rt: HostRuntime) -> Result<(), Fail> {
     assert_eq!(rt; LONGEST.len(), 255);
-    take_many(&rt, rt.alloc())?;
-    Ok(())
+    take_many(&rt, rt.alloc())
 }
 
 /// The snapshot of an indexed table in which one exclusive lock is held and another one waits.
-fn rows_of_two(rt: &impl Abort, alloc: Global) -> Result<(Vec<Row>, Vec<Row>), AllocError> {
+fn rows_of_two(rt: &impl Abort, alloc: Global) -> Result<Rows, AllocError> {
     let mut both = Both::new(alloc);
-    both.rows_after(rt, &TWO_EXCLUSIVE)
+    let rows = both.rows_after(rt, &TWO_EXCLUSIVE);
+    drop(both);
+    rows
 }
 
 #[test]
 fn a_snapshot_has_both_lists(rt: HostRuntime) -> Result<(), Fail> {
     let (held, waiting) = rows_of_two(&rt, rt.alloc())?;
-    assert!(rt; is_row_of(held.as_slice(), 1));
-    assert!(rt; is_row_of(waiting.as_slice(), 2));
+    assert!(rt; are_rows(held.as_slice(), &[1]));
+    assert!(rt; are_rows(waiting.as_slice(), &[2]));
     Ok(())
-}
-
-/// Whether the one row is that of this client's exclusive lock.
-fn is_row_of(rows: &[Row], client: u16) -> bool {
-    rows.len() == 1
-        && rows.iter().all(|row| row.client == client
-            && row.number == 0
-            && row.mode == Mode::Exclusive
-            && row.name.as_str() == "a")
 }
 
 // ---- random calls
@@ -714,14 +734,22 @@ impl Game {
         }
     }
 
-    /// One call of one of these clients under one of these names. Both tables are looked at before it and after it.
-    fn turn(&mut self, rt: &impl Abort, clients: u64, names: u64) -> Result<(), AllocError> {
+    /// One call of one of these clients under one of these names, and what it granted.
+    fn call(
+        &mut self,
+        rt: &impl Abort,
+        clients: u64,
+        names: u64,
+    ) -> Result<Vec<Grant>, AllocError> {
         let Grant { client, number } = self.pair(clients);
         let report = self.choices.report(self.both.alloc, names)?;
         let call = self.choices.call(report.as_slice(), names);
-        self.both.look(rt, client, number);
-        let granted = self.both.make(rt, client, number, call)?;
-        self.both.look(rt, client, number);
+        self.both.make_seen(rt, client, number, call)
+    }
+
+    /// A call, of which it keeps what was granted.
+    fn turn(&mut self, rt: &impl Abort, clients: u64, names: u64) -> Result<(), AllocError> {
+        let granted = self.call(rt, clients, names)?;
         self.granted = self.granted.saturating_add(granted.len());
         self.keep(granted.as_slice())
     }
@@ -758,7 +786,9 @@ impl Game {
 /// How many locks random calls were granted, and how many entries there were at most after a round.
 fn play_random(rt: &impl Abort, alloc: Global) -> Result<(usize, usize), AllocError> {
     let mut game = Game::new(alloc);
-    game.play(rt)
+    let played = game.play(rt);
+    drop(game);
+    played
 }
 
 #[test]
