@@ -5,7 +5,7 @@ ghost use Rattle.std.specs.List.{AllByRecursion};
 ghost use Rattle.std.specs.Io.KnownBytes.{Appends, IsAtEnd};
 ghost use Rattle.wl_frames.specs.declared.device.TheConstants.{READ_LIMIT};
 ghost use Rattle.wl_frames.specs.Device.{WritesPrefix};
-ghost use Rattle.wl_grammar.specs.Grammar.{IsWellFormed, IsAddressed};
+ghost use Rattle.wl_grammar.specs.Grammar.{IsWellFormed, IsAddressed, spelling};
 ghost use Rattle.wl_frames.specs.Stream.{IsPartial};
 ghost use Rattle.wl_workers.specs.declared.desk.DeskFault.TheVariants.{Write as write_fault, Memory as memory};
 ghost use Rattle.wl_workers.specs.Desk.{Opening, IsRefused, Runs};
@@ -17,7 +17,7 @@ use std::marker::Model;
 use thiserror::Error;
 use wl_broker::{Broker, Dropped, LockTable, Outs};
 use wl_frames::device::{BUNDLE_LEN, PIECE_LEN, READ_LIMIT, ReadFault, Sink, Source, WriteFault};
-use wl_frames::{Dead, Feed, Frame, FrameFault, Sequence, Stamped, Start, encode_into};
+use wl_frames::{Addressed, Dead, Feed, Frame, FrameFault, Sequence, Stamped, Start, encode_into};
 use wl_table::IndexedTable;
 
 /// Why the desk ended before its input did.
@@ -235,15 +235,47 @@ impl<T: LockTable> Desk<T> {
     }
 
     /// What the end of the input means.
-    fn end(self, feed: Feed) -> Result<(), DeskFault>
+    fn end(&self, feed: Feed) -> Result<(), DeskFault>
         requires { feed.has_failed ≡ false }
-        ensures { Closes self feed.rest result }
+        ensures { Closes self.now feed.rest result }
     {
         feed.end()?;
         if self.broker.is_none() {
             return Err(DeskFault::Unexpected);
         }
         Ok(())
+    }
+
+    /// Reads the input and writes the answers to its frames, up to its end or the first fault.
+    fn run<R: Read, W: Write>(
+        &mut self,
+        alloc: Global,
+        source: &mut Source<R>,
+        sink: &mut Sink<W>,
+    ) -> Result<(), DeskFault>
+        requires opening { self.old ≡ Opening }
+        requires source { source.old.has_failed ≡ false }
+        requires reads { source.old.reads ≡ 0 }
+        requires sink { sink.old.has_failed ≡ false }
+        ensures runs { Runs (R.remaining source.old.reader) (R.remaining source.new.reader)
+            (W.contents sink.old.writer) (W.contents sink.new.writer) result }
+        ensures end { OnOk result (IsAtEnd (R.remaining source.new.reader)) }
+        ensures read { (result ≡ Err DeskFault.Read) ↔ (source.new.has_failed ≡ true) }
+        ensures write { (result ≡ Err DeskFault.Write) ↔ (sink.new.has_failed ≡ true) }
+        ensures limit { result ≡ Err DeskFault.TooManyReads → source.new.reads ≡ READ_LIMIT }
+    {
+        let mut feed = Feed::new(alloc);
+        let mut buffer = [0; PIECE_LEN];
+        let mut bytes = Vec::new(alloc);
+        // A loop is proved to end, so this one counts the reads too.
+        for _reads in 0..READ_LIMIT {
+            let n = source.read(&mut buffer)?;
+            if n == 0 {
+                return self.end(feed);
+            }
+            self.take_piece(alloc, &mut feed, &buffer[..n], &mut bytes, sink)?;
+        }
+        Err(DeskFault::TooManyReads)
     }
 }
 
@@ -265,9 +297,21 @@ fn spell_all(outs: Outs, bytes: &mut Vec<u8>) -> Result<(), AllocError>
     ensures refused { OnErr result (IsBegun bytes.old.items (spelled outs) bytes.new.items) }
 {
     for addressed in outs.into_vec() {
-        encode_into(bytes, &Frame::Addressed(addressed))?;
+        spell_one(addressed, bytes)?;
     }
     Ok(())
+}
+
+/// Appends the encoding of one of the broker's frames. Where memory is refused, the bytes are as they were.
+fn spell_one(addressed: Addressed, bytes: &mut Vec<u8>) -> Result<(), AllocError>
+    requires { IsAddressed addressed }
+    ensures spelled { OnOk result (bytes.new.items ≡ bytes.old.items ++ spelling (Frame.Addressed addressed)) }
+    ensures refused { OnErr result (bytes.new.items ≡ bytes.old.items) }
+{
+    let frame = Frame::Addressed(addressed);
+    let spelled = encode_into(bytes, &frame);
+    drop(frame);
+    spelled
 }
 
 /// Writes the bytes and takes them away, once they are many.
@@ -308,19 +352,10 @@ pub fn desk_run_on<T: LockTable, R: Read, W: Write>(
     ensures write { (result ≡ Err DeskFault.Write) ↔ (sink.new.has_failed ≡ true) }
     ensures limit { result ≡ Err DeskFault.TooManyReads → source.new.reads ≡ READ_LIMIT }
 {
-    let mut feed = Feed::new(alloc);
     let mut desk = Desk::<T>::new();
-    let mut buffer = [0; PIECE_LEN];
-    let mut bytes = Vec::new(alloc);
-    // A loop is proved to end, so this one counts the reads too.
-    for _reads in 0..READ_LIMIT {
-        let n = source.read(&mut buffer)?;
-        if n == 0 {
-            return desk.end(feed);
-        }
-        desk.take_piece(alloc, &mut feed, &buffer[..n], &mut bytes, sink)?;
-    }
-    Err(DeskFault::TooManyReads)
+    let ran = desk.run(alloc, source, sink);
+    drop(desk);
+    ran
 }
 
 /// Runs a broker over indexed lock tables between a reader and a writer: reads frames, a Start frame first and then stamped

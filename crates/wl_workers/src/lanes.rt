@@ -129,7 +129,10 @@ fn put_one<R: Wait + Clock, O: Outlet>(
 ) -> Result<(), OutletFault>
     ensures { Grows (O.put_out outlet.old) (O.put_out outlet.new) ((frame.Addressed addressed, result) ∷ []) }
 {
-    outlet.put(rt, &Frame::Addressed(addressed))
+    let frame = Frame::Addressed(addressed);
+    let put = outlet.put(rt, &frame);
+    drop(frame);
+    put
 }
 
 /// Puts frames out, in order, up to the first one that is refused.
@@ -166,6 +169,13 @@ fn put_reply<R: Wait + Clock, O: Outlet>(
     }
 }
 
+/// What a step answered, without the rest of its receipt.
+fn reply_of(receipt: Receipt) -> Reply
+    ensures { result ≡ receipt.reply }
+{
+    receipt.reply
+}
+
 /// Puts out what a step sends, once the gate lets it pass; or why the lane ends.
 fn send<R: Wait + Clock, G: Gate, O: Outlet>(
     rt: &R,
@@ -180,9 +190,10 @@ fn send<R: Wait + Clock, G: Gate, O: Outlet>(
         IsUnsent why (O.put_out outlet.old) (O.put_out outlet.new) receipt.reply) }
 {
     if !gate.pass(rt, number) {
+        drop(receipt);
         return Err(Cause::Shut);
     }
-    if put_reply(rt, receipt.reply, outlet).is_err() {
+    if put_reply(rt, reply_of(receipt), outlet).is_err() {
         return Err(Cause::Outlet);
     }
     gate.answered(rt, number);

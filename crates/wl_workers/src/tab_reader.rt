@@ -68,6 +68,7 @@ fn hand_up<R: Wait + Clock, L: Lives, U: Uplink>(
 {
     for frame in frames {
         if finds_dead(rt, tab, lives) {
+            drop(frame);
             return Err(ReadEnd::Dead);
         }
         let _refused = uplink.up(rt, tab, frame);

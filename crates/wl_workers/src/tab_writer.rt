@@ -26,16 +26,16 @@ pub enum WriteEnd {
 }
 
 /// Writes the encoding of a frame. One that has no spelling, or for which memory was refused, is lost.
-fn write_frame<W: Write>(alloc: Global, frame: Frame, sink: &mut Sink<W>) -> Result<(), WriteFault>
+fn write_frame<W: Write>(alloc: Global, frame: &Frame, sink: &mut Sink<W>) -> Result<(), WriteFault>
     requires { sink.old.has_failed ≡ false }
-    ensures written { WritesFrames (frame ∷ [])
+    ensures written { WritesFrames (frame.now ∷ [])
         (W.contents sink.old.writer) (W.contents sink.new.writer) sink.new.has_failed }
     ensures failed { (result ≡ Ok tt) ↔ (sink.new.has_failed ≡ false) }
 {
     if !frame.is_well_formed() {
         return Ok(());
     }
-    let Ok(bytes) = encode(alloc, &frame) else {
+    let Ok(bytes) = encode(alloc, frame) else {
         return Ok(());
     };
     sink.write(bytes.as_slice())
@@ -71,7 +71,9 @@ fn write_all<R: Wait + Clock, L: Lives, W: Write>(
             is_dead = finds_dead(rt, tab, lives);
             continue;
         };
-        write_frame(alloc, parcel.into_frame(), sink)?;
+        let written = write_frame(alloc, parcel.frame(), sink);
+        drop(parcel);
+        written?;
     }
     unreachable!()
 }

@@ -18,8 +18,8 @@ loop-addressed-init c =
       output_is = ap spelled items;
     }
 
-pub encode_into-requires : goal.encode_into-requires
-encode_into-requires c = (subst (AllByRecursion IsAddressed) c.in-Some.ensures.steps.0 c.loop-addressed.invariant.spellable).0
+pub spell_one-requires : goal.spell_one-requires
+spell_one-requires c = (subst (AllByRecursion IsAddressed) c.in-Some.ensures.steps.0 c.loop-addressed.invariant.spellable).0
 
 pub loop-addressed-preserved : goal.loop-addressed-preserved
 loop-addressed-preserved c =
@@ -28,15 +28,15 @@ loop-addressed-preserved c =
     let piece = spelling (frame.Addressed c.in-Some.addressed) in record {
       spellable = (subst (AllByRecursion IsAddressed) step h.spellable).1;
       output = h.output ++ piece;
-      appended = c.in_ok-encode_into.ensures.spelled ∙ ap (λ l. l ++ piece) h.appended ∙ append_assoc _ h.output piece;
+      appended = c.in_ok-spell_one.ensures.spelled ∙ ap (λ l. l ++ piece) h.appended ∙ append_assoc _ h.output piece;
       output_is = outs_more c.args.outs _ _ c.in-Some.addressed h.output piece step h.output_is refl;
     }
 
-pub returns-in_err-encode_into-clause-refused : goal.returns-in_err-encode_into-clause-refused
-returns-in_err-encode_into-clause-refused c =
+pub returns-in_err-spell_one-clause-refused : goal.returns-in_err-spell_one-clause-refused
+returns-in_err-spell_one-clause-refused c =
     let h = c.loop-addressed.invariant in
     let p = err_from_is_err_and c.from_residual.result c.from_residual.ensures.1 in
-    rw p.1 (h.output, c.in_err-encode_into.ensures.refused ∙ h.appended, (spelled (into_iter_items c.loop-addressed.addressed-iterator), sym h.output_is))
+    rw p.1 (h.output, c.in_err-spell_one.ensures.refused ∙ h.appended, (spelled (into_iter_items c.loop-addressed.addressed-iterator), sym h.output_is))
 
 pub returns-clause-spelled : goal.returns-clause-spelled
 returns-clause-spelled c =

@@ -19,16 +19,16 @@ loop-preserved-in_default g c =
       looks = Looked-more _ _ _ _ c.loop.is_dead c.finds_dead-is_dead.result c.if-is_dead.false h.looks c.finds_dead-is_dead.ensures;
     }
 
-pub returns-in_err-write_frame-clause-writes : goal.returns-in_err-write_frame-clause-writes
-returns-in_err-write_frame-clause-writes g c =
+pub returns-in_err-written-clause-writes : goal.returns-in_err-written-clause-writes
+returns-in_err-written-clause-writes g c =
     let h = c.loop.invariant in
-    WritesTab-more _ c.loop.pass.view.parcels _ c.in-Some-take.parcel c.into_frame.result _ _ _ _ _ h.writes h.sink (ap (λ v. v.parcels) c.in-Some-take.ensures.taken) c.into_frame.ensures c.write_frame.ensures.written
+    WritesTab-more _ c.loop.pass.view.parcels _ c.in-Some-take.parcel c.frame.result.now _ _ _ _ _ h.writes h.sink (ap (λ v. v.parcels) c.in-Some-take.ensures.taken) c.frame.ensures c.write_frame-written.ensures.written
 
 pub loop-preserved : goal.loop-preserved
 loop-preserved g c =
     let h = c.loop.invariant in record {
       pass = same_then _ _ _ h.pass c.take.ensures.pass;
-      sink = c.in_ok-write_frame.ensures.failed.0 refl;
-      writes = WritesTab-more _ c.loop.pass.view.parcels _ c.in-Some-take.parcel c.into_frame.result _ _ _ _ _ h.writes h.sink (ap (λ v. v.parcels) c.in-Some-take.ensures.taken) c.into_frame.ensures c.write_frame.ensures.written;
+      sink = c.in_ok-written.ensures.failed.0 refl;
+      writes = WritesTab-more _ c.loop.pass.view.parcels _ c.in-Some-take.parcel c.frame.result.now _ _ _ _ _ h.writes h.sink (ap (λ v. v.parcels) c.in-Some-take.ensures.taken) c.frame.ensures c.write_frame-written.ensures.written;
       looks = h.looks;
     }

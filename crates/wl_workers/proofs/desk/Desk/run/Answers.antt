@@ -4,7 +4,7 @@ use Rattle.wl_frames.specs.Device.{Reading}
 use Rattle.wl_workers.proofs.DeskLemmas.{sound_at_ok}
 use Rattle.wl_workers.proofs.RunLemmas.{Serves-started, Serves-partial, Serves-more, Runs-unread, Runs-limit, Runs-broken, Runs-end, unread_is_read, unread_is_no_write, end_is_no_read, end_is_no_write, break_is_no_read}
 use Rattle.wl_frames.specs.Stream.{Feeding}
-use Rattle.wl_workers.proofs.desk.desk_run_on.Goals as goal
+use Rattle.wl_workers.proofs.desk.Desk.run.Goals as goal
 
 pub loop-reads-init : goal.loop-reads-init
 loop-reads-init g c = record {
@@ -12,7 +12,7 @@ loop-reads-init g c = record {
   source = c.requires.source;
   sink = c.requires.sink;
   reads = c.requires.reads;
-  serves = Serves-started _ _ c.new-feed.result _ c.new-feed.ensures c.new-desk.ensures;
+  serves = Serves-started _ _ c.new-feed.result _ c.new-feed.ensures c.requires.opening;
 }
 
 pub returns-in_err-n-clause-runs : goal.returns-in_err-n-clause-runs

@@ -1,6 +1,6 @@
 use Rattle.std.proofs.Common.{◌≡◌, false}
 use Rattle.wl_workers.proofs.RunLemmas.{Serves}
-use Rattle.wl_workers.proofs.desk.desk_run_on.Given as goal
+use Rattle.wl_workers.proofs.desk.Desk.run.Given as goal
 
 -- nothing has failed, and all that was read is answered, but for the feed's rest
 abbrev pub invariant-loop-reads : goal.invariant-loop-reads
@@ -10,5 +10,5 @@ invariant-loop-reads g l = record {
   sink : l.sink.has_failed ≡ false;
   reads : l.source.reads ≡ l._reads;
   serves : Serves (g.R.Read.remaining l.fn.source.reader) (g.R.Read.remaining l.source.reader)
-      (g.W.Write.contents l.fn.sink.writer) (g.W.Write.contents l.sink.writer) l.feed.rest l.desk;
+      (g.W.Write.contents l.fn.sink.writer) (g.W.Write.contents l.sink.writer) l.feed.rest l.self;
 }
