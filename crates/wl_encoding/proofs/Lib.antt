@@ -1,3 +1,4 @@
 pub mod Prefixes
 pub mod BodyLength
 pub mod Framing
+pub mod Lists

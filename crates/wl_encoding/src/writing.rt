@@ -265,11 +265,19 @@ fn put_places(out: &mut Vec<u8>, places: &[(u16, u16)]) -> Result<(), AllocError
     ensures kept { IsPrefixOf out.old.items out.new.items }
 {
     put_u16(out, places.len() as u16)?;
-    for (tab, partition) in places {
-        put_u16(out, *tab)?;
-        put_u16(out, *partition)?;
+    for p in places {
+        put_place(out, p)?;
     }
     Ok(())
+}
+
+/// A tab and its partition.
+fn put_place(out: &mut Vec<u8>, p: &(u16, u16)) -> Result<(), AllocError>
+    ensures spelled { OnOk result (out.new.items ≡ out.old.items ++ place p.now) }
+    ensures kept { IsPrefixOf out.old.items out.new.items }
+{
+    put_u16(out, p.0)?;
+    put_u16(out, p.1)
 }
 
 // ---- bodies
