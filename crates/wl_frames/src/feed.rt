@@ -7,7 +7,7 @@ ghost use Rattle.wl_frames.specs.Stream.{IsPartial, HasFaultNext, Reads, Rest, F
 
 use crate::fault::{FrameFault, PushFault};
 use crate::reading::decode;
-use std::alloc::Global;
+use std::alloc::{AllocFailed, Global};
 use std::marker::Model;
 use wl_grammar::frame::Frame;
 use wl_limits::frames::{BODY_LIMIT, LEAST_BODY};
@@ -55,10 +55,18 @@ fn read_frames(alloc: Global, frames: &mut Vec<Frame>, bytes: &[u8]) -> Result<u
 {
     let mut rest = bytes;
     while let Some((frame, after)) = frame_at(alloc, rest)? {
-        frames.push(frame).map_err(|_| FrameFault::Memory)?;
+        frames.push(frame).map_err(unstored)?;
         rest = after;
     }
     Ok(bytes.len() - rest.len())
+}
+
+/// A frame for which there was no room is lost.
+fn unstored(failed: AllocFailed<Frame>) -> FrameFault
+    ensures { result ≡ Memory }
+{
+    drop(failed);
+    FrameFault::Memory
 }
 
 /// Reads frames from a stream that comes in pieces of any size.

@@ -27,6 +27,7 @@ pub fn decode(alloc: Global, body: &[u8]) -> Result<Frame, FrameFault>
     };
     let (frame, rest) = bodies::frame_of(alloc, kind, &body[2..])?;
     if !rest.is_empty() {
+        drop(frame);
         return Err(FrameFault::LeftOver);
     }
     Ok(frame)
