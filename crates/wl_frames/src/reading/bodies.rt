@@ -1,7 +1,7 @@
 //! Reading the fields of each kind of frame: each answers what was read and the bytes after it.
 
 ghost use Rattle.std.specs.Prelude.{◌≡◌};
-ghost use Rattle.wl_frames.specs.Bodies.{request_at, operation_at, command_at, entry_at, numbers_rise, rising_entries_at, report_at, part_at, few_parts_at, report_part_at, post_at, hello_at, outcome_at, answer_at, snapshot_entry_at, snapshot_at, heard_at, welcome_at, pair_welcome_at, inner_kind_at, upward_fields_at, upward_at, downward_fields_at, downward_at, stamped_at, place_at, tabs_rise, rising_places_at, start_at, addressed_at, dead_at, frame_at};
+ghost use Rattle.wl_frames.specs.Bodies.{request_at, operation_at, command_at, entry_at, numbers_rise, rising_entries_at, report_at, part_at, few_parts_at, report_part_at, hello_at, outcome_at, answer_at, snapshot_entry_at, snapshot_at, inner_kind_at, upward_fields_at, upward_at, downward_fields_at, downward_at, place_at, tabs_rise, rising_places_at, frame_at};
 ghost use Rattle.wl_frames.specs.Reading.{Gives};
 
 use super::fault::ReadFault;
@@ -187,20 +187,18 @@ fn report_part_of(alloc: Global, bytes: &[u8]) -> Result<(ReportPart, &[u8]), Re
 }
 
 #[tactic(auto, unfolding(crate::specs::Bodies::post_at))]
-fn post_of(alloc: Global, bytes: &[u8]) -> Result<(Post, &[u8]), ReadFault>
-    ensures { Gives (λ x. (x.0, x.1.now)) result (post_at bytes.now) }
+fn post_of(alloc: Global, bytes: &[u8]) -> Result<(Frame, &[u8]), ReadFault>
+    ensures { Gives (λ x. (x.0, x.1.now)) result (frame_at Kind.Post bytes.now) }
 {
     let (number, rest) = u32_of(bytes)?;
     let (channel, rest) = channel_of(alloc, rest)?;
     let (data, rest) = data_of(alloc, rest)?;
-    Ok((
-        Post {
-            number,
-            channel,
-            bytes: data,
-        },
-        rest,
-    ))
+    let post = Post {
+        number,
+        channel,
+        bytes: data,
+    };
+    Ok((Frame::Post(post), rest))
 }
 
 #[tactic(auto, unfolding(crate::specs::Bodies::hello_at))]
@@ -286,41 +284,41 @@ fn snapshot_of(alloc: Global, bytes: &[u8]) -> Result<(Snapshot, &[u8]), ReadFau
 }
 
 #[tactic(auto, unfolding(crate::specs::Bodies::heard_at))]
-fn heard_of(alloc: Global, bytes: &[u8]) -> Result<(Heard, &[u8]), ReadFault>
-    ensures { Gives (λ x. (x.0, x.1.now)) result (heard_at bytes.now) }
+fn heard_of(alloc: Global, bytes: &[u8]) -> Result<(Frame, &[u8]), ReadFault>
+    ensures { Gives (λ x. (x.0, x.1.now)) result (frame_at Kind.Heard bytes.now) }
 {
     let (source, rest) = tab_of(bytes)?;
     let (number, rest) = u32_of(rest)?;
     let (channel, rest) = channel_of(alloc, rest)?;
     let (data, rest) = data_of(alloc, rest)?;
-    Ok((
-        Heard {
-            source,
-            number,
-            channel,
-            bytes: data,
-        },
-        rest,
-    ))
+    let heard = Heard {
+        source,
+        number,
+        channel,
+        bytes: data,
+    };
+    Ok((Frame::Heard(heard), rest))
 }
 
 #[tactic(auto, unfolding(crate::specs::Bodies::welcome_at))]
-fn welcome_of(alloc: Global, bytes: &[u8]) -> Result<(Welcome, &[u8]), ReadFault>
-    ensures { Gives (λ x. (x.0, x.1.now)) result (welcome_at bytes.now) }
+fn welcome_of(alloc: Global, bytes: &[u8]) -> Result<(Frame, &[u8]), ReadFault>
+    ensures { Gives (λ x. (x.0, x.1.now)) result (frame_at Kind.Welcome bytes.now) }
 {
     let (tab, rest) = tab_of(bytes)?;
     let (origin, rest) = origin_of(alloc, rest)?;
-    Ok((Welcome { tab, origin }, rest))
+    let welcome = Welcome { tab, origin };
+    Ok((Frame::Welcome(welcome), rest))
 }
 
 #[tactic(auto, unfolding(crate::specs::Bodies::pair_welcome_at))]
-fn pair_welcome_of(alloc: Global, bytes: &[u8]) -> Result<(PairWelcome, &[u8]), ReadFault>
-    ensures { Gives (λ x. (x.0, x.1.now)) result (pair_welcome_at bytes.now) }
+fn pair_welcome_of(alloc: Global, bytes: &[u8]) -> Result<(Frame, &[u8]), ReadFault>
+    ensures { Gives (λ x. (x.0, x.1.now)) result (frame_at Kind.PairWelcome bytes.now) }
 {
     let (tab, rest) = tab_of(bytes)?;
     let (top, rest) = origin_of(alloc, rest)?;
     let (own, rest) = origin_of(alloc, rest)?;
-    Ok((PairWelcome { tab, top, own }, rest))
+    let welcome = PairWelcome { tab, top, own };
+    Ok((Frame::PairWelcome(welcome), rest))
 }
 
 /// The version and the kind of an inner body.
@@ -370,20 +368,18 @@ fn upward_of(alloc: Global, bytes: &[u8]) -> Result<(Upward, &[u8]), ReadFault>
 }
 
 #[tactic(auto, unfolding(crate::specs::Bodies::stamped_at))]
-fn stamped_of(alloc: Global, bytes: &[u8]) -> Result<(Stamped, &[u8]), ReadFault>
-    ensures { Gives (λ x. (x.0, x.1.now)) result (stamped_at bytes.now) }
+fn stamped_of(alloc: Global, bytes: &[u8]) -> Result<(Frame, &[u8]), ReadFault>
+    ensures { Gives (λ x. (x.0, x.1.now)) result (frame_at Kind.Stamped bytes.now) }
 {
     let (tab, rest) = tab_of(bytes)?;
     let (partition, rest) = tab_of(rest)?;
     let (inner, rest) = upward_of(alloc, rest)?;
-    Ok((
-        Stamped {
-            tab,
-            partition,
-            inner,
-        },
-        rest,
-    ))
+    let stamped = Stamped {
+        tab,
+        partition,
+        inner,
+    };
+    Ok((Frame::Stamped(stamped), rest))
 }
 
 impl Item for (u16, u16) {
@@ -424,12 +420,13 @@ fn places_of(alloc: Global, bytes: &[u8]) -> Result<(Sequence<(u16, u16)>, &[u8]
 }
 
 #[tactic(auto, unfolding(crate::specs::Bodies::start_at))]
-fn start_of(alloc: Global, bytes: &[u8]) -> Result<(Start, &[u8]), ReadFault>
-    ensures { Gives (λ x. (x.0, x.1.now)) result (start_at bytes.now) }
+fn start_of(alloc: Global, bytes: &[u8]) -> Result<(Frame, &[u8]), ReadFault>
+    ensures { Gives (λ x. (x.0, x.1.now)) result (frame_at Kind.Start bytes.now) }
 {
     let (generation, rest) = generation_of(bytes)?;
     let (list, rest) = places_of(alloc, rest)?;
-    Ok((Start { generation, list }, rest))
+    let start = Start { generation, list };
+    Ok((Frame::Start(start), rest))
 }
 
 fn downward_fields_of(
@@ -470,20 +467,22 @@ fn downward_of(alloc: Global, bytes: &[u8]) -> Result<(Downward, &[u8]), ReadFau
 }
 
 #[tactic(auto, unfolding(crate::specs::Bodies::addressed_at))]
-fn addressed_of(alloc: Global, bytes: &[u8]) -> Result<(Addressed, &[u8]), ReadFault>
-    ensures { Gives (λ x. (x.0, x.1.now)) result (addressed_at bytes.now) }
+fn addressed_of(alloc: Global, bytes: &[u8]) -> Result<(Frame, &[u8]), ReadFault>
+    ensures { Gives (λ x. (x.0, x.1.now)) result (frame_at Kind.Addressed bytes.now) }
 {
     let (tab, rest) = tab_of(bytes)?;
     let (inner, rest) = downward_of(alloc, rest)?;
-    Ok((Addressed { tab, inner }, rest))
+    let addressed = Addressed { tab, inner };
+    Ok((Frame::Addressed(addressed), rest))
 }
 
 #[tactic(auto, unfolding(crate::specs::Bodies::dead_at))]
-fn dead_of(bytes: &[u8]) -> Result<(Dead, &[u8]), ReadFault>
-    ensures { Gives (λ x. (x.0, x.1.now)) result (dead_at bytes.now) }
+fn dead_of(bytes: &[u8]) -> Result<(Frame, &[u8]), ReadFault>
+    ensures { Gives (λ x. (x.0, x.1.now)) result (frame_at Kind.Dead bytes.now) }
 {
     let (tab, rest) = tab_of(bytes)?;
-    Ok((Dead { tab }, rest))
+    let dead = Dead { tab };
+    Ok((Frame::Dead(dead), rest))
 }
 
 /// The frame of this kind with these fields.
@@ -503,10 +502,7 @@ pub fn frame_of(alloc: Global, kind: Kind, bytes: &[u8]) -> Result<(Frame, &[u8]
             let (part, rest) = report_part_of(alloc, bytes)?;
             Ok((Frame::ReportPart(part), rest))
         }
-        Kind::Post => {
-            let (post, rest) = post_of(alloc, bytes)?;
-            Ok((Frame::Post(post), rest))
-        }
+        Kind::Post => post_of(alloc, bytes),
         Kind::Hello => {
             let (hello, rest) = hello_of(bytes)?;
             Ok((Frame::Hello(hello), rest))
@@ -519,33 +515,12 @@ pub fn frame_of(alloc: Global, kind: Kind, bytes: &[u8]) -> Result<(Frame, &[u8]
             let (snapshot, rest) = snapshot_of(alloc, bytes)?;
             Ok((Frame::Snapshot(snapshot), rest))
         }
-        Kind::Heard => {
-            let (heard, rest) = heard_of(alloc, bytes)?;
-            Ok((Frame::Heard(heard), rest))
-        }
-        Kind::Welcome => {
-            let (welcome, rest) = welcome_of(alloc, bytes)?;
-            Ok((Frame::Welcome(welcome), rest))
-        }
-        Kind::PairWelcome => {
-            let (welcome, rest) = pair_welcome_of(alloc, bytes)?;
-            Ok((Frame::PairWelcome(welcome), rest))
-        }
-        Kind::Stamped => {
-            let (stamped, rest) = stamped_of(alloc, bytes)?;
-            Ok((Frame::Stamped(stamped), rest))
-        }
-        Kind::Start => {
-            let (start, rest) = start_of(alloc, bytes)?;
-            Ok((Frame::Start(start), rest))
-        }
-        Kind::Addressed => {
-            let (addressed, rest) = addressed_of(alloc, bytes)?;
-            Ok((Frame::Addressed(addressed), rest))
-        }
-        Kind::Dead => {
-            let (dead, rest) = dead_of(bytes)?;
-            Ok((Frame::Dead(dead), rest))
-        }
+        Kind::Heard => heard_of(alloc, bytes),
+        Kind::Welcome => welcome_of(alloc, bytes),
+        Kind::PairWelcome => pair_welcome_of(alloc, bytes),
+        Kind::Stamped => stamped_of(alloc, bytes),
+        Kind::Start => start_of(alloc, bytes),
+        Kind::Addressed => addressed_of(alloc, bytes),
+        Kind::Dead => dead_of(bytes),
     }
 }
