@@ -241,6 +241,7 @@ fn take_step<J: Generation, R: Wait + Abort>(
         receipt.place as usize == place && is_of(&receipt, row),
         "at {place}"
     );
+    drop(receipt);
 }
 
 /// Has a lane take an event for which no step is left.
@@ -251,8 +252,8 @@ fn find_spent<J: Generation, R: Wait + Abort>(
 ) {
     let count = lane.count();
     let query = command(1, 1, Operation::Query);
-    let spent = broker.take(rt, lane, query);
-    assert_eq!(rt; spent.err(), Some(NotStepped::GenerationSpent));
+    let spent = broker.take(rt, lane, query).err();
+    assert_eq!(rt; spent, Some(NotStepped::GenerationSpent));
     assert_eq!(rt; lane.count(), count);
 }
 

@@ -52,6 +52,32 @@ fn generation_of(frame: &Frame) -> Option<u32> {
     }
 }
 
+/// Puts a parcel, which finds room.
+fn put<R: Wait + Abort>(rt: &R, outbox: &Outbox, pass: &mut Pass, parcel: Parcel)
+    requires pass { IsOf pass.old outbox.now × (takes pass.old ≡ false) }
+    requires tab { (outbox.now.partition ≡ 1) × (outbox.now.tab ≡ 2) }
+    requires parcel { (parcel.partition ≡ 1) × (parcel.tab ≡ 2) }
+    ensures { IsOf pass.new outbox.now × (takes pass.new ≡ false) }
+{
+    let put = outbox.put(rt, pass, parcel);
+    assert!(rt; put.is_ok());
+    drop(put);
+}
+
+/// Puts a parcel, which is given back since the outbox is full.
+fn given_back<R: Wait + Abort>(rt: &R, outbox: &Outbox, pass: &mut Pass, parcel: Parcel) -> Parcel
+    requires pass { IsOf pass.old outbox.now × (takes pass.old ≡ false) }
+    requires tab { (outbox.now.partition ≡ 1) × (outbox.now.tab ≡ 2) }
+    requires parcel { (parcel.partition ≡ 1) × (parcel.tab ≡ 2) }
+    ensures pass { IsOf pass.new outbox.now × (takes pass.new ≡ false) }
+    ensures parcel { (result.partition ≡ 1) × (result.tab ≡ 2) }
+{
+    match outbox.put(rt, pass, parcel) {
+        Err(Full(back)) => back,
+        Ok(()) => panic!(rt; "the outbox was full"),
+    }
+}
+
 /// Puts parcels of these generations. They find room.
 fn put_all<R: Wait + Abort>(rt: &R, outbox: &Outbox, pass: &mut Pass, from: u32, to: u32)
     requires pass { IsOf pass.old outbox.now × (takes pass.old ≡ false) }
@@ -59,7 +85,7 @@ fn put_all<R: Wait + Abort>(rt: &R, outbox: &Outbox, pass: &mut Pass, from: u32,
     ensures { IsOf pass.new outbox.now × (takes pass.new ≡ false) }
 {
     for generation in from..to {
-        assert!(rt; outbox.put(rt, pass, parcel(rt, generation)).is_ok());
+        put(rt, outbox, pass, parcel(rt, generation));
     }
 }
 
@@ -68,10 +94,41 @@ fn next_generation<R: Wait>(rt: &R, outbox: &Outbox, pass: &mut Pass) -> Option<
     requires { IsOf pass.old outbox.now × (takes pass.old ≡ true) }
     ensures { IsOf pass.new outbox.now × (takes pass.new ≡ true) }
 {
-    match &outbox.take(rt, pass) {
+    let taken = outbox.take(rt, pass);
+    let generation = generation_in(&taken);
+    drop(taken);
+    generation
+}
+
+fn generation_in(taken: &Option<Parcel>) -> Option<u32> {
+    match taken {
         Some(parcel) => generation_of(parcel.frame()),
         None => None,
     }
+}
+
+/// Takes a parcel, which is for the outbox's tab and of generation 0.
+fn take_first<R: Wait + Abort>(rt: &R, outbox: &Outbox, pass: &mut Pass)
+    requires { IsOf pass.old outbox.now × (takes pass.old ≡ true) }
+    ensures { IsOf pass.new outbox.now × (takes pass.new ≡ true) }
+{
+    let first = outbox.take(rt, pass).expect(rt, "the first parcel");
+    assert_eq!(rt; first.partition(), outbox.partition());
+    assert_eq!(rt; first.tab(), outbox.tab());
+    let frame = first.into_frame();
+    assert_eq!(rt; generation_of(&frame), Some(0));
+    drop(frame);
+}
+
+/// Whether there is no parcel.
+fn is_empty<R: Wait>(rt: &R, outbox: &Outbox, pass: &mut Pass) -> bool
+    requires { IsOf pass.old outbox.now × (takes pass.old ≡ true) }
+    ensures { IsOf pass.new outbox.now × (takes pass.new ≡ true) }
+{
+    let taken = outbox.take(rt, pass);
+    let is_none = taken.is_none();
+    drop(taken);
+    is_none
 }
 
 /// Takes parcels, which are of these generations.
@@ -90,17 +147,12 @@ fn a_full_outbox_gives_the_parcel_back(rt: HostRuntime) {
     assert!(&rt; taker.takes());
     assert!(&rt; !putter.takes());
     put_all(&rt, &outbox, &mut putter, 0, 256);
-    let Err(Full(back)) = outbox.put(&rt, &mut putter, parcel(&rt, 256)) else {
-        panic!(&rt; "the outbox was full")
-    };
+    let back = given_back(&rt, &outbox, &mut putter, parcel(&rt, 256));
     assert_eq!(&rt; generation_of(back.frame()), Some(256));
-    let first = outbox.take(&rt, &mut taker).expect(&rt, "the first parcel");
-    assert_eq!(&rt; first.partition(), outbox.partition());
-    assert_eq!(&rt; first.tab(), outbox.tab());
-    assert_eq!(&rt; generation_of(&first.into_frame()), Some(0));
-    assert!(&rt; outbox.put(&rt, &mut putter, back).is_ok());
+    take_first(&rt, &outbox, &mut taker);
+    put(&rt, &outbox, &mut putter, back);
     take_all(&rt, &outbox, &mut taker, 1, 257);
-    assert!(&rt; outbox.take(&rt, &mut taker).is_none());
+    assert!(&rt; is_empty(&rt, &outbox, &mut taker));
 }
 
 #[test]
@@ -154,5 +206,5 @@ fn parcels_of_two_threads_come_in_order(rt: HostRuntime) {
         { put_hundred(host, shared, other, 500) },
     );
     take_both(&rt, &outbox, &mut taker);
-    assert!(&rt; outbox.take(&rt, &mut taker).is_none());
+    assert!(&rt; is_empty(&rt, &outbox, &mut taker));
 }

@@ -64,7 +64,9 @@ fn put_hello<R: Wait + Abort>(rt: &R, outbox: &Outbox, pass: &mut Pass, generati
 {
     let hello = Frame::Hello(Hello { generation });
     let parcel = Parcel::new(1, 1, 2, hello).expect(rt, "of one partition");
-    assert!(rt; outbox.put(rt, pass, parcel).is_ok());
+    let put = outbox.put(rt, pass, parcel);
+    assert!(rt; put.is_ok());
+    drop(put);
 }
 
 /// What is written into this sink for a dead tab that three parcels were put for.

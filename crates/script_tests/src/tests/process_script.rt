@@ -42,6 +42,8 @@ fn is_line<L: PartialEq>(read: &Result<L, Unread>, line: &L) -> bool {
 fn is_kernel_line(rt: &impl Abort, alloc: Global, text: &str, line: KernelLine) {
     let read = kernel_line(alloc, text.as_bytes());
     assert!(rt; is_line(&read, &line), "of {text}");
+    drop(read);
+    drop(line);
 }
 
 fn opens(rt: &impl Abort, alloc: Global, text: &str, url: &str, file: &str) {
@@ -158,6 +160,8 @@ fn other_kernel_lines(rt: HostRuntime) {
 fn is_tab_line(rt: &impl Abort, alloc: Global, text: &str, line: TabLine) {
     let read = tab_line(alloc, text.as_bytes());
     assert!(rt; is_line(&read, &line), "of {text}");
+    drop(read);
+    drop(line);
 }
 
 #[test]

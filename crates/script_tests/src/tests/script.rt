@@ -277,28 +277,52 @@ fn letters(alloc: Global, count: usize) -> Result<String, AllocError> {
     Ok(text)
 }
 
-fn refusals_once(alloc: Global) -> Result<Play, AllocError> {
-    let mut play = Play::new(alloc);
-    play.part(JOINED_1)?;
-    play.line("ask 1 exclusive -x", &["NotSupportedError"])?;
-    let asked = ["1#0", "m3 1>b gen 1 #0 request exclusive %"];
-    play.line("ask 1 exclusive %", &asked)?;
+const SHORT_NAMES: &str = "\
+> ask 1 exclusive -x
+NotSupportedError
+> ask 1 exclusive %
+1#0
+m3 1>b gen 1 #0 request exclusive %
+";
+
+/// A name of 255 letters, which is asked for, and one of 256, which is too long.
+fn long_names(alloc: Global, play: &mut Play) -> Result<(), AllocError> {
     let name = letters(alloc, 255)?;
     let line = format!(in alloc; "ask 1 shared {name}")?;
     let message = format!(in alloc; "m4 1>b gen 1 #1 request shared {name}")?;
     play.line(line.as_str(), &["1#1", message.as_str()])?;
     let line = format!(in alloc; "ask 1 shared {name}n")?;
-    play.line(line.as_str(), &["NameTooLong"])?;
-    for number in 2..64_u32 {
-        let place = number + 3;
-        let issued = format!(in alloc; "1#{number}")?;
-        let message = format!(in alloc; "m{place} 1>b gen 1 #{number} request shared b")?;
-        play.line("ask 1 shared b", &[issued.as_str(), message.as_str()])?;
+    play.line(line.as_str(), &["NameTooLong"])
+}
+
+/// The request of this number.
+fn asks(alloc: Global, play: &mut Play, number: u32) -> Result<(), AllocError> {
+    let place = number.saturating_add(3);
+    let issued = format!(in alloc; "1#{number}")?;
+    let message = format!(in alloc; "m{place} 1>b gen 1 #{number} request shared b")?;
+    play.line("ask 1 shared b", &[issued.as_str(), message.as_str()])
+}
+
+const TOO_MANY: &str = "\
+> ask 1 shared b
+TooMany
+> abort 1 0
+1#64
+m67 1>b gen 1 #64 abort 0
+> ask 1 shared b
+1#65
+m68 1>b gen 1 #65 request shared b
+";
+
+fn refusals_once(alloc: Global) -> Result<Play, AllocError> {
+    let mut play = Play::new(alloc);
+    play.part(JOINED_1)?;
+    play.part(SHORT_NAMES)?;
+    long_names(alloc, &mut play)?;
+    for number in 2..64 {
+        asks(alloc, &mut play, number)?;
     }
-    play.line("ask 1 shared b", &["TooMany"])?;
-    play.line("abort 1 0", &["1#64", "m67 1>b gen 1 #64 abort 0"])?;
-    let asked = ["1#65", "m68 1>b gen 1 #65 request shared b"];
-    play.line("ask 1 shared b", &asked)?;
+    play.part(TOO_MANY)?;
     Ok(play)
 }
 
@@ -316,27 +340,50 @@ fn refusals(rt: HostRuntime) {
     play_of_refusals(&rt, alloc).expect(&rt, alloc, "refusals");
 }
 
+const TWO_CHANNELS: &str = "\
+> open 1 https://a.test/
+opened 1 https://a.test
+> open 2 https://a.test/
+opened 2 https://a.test
+> channel 1 n
+channel 0
+> channel 2 n
+channel 0
+";
+
+/// The post of this number, and its delivery.
+fn posts(alloc: Global, play: &mut Play, number: u32) -> Result<(), AllocError> {
+    let place = number.saturating_add(1);
+    let posted = format!(in alloc; "post {number}")?;
+    let message = format!(in alloc; "m{place} 1>2 post {number} n x")?;
+    play.line("post 1 0 x", &[posted.as_str(), message.as_str()])?;
+    let line = format!(in alloc; "deliver m{place}")?;
+    let heard = format!(in alloc; "2*0 heard 1#{number} x")?;
+    play.line(line.as_str(), &[heard.as_str()])
+}
+
+const INBOX_IS_FULL: &str = "\
+> post 1 0 x
+post 256
+m257 1>2 post 256 n x
+> deliver m257
+2*0 full
+> deliver m257
+dropped old post
+> read 2 0
+read 1#0 x
+> read 1 0
+nothing
+";
+
 /// More posts to a tab than its inbox takes.
 fn full_inbox_once(alloc: Global) -> Result<Play, AllocError> {
     let mut play = Play::new(alloc);
-    play.line("open 1 https://a.test/", &["opened 1 https://a.test"])?;
-    play.line("open 2 https://a.test/", &["opened 2 https://a.test"])?;
-    play.line("channel 1 n", &["channel 0"])?;
-    play.line("channel 2 n", &["channel 0"])?;
-    for number in 0..256_u32 {
-        let place = number + 1;
-        let posted = format!(in alloc; "post {number}")?;
-        let message = format!(in alloc; "m{place} 1>2 post {number} n x")?;
-        play.line("post 1 0 x", &[posted.as_str(), message.as_str()])?;
-        let line = format!(in alloc; "deliver m{place}")?;
-        let heard = format!(in alloc; "2*0 heard 1#{number} x")?;
-        play.line(line.as_str(), &[heard.as_str()])?;
+    play.part(TWO_CHANNELS)?;
+    for number in 0..256 {
+        posts(alloc, &mut play, number)?;
     }
-    play.line("post 1 0 x", &["post 256", "m257 1>2 post 256 n x"])?;
-    play.line("deliver m257", &["2*0 full"])?;
-    play.line("deliver m257", &["dropped old post"])?;
-    play.line("read 2 0", &["read 1#0 x"])?;
-    play.line("read 1 0", &["nothing"])?;
+    play.part(INBOX_IS_FULL)?;
     Ok(play)
 }
 

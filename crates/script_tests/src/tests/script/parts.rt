@@ -1,7 +1,7 @@
 //! Scripts of tabs that tell their reports in parts, and of pages under another at the top.
 
-use super::Play;
 use super::rows::Row;
+use super::{Play, asks};
 use std::alloc::{AllocError, Global};
 
 const OPENED: &str = "\
@@ -16,14 +16,6 @@ m2 1>b report2 1 base 0 part 0 of 1
 > deliver m2
 joined 1
 ";
-
-/// The request of this number.
-fn asks(alloc: Global, play: &mut Play, number: u32) -> Result<(), AllocError> {
-    let place = number.saturating_add(3);
-    let issued = format!(in alloc; "1#{number}")?;
-    let message = format!(in alloc; "m{place} 1>b gen 1 #{number} request shared b")?;
-    play.line("ask 1 shared b", &[issued.as_str(), message.as_str()])
-}
 
 /// The first part of the report, with 64 entries.
 fn first_part(alloc: Global) -> Result<String, AllocError> {

@@ -120,7 +120,10 @@ fn is_form(line: &Result<Line, Unread>) -> bool {
 
 /// Whether the line is refused for its form.
 fn is_refused(alloc: Global, text: &[u8]) -> bool {
-    is_form(&read(alloc, text))
+    let line = read(alloc, text);
+    let is_form = is_form(&line);
+    drop(line);
+    is_form
 }
 
 #[test]
