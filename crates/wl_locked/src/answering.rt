@@ -2,57 +2,18 @@
 
 ghost use Rattle.std.specs.Prelude.{◌≡◌, ◌≢◌, List, length, replicate, Err, IfOk, OnOk, OnErr};
 ghost use Rattle.wl_grammar.specs.declared.frame.Addressed.{Addressed};
-ghost use Rattle.wl_locked.specs.Receipts.{step_of};
 ghost use Rattle.wl_locked.specs.Stepping.{stepped};
 
 use crate::event::{BookEvent, Reply};
-use crate::receipt::{NotStepped, Receipt, Step};
+use crate::receipt::NotStepped;
 use wl_broker::{Broker, Dropped, Outs};
 use wl_table::IndexedTable;
 
 /// How many copies of its reply a step needs.
 const COPIES: usize = 3;
 
-/// Steps the broker, and gives the step of this place with two equal receipts of it. Otherwise the broker is as before.
-pub(crate) fn answered(
-    broker: &mut Broker<IndexedTable>,
-    place: u32,
-    event: BookEvent,
-    copies: (BookEvent, BookEvent),
-) -> Result<(Step, (Receipt, Receipt)), NotStepped>
-    requires first { copies.0 ≡ event }
-    requires second { copies.1 ≡ event }
-    ensures step { IfOk result (λ r. r.0 ≡ step_of r.1.0) }
-    ensures equal { IfOk result (λ r. r.1.0 ≡ r.1.1) }
-    ensures event { IfOk result (λ r. r.1.0.event ≡ event) }
-    ensures place { IfOk result (λ r. r.1.0.place ≡ place) }
-    ensures reply { IfOk result (λ r. r.1.0.reply ≡ (stepped broker.old event).1) }
-    ensures cause { IfOk result (λ r. r.1.0.reply ≢ Reply.Dropped Dropped.Memory) }
-    ensures broker { OnOk result (broker.new ≡ (stepped broker.old event).0) }
-    ensures err { OnErr result (broker.new ≡ broker.old) }
-    ensures unspent { result ≢ Err NotStepped.GenerationSpent }
-{
-    let (stored, reply, also) = answer(broker, &event)?;
-    let (first, second) = copies;
-    let step = Step {
-        event,
-        reply: stored,
-    };
-    let receipt = Receipt {
-        place,
-        event: first,
-        reply,
-    };
-    let second = Receipt {
-        place,
-        event: second,
-        reply: also,
-    };
-    Ok((step, (receipt, second)))
-}
-
 /// Steps the broker, and answers three equal replies. Otherwise it is as before.
-fn answer(
+pub(crate) fn answer(
     broker: &mut Broker<IndexedTable>,
     event: &BookEvent,
 ) -> Result<(Reply, Reply, Reply), NotStepped>

@@ -8,7 +8,7 @@ ghost use Rattle.wl_locked.specs.Closing.{IsClosed, IsCompared};
 ghost use Rattle.wl_locked.specs.declared.receipt.Receipt.{Receipt};
 ghost use Rattle.wl_locked.specs.declared.shards.TheConstants.{SHARD_LIMIT};
 
-use crate::answering::answered;
+use crate::answering::answer;
 use crate::event::{BookEvent, Reply};
 use crate::lane::{Generation, Kept, Lane, gather};
 use crate::marking::compare;
@@ -149,7 +149,10 @@ impl<J: Generation> Book<J> {
         ensures spent { (result ≡ Err NotStepped.GenerationSpent) ↔ (length self.old ≡ J.limit) }
         ensures err { OnErr result ((self.new ≡ self.old) × (lane.new ≡ lane.old)) }
     {
-        room::for_receipt(self.is_spent(), &mut lane.receipts)?;
+        if let Err(fault) = room::for_receipt(self.is_spent(), &mut lane.receipts) {
+            drop((event, copied));
+            return Err(fault);
+        }
         let (receipt, kept) = self.store(&mut lane.share, event, copied)?;
         lane.receipts.push_reserved(kept);
         Ok(receipt)
@@ -178,17 +181,41 @@ impl<J: Generation> Book<J> {
         ensures spent { (result ≡ Err NotStepped.GenerationSpent) ↔ (length self.old ≡ J.limit) }
         ensures err { OnErr result ((self.new ≡ self.old) × (share.new.amount ≡ share.old.amount)) }
     {
-        if self.is_spent() {
-            return Err(NotStepped::GenerationSpent);
+        if let Err(fault) = room::for_step(self.is_spent(), &mut self.steps, &mut self.marks) {
+            drop((event, copied));
+            return Err(fault);
         }
-        let copies = room::for_step_of(self.is_spent(), &mut self.steps, &mut self.marks, copied)?;
+        let Ok((first, second)) = copied else {
+            drop(event);
+            return Err(NotStepped::Memory);
+        };
+        let (stored, reply, also) = match answer(&mut self.broker, &event) {
+            Ok(replies) => replies,
+            Err(fault) => {
+                drop((event, first, second));
+                return Err(fault);
+            }
+        };
         let place = self.steps.len() as u32;
-        let (step, receipts) = answered(&mut self.broker, place, event, copies)?;
         self.calls.audit(share);
         self.calls.add(share, 1);
-        self.steps.push_reserved(step);
+        self.steps.push_reserved(Step {
+            event,
+            reply: stored,
+        });
         self.marks.push_reserved(false);
-        Ok(receipts)
+        Ok((
+            Receipt {
+                place,
+                event: first,
+                reply,
+            },
+            Receipt {
+                place,
+                event: second,
+                reply: also,
+            },
+        ))
     }
 
     /// Compares the history with the lanes' receipts, by marking their places. It takes no memory.

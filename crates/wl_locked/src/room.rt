@@ -1,10 +1,8 @@
 //! The room that a step takes, all of which is made before the broker is stepped.
 
-ghost use Rattle.std.specs.Prelude.{◌≡◌, ◌<◌, ◌↔◌, true, Err, Ok, IfOk, OnOk, vec_len, vec_capacity};
+ghost use Rattle.std.specs.Prelude.{◌≡◌, ◌<◌, ◌↔◌, true, Err, OnOk, vec_len, vec_capacity};
 
-use crate::event::BookEvent;
 use crate::receipt::{NotStepped, Receipt, Step};
-use std::alloc::AllocError;
 
 /// Makes room for a receipt of a lane, where the book is not spent.
 pub(crate) fn for_receipt(is_spent: bool, receipts: &mut Vec<Receipt>) -> Result<(), NotStepped>
@@ -20,7 +18,11 @@ pub(crate) fn for_receipt(is_spent: bool, receipts: &mut Vec<Receipt>) -> Result
 }
 
 /// Makes room for a step with its mark, where the book is not spent.
-fn for_step(is_spent: bool, steps: &mut Vec<Step>, marks: &mut Vec<bool>) -> Result<(), NotStepped>
+pub(crate) fn for_step(
+    is_spent: bool,
+    steps: &mut Vec<Step>,
+    marks: &mut Vec<bool>,
+) -> Result<(), NotStepped>
     ensures steps { steps.new.items ≡ steps.old.items }
     ensures marks { marks.new.items ≡ marks.old.items }
     ensures step { OnOk result (vec_len steps.new < vec_capacity steps.new) }
@@ -33,22 +35,4 @@ fn for_step(is_spent: bool, steps: &mut Vec<Step>, marks: &mut Vec<bool>) -> Res
     steps.reserve(1)?;
     marks.reserve(1)?;
     Ok(())
-}
-
-/// The same, and gives the copies of the step's event, if they could be made.
-pub(crate) fn for_step_of(
-    is_spent: bool,
-    steps: &mut Vec<Step>,
-    marks: &mut Vec<bool>,
-    copied: Result<(BookEvent, BookEvent), AllocError>,
-) -> Result<(BookEvent, BookEvent), NotStepped>
-    ensures copies { IfOk result (λ copies. copied ≡ Ok copies) }
-    ensures steps { steps.new.items ≡ steps.old.items }
-    ensures marks { marks.new.items ≡ marks.old.items }
-    ensures step { OnOk result (vec_len steps.new < vec_capacity steps.new) }
-    ensures mark { OnOk result (vec_len marks.new < vec_capacity marks.new) }
-    ensures spent { (result ≡ Err NotStepped.GenerationSpent) ↔ (is_spent ≡ true) }
-{
-    for_step(is_spent, steps, marks)?;
-    Ok(copied?)
 }
