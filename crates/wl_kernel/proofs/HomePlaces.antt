@@ -10,7 +10,7 @@ use Rattle.wl_origin.specs.Order.{Pair, pair_eq, pair_cmp}
 use Rattle.wl_origin.specs.Ties.{pairs_tied}
 use Rattle.wl_origin.proofs.OrderLemmas.{pair_eq-decides}
 use Rattle.wl_kernel.specs.Kernel.{put_in}
-use Rattle.wl_kernel.specs.Kept.{HomeTable, home_place, home_at, home_of, partition_in, partition_at, AreHomePlaces, SetsHome, joined, left}
+use Rattle.wl_kernel.specs.Kept.{HomeTable, home_place, home_at, home_of, partition_in, partition_at, AreHomePlaces, HasOneMore, SetsHome, joined, left}
 
 -- ---- equal partitions
 
@@ -78,12 +78,6 @@ partition_in-insert p n (e ∷ es) i all new =
     partition_in-insert_by (pair_cmp p e.0) p n i e es (insert_entry pair_cmp es p n) (home_place es p) all.0 new (partition_in-insert p n es i all.1)
 
 -- ---- one more home
-
--- where the homes stand once a new partition has one, behind all others
-pub record HasOneMore (p : Pair) (n : ℕ) (es more : List (Pair × ℕ)) : Type 0 where
-  pub new : home_place es p ≡ None
-  pub entries : more ≡ insert_entry pair_cmp es p n
-  pub places : (q : Pair) → home_place more q ≡ cond (is_at (pair_cmp p) q) (Some n) (home_place es q)
 
 placed_anew : (p : Pair) (n : ℕ) (es more : List (Pair × ℕ)) → HasOneMore p n es more → (q : Pair) → home_place more q ≡ cond (pair_eq p q) (Some n) (home_place es q)
 placed_anew p n es more m q = m.places q ∙ ap (λ b. cond b (Some n) (home_place es q)) (same_key p q)

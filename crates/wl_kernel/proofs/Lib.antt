@@ -4,7 +4,6 @@ pub mod OpenedTabs
 pub mod HomePlaces
 pub mod KeptHomes
 pub mod Consistency
-pub mod Hearing
 pub mod Calls
 pub mod WellFormed
 pub mod Limits

@@ -1,5 +1,5 @@
 -- What is passed on has a spelling where what came has one.
-use Rattle.std.proofs.Common.{◌≡◌, ◌≢◌, ℕ, Bool, List, [], ◌∷◌, length, map, filter, count_by, Some, Result, Ok, Err, OnErr, refl, sym, ap, ◌∙◌, subst, arith}
+use Rattle.std.proofs.Common.{◌≡◌, ◌≢◌, ℕ, Bool, List, [], ◌∷◌, length, map, filter, count_by, Some, refl, sym, ap, ◌∙◌, subst, arith}
 use Rattle.std.proofs.lemmas.List.Sums.{length-filter}
 use Rattle.std.specs.List.{AllByRecursion}
 use Rattle.wl_grammar.specs.declared.frame.Post.{Post}
@@ -38,8 +38,3 @@ nobody test xs n counted none = empty (filter test xs) (length-filter test xs �
 
 pub somebody : (test : ℕ → Bool) (xs : List ℕ) (n : ℕ) → n ≡ count_by test xs → n ≢ 0 → filter test xs ≢ []
 somebody test xs n counted some none = some (counted ∙ sym (length-filter test xs) ∙ ap length none)
-
--- what holds anyway holds at an error
-pub at_error : {T E : Type 0} (r : Result T E) (P : Type 0) → P → OnErr r P
-at_error (Ok x) P holds = tt
-at_error (Err e) P holds = holds

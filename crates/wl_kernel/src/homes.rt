@@ -1,8 +1,8 @@
 //! What is kept of each partition in which a tab was opened.
 
-ghost use Rattle.std.specs.Prelude.{◌≡◌, ◌<◌, IfOk, OnOk, OnErr, Some, [], ◌∷◌, length, option_map, true};
+ghost use Rattle.std.specs.Prelude.{◌≡◌, ◌<◌, IfOk, OnOk, OnErr, Some, None, [], ◌∷◌, ◌++◌, length, option_map, true, vec_len, vec_capacity};
 ghost use Rattle.wl_kernel.specs.Kernel.{put_in, rises};
-ghost use Rattle.wl_kernel.specs.Kept.{no_homes, home_of, partition_at, SetsHome, KeepsPlaces, members, joined, left};
+ghost use Rattle.wl_kernel.specs.Kept.{no_homes, home_of, home_place, partition_at, HasOneMore, SetsHome, KeepsPlaces, members, joined, left};
 
 use crate::rising;
 use std::alloc::{AllocError, Global};
@@ -137,18 +137,11 @@ impl Homes {
     {
         match self.places.get(&partition).copied() {
             Some(place) => {
+                drop(partition);
                 self.list[place].join(tab)?;
                 Ok(place)
             }
-            None => {
-                // The last growth is the first change, so a refused one changes nothing.
-                let home = Home::new(alloc, tab)?;
-                let place = self.list.len();
-                self.list.reserve(1)?;
-                self.places.insert(partition, place)?;
-                self.list.push_reserved(home);
-                Ok(place)
-            }
+            None => found(alloc, &mut self.list, &mut self.places, partition, tab),
         }
     }
 
@@ -161,4 +154,47 @@ impl Homes {
     {
         self.list[place].leave(tab);
     }
+}
+
+/// Makes the home of a first tab, and room for it behind the others.
+fn first_home(alloc: Global, list: &mut Vec<Home>, tab: u16) -> Result<Home, AllocError>
+    ensures home { IfOk result (λ home. home ≡ (tab, tab ∷ [])) }
+    ensures list { list.new.items ≡ list.old.items }
+    ensures room { OnOk result (vec_len list.new < vec_capacity list.new) }
+{
+    let home = Home::new(alloc, tab)?;
+    list.reserve(1)?;
+    Ok(home)
+}
+
+/// Puts the home of a partition's first tab behind the others, and answers its place.
+fn found(
+    alloc: Global,
+    list: &mut Vec<Home>,
+    places: &mut BTreeMap<Partition, usize>,
+    partition: Partition,
+    tab: u16,
+) -> Result<usize, AllocError>
+    requires { home_place places.old.entries partition ≡ None }
+    ensures list { OnOk result (list.new.items ≡ list.old.items ++ (tab, tab ∷ []) ∷ []) }
+    ensures place { IfOk result (λ place. place ≡ length list.old.items) }
+    ensures places { OnOk result
+        (HasOneMore partition (length list.old.items) places.old.entries places.new.entries) }
+    ensures err { OnErr result ((list.new.items ≡ list.old.items) × (places.new.entries ≡ places.old.entries)) }
+{
+    // The last growth is the first change, so a refused one changes nothing.
+    let home = match first_home(alloc, list, tab) {
+        Ok(home) => home,
+        Err(refused) => {
+            drop(partition);
+            return Err(refused);
+        }
+    };
+    let place = list.len();
+    if places.insert(partition, place).is_err() {
+        drop(home);
+        return Err(AllocError);
+    }
+    list.push_reserved(home);
+    Ok(place)
 }

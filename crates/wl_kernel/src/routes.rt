@@ -1,10 +1,13 @@
 //! The routes of frames, up from the tabs and down from the broker.
 
-ghost use Rattle.std.specs.Prelude.{◌≡◌, ◌≢◌, ◌==◌, [], IfOk, OnErr, count_by, filter, map, not};
-ghost use Rattle.wl_kernel.specs.Routes.{generation_of, frame_of, heard_of};
+ghost use Rattle.std.specs.Prelude.{◌≡◌, ◌≢◌, ◌==◌, ◌<◌, [], ◌∷◌, ◌++◌, ℕ, Some, IfOk, IfSome, IfNone, OnOk, OnErr, count_by, filter, map, not, vec_len, vec_capacity};
+ghost use Rattle.wl_grammar.specs.declared.frame.Frame.TheVariants as frame_with;
+ghost use Rattle.wl_kernel.specs.Kernel.{KernelState};
+ghost use Rattle.wl_kernel.specs.Routes.{address_refusal, generation_of, frame_of, heard_of, waiting};
 
+use crate::fault::RouteFault;
 use std::alloc::{AllocError, Global};
-use wl_grammar::{Downward, Frame, Heard, Post, Sequence};
+use wl_grammar::{Addressed, Downward, Frame, Heard, Post, Sequence};
 
 /// Where a tab's frame goes.
 #[derive(Drop)]
@@ -26,6 +29,18 @@ pub(crate) fn generation_of(inner: &Downward) -> u32
     }
 }
 
+/// What the broker says to one tab, where the frame is that.
+pub(crate) fn addressed_in(frame: Frame) -> Option<Addressed>
+    ensures some { IfSome result (λ addressed. frame ≡ frame_with.Addressed addressed) }
+    ensures none { IfNone result
+        ((k : KernelState) (link : ℕ) → address_refusal k link frame ≡ Some RouteFault.WrongKind) }
+{
+    match frame {
+        Frame::Addressed(addressed) => Some(addressed),
+        _ => None,
+    }
+}
+
 pub(crate) fn frame_of(inner: Downward) -> Frame
     ensures { result ≡ frame_of inner }
 {
@@ -43,6 +58,77 @@ fn others_of(source: u16, members: &[u16]) -> usize
     members.iter().filter(|member| **member != source).count()
 }
 
+/// Puts a copy of a post, for this member, last.
+fn copy_for(
+    alloc: Global,
+    member: u16,
+    post: &Heard,
+    heard: &mut Vec<(u16, Frame)>,
+) -> Result<(), AllocError>
+    ensures { OnOk result (heard.new.items ≡ heard.old.items ++ (member, frame_with.Heard post.now) ∷ []) }
+{
+    heard.reserve(1)?;
+    let copy = post.copy(alloc)?;
+    heard.push_reserved((member, Frame::Heard(copy)));
+    Ok(())
+}
+
+/// Copies of a post for each member that is not its source but the last such one, who is answered. There is room for one more.
+fn copies(
+    alloc: Global,
+    post: &Heard,
+    members: &[u16],
+    others: usize,
+) -> Result<(Vec<(u16, Frame)>, Option<u16>), AllocError>
+    ensures heard { IfOk result (λ r. r.0.items ++ waiting post.now r.1
+        ≡ map (λ n. (n, frame_with.Heard post.now)) (filter (λ n. not (n == post.now.source)) members.now)) }
+    ensures room { IfOk result (λ r. vec_len r.0 < vec_capacity r.0) }
+{
+    let mut heard = Vec::with_capacity(alloc, others)?;
+    let mut last = None;
+    for member in members {
+        if *member == post.source {
+            continue;
+        }
+        if let Some(earlier) = last {
+            copy_for(alloc, earlier, post, &mut heard)?;
+        }
+        last = Some(*member);
+    }
+    heard.reserve(1)?;
+    Ok((heard, last))
+}
+
+/// A post as other tabs hear it.
+fn as_heard(source: u16, post: Post) -> Heard
+    ensures { frame_with.Heard result ≡ heard_of source post }
+{
+    let Post {
+        number,
+        channel,
+        bytes,
+    } = post;
+    Heard {
+        source,
+        number,
+        channel,
+        bytes,
+    }
+}
+
+/// Puts the post itself, for the member who was found last, behind the copies.
+fn with_post(copies: (Vec<(u16, Frame)>, Option<u16>), post: Heard) -> Vec<(u16, Frame)>
+    requires { vec_len copies.0 < vec_capacity copies.0 }
+    ensures { result.items ≡ copies.0.items ++ waiting post copies.1 }
+{
+    let (mut heard, last) = copies;
+    match last {
+        Some(member) => heard.push_reserved((member, Frame::Heard(post))),
+        None => drop(post),
+    }
+    heard
+}
+
 /// The post of a tab for each other member of its partition. The last one gets the post itself, the others copies.
 pub(crate) fn heard(
     alloc: Global,
@@ -56,32 +142,15 @@ pub(crate) fn heard(
 {
     let others = others_of(source, members);
     if others == 0 {
+        drop(post);
         return Ok(Vec::new(alloc));
     }
-    let Post {
-        number,
-        channel,
-        bytes,
-    } = post;
-    let post = Heard {
-        source,
-        number,
-        channel,
-        bytes,
-    };
-    let mut heard = Vec::with_capacity(alloc, others)?;
-    let mut last = None;
-    for member in members {
-        if *member == source {
-            continue;
+    let post = as_heard(source, post);
+    match copies(alloc, &post, members, others) {
+        Ok(copies) => Ok(with_post(copies, post)),
+        Err(refused) => {
+            drop(post);
+            Err(refused)
         }
-        if let Some(earlier) = last {
-            heard.push((earlier, Frame::Heard(post.copy(alloc)?)))?;
-        }
-        last = Some(*member);
     }
-    if let Some(member) = last {
-        heard.push((member, Frame::Heard(post)))?;
-    }
-    Ok(heard)
 }

@@ -73,9 +73,10 @@ impl Down {
     }
 
     /// No broker runs, so nothing that comes over a link is passed on. It takes no memory.
-    pub fn route_down(&self, _link: u32, _frame: Frame) -> Result<(u16, Frame), RouteFault>
+    pub fn route_down(&self, _link: u32, frame: Frame) -> Result<(u16, Frame), RouteFault>
         ensures { result ≡ Err RouteFault.StaleLink }
     {
+        drop(frame);
         Err(RouteFault::StaleLink)
     }
 

@@ -1,6 +1,8 @@
 //! The tab table, which belongs to the supervisor.
 
-ghost use Rattle.std.specs.Prelude.{◌≡◌, ◌≢◌, ◌<◌, ◌≤◌, [], length, None, Some, Err, IfOk, OnOk, IfErr, OnErr, IfSome, IsTrue, true, false, option_map, if◌then◌else◌};
+ghost use Rattle.std.specs.Prelude.{◌≡◌, ◌≢◌, ◌<◌, ◌≤◌, [], length, None, Some, Err, IfOk, OnOk, IfErr, OnErr, IfSome, IsTrue, true, false, option_map, if◌then◌else◌, vec_len, vec_capacity};
+ghost use Rattle.std.specs.BTreeMap.{insert_entry};
+ghost use Rattle.std.specs.Ordering.{nat_cmp};
 ghost use Rattle.wl_draft.specs.Refusals.{RefusesBy};
 ghost use Rattle.wl_grammar.specs.Grammar.{IsTab, IsUpward, IsPost, IsWellFormed};
 ghost use Rattle.wl_grammar.specs.declared.frame.Frame.TheVariants as frame;
@@ -12,7 +14,7 @@ ghost use Rattle.wl_kernel.specs.Kept.{seen_in, partition_of, place_in, IsList};
 use crate::fault::{GenerationsUsedUp, KillFault, OpenFault, RouteFault, StartFault};
 use crate::homes::Homes;
 use crate::rising;
-use crate::routes::{Routed, frame_of, generation_of, heard};
+use crate::routes::{Routed, addressed_in, frame_of, generation_of, heard};
 use crate::rows::{Found, TabRow};
 use std::alloc::{AllocError, Global};
 use std::collections::BTreeMap;
@@ -112,11 +114,13 @@ impl Tabs {
         ensures err { OnErr result (self.new ≡ self.old) }
     {
         if let Some(fault) = self.open_fault(tab, &partition) {
+            drop(partition);
             return Err(fault);
         }
-        self.rows.reserve(1)?;
-        self.living.reserve(1)?;
-        self.places.insert(tab, self.rows.len())?;
+        if let Err(refused) = enter(&mut self.rows, &mut self.living, &mut self.places, tab) {
+            drop(partition);
+            return Err(OpenFault::from(refused));
+        }
         let home = match self.homes.join(self.alloc, partition, tab) {
             Ok(home) => home,
             Err(refused) => {
@@ -175,15 +179,20 @@ impl Tabs {
         ensures well_formed { IfOk result (λ r. IsWellFormed frame → IsTab r.0 × IsWellFormed r.1) }
     {
         if link != self.generation {
+            drop(frame);
             return Err(RouteFault::StaleLink);
         }
-        let Frame::Addressed(addressed) = frame else {
+        let Some(addressed) = addressed_in(frame) else {
             return Err(RouteFault::WrongKind);
         };
         if generation_of(&addressed.inner) != link {
+            drop(addressed);
             return Err(RouteFault::WrongKind);
         }
-        self.found_living(addressed.tab)?;
+        if let Err(fault) = self.found_living(addressed.tab) {
+            drop(addressed);
+            return Err(fault);
+        }
         Ok((addressed.tab, frame_of(addressed.inner)))
     }
 
@@ -387,4 +396,25 @@ impl Tabs {
             None => 0,
         }
     }
+}
+
+/// Makes room for the row of one more tab, and enters its place behind the others.
+fn enter(
+    rows: &mut Vec<TabRow>,
+    living: &mut Vec<u16>,
+    places: &mut BTreeMap<u16, usize>,
+    tab: u16,
+) -> Result<(), AllocError>
+    ensures rows { rows.new.items ≡ rows.old.items }
+    ensures room { OnOk result (vec_len rows.new < vec_capacity rows.new) }
+    ensures living { living.new.items ≡ living.old.items }
+    ensures living_room { OnOk result (vec_len living.new < vec_capacity living.new) }
+    ensures places { OnOk result
+        (places.new.entries ≡ insert_entry nat_cmp places.old.entries tab (length rows.old.items)) }
+    ensures err { OnErr result (places.new.entries ≡ places.old.entries) }
+{
+    rows.reserve(1)?;
+    living.reserve(1)?;
+    places.insert(tab, rows.len())?;
+    Ok(())
 }

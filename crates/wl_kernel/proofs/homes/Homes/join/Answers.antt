@@ -1,9 +1,9 @@
-use Rattle.std.proofs.Common.{◌≡◌, ℕ, ◌++◌, ◌∷◌, [], List, Some, length, set, slice_get, refl, sym, ap, ◌∙◌, subst, arith}
+use Rattle.std.proofs.Common.{◌≡◌, ℕ, ◌++◌, ◌∷◌, [], List, Some, length, set, slice_get, refl, sym, ap, ◌∙◌, subst, arith, ◌+◌, Result, Ok, Err, OnOk, OnErr, IfOk}
 use Rattle.std.proofs.lemmas.List.{length-set, length_push}
 use Rattle.std.proofs.lemmas.Option.{slice_get_read}
 use Rattle.wl_kernel.specs.Kernel.{rises}
-use Rattle.wl_kernel.specs.Kept.{HomeTable, home_place, home_at, home_of, partition_in, AreHomePlaces, SetsHome, KeepsPlaces, members, joined}
-use Rattle.wl_kernel.proofs.HomePlaces.{HasOneMore, place_within, places-push, partition_kept, partition_last, home-join, home-found}
+use Rattle.wl_kernel.specs.Kept.{HomeTable, home_place, home_at, home_of, partition_in, AreHomePlaces, HasOneMore, SetsHome, KeepsPlaces, members, joined}
+use Rattle.wl_kernel.proofs.HomePlaces.{place_within, places-push, partition_kept, partition_last, home-join, home-found}
 use Rattle.wl_kernel.proofs.homes.Homes.join.Goals as goal
 
 pub index_mut-requires : goal.index_mut-requires
@@ -43,51 +43,71 @@ returns-in_ok-join-in-Some-clause-place c =
     (omega (arith, lt, length-set {A = ℕ × List ℕ}), c.self.invariant.own p c.in-Some.place at)
 
 -- a first tab's home is behind all others
-behind : (c : goal.After-push_reserved) → c.push_reserved.new.self.items ≡ c.self.inside.list.items ++ (c.args.tab, c.args.tab ∷ []) ∷ []
-behind c =
-    c.push_reserved.ensures.items ∙ ap (λ (hs : List (ℕ × List ℕ)). hs ++ c.in_ok-home-in-None.home ∷ []) c.in_ok-reserve-in-None.ensures.items
-    ∙ ap (λ (h : ℕ × List ℕ). c.self.inside.list.items ++ h ∷ []) c.in_ok-home-in-None.ensures
+abbrev Behind : goal.After-found → Type 0
+Behind c = c.found.new.list.items ≡ c.self.inside.list.items ++ (c.args.tab, c.args.tab ∷ []) ∷ []
 
-last : (c : goal.After-push_reserved) → c.len-place.result ≡ length c.self.inside.list.items
-last c = omega (arith, c.len-place.ensures, c.self.inside.list.ok.0)
+abbrev OneMore : goal.After-found → Type 0
+OneMore c = HasOneMore c.args.partition (length c.self.inside.list.items) c.self.inside.places.entries c.found.new.places.entries
 
-one_more : (c : goal.After-push_reserved) → HasOneMore c.args.partition (length c.self.inside.list.items) c.self.inside.places.entries c.insert.new.self.entries
-one_more c =
-    let es = c.self.inside.places.entries in
-    subst (λ n. HasOneMore c.args.partition n es c.insert.new.self.entries) (last c)
-    (record {
-      new = sym c.get.ensures.value ∙ sym c.copied.ensures ∙ c.in-None.is;
-      entries = c.in_ok-insert-in-None.ensures.entries;
-      places = λ q. c.in_ok-insert-in-None.ensures.updates.0 q;
-    })
+by_cases : {T E P Q R S : Type 0} (r : Result T E) → (P → Q → S) → (R → S) → OnOk r P → OnOk r Q → OnErr r R → S
+by_cases (Ok x) made same p q e = made p q
+by_cases (Err e) made same p q r = same r
+
+at_ok : {T E P Q : Type 0} {R S : T → Type 0} (r : Result T E) → (P → Q → (x : T) → R x → S x) → OnOk r P → OnOk r Q → IfOk r R → IfOk r S
+at_ok (Ok x) made p q at = made p q x at
+at_ok (Err e) made p q at = tt
+
+longer : (c : goal.After-found) → Behind c → length c.found.new.list.items ≡ length c.self.inside.list.items + 1
+longer c behind = ap length behind ∙ length_push c.self.inside.list.items (c.args.tab, c.args.tab ∷ [])
 
 pub invariant_of-self-in-None : goal.invariant_of-self-in-None
 invariant_of-self-in-None c =
     let homes = c.self.inside.list.items in
-    subst (AreHomePlaces c.insert.new.self.entries) (sym (ap length (behind c) ∙ length_push homes (c.args.tab, c.args.tab ∷ [])))
-    (places-push c.args.partition (length homes) c.self.inside.places.entries c.insert.new.self.entries c.self.invariant (one_more c))
+    let es = c.self.inside.places.entries in
+    let more = c.found.new.places.entries in
+    by_cases c.found.result
+    (λ (behind : Behind c) (m : OneMore c). subst (AreHomePlaces more) (sym (longer c behind)) (places-push c.args.partition (length homes) es more c.self.invariant m))
+    (λ (same : (c.found.new.list.items ≡ homes) × (more ≡ es)).
+    subst (AreHomePlaces more) (sym (ap length same.0)) (subst (λ ps. AreHomePlaces ps (length homes)) (sym same.1) c.self.invariant))
+    c.found.ensures.list
+    c.found.ensures.places
+    c.found.ensures.err
 
-pub returns-in_ok-insert-in-None-clause-joined : goal.returns-in_ok-insert-in-None-clause-joined
-returns-in_ok-insert-in-None-clause-joined c =
+pub returns-in-None-clause-joined : goal.returns-in-None-clause-joined
+returns-in-None-clause-joined c =
     let p = c.args.partition in
     let h : HomeTable = record { homes = c.self.inside.list.items; places = c.self.inside.places.entries } in
-    let k : HomeTable = record { homes = c.push_reserved.new.self.items; places = c.insert.new.self.entries } in
-    subst (λ (g : HomeTable). SetsHome g k p (Some (joined c.args.tab (home_of g p)))) c.self.view_is
-    (home-found h k p c.args.tab c.self.invariant (behind c) (one_more c))
+    let k : HomeTable = record { homes = c.found.new.list.items; places = c.found.new.places.entries } in
+    at_ok c.found.result
+    (λ (behind : Behind c) (m : OneMore c) _ _. subst (λ (g : HomeTable). SetsHome g k p (Some (joined c.args.tab (home_of g p)))) c.self.view_is (home-found h k p c.args.tab c.self.invariant behind m))
+    c.found.ensures.list
+    c.found.ensures.places
+    c.found.ensures.place
 
-pub returns-in_ok-insert-in-None-clause-place : goal.returns-in_ok-insert-in-None-clause-place
-returns-in_ok-insert-in-None-clause-place c =
+pub returns-in-None-clause-place : goal.returns-in-None-clause-place
+returns-in-None-clause-place c =
     let p = c.args.partition in
-    let homes = c.self.inside.list.items in (
-      omega (arith, last c, ap length (behind c) ∙ length_push homes (c.args.tab, c.args.tab ∷ [])),
-      ap (partition_in c.insert.new.self.entries) (last c) ∙ partition_last p (length homes) c.self.inside.places.entries c.insert.new.self.entries c.self.invariant (one_more c),
-    )
-
-pub returns-in_ok-insert-in-None-clause-kept : goal.returns-in_ok-insert-in-None-clause-kept
-returns-in_ok-insert-in-None-clause-kept c =
     let homes = c.self.inside.list.items in
     let es = c.self.inside.places.entries in
-    let k : HomeTable = record { homes = c.push_reserved.new.self.items; places = c.insert.new.self.entries } in
-    let count = ap length (behind c) ∙ length_push homes (c.args.tab, c.args.tab ∷ []) in
-    subst (λ (g : HomeTable). KeepsPlaces g k) c.self.view_is
-    (λ i lt. (omega (arith, count, lt), partition_kept c.args.partition (length homes) i es c.insert.new.self.entries c.self.invariant (one_more c) lt))
+    let more = c.found.new.places.entries in
+    at_ok c.found.result
+    (λ (behind : Behind c) (m : OneMore c) place (at : place ≡ length homes). (
+      omega (arith, at, longer c behind),
+      ap (partition_in more) at ∙ partition_last p (length homes) es more c.self.invariant m,
+    ))
+    c.found.ensures.list
+    c.found.ensures.places
+    c.found.ensures.place
+
+pub returns-in-None-clause-kept : goal.returns-in-None-clause-kept
+returns-in-None-clause-kept c =
+    let homes = c.self.inside.list.items in
+    let es = c.self.inside.places.entries in
+    let more = c.found.new.places.entries in
+    let k : HomeTable = record { homes = c.found.new.list.items; places = more } in
+    at_ok c.found.result
+    (λ (behind : Behind c) (m : OneMore c) _ _. subst (λ (g : HomeTable). KeepsPlaces g k) c.self.view_is
+    (λ i lt. (omega (arith, longer c behind, lt), partition_kept c.args.partition (length homes) i es more c.self.invariant m lt)))
+    c.found.ensures.list
+    c.found.ensures.places
+    c.found.ensures.place

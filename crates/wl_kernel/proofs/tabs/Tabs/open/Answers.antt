@@ -24,7 +24,7 @@ join-requires c =
 pub put_in-requires-clause-rising : goal.put_in-requires-clause-rising
 put_in-requires-clause-rising c =
     let os = all_seen c.self.inside.homes c.self.inside.rows.items in
-    ap rises (c.in_ok-reserve-2.ensures.items ∙ c.self.invariant.alive) ∙ rises_living_in any_tab os c.self.invariant.tabs
+    ap rises (c.enter.ensures.living ∙ c.self.invariant.alive) ∙ rises_living_in any_tab os c.self.invariant.tabs
 
 pub invariant_of-self-2 : goal.invariant_of-self-2
 invariant_of-self-2 c =
@@ -32,7 +32,7 @@ invariant_of-self-2 c =
     let t = c.args.tab in
     let rows = c.self.inside.rows.items in
     let r : TabRow = record { tab = t; home = c.in-Ok.home; generation = c.self.inside.generation; is_living = true } in
-    let behind : c.push_reserved.new.self.items ≡ rows ++ r ∷ [] = c.push_reserved.ensures.items ∙ ap (λ (xs : List TabRow). xs ++ r ∷ []) c.in_ok-reserve.ensures.items in
+    let behind : c.push_reserved.new.self.items ≡ rows ++ r ∷ [] = c.push_reserved.ensures.items ∙ ap (λ (xs : List TabRow). xs ++ r ∷ []) c.enter.ensures.rows in
     let asked = open_is_allowed t c.args.partition c.args.self.now (sym c.in_default.ensures) in
     let new : tab_in (all_seen h rows) t ≡ None = ap (λ (k : KernelState). tab_in k.opened t) c.self.view_is ∙ asked.1 in
     let entered : IsEntered rows h r c.args.partition c.join.new.self = record {
@@ -44,26 +44,25 @@ invariant_of-self-2 c =
       joins = c.in-Ok.ensures.joined;
       kept = c.in-Ok.ensures.kept;
     } in
-    let count : c.len.result ≡ length rows = omega (arith, c.len.ensures, c.in_ok-reserve.ensures.len, c.self.inside.rows.ok.0) in
-    let there : c.insert.new.self.entries ≡ put t (length rows) c.self.inside.places.entries =
-    c.in_ok-insert.ensures.entries ∙ insert_entry-put t c.len.result c.self.inside.places.entries ∙ ap (λ n. put t n c.self.inside.places.entries) count in
-    let among : c.put_in.new.numbers.items ≡ put_in t c.self.inside.living.items = c.put_in.ensures ∙ ap (put_in t) c.in_ok-reserve-2.ensures.items in
+    let there : c.enter.new.places.entries ≡ put t (length rows) c.self.inside.places.entries =
+    c.in_default-enter.ensures.places ∙ insert_entry-put t (length rows) c.self.inside.places.entries in
+    let among : c.put_in.new.numbers.items ≡ put_in t c.self.inside.living.items = c.put_in.ensures ∙ ap (put_in t) c.enter.ensures.living in
     consistent-push rows c.self.inside.places.entries h c.self.inside.living.items c.self.inside.generation c.self.inside.last r c.args.partition
-    c.push_reserved.new.self.items c.insert.new.self.entries c.join.new.self c.put_in.new.numbers.items
+    c.push_reserved.new.self.items c.enter.new.places.entries c.join.new.self c.put_in.new.numbers.items
     c.self.invariant entered behind there among
 
-pub invariant_of-self-in-Err : goal.invariant_of-self-in-Err
-invariant_of-self-in-Err c =
+pub invariant_of-self-in-Err-join : goal.invariant_of-self-in-Err-join
+invariant_of-self-in-Err-join c =
     let t = c.args.tab in
     let h = c.self.inside.homes in
     let rows = c.self.inside.rows.items in
     let asked = open_is_allowed t c.args.partition c.args.self.now (sym c.in_default.ensures) in
     let new : tab_in (all_seen h rows) t ≡ None = ap (λ (k : KernelState). tab_in k.opened t) c.self.view_is ∙ asked.1 in
     consistent-same rows c.self.inside.places.entries h c.self.inside.living.items c.self.inside.generation c.self.inside.last
-    c.reserve.new.self.items c.remove.new.self.entries c.join.new.self c.reserve-2.new.self.items
-    c.self.invariant c.in_ok-reserve.ensures.items
-    (c.remove.ensures.entries ∙ ap (remove_entry (is_at (nat_cmp t))) c.in_ok-insert.ensures.entries ∙ place_taken_back (all_seen h rows) c.self.inside.places.entries t c.len.result new c.self.invariant.placed)
-    c.in-Err.ensures.err c.in_ok-reserve-2.ensures.items
+    c.enter.new.rows.items c.remove.new.self.entries c.join.new.self c.enter.new.living.items
+    c.self.invariant c.enter.ensures.rows
+    (c.remove.ensures.entries ∙ ap (remove_entry (is_at (nat_cmp t))) c.in_default-enter.ensures.places ∙ place_taken_back (all_seen h rows) c.self.inside.places.entries t (length rows) new c.self.invariant.placed)
+    c.in-Err-join.ensures.err c.enter.ensures.living
 
 pub returns-clause-ok : goal.returns-clause-ok
 returns-clause-ok c =
@@ -71,7 +70,7 @@ returns-clause-ok c =
     let t = c.args.tab in
     let rows = c.self.inside.rows.items in
     let r : TabRow = record { tab = t; home = c.in-Ok.home; generation = c.self.inside.generation; is_living = true } in
-    let behind : c.push_reserved.new.self.items ≡ rows ++ r ∷ [] = c.push_reserved.ensures.items ∙ ap (λ (xs : List TabRow). xs ++ r ∷ []) c.in_ok-reserve.ensures.items in
+    let behind : c.push_reserved.new.self.items ≡ rows ++ r ∷ [] = c.push_reserved.ensures.items ∙ ap (λ (xs : List TabRow). xs ++ r ∷ []) c.enter.ensures.rows in
     let os = all_seen h rows in
     let state : List OpenedTab → KernelState = λ os. record { opened = os; generation = c.self.inside.generation; last = c.self.inside.last } in
     let seen_more : all_seen c.join.new.self c.push_reserved.new.self.items ≡ os ++ new_tab t c.args.partition c.self.inside.generation ∷ [] =
