@@ -80,6 +80,18 @@ impl Clients {
         }
     }
 
+    /// Sees that the client is known.
+    fn open(&mut self, client: u16) -> Result<(), AllocError>
+        ensures places { (c : ℕ) → places_at self.new c ≡ places_at self.old c }
+        ensures held { (c : ℕ) → held_room_at self.old c ≤ held_room_at self.new c }
+        ensures waiting { (c : ℕ) → waiting_room_at self.old c ≤ waiting_room_at self.new c }
+    {
+        if !self.clients.contains_key(&client) {
+            drop(self.clients.insert(client, Holdings::new(self.alloc))?);
+        }
+        Ok(())
+    }
+
     /// Makes room for one more lock of the client, beside those that it waits for.
     pub fn reserve_lock(&mut self, client: u16) -> Result<(), AllocError>
         ensures places { (c : ℕ) → places_at self.new c ≡ places_at self.old c }
@@ -87,9 +99,7 @@ impl Clients {
             (length (places_at self.new client).waiting < held_room_at self.new client) }
         ensures kept { (c : ℕ) → held_room_at self.old c ≤ held_room_at self.new c }
     {
-        if !self.clients.contains_key(&client) {
-            self.clients.insert(client, Holdings::new(self.alloc))?;
-        }
+        self.open(client)?;
         match self.clients.get_mut(&client) {
             Some(holdings) => holdings.reserve_lock(),
             None => Err(AllocError),
@@ -105,9 +115,7 @@ impl Clients {
         ensures kept { (c : ℕ) → held_room_at self.old c ≤ held_room_at self.new c }
         ensures kept_waiting { (c : ℕ) → waiting_room_at self.old c ≤ waiting_room_at self.new c }
     {
-        if !self.clients.contains_key(&client) {
-            self.clients.insert(client, Holdings::new(self.alloc))?;
-        }
+        self.open(client)?;
         match self.clients.get_mut(&client) {
             Some(holdings) => holdings.reserve(count),
             None => Err(AllocError),
@@ -179,7 +187,7 @@ impl Clients {
             → length (places_at self.new c).waiting ≤ held_room_at self.new c }
     {
         if self.is_idle(client) {
-            let _ = self.clients.swap_remove(&client);
+            drop(self.clients.swap_remove(&client));
         }
     }
 
