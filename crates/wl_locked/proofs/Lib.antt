@@ -1,7 +1,6 @@
 pub mod Steps
 pub mod Runs
 pub mod Same
-pub mod Lists
 pub mod Raising
 pub mod Listing
 pub mod Gathered

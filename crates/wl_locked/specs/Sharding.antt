@@ -1,5 +1,5 @@
 -- A broker in shards: what a run is started with, which shard a work belongs to, and what a lane has of each shard.
-use Rattle.std.specs.Prelude.{◌≡◌, ◌<◌, ◌+◌, ◌==◌, ℕ, zero, suc, List, [], ◌∷◌, ◌++◌, length, map, slice_index_or, if◌then◌else◌, ◌≤◌, Option, None, Some, vec_capacity}
+use Rattle.std.specs.Prelude.{◌≡◌, ◌<◌, ◌+◌, ◌==◌, ℕ, zero, suc, List, [], ◌∷◌, ◌++◌, length, map, slice_index_or, if◌then◌else◌, ◌≤◌, Option, None, Some, vec_capacity, Bool, Result}
 use Rattle.wl_broker.specs.Broker.{BrokerState, started, hellos}
 use Rattle.wl_broker.specs.Shards.{shard_of, is_of, listed_of}
 use Rattle.wl_grammar.specs.declared.frame.Addressed.{Addressed}
@@ -11,7 +11,8 @@ use Rattle.wl_locked.specs.declared.receipt.Receipt.{Receipt}
 use Rattle.wl_locked.specs.declared.receipt.Step.{Step}
 use Rattle.wl_locked.specs.declared.receipt.CloseFault.{CloseFault}
 use Rattle.wl_locked.specs.declared.gathering.Gathering.{Gathering}
-use Rattle.wl_locked.specs.Closing.{IsHistory, IsFault}
+use Rattle.wl_locked.specs.Receipts.{total}
+use Rattle.wl_locked.specs.Closing.{IsHistory, IsFault, IsCompared}
 
 -- what the brokers of all shards are started with, the lanes that step them, and how many steps each may take
 pub record Run : Type 0 where
@@ -101,3 +102,9 @@ IsGatheredAs run lanes histories (Some e) =
 
 abbrev pub IsGathered : Run → List (List (List Receipt)) → Gathering → Type 0
 IsGathered run lanes g = IsGatheredAs run lanes g.histories.items g.fault
+
+-- Only a helper: a shard's history was compared with the lanes' receipts of it, and these are all shares of its ledger
+pub record IsEnding (run : Run) (lanes : List (List (List Receipt))) (shard : ℕ) (steps : List Step) (compared : Result Bool ℕ) (counted parts amount : ℕ) : Type 0 where
+  pub same : IsCompared (opening_of run shard) run.limit (receipts_in shard lanes) steps compared counted
+  pub all : parts ≡ length lanes
+  pub sum : amount ≡ total (receipts_in shard lanes)

@@ -10,6 +10,7 @@ ghost use Rattle.wl_locked.specs.Sharding.{IsGathered, IsRoomy, IsRun, IsShardFa
 ghost use Rattle.wl_locked.specs.declared.shards.TheConstants.{SHARD_LIMIT};
 
 use crate::event::Reply;
+use crate::fours::FourBrokers;
 use crate::gathering::Gathering;
 use crate::locked::LockedBroker;
 use crate::receipt::{CloseFault, History, NotStepped, Receipt};
@@ -22,25 +23,13 @@ use std::sync::ledger::{Blank, Share};
 use wl_broker::Dropped;
 use wl_grammar::Addressed;
 
-/// A locked broker for each shard that there may be. Where there are fewer, the others have nothing to do.
+/// A locked broker for each shard that there may be, by fours. Where there are fewer, the others have nothing to do.
 #[derive(Drop)]
 pub(crate) struct Brokers<J: Shards> {
-    zero: LockedBroker<At<J, 0>>,
-    one: LockedBroker<At<J, 1>>,
-    two: LockedBroker<At<J, 2>>,
-    three: LockedBroker<At<J, 3>>,
-    four: LockedBroker<At<J, 4>>,
-    five: LockedBroker<At<J, 5>>,
-    six: LockedBroker<At<J, 6>>,
-    seven: LockedBroker<At<J, 7>>,
-    eight: LockedBroker<At<J, 8>>,
-    nine: LockedBroker<At<J, 9>>,
-    ten: LockedBroker<At<J, 10>>,
-    eleven: LockedBroker<At<J, 11>>,
-    twelve: LockedBroker<At<J, 12>>,
-    thirteen: LockedBroker<At<J, 13>>,
-    fourteen: LockedBroker<At<J, 14>>,
-    fifteen: LockedBroker<At<J, 15>>,
+    first: FourBrokers<J, 0, 1, 2, 3>,
+    second: FourBrokers<J, 4, 5, 6, 7>,
+    third: FourBrokers<J, 8, 9, 10, 11>,
+    fourth: FourBrokers<J, 12, 13, 14, 15>,
 }
 
 /// What the brokers of all shards are started with.
@@ -71,7 +60,7 @@ fn listed_in(beginning: &Beginning<'_>, shard: u16) -> Result<Vec<(u16, u16)>, A
 }
 
 /// Starts the broker of one shard with its part of the list, and puts its hellos behind the others.
-fn open_shard<J: Shards, const SHARD: u16>(
+pub(crate) fn open_shard<J: Shards, const SHARD: u16>(
     beginning: &Beginning<'_>,
     blank: Blank,
     greetings: &mut Vec<Addressed>,
@@ -99,43 +88,6 @@ fn open_shard<J: Shards, const SHARD: u16>(
     Ok((broker, share))
 }
 
-/// Four shards that are open, each with the share that its part of a lane is cut from.
-#[derive(Drop)]
-struct Four<J: Shards, const A: u16, const B: u16, const C: u16, const D: u16> {
-    a: (LockedBroker<At<J, A>>, Share<At<J, A>>),
-    b: (LockedBroker<At<J, B>>, Share<At<J, B>>),
-    c: (LockedBroker<At<J, C>>, Share<At<J, C>>),
-    d: (LockedBroker<At<J, D>>, Share<At<J, D>>),
-}
-
-/// Opens four shards, one after another.
-fn open_four<J: Shards, const A: u16, const B: u16, const C: u16, const D: u16>(
-    beginning: &Beginning<'_>,
-    blanks: (Blank, Blank, Blank, Blank),
-    greetings: &mut Vec<Addressed>,
-) -> Result<Four<J, A, B, C, D>, AllocError>
-    requires shards { 0 < beginning.now.shards }
-    requires list { TabsRiseFrom 1 beginning.now.list.now }
-    requires names { (blanks.0.name ≡ J.names A) × (blanks.1.name ≡ J.names B)
-        × (blanks.2.name ≡ J.names C) × (blanks.3.name ≡ J.names D) }
-    requires parts { (blanks.0.parts ≡ J.run.lanes) × (blanks.1.parts ≡ J.run.lanes)
-        × (blanks.2.parts ≡ J.run.lanes) × (blanks.3.parts ≡ J.run.lanes) }
-    requires run { IsRun J.run beginning.now }
-    ensures parts { IfOk result (λ four. (four.a.1.parts ≡ J.run.lanes) × (four.b.1.parts ≡ J.run.lanes)
-        × (four.c.1.parts ≡ J.run.lanes) × (four.d.1.parts ≡ J.run.lanes)) }
-    ensures amounts { IfOk result (λ four. (four.a.1.amount ≡ 0) × (four.b.1.amount ≡ 0)
-        × (four.c.1.amount ≡ 0) × (four.d.1.amount ≡ 0)) }
-    ensures greetings { OnOk result (greetings.new.items
-        ≡ (((greetings.old.items ++ hellos_of J.run A) ++ hellos_of J.run B) ++ hellos_of J.run C)
-        ++ hellos_of J.run D) }
-{
-    let a = open_shard::<J, A>(beginning, blanks.0, greetings)?;
-    let b = open_shard::<J, B>(beginning, blanks.1, greetings)?;
-    let c = open_shard::<J, C>(beginning, blanks.2, greetings)?;
-    let d = open_shard::<J, D>(beginning, blanks.3, greetings)?;
-    Ok(Four { a, b, c, d })
-}
-
 impl<J: Shards> Brokers<J> {
     /// Starts the brokers, and gives the shares that lanes are cut from, and the hellos by rising shard.
     pub(crate) fn open(
@@ -152,22 +104,22 @@ impl<J: Shards> Brokers<J> {
         ensures hellos { IfOk result (λ r. r.2.items ≡ hellos_below J.run SHARD_LIMIT) }
     {
         let mut greetings = Vec::new(beginning.alloc);
-        let first = open_four::<J, 0, 1, 2, 3>(
+        let (first, first_shares) = FourBrokers::<J, 0, 1, 2, 3>::open(
             beginning,
             (blanks.zero, blanks.one, blanks.two, blanks.three),
             &mut greetings,
         )?;
-        let second = open_four::<J, 4, 5, 6, 7>(
+        let (second, second_shares) = FourBrokers::<J, 4, 5, 6, 7>::open(
             beginning,
             (blanks.four, blanks.five, blanks.six, blanks.seven),
             &mut greetings,
         )?;
-        let third = open_four::<J, 8, 9, 10, 11>(
+        let (third, third_shares) = FourBrokers::<J, 8, 9, 10, 11>::open(
             beginning,
             (blanks.eight, blanks.nine, blanks.ten, blanks.eleven),
             &mut greetings,
         )?;
-        let fourth = open_four::<J, 12, 13, 14, 15>(
+        let (fourth, fourth_shares) = FourBrokers::<J, 12, 13, 14, 15>::open(
             beginning,
             (
                 blanks.twelve,
@@ -177,57 +129,17 @@ impl<J: Shards> Brokers<J> {
             ),
             &mut greetings,
         )?;
-        let (zero, zero_share) = first.a;
-        let (one, one_share) = first.b;
-        let (two, two_share) = first.c;
-        let (three, three_share) = first.d;
-        let (four, four_share) = second.a;
-        let (five, five_share) = second.b;
-        let (six, six_share) = second.c;
-        let (seven, seven_share) = second.d;
-        let (eight, eight_share) = third.a;
-        let (nine, nine_share) = third.b;
-        let (ten, ten_share) = third.c;
-        let (eleven, eleven_share) = third.d;
-        let (twelve, twelve_share) = fourth.a;
-        let (thirteen, thirteen_share) = fourth.b;
-        let (fourteen, fourteen_share) = fourth.c;
-        let (fifteen, fifteen_share) = fourth.d;
         let brokers = Brokers {
-            zero,
-            one,
-            two,
-            three,
-            four,
-            five,
-            six,
-            seven,
-            eight,
-            nine,
-            ten,
-            eleven,
-            twelve,
-            thirteen,
-            fourteen,
-            fifteen,
+            first,
+            second,
+            third,
+            fourth,
         };
         let shares = Shares {
-            zero: zero_share,
-            one: one_share,
-            two: two_share,
-            three: three_share,
-            four: four_share,
-            five: five_share,
-            six: six_share,
-            seven: seven_share,
-            eight: eight_share,
-            nine: nine_share,
-            ten: ten_share,
-            eleven: eleven_share,
-            twelve: twelve_share,
-            thirteen: thirteen_share,
-            fourteen: fourteen_share,
-            fifteen: fifteen_share,
+            first: first_shares,
+            second: second_shares,
+            third: third_shares,
+            fourth: fourth_shares,
         };
         Ok((brokers, shares, greetings))
     }
@@ -250,22 +162,22 @@ impl<J: Shards> Brokers<J> {
     {
         let Work { shard, event } = work;
         match shard {
-            0 => self.zero.take(rt, &mut lane.zero, event),
-            1 => self.one.take(rt, &mut lane.one, event),
-            2 => self.two.take(rt, &mut lane.two, event),
-            3 => self.three.take(rt, &mut lane.three, event),
-            4 => self.four.take(rt, &mut lane.four, event),
-            5 => self.five.take(rt, &mut lane.five, event),
-            6 => self.six.take(rt, &mut lane.six, event),
-            7 => self.seven.take(rt, &mut lane.seven, event),
-            8 => self.eight.take(rt, &mut lane.eight, event),
-            9 => self.nine.take(rt, &mut lane.nine, event),
-            10 => self.ten.take(rt, &mut lane.ten, event),
-            11 => self.eleven.take(rt, &mut lane.eleven, event),
-            12 => self.twelve.take(rt, &mut lane.twelve, event),
-            13 => self.thirteen.take(rt, &mut lane.thirteen, event),
-            14 => self.fourteen.take(rt, &mut lane.fourteen, event),
-            _ => self.fifteen.take(rt, &mut lane.fifteen, event),
+            0 => self.first.first.take(rt, &mut lane.first.first, event),
+            1 => self.first.second.take(rt, &mut lane.first.second, event),
+            2 => self.first.third.take(rt, &mut lane.first.third, event),
+            3 => self.first.fourth.take(rt, &mut lane.first.fourth, event),
+            4 => self.second.first.take(rt, &mut lane.second.first, event),
+            5 => self.second.second.take(rt, &mut lane.second.second, event),
+            6 => self.second.third.take(rt, &mut lane.second.third, event),
+            7 => self.second.fourth.take(rt, &mut lane.second.fourth, event),
+            8 => self.third.first.take(rt, &mut lane.third.first, event),
+            9 => self.third.second.take(rt, &mut lane.third.second, event),
+            10 => self.third.third.take(rt, &mut lane.third.third, event),
+            11 => self.third.fourth.take(rt, &mut lane.third.fourth, event),
+            12 => self.fourth.first.take(rt, &mut lane.fourth.first, event),
+            13 => self.fourth.second.take(rt, &mut lane.fourth.second, event),
+            14 => self.fourth.third.take(rt, &mut lane.fourth.third, event),
+            _ => self.fourth.fourth.take(rt, &mut lane.fourth.fourth, event),
         }
     }
 
@@ -300,58 +212,22 @@ impl<J: Shards> Brokers<J> {
         ensures gathered { IsGathered J.run lanes.items result }
     {
         let all = lanes.as_slice();
-        let (zero, zero_spare) = self.zero.compare(0, all);
-        let (one, one_spare) = self.one.compare(1, all);
-        let (two, two_spare) = self.two.compare(2, all);
-        let (three, three_spare) = self.three.compare(3, all);
-        let (four, four_spare) = self.four.compare(4, all);
-        let (five, five_spare) = self.five.compare(5, all);
-        let (six, six_spare) = self.six.compare(6, all);
-        let (seven, seven_spare) = self.seven.compare(7, all);
-        let (eight, eight_spare) = self.eight.compare(8, all);
-        let (nine, nine_spare) = self.nine.compare(9, all);
-        let (ten, ten_spare) = self.ten.compare(10, all);
-        let (eleven, eleven_spare) = self.eleven.compare(11, all);
-        let (twelve, twelve_spare) = self.twelve.compare(12, all);
-        let (thirteen, thirteen_spare) = self.thirteen.compare(13, all);
-        let (fourteen, fourteen_spare) = self.fourteen.compare(14, all);
-        let (fifteen, fifteen_spare) = self.fifteen.compare(15, all);
+        let (first, first_spares) = self.first.compare(all);
+        let (second, second_spares) = self.second.compare(all);
+        let (third, third_spares) = self.third.compare(all);
+        let (fourth, fourth_spares) = self.fourth.compare(all);
         let spares = Shares {
-            zero: zero_spare,
-            one: one_spare,
-            two: two_spare,
-            three: three_spare,
-            four: four_spare,
-            five: five_spare,
-            six: six_spare,
-            seven: seven_spare,
-            eight: eight_spare,
-            nine: nine_spare,
-            ten: ten_spare,
-            eleven: eleven_spare,
-            twelve: twelve_spare,
-            thirteen: thirteen_spare,
-            fourteen: fourteen_spare,
-            fifteen: fifteen_spare,
+            first: first_spares,
+            second: second_spares,
+            third: third_spares,
+            fourth: fourth_spares,
         };
         let shares = gather_all(spares, lanes);
         let mut gathering = gathering;
-        gathering.add::<J>(0, zero.end(shares.zero));
-        gathering.add::<J>(1, one.end(shares.one));
-        gathering.add::<J>(2, two.end(shares.two));
-        gathering.add::<J>(3, three.end(shares.three));
-        gathering.add::<J>(4, four.end(shares.four));
-        gathering.add::<J>(5, five.end(shares.five));
-        gathering.add::<J>(6, six.end(shares.six));
-        gathering.add::<J>(7, seven.end(shares.seven));
-        gathering.add::<J>(8, eight.end(shares.eight));
-        gathering.add::<J>(9, nine.end(shares.nine));
-        gathering.add::<J>(10, ten.end(shares.ten));
-        gathering.add::<J>(11, eleven.end(shares.eleven));
-        gathering.add::<J>(12, twelve.end(shares.twelve));
-        gathering.add::<J>(13, thirteen.end(shares.thirteen));
-        gathering.add::<J>(14, fourteen.end(shares.fourteen));
-        gathering.add::<J>(15, fifteen.end(shares.fifteen));
+        first.end(shares.first, &mut gathering);
+        second.end(shares.second, &mut gathering);
+        third.end(shares.third, &mut gathering);
+        fourth.end(shares.fourth, &mut gathering);
         gathering
     }
 }

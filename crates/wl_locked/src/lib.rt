@@ -6,6 +6,7 @@ mod answering;
 pub mod book;
 mod brokers;
 pub mod event;
+mod fours;
 mod gathering;
 pub mod lane;
 pub mod locked;

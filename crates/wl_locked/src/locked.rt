@@ -28,6 +28,23 @@ pub struct LockedBroker<J: Generation> {
     alloc: Global,
 }
 
+/// Cuts the lanes from what is left of the ledger.
+fn cut_lanes<J: Generation>(
+    alloc: Global,
+    rest: Share<J>,
+    lanes: u16,
+) -> Result<Vec<Lane<J>>, AllocError>
+    requires { (rest.parts ≡ lanes) × (rest.amount ≡ 0) }
+    ensures { IfOk result (λ made. made.items ≡ replicate lanes []) }
+{
+    let mut rest = rest;
+    let mut made = Vec::with_capacity(alloc, lanes as usize)?;
+    for _i in 0..lanes {
+        made.push(Lane::new(alloc, rest.split_off(1, 0)))?;
+    }
+    Ok(made)
+}
+
 impl<J: Generation> LockedBroker<J> {
     /// Starts a generation, of at most so many steps, with its lanes, and greets each listed tab.
     pub fn new(
@@ -47,11 +64,14 @@ impl<J: Generation> LockedBroker<J> {
         ensures lanes { IfOk result (λ r. r.1.items ≡ replicate lanes []) }
         ensures hellos { IfOk result (λ r. r.2 ≡ hellos generation list.now) }
     {
-        let (locked, mut rest, hellos) = LockedBroker::open(alloc, blank, generation, list, limit)?;
-        let mut made = Vec::with_capacity(alloc, lanes as usize)?;
-        for _i in 0..lanes {
-            made.push(Lane::new(alloc, rest.split_off(1, 0)))?;
-        }
+        let (locked, rest, hellos) = LockedBroker::open(alloc, blank, generation, list, limit)?;
+        let made = match cut_lanes(alloc, rest, lanes) {
+            Ok(made) => made,
+            Err(refused) => {
+                drop((locked, hellos));
+                return Err(refused);
+            }
+        };
         Ok((locked, made, hellos))
     }
 
@@ -115,6 +135,7 @@ impl<J: Generation> LockedBroker<J> {
     {
         self.book.into_inner().close(lanes)
     }
+
     /// Compares the history with the receipts of a shard, and gives back the spare share.
     pub(crate) fn compare<L: Kept>(self, shard: u16, lanes: &[L]) -> (Ending<J>, Share<J>)
         requires { shard < SHARD_LIMIT }

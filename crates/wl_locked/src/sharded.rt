@@ -13,7 +13,7 @@ use crate::brokers::{Beginning, Brokers};
 use crate::event::Reply;
 use crate::gathering::Gathering;
 use crate::receipt::{CloseFault, History, NotStepped, Receipt};
-use crate::shard_lane::ShardLane;
+use crate::shard_lane::{ShardLane, Shares};
 use crate::shards::{Blanks, Shards};
 use crate::work::Work;
 use std::alloc::{AllocError, Global};
@@ -40,6 +40,24 @@ impl<J: Shards> Model for Sharded<J> {
     ghost view = { λ s. s.shards };
 
     ghost invariant = { λ s. (s.shards ≡ J.run.shards) × (s.shards ≤ SHARD_LIMIT) × (s.room.items ≡ []) × (s.shards ≤ vec_capacity s.room) };
+}
+
+/// Cuts the lanes from the shares of all shards.
+fn cut_lanes<J: Shards>(
+    alloc: Global,
+    shares: Shares<J>,
+    lanes: u16,
+) -> Result<Vec<ShardLane<J>>, AllocError>
+    requires parts { shares.0 ≡ lanes }
+    requires amounts { shares.1 ≡ replicate SHARD_LIMIT 0 }
+    ensures { IfOk result (λ made. made.items ≡ replicate lanes (replicate SHARD_LIMIT [])) }
+{
+    let mut shares = shares;
+    let mut made = Vec::with_capacity(alloc, lanes as usize)?;
+    for _i in 0..lanes {
+        made.push(shares.cut(alloc))?;
+    }
+    Ok(made)
 }
 
 impl<J: Shards> Sharded<J> {
@@ -76,12 +94,15 @@ impl<J: Shards> Sharded<J> {
             shards,
             limit,
         };
-        let (brokers, mut shares, greetings) = Brokers::open(&beginning, blanks)?;
-        let mut made = Vec::with_capacity(alloc, lanes as usize)?;
-        for _i in 0..lanes {
-            made.push(shares.cut(alloc))?;
-        }
         let room = Vec::with_capacity(alloc, shards as usize)?;
+        let (brokers, shares, greetings) = Brokers::open(&beginning, blanks)?;
+        let made = match cut_lanes(alloc, shares, lanes) {
+            Ok(made) => made,
+            Err(refused) => {
+                drop((brokers, greetings));
+                return Err(refused);
+            }
+        };
         let sharded = Sharded {
             brokers,
             shards,

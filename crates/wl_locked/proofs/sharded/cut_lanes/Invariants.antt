@@ -1,6 +1,6 @@
 use Rattle.std.proofs.Common.{◌≡◌, ◌+◌, [], replicate}
 use Rattle.wl_locked.specs.declared.shards.TheConstants.{SHARD_LIMIT}
-use Rattle.wl_locked.proofs.sharded.Sharded.new.Given as goal
+use Rattle.wl_locked.proofs.sharded.cut_lanes.Given as goal
 
 abbrev pub invariant-loop-i : goal.invariant-loop-i
 invariant-loop-i g l =

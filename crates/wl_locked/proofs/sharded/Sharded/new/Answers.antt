@@ -1,12 +1,8 @@
-use Rattle.std.proofs.Common.{◌∙◌, ap, arith, replicate, []}
+use Rattle.std.proofs.Common.{◌∙◌, ap, arith}
 use Rattle.wl_locked.specs.declared.shards.TheConstants.{SHARD_LIMIT}
 use Rattle.wl_locked.specs.Sharding.{Run, hellos_below}
 use Rattle.wl_locked.proofs.Greeting.{no_more_hellos}
 use Rattle.wl_locked.proofs.sharded.Sharded.new.Goals as goal
-
-pub returns-clause-lanes : goal.returns-clause-lanes
-returns-clause-lanes g c =
-    c.loop-i.invariant.2 ∙ ap (λ n. replicate n (replicate SHARD_LIMIT [])) (omega (arith, c.loop-i-test.false, c.loop-i.auto._i-end))
 
 pub returns-clause-hellos : goal.returns-clause-hellos
 returns-clause-hellos g c =
