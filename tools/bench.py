@@ -27,10 +27,13 @@ The same loops run over a `Mutex` in the same runs. Prints how many a second the
 ratio to that of the loop over the mutex, the middle one of the runs: below 1 is faster than the mutex.
 
 Lanes: 1, 2 and 4 lanes, each on a thread of its own, step a broker of 1, 2 and 4 shards, each behind a lock of its own. Each lane
-has requests and releases of a tab that is alone in its partition. A broker that no other thread has takes the events of one lane.
-Prints how many steps a second there were, of all lanes together, the best of the runs, and that rate as a ratio to the rate of
-one lane on one shard, the middle one of the runs.
-Where the broker alone has a ratio of 2, a step of a lane takes twice as long as one without lock, history and receipts.
+has requests and releases of a tab that is alone in its partition. A broker that no other thread has takes the events of one lane
+(`alone`), and a locked broker with one lane takes them by direct calls (`locked`), without intake, gate and outlet. Prints how
+many steps a second there were, of all lanes together, the best of the runs, and that rate as a ratio to the rate of one lane on
+one shard, the middle one of the runs.
+Where the broker alone has a ratio of 2, a step of a lane takes twice as long as one without lock, history and receipts; a locked
+step takes as many times as long as the rate of `alone` is that of `locked`. All of it is done again with an allocator that asks
+for huge pages, since what a step stores is memory that is touched for the first time.
 
 Processes: a kernel, its broker with two lanes, and tabs, each of which asks for an exclusive lock, waits for it and gives it up,
 2,000 times: one tab; four tabs of one origin with a name each, and with one name for all; sixteen tabs of four origins with a
@@ -308,21 +311,26 @@ def shared(program):
 # ---- a broker behind its lock
 
 
+# What has the allocator ask for huge pages, where the system grants them to whoever asks.
+HUGE_PAGES = {"GLIBC_TUNABLES": "glibc.malloc.hugetlb=1"}
+
+
 def locked(program):
-    rates, ratios = {}, {}
-    for _ in range(RUNS):
-        done = subprocess.run([program, "time"], stdout=subprocess.PIPE, check=True)
-        run = {}
-        for line in done.stdout.decode().splitlines():
-            what, lanes, shards, steps, taken = line.split()
-            run[what, lanes, shards] = int(steps) / int(taken) * 1e9
-        for key, rate in run.items():
-            rates.setdefault(key, []).append(rate)
-            ratios.setdefault(key, []).append(rate / run["lanes", "1", "1"])
-    for key, some in rates.items():
-        what, lanes, shards = key
-        ratio = statistics.median(ratios[key])
-        print(f"locked: {what} {lanes} on {shards} {max(some) / 1e6:8.3f} million a second  ratio to one lane {ratio:5.2f}")
+    for title, more in (("locked", {}), ("locked, huge pages", HUGE_PAGES)):
+        rates, ratios = {}, {}
+        for _ in range(RUNS):
+            done = subprocess.run([program, "time"], stdout=subprocess.PIPE, check=True, env={**os.environ, **more})
+            run = {}
+            for line in done.stdout.decode().splitlines():
+                what, lanes, shards, steps, taken = line.split()
+                run[what, lanes, shards] = int(steps) / int(taken) * 1e9
+            for key, rate in run.items():
+                rates.setdefault(key, []).append(rate)
+                ratios.setdefault(key, []).append(rate / run["lanes", "1", "1"])
+        for key, some in rates.items():
+            what, lanes, shards = key
+            ratio = statistics.median(ratios[key])
+            print(f"{title}: {what} {lanes} on {shards} {max(some) / 1e6:8.3f} million a second  ratio to one lane {ratio:5.2f}")
 
 
 # ---- the processes

@@ -1,10 +1,10 @@
 //! Numbers drawn from a board, and from a counter under a mutex.
 
-ghost use Rattle.std.specs.Prelude.{◌≤◌};
+ghost use Rattle.std.specs.Prelude.{◌≤◌, All};
 ghost use Rattle.wl_board.specs.Calls.{IsOf};
 
-use crate::race::{Outcome, Part, Setting, run};
-use std::alloc::Global;
+use crate::race::{Outcome, Part, Setting, add, board_of, run};
+use std::alloc::{AllocError, Global};
 use std::io;
 use std::sync::{Mutex, Wait};
 use std::thread::Threads;
@@ -66,6 +66,42 @@ impl<'a> Part for Counting<'a> {
     }
 }
 
+/// Threads that draw from a board, one for each seat.
+fn drawers<'a>(
+    alloc: Global,
+    board: &'a Board,
+    seats: Vec<Seat>,
+    left: u16,
+) -> Result<Vec<Drawer<'a>>, AllocError>
+    requires { All (λ s. IsOf s board.now) seats.items }
+{
+    let mut drawers = Vec::new(alloc);
+    for seat in seats {
+        let drawer = Drawer {
+            board,
+            seat,
+            left,
+            drawn: 0,
+        };
+        add(&mut drawers, drawer)?;
+    }
+    Ok(drawers)
+}
+
+/// Draws all numbers of a board.
+fn from_one_board<R: Threads + Wait + Clock + Sync>(
+    rt: &R,
+    alloc: Global,
+    threads: u16,
+    draws: u16,
+) -> io::Result<Outcome>
+    requires { (1 ≤ threads) × (threads ≤ 16) }
+{
+    let (board, seats) = board_of(alloc, draws, threads)?;
+    let mut parts = drawers(alloc, &board, seats, draws / threads)?;
+    run(rt, parts.as_mut_slice())
+}
+
 /// Draws all numbers of each board.
 pub(crate) fn from_board<R: Threads + Wait + Clock + Sync>(
     rt: &R,
@@ -77,20 +113,7 @@ pub(crate) fn from_board<R: Threads + Wait + Clock + Sync>(
 {
     let mut all = Outcome::nothing();
     for _ in 0..setting.boards {
-        let Ok((board, seats)) = Board::new(alloc, setting.draws, threads) else {
-            return Err(io::Error::from(io::ErrorKind::OutOfMemory));
-        };
-        let shared = &board;
-        let mut parts = Vec::new(alloc);
-        for seat in seats {
-            parts.push(Drawer {
-                board: shared,
-                seat,
-                left: setting.draws / threads,
-                drawn: 0,
-            })?;
-        }
-        all = all.and(run(rt, parts.as_mut_slice())?);
+        all = all.and(from_one_board(rt, alloc, threads, setting.draws)?);
     }
     Ok(all)
 }
@@ -109,12 +132,13 @@ pub(crate) fn from_counter<R: Threads + Wait + Clock + Sync>(
         let counter = Mutex::new(0u16);
         let mut parts = Vec::new(alloc);
         for _ in 0..threads {
-            parts.push(Counting {
+            let part = Counting {
                 counter: &counter,
                 tabs: setting.draws,
                 left: setting.draws / threads,
                 drawn: 0,
-            })?;
+            };
+            add(&mut parts, part)?;
         }
         all = all.and(run(rt, parts.as_mut_slice())?);
     }

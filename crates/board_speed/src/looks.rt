@@ -1,10 +1,10 @@
 //! Looks at a tab on a board, and in words under a mutex.
 
-ghost use Rattle.std.specs.Prelude.{◌≤◌};
+ghost use Rattle.std.specs.Prelude.{◌≤◌, All};
 ghost use Rattle.wl_board.specs.Calls.{IsOf};
 
-use crate::race::{Outcome, Part, Setting, run};
-use std::alloc::Global;
+use crate::race::{Outcome, Part, Setting, add, board_of, run};
+use std::alloc::{AllocError, Global};
 use std::io;
 use std::sync::{Mutex, Wait};
 use std::thread::Threads;
@@ -70,6 +70,40 @@ impl<'a> Part for Locking<'a> {
     }
 }
 
+/// Watchers of a board, one for each seat.
+fn watchers<'a>(
+    alloc: Global,
+    board: &'a Board,
+    seats: Vec<Seat>,
+    left: u32,
+) -> Result<Vec<Watcher<'a>>, AllocError>
+    requires seats { All (λ s. IsOf s board.now) seats.items }
+    requires tabs { 2 ≤ board.now.tabs }
+{
+    let mut watchers = Vec::new(alloc);
+    for seat in seats {
+        let watcher = Watcher {
+            board,
+            seat,
+            left,
+            dead: 0,
+        };
+        add(&mut watchers, watcher)?;
+    }
+    Ok(watchers)
+}
+
+/// Marks the tab dead, by the last of these seats, which it takes.
+fn kill(board: &Board, seats: &mut Vec<Seat>)
+    requires seats { All (λ s. IsOf s board.now) seats.old.items }
+    requires tabs { 2 ≤ board.now.tabs }
+    ensures { All (λ s. IsOf s board.now) seats.new.items }
+{
+    if let Some(mut seat) = seats.pop() {
+        board.mark_dead(&mut seat, TAB);
+    }
+}
+
 /// Looks at a dead tab.
 pub(crate) fn at_board<R: Threads + Wait + Clock + Sync>(
     rt: &R,
@@ -79,22 +113,10 @@ pub(crate) fn at_board<R: Threads + Wait + Clock + Sync>(
 ) -> io::Result<Outcome>
     requires { (1 ≤ threads) × (threads ≤ 15) }
 {
-    let Ok((board, mut seats)) = Board::new(alloc, TABS, threads + 1) else {
-        return Err(io::Error::from(io::ErrorKind::OutOfMemory));
-    };
-    if let Some(mut seat) = seats.pop() {
-        board.mark_dead(&mut seat, TAB);
-    }
-    let shared = &board;
-    let mut parts = Vec::new(alloc);
-    for seat in seats {
-        parts.push(Watcher {
-            board: shared,
-            seat,
-            left: setting.looks / u32::from(threads),
-            dead: 0,
-        })?;
-    }
+    let (board, mut seats) = board_of(alloc, TABS, threads + 1)?;
+    kill(&board, &mut seats);
+    let left = setting.looks / u32::from(threads);
+    let mut parts = watchers(alloc, &board, seats, left)?;
     run(rt, parts.as_mut_slice())
 }
 
@@ -110,11 +132,12 @@ pub(crate) fn at_words<R: Threads + Wait + Clock + Sync>(
     let lives = Mutex::new([Life::None, Life::Dead, Life::None]);
     let mut parts = Vec::new(alloc);
     for _ in 0..threads {
-        parts.push(Locking {
+        let part = Locking {
             lives: &lives,
             left: setting.looks / u32::from(threads),
             dead: 0,
-        })?;
+        };
+        add(&mut parts, part)?;
     }
     run(rt, parts.as_mut_slice())
 }

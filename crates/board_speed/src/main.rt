@@ -2,13 +2,19 @@
 //! prints nanoseconds; without it, it makes small runs and prints what they counted, the same each time.
 #![tactic(auto)]
 
+ghost use Rattle.std.specs.Prelude.{◌≤◌};
+
 mod draws;
 mod looks;
 mod parcels;
 mod race;
 
 use race::{Outcome, Setting};
+use std::alloc::Global;
 use std::io;
+use std::sync::Wait;
+use std::thread::Threads;
+use std::time::Clock;
 
 /// How many threads draw and look.
 const THREADS: [u16; 3] = [1, 2, 4];
@@ -33,24 +39,72 @@ const LARGE: Setting = Setting {
 };
 
 fn main(rt: HostRuntime) -> io::Result<()> {
-    let is_timed = std::env::args(&rt)?.nth(1).is_some();
+    let is_timed = std::env::args(&rt)?.len() > 1;
+    run_all(&rt, rt.alloc(), is_timed)
+}
+
+/// Draws, looks and puts, with each number of threads.
+fn run_all<R: Threads + Wait + Clock + Sync + Print>(
+    rt: &R,
+    alloc: Global,
+    is_timed: bool,
+) -> io::Result<()> {
     let setting = if is_timed { LARGE } else { SMALL };
     for threads in THREADS {
-        let board = draws::from_board(&rt, rt.alloc(), threads, &setting)?;
-        let mutex = draws::from_counter(&rt, rt.alloc(), threads, &setting)?;
-        tell(&rt, "draws", threads, is_timed, board, mutex)?;
+        draw(rt, alloc, threads, is_timed, &setting)?;
     }
     for threads in THREADS {
-        let board = looks::at_board(&rt, rt.alloc(), threads, &setting)?;
-        let mutex = looks::at_words(&rt, rt.alloc(), threads, &setting)?;
-        tell(&rt, "looks", threads, is_timed, board, mutex)?;
+        look(rt, alloc, threads, is_timed, &setting)?;
     }
     for putters in PUTTERS {
-        let outbox = parcels::through_outbox(&rt, rt.alloc(), putters, &setting)?;
-        let mutex = parcels::through_queue(&rt, rt.alloc(), putters, &setting)?;
-        tell(&rt, "parcels", putters, is_timed, outbox, mutex)?;
+        put(rt, alloc, putters, is_timed, &setting)?;
     }
     Ok(())
+}
+
+/// Draws from boards and from counters, and prints how that went.
+fn draw<R: Threads + Wait + Clock + Sync + Print>(
+    rt: &R,
+    alloc: Global,
+    threads: u16,
+    is_timed: bool,
+    setting: &Setting,
+) -> io::Result<()>
+    requires { (1 ≤ threads) × (threads ≤ 4) }
+{
+    let board = draws::from_board(rt, alloc, threads, setting)?;
+    let mutex = draws::from_counter(rt, alloc, threads, setting)?;
+    tell(rt, "draws", threads, is_timed, board, mutex)
+}
+
+/// Looks at a board and at words, and prints how that went.
+fn look<R: Threads + Wait + Clock + Sync + Print>(
+    rt: &R,
+    alloc: Global,
+    threads: u16,
+    is_timed: bool,
+    setting: &Setting,
+) -> io::Result<()>
+    requires { (1 ≤ threads) × (threads ≤ 4) }
+{
+    let board = looks::at_board(rt, alloc, threads, setting)?;
+    let mutex = looks::at_words(rt, alloc, threads, setting)?;
+    tell(rt, "looks", threads, is_timed, board, mutex)
+}
+
+/// Has parcels go through an outbox and a queue, and prints how that went.
+fn put<R: Threads + Wait + Clock + Sync + Print>(
+    rt: &R,
+    alloc: Global,
+    putters: u16,
+    is_timed: bool,
+    setting: &Setting,
+) -> io::Result<()>
+    requires { (1 ≤ putters) × (putters ≤ 4) }
+{
+    let outbox = parcels::through_outbox(rt, alloc, putters, setting)?;
+    let mutex = parcels::through_queue(rt, alloc, putters, setting)?;
+    tell(rt, "parcels", putters, is_timed, outbox, mutex)
 }
 
 /// Prints a line of two races: their times or their counts.

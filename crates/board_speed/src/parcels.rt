@@ -1,17 +1,17 @@
 //! Parcels through an outbox, and through a queue under a mutex.
 
-ghost use Rattle.std.specs.Prelude.{◌≡◌, ◌≤◌, true, false};
+ghost use Rattle.std.specs.Prelude.{◌≡◌, ◌≤◌, true, false, All, IfOk};
 ghost use Rattle.wl_outbox.specs.Passes.{IsOf, takes};
 
-use crate::race::{Outcome, Part, Setting, run};
-use std::alloc::Global;
+use crate::race::{Outcome, Part, Setting, add, run};
+use std::alloc::{AllocError, Global};
 use std::collections::VecDeque;
 use std::sync::{Mutex, Wait};
 use std::thread::Threads;
 use std::time::Clock;
 use std::{io, thread};
 use wl_grammar::{Frame, Hello};
-use wl_outbox::{Full, Outbox, Parcel, Pass};
+use wl_outbox::{CrossPartition, Outbox, Parcel, Pass};
 
 /// Of the tab that the parcels are for.
 const PARTITION: u16 = 1;
@@ -33,27 +33,40 @@ struct Putter<'a> {
 }
 
 impl<'a> Putter<'a> {
-    fn new(outbox: &'a Outbox, pass: Pass, left: u32) -> Putter<'a>
-        requires pass { IsOf pass outbox.now }
-        requires puts { takes pass ≡ false }
-        requires tab { (outbox.now.partition ≡ 1) × (outbox.now.tab ≡ 2) }
-    {
-        Putter { outbox, pass, left }
-    }
-
     /// Puts a parcel, and waits for room.
     fn put<R: Wait>(&mut self, rt: &R, generation: u32) {
         for _ in rt.forever() {
-            let hello = Frame::Hello(Hello { generation });
-            let Ok(parcel) = Parcel::new(PARTITION, PARTITION, TAB, hello) else {
+            let Ok(parcel) = parcel_of(generation) else {
                 return;
             };
-            match self.outbox.put(rt, &mut self.pass, parcel) {
-                Ok(()) => return,
-                Err(Full(_back)) => thread::yield_now(),
+            if is_done(self.outbox.put(rt, &mut self.pass, parcel)) {
+                return;
             }
+            thread::yield_now();
         }
     }
+}
+
+/// A parcel for the tab, whose hello is of this generation.
+fn parcel_of(generation: u32) -> Result<Parcel, CrossPartition>
+    ensures { IfOk result (λ p. (p.partition ≡ 1) × (p.tab ≡ 2)) }
+{
+    Parcel::new(
+        PARTITION,
+        PARTITION,
+        TAB,
+        Frame::Hello(Hello { generation }),
+    )
+}
+
+/// Whether what was asked was done; what a refusal gives back is let go of.
+fn is_done<E: Drop>(done: Result<(), E>) -> bool {
+    done.is_ok()
+}
+
+/// Whether there was something; it is let go of.
+fn is_found<T: Drop>(found: Option<T>) -> bool {
+    found.is_some()
 }
 
 /// The thread that takes from an outbox.
@@ -71,7 +84,7 @@ impl<'a> Taker<'a> {
     /// Takes a parcel, and waits for one.
     fn take<R: Wait>(&mut self, rt: &R) {
         for _ in rt.forever() {
-            if self.outbox.take(rt, &mut self.pass).is_some() {
+            if is_found(self.outbox.take(rt, &mut self.pass)) {
                 self.taken = self.taken.saturating_add(1);
                 return;
             }
@@ -111,6 +124,39 @@ impl<'a> Part for AtOutbox<'a> {
     }
 }
 
+/// The threads at an outbox: the one that takes, and one that puts for each of these passes.
+fn threads_at<'a>(
+    alloc: Global,
+    passes: Vec<Pass>,
+    left: u32,
+    taker: Taker<'a>,
+) -> Result<Vec<AtOutbox<'a>>, AllocError>
+    requires passes { All (λ p. IsOf p taker.outbox.now × (takes p ≡ false)) passes.items }
+    requires tab { (taker.outbox.now.partition ≡ 1) × (taker.outbox.now.tab ≡ 2) }
+{
+    let outbox = taker.outbox;
+    let mut threads = Vec::new(alloc);
+    add(&mut threads, AtOutbox::Takes(taker))?;
+    for pass in passes {
+        let putter = AtOutbox::Puts(Putter { outbox, pass, left });
+        add(&mut threads, putter)?;
+    }
+    Ok(threads)
+}
+
+/// An outbox of the tab, the pass that takes from it, and so many that put into it.
+fn outbox_of(alloc: Global, putters: u16) -> io::Result<(Outbox, Pass, Vec<Pass>)>
+    requires { (1 ≤ putters) × (putters ≤ 16) }
+    ensures tab { IfOk result (λ r. (r.0.partition ≡ 1) × (r.0.tab ≡ 2)) }
+    ensures taker { IfOk result (λ r. IsOf r.1 r.0 × (takes r.1 ≡ true)) }
+    ensures putters { IfOk result (λ r. All (λ p. IsOf p r.0 × (takes p ≡ false)) r.2.items) }
+{
+    match Outbox::new(alloc, PARTITION, TAB, putters) {
+        Ok(made) => Ok(made),
+        Err(_) => Err(io::Error::from(io::ErrorKind::OutOfMemory)),
+    }
+}
+
 /// Puts and takes parcels at once.
 pub(crate) fn through_outbox<R: Threads + Wait + Clock + Sync>(
     rt: &R,
@@ -120,21 +166,15 @@ pub(crate) fn through_outbox<R: Threads + Wait + Clock + Sync>(
 ) -> io::Result<Outcome>
     requires { (1 ≤ putters) × (putters ≤ 16) }
 {
-    let Ok((outbox, taker, passes)) = Outbox::new(alloc, PARTITION, TAB, putters) else {
-        return Err(io::Error::from(io::ErrorKind::OutOfMemory));
-    };
+    let (outbox, pass, passes) = outbox_of(alloc, putters)?;
     let each = setting.parcels / u32::from(putters);
-    let shared = &outbox;
-    let mut parts = Vec::new(alloc);
-    for pass in passes {
-        parts.push(AtOutbox::Puts(Putter::new(shared, pass, each)))?;
-    }
-    parts.push(AtOutbox::Takes(Taker {
+    let taker = Taker {
         outbox: &outbox,
-        pass: taker,
+        pass,
         left: each.saturating_mul(u32::from(putters)),
         taken: 0,
-    }))?;
+    };
+    let mut parts = threads_at(alloc, passes, each, taker)?;
     run(rt, parts.as_mut_slice())
 }
 
@@ -151,8 +191,7 @@ impl<'a> AtQueue<'a> {
     /// Puts a parcel, and waits for room.
     fn put<R: Wait>(&self, rt: &R, generation: u32) {
         for _ in rt.forever() {
-            let hello = Frame::Hello(Hello { generation });
-            let Ok(parcel) = Parcel::new(PARTITION, PARTITION, TAB, hello) else {
+            let Ok(parcel) = parcel_of(generation) else {
                 return;
             };
             if offer(&mut self.queue.lock(rt), parcel) {
@@ -165,7 +204,7 @@ impl<'a> AtQueue<'a> {
     /// Takes a parcel, and waits for one.
     fn take<R: Wait>(&mut self, rt: &R) {
         for _ in rt.forever() {
-            if self.queue.lock(rt).pop_front().is_some() {
+            if is_found(self.queue.lock(rt).pop_front()) {
                 self.taken = self.taken.saturating_add(1);
                 return;
             }
@@ -175,8 +214,8 @@ impl<'a> AtQueue<'a> {
 }
 
 /// Puts a parcel, if there is room.
-fn offer(queue: &mut VecDeque<Parcel>, parcel: Parcel) -> bool {
-    queue.len() < CAPACITY && queue.push_back(parcel).is_ok()
+fn offer<P: Drop>(queue: &mut VecDeque<P>, parcel: P) -> bool {
+    queue.len() < CAPACITY && is_done(queue.push_back(parcel))
 }
 
 impl<'a> Part for AtQueue<'a> {
@@ -208,18 +247,20 @@ pub(crate) fn through_queue<R: Threads + Wait + Clock + Sync>(
     let each = setting.parcels / u32::from(putters);
     let mut parts = Vec::new(alloc);
     for _ in 0..putters {
-        parts.push(AtQueue {
+        let putter = AtQueue {
             queue: &queue,
             puts: true,
             left: each,
             taken: 0,
-        })?;
+        };
+        add(&mut parts, putter)?;
     }
-    parts.push(AtQueue {
+    let taker = AtQueue {
         queue: &queue,
         puts: false,
         left: each.saturating_mul(u32::from(putters)),
         taken: 0,
-    })?;
+    };
+    add(&mut parts, taker)?;
     run(rt, parts.as_mut_slice())
 }

@@ -1,9 +1,14 @@
 //! A race of several threads: each does its part, and the clock runs until the last is done.
 
+ghost use Rattle.std.specs.Prelude.{◌≡◌, ◌≤◌, All, IfOk};
+ghost use Rattle.wl_board.specs.Calls.{IsOf};
+
+use std::alloc::{AllocError, AllocFailed, Global};
 use std::sync::Wait;
 use std::thread::Threads;
 use std::time::{Clock, Instant};
 use std::{io, thread};
+use wl_board::{Board, Seat};
 
 /// How much is done.
 #[derive(Clone, Copy)]
@@ -50,6 +55,26 @@ pub trait Part {
 
     /// How much it has done.
     fn done(&self) -> u32;
+}
+
+/// A board of so many tabs, and a seat at it for each thread.
+pub(crate) fn board_of(alloc: Global, tabs: u16, threads: u16) -> io::Result<(Board, Vec<Seat>)>
+    requires { (1 ≤ threads) × (threads ≤ 16) }
+    ensures tabs { IfOk result (λ r. r.0.tabs ≡ tabs) }
+    ensures seats { IfOk result (λ r. All (λ s. IsOf s r.0) r.1.items) }
+{
+    match Board::new(alloc, tabs, threads) {
+        Ok(made) => Ok(made),
+        Err(_) => Err(io::Error::from(io::ErrorKind::OutOfMemory)),
+    }
+}
+
+/// Adds one more part, if there is memory for it.
+pub(crate) fn add<P: Drop>(parts: &mut Vec<P>, part: P) -> Result<(), AllocError> {
+    match parts.push(part) {
+        Ok(()) => Ok(()),
+        Err(AllocFailed { value: _ }) => Err(AllocError),
+    }
 }
 
 /// Runs the parts, each in a thread.

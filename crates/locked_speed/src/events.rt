@@ -1,6 +1,6 @@
 //! What the lanes are given.
 
-use std::alloc::{AllocError, Global};
+use std::alloc::{AllocError, AllocFailed, Global};
 use std::collections::VecDeque;
 use wl_grammar::{Command, Mode, Name, Operation, Report, Sequence, Stamped, Upward};
 use wl_locked::BookEvent;
@@ -13,21 +13,37 @@ const NAMES: [&str; 4] = ["a", "b", "c", "d"];
 /// A tab's report, and then so often a request of a lock that no other tab wants, and the release of it. Each tab has a
 /// partition of its own.
 pub(crate) fn of_tab(alloc: Global, tab: u16, locks: u32) -> Result<Events, AllocError> {
+    let name = NAMES[usize::from(tab) % NAMES.len()];
     let mut events = VecDeque::new(alloc);
-    events.push_back(said(tab, report(alloc)))?;
+    add(&mut events, said(tab, report(alloc)))?;
     for lock in 0..locks {
         let number = lock.wrapping_mul(2);
-        let name = NAMES[usize::from(tab) % NAMES.len()];
-        let asked = Operation::Request {
-            mode: Mode::Exclusive,
-            if_available: false,
-            name: Name::new(String::from_str(alloc, name)?),
-        };
-        events.push_back(said(tab, command(number, asked)))?;
+        let asked = request(alloc, name)?;
+        add(&mut events, said(tab, command(number, asked)))?;
         let done = Operation::Release { number };
-        events.push_back(said(tab, command(number.wrapping_add(1), done)))?;
+        add(
+            &mut events,
+            said(tab, command(number.wrapping_add(1), done)),
+        )?;
     }
     Ok(events)
+}
+
+/// Adds one more event, if there is memory for it.
+fn add<E: Drop>(events: &mut VecDeque<E>, event: E) -> Result<(), AllocError> {
+    match events.push_back(event) {
+        Ok(()) => Ok(()),
+        Err(AllocFailed { value: _ }) => Err(AllocError),
+    }
+}
+
+/// A request that waits for the lock of this name.
+fn request(alloc: Global, name: &str) -> Result<Operation, AllocError> {
+    Ok(Operation::Request {
+        mode: Mode::Exclusive,
+        if_available: false,
+        name: Name::new(String::from_str(alloc, name)?),
+    })
 }
 
 fn said(tab: u16, inner: Upward) -> BookEvent {

@@ -7,7 +7,7 @@ ghost use Rattle.wl_locked.specs.declared.shards.TheConstants.{SHARD_LIMIT};
 
 use crate::Outcome;
 use crate::events::{Events, of_tab};
-use std::alloc::{AllocError, Global};
+use std::alloc::{AllocError, AllocFailed, Global};
 use std::io;
 use std::marker::{Brand, Model, PhantomData};
 use std::sync::Wait;
@@ -45,10 +45,11 @@ impl<J: Shards> Intake for Listed<J> {
             shard: self.shard,
             event,
         };
-        match work.is_dealt(self.shards) {
-            true => Some(work),
-            false => None,
+        if work.is_dealt(self.shards) {
+            return Some(work);
         }
+        drop(work);
+        None
     }
 }
 
@@ -86,9 +87,18 @@ fn lists_of(
     let mut lists = Vec::new(alloc);
     for lane in 0..lanes {
         let tab = lane.wrapping_add(1);
-        lists.push((shard_of(shards, tab), of_tab(alloc, tab, locks)?))?;
+        let events = of_tab(alloc, tab, locks)?;
+        add(&mut lists, (shard_of(shards, tab), events))?;
     }
     Ok(lists)
+}
+
+/// Adds one more list, if there is memory for it.
+fn add<L: Drop>(lists: &mut Vec<L>, list: L) -> Result<(), AllocError> {
+    match lists.push(list) {
+        Ok(()) => Ok(()),
+        Err(AllocFailed { value: _ }) => Err(AllocError),
+    }
 }
 
 /// A job for a lane, with the events that it has, all for one shard.
@@ -181,25 +191,36 @@ fn run_named<J: Shards + Send + Sync, R: Threads + Wait + Clock + Sync>(
         ≡ record { generation = 1; listed = []; shards = shards; lanes = lanes; limit = 4294967295 } }
 {
     let lists = lists_of(alloc, lanes, shards, locks)?;
-    let (broker, made, _hellos) = Sharded::<J>::new(
-        alloc,
-        blanks,
-        1,
-        &[],
-        u32::MAX,
-        lanes,
-        shards,
-    )?;
+    let (broker, made, hellos) = Sharded::<J>::new(alloc, blanks, 1, &[], u32::MAX, lanes, shards)?;
+    drop(hellos);
     let mut jobs = jobs_of(alloc, made, shards, lists)?;
+    let nanoseconds = timed(rt, &broker, jobs.as_mut_slice())?;
+    let steps = closed(alloc, broker, jobs)?;
+    Ok(Outcome { steps, nanoseconds })
+}
+
+/// Runs the lanes, and gives how many nanoseconds that took.
+fn timed<J: Shards + Send + Sync, R: Threads + Wait + Clock + Sync>(
+    rt: &R,
+    broker: &Sharded<J>,
+    jobs: &mut [Job<J, Listed<J>, Nowhere>],
+) -> io::Result<u128> {
     if jobs.is_empty() || jobs.len() > usize::from(LANE_LIMIT) {
         return Err(io::Error::from(io::ErrorKind::Other));
     }
     let start = Instant::now(rt)?;
-    run_lanes(rt, &broker, jobs.as_mut_slice(), &Open);
-    let nanoseconds = start.elapsed(rt)?.as_nanos();
-    let Ok(histories) = broker.close(lanes_of(alloc, jobs)?) else {
-        return Err(io::Error::from(io::ErrorKind::Other));
-    };
-    let steps = steps_of(histories.as_slice());
-    Ok(Outcome { steps, nanoseconds })
+    run_lanes(rt, broker, jobs, &Open);
+    Ok(start.elapsed(rt)?.as_nanos())
+}
+
+/// Closes the broker with its lanes, and gives how many steps it has made.
+fn closed<J: Shards>(
+    alloc: Global,
+    broker: Sharded<J>,
+    jobs: Vec<Job<J, Listed<J>, Nowhere>>,
+) -> io::Result<u32> {
+    match broker.close(lanes_of(alloc, jobs)?) {
+        Ok(histories) => Ok(steps_of(histories.as_slice())),
+        Err(_) => Err(io::Error::from(io::ErrorKind::Other)),
+    }
 }

@@ -1,13 +1,14 @@
 //! Times lanes that step a broker in shards, each behind a lock of its own, beside the same events taken by a broker that no other
-//! thread has. With the argument `time` it prints nanoseconds; without it, it makes small runs and prints how many steps they made,
-//! the same each time.
+//! thread has, and by a locked broker that one thread steps. With the argument `time` it prints nanoseconds; without it, it makes
+//! small runs and prints how many steps they made, the same each time.
 #![tactic(auto)]
 
 mod events;
 mod lanes;
+mod steps;
 
 use events::Events;
-use std::alloc::Global;
+use std::alloc::{AllocError, Global};
 use std::io;
 use std::sync::Wait;
 use std::thread::Threads;
@@ -45,8 +46,9 @@ fn main(rt: HostRuntime) -> io::Result<()> {
     let alloc = rt.alloc();
     let is_timed = std::env::args(&rt)?.nth(1).is_some();
     let locks = if is_timed { MANY } else { FEW };
-    let events = events::of_tab(alloc, 1, locks)?;
-    tell(&rt, "alone", (1, 1), is_timed, alone(&rt, alloc, events)?)?;
+    tell(&rt, "alone", (1, 1), is_timed, alone(&rt, alloc, locks)?)?;
+    let locked = steps::run(&rt, alloc, locks)?;
+    tell(&rt, "locked", (1, 1), is_timed, locked)?;
     for (lanes, shards) in RUNS {
         let outcome = lanes::run(&rt, alloc, lanes, shards, locks)?;
         tell(&rt, "lanes", (lanes, shards), is_timed, outcome)?;
@@ -54,27 +56,56 @@ fn main(rt: HostRuntime) -> io::Result<()> {
     Ok(())
 }
 
-/// Has a broker that no other thread has take events.
-fn alone<R: Clock>(rt: &R, alloc: Global, events: Events) -> io::Result<Outcome> {
-    let (mut broker, _hellos) = Broker::start(alloc, 1, &[])?;
-    let mut steps = 0u32;
+/// Has a broker that no other thread has take the events of a tab.
+fn alone<R: Clock>(rt: &R, alloc: Global, locks: u32) -> io::Result<Outcome> {
+    let mut broker = started(alloc)?;
+    timed(rt, alloc, &mut broker, locks)
+}
+
+/// A broker of the first generation, without what it says at its start.
+fn started(alloc: Global) -> Result<Broker<IndexedTable>, AllocError> {
+    let (broker, hellos) = Broker::start(alloc, 1, &[])?;
+    drop(hellos);
+    Ok(broker)
+}
+
+/// Times how a broker takes the events of a tab.
+fn timed<R: Clock>(
+    rt: &R,
+    alloc: Global,
+    broker: &mut Broker<IndexedTable>,
+    locks: u32,
+) -> io::Result<Outcome> {
+    let events = events::of_tab(alloc, 1, locks)?;
     let start = Instant::now(rt)?;
-    for event in events {
-        if takes(&mut broker, &event) {
-            steps = steps.saturating_add(1);
-        }
-    }
+    let steps = steps_of(broker, events);
     Ok(Outcome {
         steps,
         nanoseconds: start.elapsed(rt)?.as_nanos(),
     })
 }
 
+/// How many of these events a broker takes.
+fn steps_of(broker: &mut Broker<IndexedTable>, events: Events) -> u32 {
+    let mut steps = 0u32;
+    for event in events {
+        if takes(broker, &event) {
+            steps = steps.saturating_add(1);
+        }
+    }
+    steps
+}
+
 fn takes(broker: &mut Broker<IndexedTable>, event: &BookEvent) -> bool {
     match event {
-        BookEvent::Take(stamped) => broker.take(stamped).is_ok(),
-        BookEvent::Dead(tab) => broker.dead(*tab).is_ok(),
+        BookEvent::Take(stamped) => is_taken(broker.take(stamped)),
+        BookEvent::Dead(tab) => is_taken(broker.dead(*tab)),
     }
+}
+
+/// Whether an event was taken; what came of it is let go of.
+pub(crate) fn is_taken<T: Drop, E: Drop>(answer: Result<T, E>) -> bool {
+    answer.is_ok()
 }
 
 /// Prints a run: its time or its count.

@@ -194,35 +194,60 @@ fn micros_since(rt: &HostRuntime, began: Instant) -> anyhow::Result<u64> {
     Ok(u64::try_from(began.elapsed(rt)?.as_micros()).unwrap_or(u64::MAX))
 }
 
-/// Fills a table with the reports of all clients, the last of which settles, and plays so many calls on it.
+/// Plays a trace with so many calls on an empty table.
 fn play<T: LockTable>(
     rt: &HostRuntime,
-    table: &mut T,
+    mut table: T,
     trace: Trace,
     calls: usize,
 ) -> anyhow::Result<Played> {
-    let alloc = rt.alloc();
-    let names = names_of(alloc, trace.names)?;
+    let names = names_of(rt.alloc(), trace.names)?;
+    play_on(rt, &mut table, trace, &names, calls)
+}
+
+/// Fills a table with the reports of all clients, the last of which settles, and plays so many calls on it.
+fn play_on<T: LockTable>(
+    rt: &HostRuntime,
+    table: &mut T,
+    trace: Trace,
+    names: &[Name],
+    calls: usize,
+) -> anyhow::Result<Played> {
     let mut dice = Dice { state: 20_261_123 };
-    let mut digest = 0;
-    let mut restore: u64 = 0;
+    let mut played = Played {
+        restore: 0,
+        calls: 0,
+        digest: 0,
+    };
     for client in 0..trace.clients {
-        let report = report_of(alloc, &mut dice, trace, client, &names)?;
-        let began = Instant::now(rt)?;
-        let granted = table.restore(client, &report, client.wrapping_add(1) == trace.clients)?;
-        restore = restore.saturating_add(micros_since(rt, began)?);
-        digest = mixed(digest, &granted);
+        restore(rt, table, &mut dice, trace, client, names, &mut played)?;
     }
     let began = Instant::now(rt)?;
     for _ in 0..calls {
-        let granted = turn(table, &mut dice, trace, &names)?;
-        digest = mixed(digest, &granted);
+        let granted = turn(table, &mut dice, trace, names)?;
+        played.digest = mixed(played.digest, &granted);
     }
-    Ok(Played {
-        restore,
-        calls: micros_since(rt, began)?,
-        digest,
-    })
+    played.calls = micros_since(rt, began)?;
+    Ok(played)
+}
+
+/// Restores what a client reports, and adds how long that took and what was granted.
+fn restore<T: LockTable>(
+    rt: &HostRuntime,
+    table: &mut T,
+    dice: &mut Dice,
+    trace: Trace,
+    client: u16,
+    names: &[Name],
+    played: &mut Played,
+) -> anyhow::Result<()> {
+    let report = report_of(rt.alloc(), dice, trace, client, names)?;
+    let began = Instant::now(rt)?;
+    let granted = table.restore(client, &report, client.wrapping_add(1) == trace.clients)?;
+    let micros = micros_since(rt, began)?;
+    played.restore = played.restore.saturating_add(micros);
+    played.digest = mixed(played.digest, &granted);
+    Ok(())
 }
 
 /// So many a second.
@@ -243,8 +268,8 @@ fn print_rates(rt: &HostRuntime, what: &str, indexed: u64, plain: u64) -> anyhow
 fn compare(rt: &HostRuntime, trace: Trace) -> anyhow::Result<u64> {
     let alloc = rt.alloc();
     let entries = (trace.clients as usize).saturating_mul(trace.entries as usize);
-    let indexed = play(rt, &mut IndexedTable::new(alloc), trace, trace.calls)?;
-    let plain = play(rt, &mut PlainTable::new(alloc), trace, trace.plain_calls)?;
+    let indexed = play(rt, IndexedTable::new(alloc), trace, trace.calls)?;
+    let plain = play(rt, PlainTable::new(alloc), trace, trace.plain_calls)?;
     let fast = rate(trace.calls, indexed.calls);
     println!(rt; "{}", trace.title)?;
     print_rates(rt, "calls", fast, rate(trace.plain_calls, plain.calls))?;
@@ -279,8 +304,8 @@ fn time(rt: &HostRuntime) -> anyhow::Result<()> {
 /// Whether both tables answer a short trace alike.
 fn agree(rt: &HostRuntime) -> anyhow::Result<bool> {
     let alloc = rt.alloc();
-    let indexed = play(rt, &mut IndexedTable::new(alloc), SHORT, SHORT.calls)?;
-    let plain = play(rt, &mut PlainTable::new(alloc), SHORT, SHORT.plain_calls)?;
+    let indexed = play(rt, IndexedTable::new(alloc), SHORT, SHORT.calls)?;
+    let plain = play(rt, PlainTable::new(alloc), SHORT, SHORT.plain_calls)?;
     Ok(indexed.digest == plain.digest)
 }
 
