@@ -10,7 +10,10 @@ parts. Prints for each count of requests the seconds from the stop on, and the t
 smallest count.
 
 Lock tables: `table_speed` plays the same random calls on the indexed table and on the plain one, and prints for each trace how
-many calls a second either makes and their ratio, and how much longer a call takes with 65,536 entries than with 64.
+many calls a second either makes and their ratio. Then it says how much longer calls take than in a table of 64 entries: the same
+calls of the same clients, beside 65,536 entries of others; and calls of any client, for any number and name of 65,536 entries.
+Beside the latter stands `bare_table.c`, a program in C whose calls touch one row, one line and one name, and look nothing up.
+Where there is no `cc` there is none.
 
 Reports: a broker behind its bytes waits for many tabs of one partition, and each reports nothing. Prints for each count of tabs
 the processor's time of a report and its ratio to that of the smallest count.
@@ -430,21 +433,21 @@ def relaying_seconds(relay, tabs, rounds):
         return seconds_between([relay, "kernel", ".", str(tabs), str(rounds)], place, b"up", b"ended", 1)
 
 
-def build_relay(place):
-    """The relay in C, or None where there is no compiler."""
+def build(place, name):
+    """A program in C of this folder, or None where there is no compiler."""
     if not shutil.which("cc"):
-        print("processes: there is no cc, so the relay and the ratios to it are left out")
+        print(f"there is no cc, so {name} and the ratios to it are left out")
         return None
-    relay = os.path.join(place, "relay")
-    source = os.path.join(os.path.dirname(os.path.abspath(__file__)), "relay.c")
-    subprocess.run(["cc", "-O2", "-pthread", "-o", relay, source], check=True)
-    return relay
+    program = os.path.join(place, name)
+    source = os.path.join(os.path.dirname(os.path.abspath(__file__)), f"{name}.c")
+    subprocess.run(["cc", "-O2", "-pthread", "-o", program, source], check=True)
+    return program
 
 
 def granting(program, rounds=ROUNDS, runs=RUNS):
     program = os.path.abspath(program)
     with tempfile.TemporaryDirectory(prefix="wlb-") as place:
-        relay = build_relay(place)
+        relay = build(place, "relay")
         for what, origins, tabs, has_names, goal in TURNOUTS:
             rates, relayed, count = [], [], origins * tabs * rounds
             for _ in range(runs):
@@ -513,7 +516,7 @@ def idle(program, seconds=IDLE_SECONDS, runs=IDLE_RUNS):
     program = os.path.abspath(program)
     waiting, paced = [], []
     with tempfile.TemporaryDirectory(prefix="wlb-") as place:
-        relay = build_relay(place)
+        relay = build(place, "relay")
         for _ in range(runs):
             waiting.append(idle_share(program, 64, seconds))
             if relay:
@@ -525,6 +528,15 @@ def idle(program, seconds=IDLE_SECONDS, runs=IDLE_RUNS):
     print(f"idle: no tabs           {idle_share(program, 0, seconds):6.3f} of a processor  goal 0")
 
 
+def locking(tables):
+    subprocess.run([tables, "time"], check=True)
+    with tempfile.TemporaryDirectory(prefix="wlb-") as place:
+        bare = build(place, "bare_table")
+        if bare:
+            few, many, ratio = subprocess.run([bare], check=True, capture_output=True, text=True).stdout.split()
+            print(f"bare table: {few} nanoseconds a call with 64 entries, {many} with 65,536: {ratio}")
+
+
 def main():
     program, tables, board, lanes = sys.argv[1:5]
     programs = [program, *sys.argv[5:6]]
@@ -533,7 +545,7 @@ def main():
     beside("reports, tabs listed ", LISTED, report_seconds, programs)
     beside("commands, waiting for another lock", WAITING, command_seconds, programs)
     beside("commands with their answers", ANSWERED, answer_seconds, programs)
-    subprocess.run([tables, "time"], check=True)
+    locking(tables)
     shared(board)
     locked(lanes)
     granting(program)

@@ -1,5 +1,5 @@
 //! Plays one trace of calls on each lock table. With the word `time` it prints how many calls a second each made; without,
-//! it plays a short trace, and says whether the two answered the same.
+//! it plays a short trace, and says whether the two answered the same, and the same where other clients have entries too.
 #![tactic(auto)]
 
 use std::alloc::{AllocError, Global};
@@ -106,9 +106,11 @@ impl Dice {
     }
 }
 
-fn names_of(alloc: Global, count: usize) -> Result<Vec<Name>, AllocError> {
+/// So many names, which are numbered from `first` on.
+fn names_of(alloc: Global, first: usize, count: usize) -> Result<Vec<Name>, AllocError> {
     let mut names = Vec::with_capacity(alloc, count)?;
-    for index in 0..count {
+    for place in 0..count {
+        let index = first.wrapping_add(place);
         names.push(Name::new(format!(in alloc; "lock/name/{index}")?))?;
     }
     Ok(names)
@@ -194,18 +196,24 @@ fn micros_since(rt: &HostRuntime, began: Instant) -> anyhow::Result<u64> {
     Ok(u64::try_from(began.elapsed(rt)?.as_micros()).unwrap_or(u64::MAX))
 }
 
-/// Plays a trace with so many calls on an empty table.
+/// Plays a trace with so many calls on an empty table, or on one with the entries of another trace, whose clients and names are
+/// others.
 fn play<T: LockTable>(
     rt: &HostRuntime,
     mut table: T,
     trace: Trace,
+    beside: Option<Trace>,
     calls: usize,
 ) -> anyhow::Result<Played> {
-    let names = names_of(rt.alloc(), trace.names)?;
+    if let Some(others) = beside {
+        let names = names_of(rt.alloc(), trace.names, others.names)?;
+        fill(rt, &mut table, others, trace.clients, &names)?;
+    }
+    let names = names_of(rt.alloc(), 0, trace.names)?;
     play_on(rt, &mut table, trace, &names, calls)
 }
 
-/// Fills a table with the reports of all clients, the last of which settles, and plays so many calls on it.
+/// Fills a table, and plays so many calls on it.
 fn play_on<T: LockTable>(
     rt: &HostRuntime,
     table: &mut T,
@@ -213,15 +221,7 @@ fn play_on<T: LockTable>(
     names: &[Name],
     calls: usize,
 ) -> anyhow::Result<Played> {
-    let mut dice = Dice { state: 20_261_123 };
-    let mut played = Played {
-        restore: 0,
-        calls: 0,
-        digest: 0,
-    };
-    for client in 0..trace.clients {
-        restore(rt, table, &mut dice, trace, client, names, &mut played)?;
-    }
+    let (mut dice, mut played) = fill(rt, table, trace, 0, names)?;
     let began = Instant::now(rt)?;
     for _ in 0..calls {
         let granted = turn(table, &mut dice, trace, names)?;
@@ -231,19 +231,46 @@ fn play_on<T: LockTable>(
     Ok(played)
 }
 
+/// Fills a table with the reports of all clients, who are numbered from `first` on. The last of them settles.
+fn fill<T: LockTable>(
+    rt: &HostRuntime,
+    table: &mut T,
+    trace: Trace,
+    first: u16,
+    names: &[Name],
+) -> anyhow::Result<(Dice, Played)> {
+    let mut dice = Dice { state: 20_261_123 };
+    let mut played = Played {
+        restore: 0,
+        calls: 0,
+        digest: 0,
+    };
+    for client in 0..trace.clients {
+        let report = report_of(rt.alloc(), &mut dice, trace, client, names)?;
+        let settles = client.wrapping_add(1) == trace.clients;
+        restore(
+            rt,
+            table,
+            first.wrapping_add(client),
+            &report,
+            settles,
+            &mut played,
+        )?;
+    }
+    Ok((dice, played))
+}
+
 /// Restores what a client reports, and adds how long that took and what was granted.
 fn restore<T: LockTable>(
     rt: &HostRuntime,
     table: &mut T,
-    dice: &mut Dice,
-    trace: Trace,
     client: u16,
-    names: &[Name],
+    report: &[Entry],
+    settles: bool,
     played: &mut Played,
 ) -> anyhow::Result<()> {
-    let report = report_of(rt.alloc(), dice, trace, client, names)?;
     let began = Instant::now(rt)?;
-    let granted = table.restore(client, &report, client.wrapping_add(1) == trace.clients)?;
+    let granted = table.restore(client, report, settles)?;
     let micros = micros_since(rt, began)?;
     played.restore = played.restore.saturating_add(micros);
     played.digest = mixed(played.digest, &granted);
@@ -264,15 +291,17 @@ fn print_rates(rt: &HostRuntime, what: &str, indexed: u64, plain: u64) -> anyhow
     Ok(())
 }
 
-/// Prints how fast each table plays a trace, and answers how many calls a second the indexed one makes.
-fn compare(rt: &HostRuntime, trace: Trace) -> anyhow::Result<u64> {
+/// Prints how fast each table plays a trace, beside the entries of another one or of none, and answers how many calls a second the
+/// indexed one makes.
+fn compare(rt: &HostRuntime, trace: Trace, beside: Option<Trace>) -> anyhow::Result<u64> {
     let alloc = rt.alloc();
     let entries = (trace.clients as usize).saturating_mul(trace.entries as usize);
-    let indexed = play(rt, IndexedTable::new(alloc), trace, trace.calls)?;
-    let plain = play(rt, PlainTable::new(alloc), trace, trace.plain_calls)?;
+    let indexed = play(rt, IndexedTable::new(alloc), trace, beside, trace.calls)?;
+    let plain_calls = beside.unwrap_or(trace).plain_calls;
+    let plain = play(rt, PlainTable::new(alloc), trace, beside, plain_calls)?;
     let fast = rate(trace.calls, indexed.calls);
-    println!(rt; "{}", trace.title)?;
-    print_rates(rt, "calls", fast, rate(trace.plain_calls, plain.calls))?;
+    print_title(rt, trace, beside)?;
+    print_rates(rt, "calls", fast, rate(plain_calls, plain.calls))?;
     print_rates(
         rt,
         "entries restored",
@@ -282,31 +311,59 @@ fn compare(rt: &HostRuntime, trace: Trace) -> anyhow::Result<u64> {
     Ok(fast)
 }
 
+fn print_title(rt: &HostRuntime, trace: Trace, beside: Option<Trace>) -> anyhow::Result<()> {
+    match beside {
+        Some(others) => println!(rt; "{}, beside {} of others", trace.title, others.title)?,
+        None => println!(rt; "{}", trace.title)?,
+    }
+    Ok(())
+}
+
 /// Times all traces.
 fn time(rt: &HostRuntime) -> anyhow::Result<()> {
-    compare(rt, CONTENDED)?;
-    compare(rt, APART)?;
-    compare(rt, MANY)?;
-    let few = compare(rt, FEW)?;
-    let restored = compare(rt, RESTORED)?;
-    let tenths = few
-        .saturating_mul(10)
-        .checked_div(restored)
-        .unwrap_or(u64::MAX);
+    compare(rt, CONTENDED, None)?;
+    compare(rt, APART, None)?;
+    compare(rt, MANY, None)?;
+    let few = compare(rt, FEW, None)?;
+    let beside = compare(rt, FEW, Some(RESTORED))?;
+    let restored = compare(rt, RESTORED, None)?;
+    print_growth(
+        rt,
+        "the same calls' time beside 65,536 entries of others",
+        few,
+        beside,
+    )?;
+    print_growth(
+        rt,
+        "the time of a call for any of 65,536 entries",
+        few,
+        restored,
+    )
+}
+
+/// Prints how much longer a call takes than with 64 entries, of how many calls a second there were then and now.
+fn print_growth(rt: &HostRuntime, what: &str, few: u64, now: u64) -> anyhow::Result<()> {
+    let tenths = few.saturating_mul(10).checked_div(now).unwrap_or(u64::MAX);
     println!(rt;
-        "a call's time with 65,536 entries, over that with 64: {}.{}",
+        "{what}, over that with 64: {}.{}",
         tenths / 10,
         tenths % 10
     )?;
     Ok(())
 }
 
-/// Whether both tables answer a short trace alike.
-fn agree(rt: &HostRuntime) -> anyhow::Result<bool> {
+/// Whether both tables answer a short trace alike, and whether both do beside the entries of others.
+fn agree(rt: &HostRuntime) -> anyhow::Result<(bool, bool)> {
     let alloc = rt.alloc();
-    let indexed = play(rt, IndexedTable::new(alloc), SHORT, SHORT.calls)?;
-    let plain = play(rt, PlainTable::new(alloc), SHORT, SHORT.plain_calls)?;
-    Ok(indexed.digest == plain.digest)
+    let calls = SHORT.calls;
+    let indexed = play(rt, IndexedTable::new(alloc), SHORT, None, calls)?.digest;
+    let plain = play(rt, PlainTable::new(alloc), SHORT, None, calls)?.digest;
+    let indexed_beside = play(rt, IndexedTable::new(alloc), SHORT, Some(SHORT), calls)?.digest;
+    let plain_beside = play(rt, PlainTable::new(alloc), SHORT, Some(SHORT), calls)?.digest;
+    Ok((
+        indexed == plain,
+        indexed == indexed_beside && plain == plain_beside,
+    ))
 }
 
 fn main(rt: HostRuntime) -> anyhow::Result<()> {
@@ -314,7 +371,8 @@ fn main(rt: HostRuntime) -> anyhow::Result<()> {
     if words.skip(1).any(|word| word.as_str() == "time") {
         return time(&rt);
     }
-    let same = agree(&rt)?;
+    let (same, same_beside) = agree(&rt)?;
     println!(rt; "both tables answer alike: {same}")?;
+    println!(rt; "and alike beside the entries of others: {same_beside}")?;
     Ok(())
 }

@@ -150,6 +150,7 @@ impl<J: Generation> Book<J> {
         ensures err { OnErr result ((self.new ≡ self.old) × (lane.new ≡ lane.old)) }
     {
         if let Err(fault) = room::for_receipt(self.is_spent(), &mut lane.receipts) {
+            // Dropped by a call, here and below: a drop at the end of a scope is proved again at each way out.
             drop((event, copied));
             return Err(fault);
         }

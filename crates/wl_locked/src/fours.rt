@@ -1,6 +1,6 @@
 //! Shards by fours: their brokers, the shares of their ledgers, and the part of a lane that stands in them.
 
-ghost use Rattle.std.specs.Prelude.{◌≡◌, ◌<◌, ◌≤◌, ◌+◌, ◌++◌, [], List, length, IfOk, OnOk};
+ghost use Rattle.std.specs.Prelude.{◌≡◌, ◌<◌, ◌+◌, ◌++◌, [], List, length, IfOk, OnOk};
 ghost use Rattle.wl_grammar.specs.Grammar.{TabsRiseFrom};
 ghost use Rattle.wl_locked.specs.Sharding.{IsEnding, IsGathered, IsRoomy, IsRun, hellos_of, opening_of, receipts_in};
 ghost use Rattle.wl_locked.specs.Closing.{IsCompared};
