@@ -2,6 +2,7 @@
 
 mod board;
 mod broker;
+mod comparing;
 mod desk;
 mod growths;
 mod lane_ends;
@@ -10,3 +11,4 @@ mod outbox;
 mod sending;
 mod shards;
 mod tab_links;
+mod turnstile;

@@ -5,6 +5,7 @@ ghost use Rattle.std.specs.Prelude.{◌≡◌, ◌≤◌};
 ghost use Rattle.wl_board.specs.Calls.{IsOf};
 ghost use Rattle.wl_board.specs.Rule.{Has};
 
+use super::comparing::same;
 use std::alloc::Global;
 use std::process::Abort;
 use std::thread;
@@ -79,20 +80,26 @@ fn draw_in_two_threads<R: Threads + Abort + Sync>(
     )
 }
 
-/// Whether a seat finds the numbers used up.
-fn finds_none(board: &Board, seat: &mut Seat) -> bool
+/// Draws no number, and compares why.
+fn draw_none(rt: &impl Abort, board: &Board, seat: &mut Seat, fault: DrawFault)
     requires { IsOf seat.old board.now }
     ensures { IsOf seat.new board.now }
 {
-    matches!(board.draw(seat), Err(DrawFault::TabsUsedUp))
+    same(rt, board.draw(seat).err(), Some(fault));
 }
 
-/// Whether these are the numbers from 1 on.
-fn are_from_one(numbers: &[u16]) -> bool {
-    numbers
-        .iter()
-        .map(|tab| u64::from(*tab))
-        .eq(1..=numbers.len() as u64)
+/// Compares numbers, in whatever order, with those from 1 to 2,000.
+fn are_all(rt: &impl Abort, numbers: &mut [u16]) {
+    numbers.sort_unstable();
+    same(rt, numbers.len(), 2_000);
+    assert!(rt; numbers.iter().copied().eq(1..=2_000));
+}
+
+/// Lists these numbers behind the others.
+fn list_all(rt: &impl Abort, numbers: &mut Vec<u16>, more: &[u16]) {
+    for tab in more {
+        list(rt, numbers, *tab);
+    }
 }
 
 #[test]
@@ -102,16 +109,12 @@ fn two_threads_draw_each_number_once(rt: HostRuntime) {
     let ((mut first, mut numbers), (mut second, more)) = draw_in_two_threads(
         &rt, alloc, &board, first, second, 1_000,
     );
-    for tab in more {
-        list(&rt, &mut numbers, tab);
-    }
-    numbers.as_mut_slice().sort_unstable();
-    assert_eq!(&rt; numbers.len(), 2_000);
-    assert!(&rt; are_from_one(numbers.as_slice()));
-    assert!(&rt; finds_none(&board, &mut first));
-    assert!(&rt; finds_none(&board, &mut second));
+    list_all(&rt, &mut numbers, more.as_slice());
+    are_all(&rt, numbers.as_mut_slice());
+    draw_none(&rt, &board, &mut first, DrawFault::TabsUsedUp);
+    draw_none(&rt, &board, &mut second, DrawFault::TabsUsedUp);
     // From then on without a step.
-    assert!(&rt; finds_none(&board, &mut first));
+    draw_none(&rt, &board, &mut first, DrawFault::TabsUsedUp);
 }
 
 /// Draws a number, which is this one.
@@ -122,7 +125,7 @@ fn draw(rt: &impl Abort, board: &Board, seat: &mut Seat, tab: u16) -> Ticket
     ensures unborn { ¬ Has result seat.new.view.born }
 {
     let ticket = board.draw(seat).expect(rt, "a number");
-    assert_eq!(rt; ticket.tab(), tab);
+    same(rt, ticket.tab(), tab);
     ticket
 }
 
@@ -133,7 +136,7 @@ fn bear(rt: &impl Abort, board: &Board, seat: &mut Seat, ticket: Ticket, birth: 
     requires unborn { ¬ Has ticket seat.old.view.born }
     ensures { IsOf seat.new board.now }
 {
-    assert_eq!(rt; board.birth(seat, ticket), birth);
+    same(rt, board.birth(seat, ticket), birth);
 }
 
 /// Marks a tab dead.
@@ -151,7 +154,7 @@ fn look(rt: &impl Abort, board: &Board, seat: &mut Seat, tab: u16, life: Life)
     requires tab { (1 ≤ tab) × (tab ≤ board.now.tabs) }
     ensures { IsOf seat.new board.now }
 {
-    assert_eq!(rt; board.look(seat, tab), life);
+    same(rt, board.look(seat, tab), life);
 }
 
 /// Reads the generation, and compares it.
@@ -159,7 +162,7 @@ fn read_generation(rt: &impl Abort, board: &Board, seat: &mut Seat, generation: 
     requires { IsOf seat.old board.now }
     ensures { IsOf seat.new board.now }
 {
-    assert_eq!(rt; board.generation(seat), generation);
+    same(rt, board.generation(seat), generation);
 }
 
 /// Bumps the generation, and compares the answer.
@@ -167,12 +170,13 @@ fn bump(rt: &impl Abort, board: &Board, seat: &mut Seat, answer: Result<u64, Sea
     requires { IsOf seat.old board.now }
     ensures { IsOf seat.new board.now }
 {
-    assert_eq!(rt; board.bump(seat), answer);
+    same(rt, board.bump(seat), answer);
 }
 
 #[test]
 fn a_tab_marked_dead_is_not_born(rt: HostRuntime) {
-    let (board, mut a, mut b) = two_seats(&rt, rt.alloc(), 3);
+    let alloc = rt.alloc();
+    let (board, mut a, mut b) = two_seats(&rt, alloc, 3);
     let ticket = draw(&rt, &board, &mut a, 1);
     bury(&board, &mut b, 1);
     bear(&rt, &board, &mut a, ticket, Birth::WasDead);
@@ -181,7 +185,8 @@ fn a_tab_marked_dead_is_not_born(rt: HostRuntime) {
 
 #[test]
 fn a_born_tab_lives_for_the_other_seat(rt: HostRuntime) {
-    let (board, mut a, mut b) = two_seats(&rt, rt.alloc(), 3);
+    let alloc = rt.alloc();
+    let (board, mut a, mut b) = two_seats(&rt, alloc, 3);
     let _first = draw(&rt, &board, &mut b, 1);
     read_generation(&rt, &board, &mut a, 1);
     let ticket = draw(&rt, &board, &mut a, 2);
@@ -200,10 +205,10 @@ fn a_seat_that_drew_all_is_spent(rt: HostRuntime) {
     let alloc = rt.alloc();
     let (board, a, mut b) = two_seats(&rt, alloc, 65_535);
     let (mut a, numbers) = draw_all(&rt, alloc, &board, a, 65_535);
-    assert_eq!(&rt; numbers.len(), 65_535);
-    assert!(&rt; matches!(board.draw(&mut a), Err(DrawFault::SeatSpent)));
-    assert!(&rt; finds_none(&board, &mut b));
-    assert!(&rt; finds_none(&board, &mut b));
+    same(&rt, numbers.len(), 65_535);
+    draw_none(&rt, &board, &mut a, DrawFault::SeatSpent);
+    draw_none(&rt, &board, &mut b, DrawFault::TabsUsedUp);
+    draw_none(&rt, &board, &mut b, DrawFault::TabsUsedUp);
 }
 
 /// Makes all the bumps that a seat makes.
@@ -218,7 +223,8 @@ fn bump_all(rt: &impl Abort, board: &Board, seat: &mut Seat)
 
 #[test]
 fn a_seat_that_made_all_bumps_is_spent(rt: HostRuntime) {
-    let (board, mut a, mut b) = two_seats(&rt, rt.alloc(), 1);
+    let alloc = rt.alloc();
+    let (board, mut a, mut b) = two_seats(&rt, alloc, 1);
     bump_all(&rt, &board, &mut a);
     bump(&rt, &board, &mut a, Err(SeatSpent));
     bump(&rt, &board, &mut b, Ok(65_537));

@@ -3,6 +3,7 @@
 
 ghost use Rattle.wl_grammar.specs.Grammar.{TabsRiseFrom};
 
+use crate::tests::comparing::same;
 use crate::tests::desk::rows::{DEATH_HANDS_OVER, HANDOVER, RESTART_WHILE_HELD, Row, SNAPSHOT};
 use crate::tests::desk::{append, bytes};
 use std::alloc::{AllocError, Global};
@@ -60,13 +61,22 @@ fn start(
     }
 }
 
+/// What a broker answers to a tab's message.
+fn take_once(broker: &mut TestedBroker, stamped: &Stamped) -> Result<Outs, Dropped> {
+    broker.take(stamped)
+}
+
+/// The same; where memory is refused, once more.
+fn take_again(broker: &mut TestedBroker, stamped: &Stamped) -> Result<Outs, Dropped> {
+    match take_once(broker, stamped) {
+        Err(Dropped::Memory) => take_once(broker, stamped),
+        answer => answer,
+    }
+}
+
 /// What is answered to a tab's message: nothing where it is dropped, for a cause other than memory.
 fn take(rt: &impl Abort, alloc: Global, broker: &mut TestedBroker, stamped: &Stamped) -> Outs {
-    let answer = match broker.take(stamped) {
-        Err(Dropped::Memory) => broker.take(stamped),
-        answer => answer,
-    };
-    match answer {
+    match take_again(broker, stamped) {
         Ok(outs) => outs,
         Err(dropped) => {
             assert!(rt; dropped != Dropped::Memory);
@@ -92,14 +102,20 @@ fn answer(rt: &impl Abort, alloc: Global, broker: &mut TestedBroker, frame: &Fra
     }
 }
 
+/// The encoding of one of the broker's frames; where memory is refused, once more.
+fn encoding(rt: &impl Abort, alloc: Global, frame: &Frame) -> Vec<u8> {
+    assert!(rt; frame.is_well_formed(), "a frame is not well formed");
+    match encode(alloc, frame) {
+        Ok(bytes) => bytes,
+        Err(_) => encode(alloc, frame).expect(rt, "memory is back"),
+    }
+}
+
 /// Appends the encoding of one of the broker's frames.
 fn write_one(rt: &impl Abort, alloc: Global, addressed: Addressed, written: &mut Vec<u8>) {
     let frame = Frame::Addressed(addressed);
-    assert!(rt; frame.is_well_formed(), "a frame is not well formed");
-    let bytes = match encode(alloc, &frame) {
-        Ok(bytes) => bytes,
-        Err(_) => encode(alloc, &frame).expect(rt, "memory is back"),
-    };
+    let bytes = encoding(rt, alloc, &frame);
+    drop(frame);
     append(rt, written, bytes.as_slice());
 }
 
@@ -124,17 +140,49 @@ fn frames(rt: &impl Abort, alloc: Global, row: &Row) -> Vec<Frame> {
     }
 }
 
-/// Gives the broker the row's frames, and compares what it answers, its hellos first.
-fn plays(rt: &impl Abort, alloc: Global, started: (TestedBroker, Outs), row: &Row) {
+/// Compares what a broker wrote with what a row says.
+fn writes(rt: &impl Abort, alloc: Global, written: &[u8], row: &Row) {
+    let output = bytes(rt, alloc, &[row.output]);
+    assert!(rt; written == output.as_slice(), "{}", row.name);
+}
+
+/// Gives the broker the row's frames, and compares what it answers, its hellos first. Where a place is given, each answer is
+/// the copy at that place.
+fn plays(
+    rt: &impl Abort,
+    alloc: Global,
+    started: (TestedBroker, Outs),
+    row: &Row,
+    place: Option<usize>,
+) {
     let (mut broker, hellos) = started;
     let mut written = Vec::new(alloc);
     write(rt, alloc, hellos, &mut written);
+    answer_all(rt, alloc, &mut broker, row, place, &mut written);
+    writes(rt, alloc, written.as_slice(), row);
+}
+
+/// Appends what a broker answers to the row's frames.
+fn answer_all(
+    rt: &impl Abort,
+    alloc: Global,
+    broker: &mut TestedBroker,
+    row: &Row,
+    place: Option<usize>,
+    written: &mut Vec<u8>,
+) {
     for frame in &frames(rt, alloc, row) {
-        let outs = answer(rt, alloc, &mut broker, frame);
-        write(rt, alloc, outs, &mut written);
+        let outs = match place {
+            Some(place) => copy(rt, alloc, broker, frame, place),
+            None => answer(rt, alloc, broker, frame),
+        };
+        write(rt, alloc, outs, written);
     }
-    let output = bytes(rt, alloc, &[row.output]);
-    assert!(rt; written.as_slice() == output.as_slice(), "{}", row.name);
+}
+
+/// Gives a broker of generation 1, for which no tab is listed, the row's frames, and compares what it answers.
+fn plays_from_none(rt: &impl Abort, alloc: Global, row: &Row) {
+    plays(rt, alloc, start(rt, alloc, 1, &[]), row, None);
 }
 
 // ---- copies
@@ -172,30 +220,21 @@ fn copy(
         Err(_) => told(alloc, broker, frame).expect(rt, "memory is back"),
     };
     match copies {
-        Some(mut copies) => {
-            assert_eq!(rt; copies.len(), COPIES);
-            assert!(rt; place < copies.len(), "there are {COPIES} copies");
-            copies.swap_remove(place)
-        }
+        Some(copies) => pick(rt, copies, place),
         None => nothing(alloc),
     }
 }
 
+/// The copy at this place.
+fn pick(rt: &impl Abort, mut copies: Vec<Outs>, place: usize) -> Outs {
+    same(rt, copies.len(), COPIES);
+    assert!(rt; place < copies.len(), "there are {COPIES} copies");
+    copies.swap_remove(place)
+}
+
 /// Gives a broker the row's frames, and compares the copy at this place of what it tells.
 fn plays_in_copy(rt: &impl Abort, alloc: Global, row: &Row, place: usize) {
-    let (mut broker, hellos) = start(rt, alloc, 1, &[]);
-    let mut written = Vec::new(alloc);
-    write(rt, alloc, hellos, &mut written);
-    for frame in &frames(rt, alloc, row) {
-        let outs = copy(rt, alloc, &mut broker, frame, place);
-        write(rt, alloc, outs, &mut written);
-    }
-    let output = bytes(rt, alloc, &[row.output]);
-    assert!(rt;
-        written.as_slice() == output.as_slice(),
-        "{} at {place}",
-        row.name
-    );
+    plays(rt, alloc, start(rt, alloc, 1, &[]), row, Some(place));
 }
 
 /// The same for each copy.
@@ -224,41 +263,38 @@ fn deaths_are_told_in_copies(rt: HostRuntime) {
 
 #[test]
 fn commands_are_taken_again(rt: HostRuntime) {
-    let alloc = rt.alloc();
-    plays(&rt, alloc, start(&rt, alloc, 1, &[]), &HANDOVER);
+    plays_from_none(&rt, rt.alloc(), &HANDOVER);
 }
 
 #[test]
 fn reports_are_taken_again(rt: HostRuntime) {
     let alloc = rt.alloc();
     let started = start(&rt, alloc, 2, &[(1, 1), (2, 1)]);
-    plays(&rt, alloc, started, &RESTART_WHILE_HELD);
+    plays(&rt, alloc, started, &RESTART_WHILE_HELD, None);
 }
 
 #[test]
 fn queries_are_taken_again(rt: HostRuntime) {
-    let alloc = rt.alloc();
-    plays(&rt, alloc, start(&rt, alloc, 1, &[]), &SNAPSHOT);
+    plays_from_none(&rt, rt.alloc(), &SNAPSHOT);
 }
 
 #[test]
 fn deaths_are_told_again(rt: HostRuntime) {
-    let alloc = rt.alloc();
-    plays(&rt, alloc, start(&rt, alloc, 1, &[]), &DEATH_HANDS_OVER);
+    plays_from_none(&rt, rt.alloc(), &DEATH_HANDS_OVER);
 }
 
 // ---- reports in parts
 
 #[test]
 fn one_part_is_a_report(rt: HostRuntime) {
-    let alloc = rt.alloc();
-    plays(&rt, alloc, start(&rt, alloc, 1, &[]), &ONE_PART);
+    plays_from_none(&rt, rt.alloc(), &ONE_PART);
 }
 
 #[test]
 fn parts_are_taken_again(rt: HostRuntime) {
     let alloc = rt.alloc();
-    plays(&rt, alloc, start(&rt, alloc, 2, &[(1, 1)]), &TWO_PARTS);
+    let started = start(&rt, alloc, 2, &[(1, 1)]);
+    plays(&rt, alloc, started, &TWO_PARTS, None);
 }
 
 fn stamped(tab: u16, partition: u16, inner: Upward) -> Stamped {
@@ -307,20 +343,16 @@ fn report(alloc: Global) -> Upward {
 
 /// Asserts why a message is dropped.
 fn drops(rt: &impl Abort, broker: &mut TestedBroker, stamped: Stamped, want: Dropped) {
-    let answer = match broker.take(&stamped) {
-        Err(Dropped::Memory) => broker.take(&stamped),
-        answer => answer,
-    };
-    assert_eq!(rt; answer.err(), Some(want));
+    let fault = take_again(broker, &stamped).err();
+    drop(stamped);
+    same(rt, fault, Some(want));
 }
 
 /// Asserts that a message is taken with no frames.
 fn keeps(rt: &impl Abort, broker: &mut TestedBroker, stamped: Stamped) {
-    let outs = match broker.take(&stamped) {
-        Ok(outs) => outs,
-        Err(_) => broker.take(&stamped).expect(rt, "memory is back"),
-    };
-    assert!(rt; outs.as_slice().is_empty());
+    let answer = take_again(broker, &stamped);
+    drop(stamped);
+    assert!(rt; answer.expect(rt, "it is kept").as_slice().is_empty());
 }
 
 #[test]

@@ -1,6 +1,7 @@
 mod devices;
 pub mod rows;
 
+use super::comparing::same;
 use rows::{FIRST_GRANT, Row};
 use std::alloc::{AllocError, Global};
 use std::io::Read;
@@ -9,20 +10,32 @@ use wl_fakes::devices::{SlowReader, SlowWriter};
 use wl_frames::FrameFault;
 use wl_workers::{DeskFault, Sink, Source, desk_run};
 
+/// The value of a hexadecimal digit.
+fn digit_of(byte: u8) -> Option<u8> {
+    match byte {
+        b'0'..=b'9' => Some(byte - b'0'),
+        b'A'..=b'F' => Some(byte - b'A' + 10),
+        _ => None,
+    }
+}
+
+/// Appends the byte of two digits, or keeps the first one of them.
+fn spell(bytes: &mut Vec<u8>, high: &mut Option<u8>, digit: u8) -> Result<(), AllocError> {
+    match high.take() {
+        None => *high = Some(digit),
+        Some(first) => bytes.push((first << 4) | digit)?,
+    }
+    Ok(())
+}
+
 /// The bytes that the hexadecimal digits of these lines spell.
 pub fn bytes_of(alloc: Global, lines: &[&str]) -> Result<Vec<u8>, AllocError> {
     let mut bytes = Vec::new(alloc);
     let mut high = None;
     for line in lines {
         for byte in line.bytes() {
-            let digit = match byte {
-                b'0'..=b'9' => byte - b'0',
-                b'A'..=b'F' => byte - b'A' + 10,
-                _ => continue,
-            };
-            match high.take() {
-                None => high = Some(digit),
-                Some(first) => bytes.push((first << 4) | digit)?,
+            if let Some(digit) = digit_of(byte) {
+                spell(&mut bytes, &mut high, digit)?;
             }
         }
     }
@@ -41,7 +54,7 @@ pub fn bytes(rt: &impl Abort, alloc: Global, lines: &[&str]) -> Vec<u8> {
 pub fn append(rt: &impl Abort, bytes: &mut Vec<u8>, more: &[u8]) {
     let len = bytes.len();
     if bytes.extend_from_slice(more).is_err() {
-        assert_eq!(rt; bytes.len(), len);
+        same(rt, bytes.len(), len);
         bytes.extend_from_slice(more).expect(rt, "memory is back");
     }
 }
@@ -73,8 +86,18 @@ fn expect<S: Read + Copy + Drop>(
         written.clear();
         ended = run(alloc, reader, &mut written);
     }
-    assert_eq!(rt; ended, end, "{name}");
-    assert_eq!(rt; written.as_slice(), output, "{name}");
+    are_as(rt, (ended, written.as_slice()), (end, output), name);
+}
+
+/// Compares how a run ends and what it writes.
+fn are_as(
+    rt: &impl Abort,
+    found: (Result<(), DeskFault>, &[u8]),
+    wanted: (Result<(), DeskFault>, &[u8]),
+    name: &str,
+) {
+    assert!(rt; found.0 == wanted.0, "{name}: {:?}", found.0);
+    assert!(rt; found.1 == wanted.1, "{name}: {:?}", found.1);
 }
 
 fn expect_row(rt: &impl Abort, alloc: Global, row: &Row) {
@@ -291,19 +314,29 @@ fn write_until(alloc: Global, input: &[u8], writes: usize) -> (Result<(), DeskFa
     (end, writer)
 }
 
+/// Runs the desk into a writer that fails after so many writes, and compares what was taken. A run that memory ended is made
+/// again.
+fn fail_after(rt: &impl Abort, alloc: Global, input: &[u8], output: &[u8], writes: usize) {
+    let (mut end, mut writer) = write_until(alloc, input, writes);
+    if end == Err(DeskFault::Memory) {
+        assert!(rt; output.starts_with(writer.taken()));
+        (end, writer) = write_until(alloc, input, writes);
+    }
+    same(rt, end, Err(DeskFault::Write));
+    assert!(rt; writes <= output.len());
+    assert!(rt;
+        writer.taken() == &output[..writes],
+        "after {writes} writes"
+    );
+}
+
 #[test]
 fn failing_writer(rt: HostRuntime) {
     let alloc = rt.alloc();
     let input = bytes(&rt, alloc, &[FIRST_GRANT.input]);
     let output = bytes(&rt, alloc, &[FIRST_GRANT.output]);
-    assert_eq!(&rt; output.len(), 23);
+    same(&rt, output.len(), 23);
     for writes in 0..23 {
-        let (mut end, mut writer) = write_until(alloc, input.as_slice(), writes);
-        if end == Err(DeskFault::Memory) {
-            assert!(&rt; output.starts_with(writer.taken()));
-            (end, writer) = write_until(alloc, input.as_slice(), writes);
-        }
-        assert_eq!(&rt; end, Err(DeskFault::Write));
-        assert_eq!(&rt; writer.taken(), &output[..writes], "after {writes} writes");
+        fail_after(&rt, alloc, input.as_slice(), output.as_slice(), writes);
     }
 }

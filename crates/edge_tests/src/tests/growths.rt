@@ -6,39 +6,20 @@ ghost use Rattle.wl_broker.specs.Broker.{started};
 ghost use Rattle.wl_grammar.specs.Grammar.{TabsRiseFrom};
 ghost use Rattle.wl_locked.specs.declared.locked.TheConstants.{LANE_LIMIT};
 
+use super::comparing::same;
+use super::lanes::{command, report, request, take_once};
 use std::alloc::{AllocError, Global};
 use std::marker::Brand;
 use std::process::Abort;
 use std::sync::Wait;
 use std::sync::ledger::Blank;
 use wl_broker::Outs;
-use wl_frames::{
-    Addressed, Answer, Command, Downward, Hello, Mode, Name, Operation, Outcome, Report, Sequence,
-    Stamped, Upward,
-};
+use wl_frames::{Addressed, Answer, Downward, Mode, Operation, Outcome, Sequence};
 use wl_locked::{
     BookEvent, Generation, LANE_LIMIT, Lane, LockedBroker, NotStepped, Receipt, Reply, Step,
 };
 
 // ---- steps
-
-/// What a tab of partition 1 says.
-fn said(tab: u16, inner: Upward) -> BookEvent {
-    BookEvent::Take(Stamped {
-        tab,
-        partition: 1,
-        inner,
-    })
-}
-
-fn command(tab: u16, number: u32, operation: Operation) -> BookEvent {
-    let command = Command {
-        generation: 1,
-        number,
-        operation,
-    };
-    said(tab, Upward::Command(command))
-}
 
 fn answer(tab: u16, upto: u32, number: u32, outcome: Outcome) -> Addressed {
     Addressed {
@@ -59,54 +40,57 @@ fn nothing(alloc: Global) -> Reply {
 
 /// A reply that sends one frame.
 fn one(alloc: Global, out: Addressed) -> Result<Reply, AllocError> {
-    let mut outs = Vec::new(alloc);
-    outs.push(out)?;
+    let outs = Vec::from_array(alloc, [out])?;
     Ok(Reply::Outs(Sequence::new(outs)))
 }
 
 /// A reply that sends two frames.
 fn two(alloc: Global, first: Addressed, second: Addressed) -> Result<Reply, AllocError> {
-    let mut outs = Vec::new(alloc);
-    outs.push(first)?;
-    outs.push(second)?;
+    let outs = Vec::from_array(alloc, [first, second])?;
     Ok(Reply::Outs(Sequence::new(outs)))
+}
+
+/// A step of an event, if its reply could be made.
+fn step(event: BookEvent, reply: Result<Reply, AllocError>) -> Result<Step, AllocError> {
+    match reply {
+        Ok(reply) => Ok(Step { event, reply }),
+        Err(refused) => {
+            drop(event);
+            Err(refused)
+        }
+    }
 }
 
 /// A tab's first report.
 fn reports(alloc: Global, tab: u16) -> Step {
-    let report = Report {
-        generation: 1,
-        base: 0,
-        entries: Sequence::new(Vec::new(alloc)),
-    };
     Step {
-        event: said(tab, Upward::Report(report)),
+        event: report(alloc, tab),
         reply: nothing(alloc),
     }
 }
 
 /// A tab's request of the exclusive lock `a`, and what becomes of it.
 fn asks(alloc: Global, tab: u16, number: u32, outcome: Outcome) -> Result<Step, AllocError> {
-    let operation = Operation::Request {
-        mode: Mode::Exclusive,
-        if_available: false,
-        name: Name::new(String::from_str(alloc, "a")?),
-    };
+    let lock = request(alloc, Mode::Exclusive, false, "a")?;
+    let event = command(tab, number, lock);
     let upto = number.wrapping_add(1);
-    Ok(Step {
-        event: command(tab, number, operation),
-        reply: one(alloc, answer(tab, upto, number, outcome))?,
-    })
+    step(event, one(alloc, answer(tab, upto, number, outcome)))
+}
+
+/// The release of a tab's lock, which is the tab's next command.
+fn release(tab: u16, number: u32) -> BookEvent {
+    command(tab, number.wrapping_add(1), Operation::Release { number })
+}
+
+/// What the tab is told of it.
+fn released(tab: u16, number: u32) -> Addressed {
+    let release = number.wrapping_add(1);
+    answer(tab, release.wrapping_add(1), release, Outcome::Taken)
 }
 
 /// A tab's release of its lock, for which no other tab waits.
 fn releases(alloc: Global, tab: u16, number: u32) -> Result<Step, AllocError> {
-    let release = number.wrapping_add(1);
-    let taken = answer(tab, release.wrapping_add(1), release, Outcome::Taken);
-    Ok(Step {
-        event: command(tab, release, Operation::Release { number }),
-        reply: one(alloc, taken)?,
-    })
+    step(release(tab, number), one(alloc, released(tab, number)))
 }
 
 /// A tab's release of its lock, for which another tab's request waits that is that tab's last command.
@@ -117,13 +101,11 @@ fn hands_over(
     other: u16,
     request: u32,
 ) -> Result<Step, AllocError> {
-    let release = number.wrapping_add(1);
-    let taken = answer(tab, release.wrapping_add(1), release, Outcome::Taken);
     let granted = answer(other, request.wrapping_add(1), request, Outcome::Granted);
-    Ok(Step {
-        event: command(tab, release, Operation::Release { number }),
-        reply: two(alloc, taken, granted)?,
-    })
+    step(
+        release(tab, number),
+        two(alloc, released(tab, number), granted),
+    )
 }
 
 /// A tab's death after which nothing is sent.
@@ -200,10 +182,10 @@ fn take<J: Generation, R: Wait + Abort>(
     event: &BookEvent,
 ) -> Result<Receipt, NotStepped> {
     let count = lane.count();
-    match broker.take(rt, lane, copy(rt, alloc, event)) {
+    match take_once(rt, broker, lane, copy(rt, alloc, event)) {
         Err(NotStepped::Memory) => {
-            assert_eq!(rt; lane.count(), count);
-            broker.take(rt, lane, copy(rt, alloc, event))
+            same(rt, lane.count(), count);
+            take_once(rt, broker, lane, copy(rt, alloc, event))
         }
         answer => answer,
     }
@@ -252,9 +234,9 @@ fn find_spent<J: Generation, R: Wait + Abort>(
 ) {
     let count = lane.count();
     let query = command(1, 1, Operation::Query);
-    let spent = broker.take(rt, lane, query).err();
-    assert_eq!(rt; spent, Some(NotStepped::GenerationSpent));
-    assert_eq!(rt; lane.count(), count);
+    let spent = take_once(rt, broker, lane, query).err();
+    same(rt, spent, Some(NotStepped::GenerationSpent));
+    same(rt, lane.count(), count);
 }
 
 /// Has lanes take the steps of a row, and then one event more, for which no step is left.
@@ -276,13 +258,15 @@ fn take_row<J: Generation, R: Wait + Abort>(
 /// Compares the receipts of lanes with the steps of a row.
 fn are_of_row<J: Generation>(rt: &impl Abort, lanes: &[Lane<J>], row: &[Step]) {
     for lane in lanes {
-        assert!(rt; lane.receipts().iter().all(|receipt| is_of(receipt, row)));
+        for receipt in lane.receipts() {
+            assert!(rt; is_of(receipt, row));
+        }
     }
 }
 
 /// Compares a history with the steps of a row.
 fn is_row(rt: &impl Abort, steps: &[Step], row: &[Step]) {
-    assert_eq!(rt; steps.len(), row.len());
+    same(rt, steps.len(), row.len());
     for (step, wanted) in steps.iter().zip(row) {
         assert!(rt; step.event == wanted.event && step.reply == wanted.reply);
     }
@@ -331,44 +315,72 @@ fn plays<R: Wait + Abort>(rt: &R, alloc: Global, lanes: u16, row: &[Step]) {
     }
 }
 
+/// The rows.
+#[derive(Clone, Copy)]
+enum Row {
+    Three,
+    Four,
+    HandingOver,
+}
+
+fn steps_of(alloc: Global, row: Row) -> Result<Vec<Step>, AllocError> {
+    match row {
+        Row::Three => three_steps(alloc),
+        Row::Four => four_steps(alloc),
+        Row::HandingOver => handing_over(alloc),
+    }
+}
+
+/// Plays a row of so many steps; where memory is refused to make it, it is made once more.
+fn plays_row<R: Wait + Abort>(rt: &R, alloc: Global, lanes: u16, row: Row, count: usize) {
+    let steps = match steps_of(alloc, row) {
+        Ok(steps) => steps,
+        Err(_) => steps_of(alloc, row).expect(rt, "memory is back"),
+    };
+    same(rt, steps.len(), count);
+    plays(rt, alloc, lanes, steps.as_slice());
+}
+
 #[test]
 fn steps_used_up(rt: HostRuntime) {
-    let alloc = rt.alloc();
-    let row = match three_steps(alloc) {
-        Ok(row) => row,
-        Err(_) => three_steps(alloc).expect(&rt, "memory is back"),
-    };
-    plays(&rt, alloc, 1, row.as_slice());
+    plays_row(&rt, rt.alloc(), 1, Row::Three, 3);
 }
 
 #[test]
 fn four_steps_of_one_lane(rt: HostRuntime) {
-    let alloc = rt.alloc();
-    let row = match four_steps(alloc) {
-        Ok(row) => row,
-        Err(_) => four_steps(alloc).expect(&rt, "memory is back"),
-    };
-    plays(&rt, alloc, 1, row.as_slice());
+    plays_row(&rt, rt.alloc(), 1, Row::Four, 4);
 }
 
 #[test]
 fn two_lanes_hand_over(rt: HostRuntime) {
-    let alloc = rt.alloc();
-    let row = match handing_over(alloc) {
-        Ok(row) => row,
-        Err(_) => handing_over(alloc).expect(&rt, "memory is back"),
-    };
-    assert_eq!(&rt; row.len(), 202);
-    plays(&rt, alloc, 2, row.as_slice());
+    plays_row(&rt, rt.alloc(), 2, Row::HandingOver, 202);
 }
 
 // ---- a broker with tabs
 
-/// The greeting of a tab in generation 2.
-fn hello(tab: u16) -> Addressed {
-    Addressed {
-        tab,
-        inner: Downward::Hello(Hello { generation: 2 }),
+/// The tab that is greeted in generation 2, if this is a greeting.
+fn greeted(out: &Addressed) -> Option<u16> {
+    match &out.inner {
+        Downward::Hello(hello) if hello.generation == 2 => Some(out.tab),
+        _ => None,
+    }
+}
+
+/// Asserts that tab 1 is greeted, and then tab 2.
+fn are_greetings(rt: &impl Abort, hellos: &[Addressed]) {
+    assert!(rt;
+        match hellos {
+            [first, second] => greeted(first) == Some(1) && greeted(second) == Some(2),
+            _ => false,
+        }
+    );
+}
+
+/// Asserts that there are three lanes, which have no receipts.
+fn are_three<J: Generation>(rt: &impl Abort, lanes: &[Lane<J>]) {
+    same(rt, lanes.len(), 3);
+    for lane in lanes {
+        same(rt, lane.count(), 0);
     }
 }
 
@@ -386,9 +398,8 @@ fn greet_named<J: Generation>(
     requires limit { J.limit ≡ 1 }
 {
     let (broker, lanes, hellos) = LockedBroker::<J>::new(alloc, blank, 2, list, 1, 3)?;
-    assert_eq!(rt; lanes.len(), 3);
-    assert!(rt; lanes.iter().all(|lane| lane.count() == 0));
-    assert!(rt; hellos.as_slice() == [hello(1), hello(2)].as_slice());
+    are_three(rt, lanes.as_slice());
+    are_greetings(rt, hellos.as_slice());
     let history = broker.close(lanes).expect(rt, "no steps");
     assert!(rt; history.steps().is_empty());
     Ok(())

@@ -1,5 +1,6 @@
 //! How a lane ends, as its intake, its desk, its gate and its outlet say.
 
+use super::comparing::same;
 use super::lanes::{Counter, Open, granted};
 use std::alloc::{AllocError, Global};
 use std::collections::VecDeque;
@@ -7,7 +8,7 @@ use std::process::Abort;
 use std::rt::Clock;
 use std::sync::Wait;
 use wl_frames::Frame;
-use wl_locked::{BookEvent, NotStepped, Receipt, Work};
+use wl_locked::{BookEvent, NotStepped, Receipt, Reply, Work};
 use wl_workers::{Cause, Desk, EVENT_LIMIT, Gate, Intake, Outlet, OutletFault, lane};
 
 /// Gives deaths without an end.
@@ -64,16 +65,29 @@ impl Outlet for Refusing {
     }
 }
 
-/// Memory is refused once, and then tab 1 has a lock.
-fn lost_and_granted(alloc: Global) -> Result<Answers, AllocError> {
-    let mut left = VecDeque::new(alloc);
-    left.push_back(Err(NotStepped::Memory))?;
-    left.push_back(Ok(Receipt {
+/// Adds an answer.
+fn add(desk: &mut Answers, answer: Result<Receipt, NotStepped>) -> Result<(), AllocError> {
+    desk.left.push_back(answer)?;
+    Ok(())
+}
+
+/// The receipt of tab 1's death, with this reply.
+fn receipt(reply: Reply) -> Receipt {
+    Receipt {
         place: 0,
         event: BookEvent::Dead(1),
-        reply: granted(alloc)?,
-    }))?;
-    Ok(Answers { left })
+        reply,
+    }
+}
+
+/// Memory is refused once, and then tab 1 has a lock.
+fn lost_and_granted(alloc: Global) -> Result<Answers, AllocError> {
+    let mut desk = Answers {
+        left: VecDeque::new(alloc),
+    };
+    add(&mut desk, Err(NotStepped::Memory))?;
+    add(&mut desk, Ok(receipt(granted(alloc)?)))?;
+    Ok(desk)
 }
 
 /// Has a lane with endless works end, and compares its steps, its cause and how many works it was given.
@@ -86,13 +100,13 @@ fn ends<G: Gate, O: Outlet, R: Wait + Clock + Abort>(
 ) {
     let mut endless = Endless { given: 0 };
     let end = lane(rt, 0, &mut endless, &mut desk, gate, outlet);
-    assert_eq!(rt; (end.steps, end.why, endless.given), want);
+    same(rt, (end.steps, end.why, endless.given), want);
 }
 
 /// The answers above, and then that the generation is spent.
 fn then_spent(alloc: Global) -> Result<Answers, AllocError> {
     let mut desk = lost_and_granted(alloc)?;
-    desk.left.push_back(Err(NotStepped::GenerationSpent))?;
+    add(&mut desk, Err(NotStepped::GenerationSpent))?;
     Ok(desk)
 }
 
@@ -104,7 +118,7 @@ fn end_lanes<R: Wait + Clock + Abort>(rt: &R, alloc: Global) -> Result<(), Alloc
     let mut outlet = Counter { frames: 0 };
     let spent = (1, Cause::Spent, 3);
     ends(rt, then_spent(alloc)?, &Open, &mut outlet, spent);
-    assert_eq!(rt; outlet.frames, 1);
+    same(rt, outlet.frames, 1);
     let all_seen = (1, Cause::Spent, EVENT_LIMIT);
     ends(rt, lost_and_granted(alloc)?, &Open, &mut outlet, all_seen);
     Ok(())

@@ -7,16 +7,15 @@ ghost use Rattle.wl_locked.specs.Blanks.{HaveParts, AreNamed};
 ghost use Rattle.wl_locked.specs.declared.locked.TheConstants.{LANE_LIMIT};
 ghost use Rattle.wl_locked.specs.declared.shards.TheConstants.{SHARD_LIMIT};
 
+use super::comparing::same;
 use std::alloc::{AllocError, Global};
 use std::collections::VecDeque;
 use std::marker::{Brand, Model, PhantomData};
 use std::process::Abort;
 use std::rt::Clock;
+use std::sync::Wait;
 use std::sync::ledger::Blank;
-use std::sync::{Mutex, Wait};
-use std::thread;
 use std::thread::Threads;
-use std::time::Duration;
 use wl_broker::{Broker, Dropped};
 use wl_fakes::dice::Dice;
 use wl_frames::{
@@ -53,7 +52,7 @@ pub(super) fn report_in(alloc: Global, partition: u16, tab: u16) -> BookEvent {
     said_in(partition, tab, Upward::Report(report))
 }
 
-fn report(alloc: Global, tab: u16) -> BookEvent {
+pub(super) fn report(alloc: Global, tab: u16) -> BookEvent {
     report_in(alloc, 1, tab)
 }
 
@@ -66,7 +65,7 @@ pub(super) fn command_in(partition: u16, tab: u16, number: u32, operation: Opera
     said_in(partition, tab, Upward::Command(command))
 }
 
-fn command(tab: u16, number: u32, operation: Operation) -> BookEvent {
+pub(super) fn command(tab: u16, number: u32, operation: Operation) -> BookEvent {
     command_in(1, tab, number, operation)
 }
 
@@ -83,16 +82,22 @@ pub(super) fn request(
     })
 }
 
+/// Adds an event.
+pub(super) fn add(events: &mut Events, event: BookEvent) -> Result<(), AllocError> {
+    events.push_back(event)?;
+    Ok(())
+}
+
 /// Those of one tab: its report, and so often a request of a lock and the release of it.
 fn events_of(alloc: Global, tab: u16, times: u32) -> Result<Events, AllocError> {
     let mut events = VecDeque::new(alloc);
-    events.push_back(report(alloc, tab))?;
+    add(&mut events, report(alloc, tab))?;
     for time in 0..times {
         let number = time.wrapping_mul(2);
         let asked = request(alloc, Mode::Exclusive, false, "a")?;
-        events.push_back(command(tab, number, asked))?;
+        add(&mut events, command(tab, number, asked))?;
         let done = Operation::Release { number };
-        events.push_back(command(tab, number.wrapping_add(1), done))?;
+        add(&mut events, command(tab, number.wrapping_add(1), done))?;
     }
     Ok(events)
 }
@@ -189,6 +194,34 @@ struct Taken {
     history: History,
 }
 
+/// Has a lane take an event.
+pub(super) fn take_once<J: Generation, R: Wait>(
+    rt: &R,
+    broker: &LockedBroker<J>,
+    lane: &mut Lane<J>,
+    event: BookEvent,
+) -> Result<Receipt, NotStepped> {
+    broker.take(rt, lane, event)
+}
+
+/// The same, and keeps the receipt.
+fn take_event<J: Generation, R: Wait>(
+    rt: &R,
+    broker: &LockedBroker<J>,
+    lane: &mut Lane<J>,
+    event: BookEvent,
+    receipts: &mut Vec<Receipt>,
+) -> Result<(), NotStepped> {
+    let receipt = take_once(rt, broker, lane, event)?;
+    keep(receipts, receipt)?;
+    Ok(())
+}
+
+fn keep(receipts: &mut Vec<Receipt>, receipt: Receipt) -> Result<(), AllocError> {
+    receipts.push(receipt)?;
+    Ok(())
+}
+
 /// Has a lane take events, up to the first that is no step: the receipts, and why there was no more.
 fn take_events<J: Generation, R: Wait>(
     rt: &R,
@@ -199,8 +232,8 @@ fn take_events<J: Generation, R: Wait>(
 ) -> Result<(Vec<Receipt>, Option<NotStepped>), AllocError> {
     let mut receipts = Vec::new(alloc);
     for event in events {
-        match broker.take(rt, lane, event) {
-            Ok(receipt) => receipts.push(receipt)?,
+        match take_event(rt, broker, lane, event, &mut receipts) {
+            Ok(()) => (),
             Err(NotStepped::Memory) => return Err(AllocError),
             Err(reason) => return Ok((receipts, Some(reason))),
         }
@@ -240,31 +273,30 @@ fn take_all<R: Wait + Abort>(
     take_named::<Brand, R>(rt, alloc, Blank::new(1), limit, events)
 }
 
-/// Whether the receipts have the places from 0 on.
-fn are_in_place(receipts: &[Receipt]) -> bool {
-    receipts
-        .iter()
-        .map(|receipt| u64::from(receipt.place))
-        .eq(0..receipts.len() as u64)
+/// Asserts that the receipts have the places from 0 on.
+fn are_in_place(rt: &impl Abort, receipts: &[Receipt]) {
+    for (place, receipt) in receipts.iter().enumerate() {
+        same(rt, receipt.place as usize, place);
+    }
 }
 
 /// Two tabs' reports, and two commands.
 fn two_reports_and_commands(alloc: Global) -> Result<Events, AllocError> {
     let mut events = VecDeque::new(alloc);
-    events.push_back(report(alloc, 1))?;
-    events.push_back(report(alloc, 2))?;
+    add(&mut events, report(alloc, 1))?;
+    add(&mut events, report(alloc, 2))?;
     let asked = request(alloc, Mode::Exclusive, false, "a")?;
-    events.push_back(command(1, 0, asked))?;
-    events.push_back(command(1, 1, Operation::Query))?;
+    add(&mut events, command(1, 0, asked))?;
+    add(&mut events, command(1, 1, Operation::Query))?;
     Ok(events)
 }
 
 fn use_up<R: Wait + Abort>(rt: &R, alloc: Global) -> Result<(), AllocError> {
     let taken = take_all(rt, alloc, 3, two_reports_and_commands(alloc)?)?;
-    assert_eq!(rt; taken.receipts.len(), 3);
-    assert!(rt; are_in_place(taken.receipts.as_slice()));
-    assert_eq!(rt; taken.refused, Some(NotStepped::GenerationSpent));
-    assert_eq!(rt; taken.history.steps().len(), 3);
+    same(rt, taken.receipts.len(), 3);
+    are_in_place(rt, taken.receipts.as_slice());
+    same(rt, taken.refused, Some(NotStepped::GenerationSpent));
+    same(rt, taken.history.steps().len(), 3);
     Ok(())
 }
 
@@ -278,8 +310,7 @@ fn steps_used_up(rt: HostRuntime) {
 
 /// That tab 1 has its first lock.
 pub(super) fn granted(alloc: Global) -> Result<Reply, AllocError> {
-    let mut outs = Vec::new(alloc);
-    outs.push(Addressed {
+    let granted = Addressed {
         tab: 1,
         inner: Downward::Answer(Answer {
             generation: 1,
@@ -287,36 +318,53 @@ pub(super) fn granted(alloc: Global) -> Result<Reply, AllocError> {
             number: 0,
             outcome: Outcome::Granted,
         }),
-    })?;
-    Ok(Reply::Outs(Sequence::new(outs)))
+    };
+    Ok(Reply::Outs(Sequence::new(Vec::from_array(alloc, [granted])?)))
 }
 
 /// A tab's report, its request, and its death twice.
 fn request_and_deaths(alloc: Global) -> Result<Events, AllocError> {
     let mut events = VecDeque::new(alloc);
-    events.push_back(report(alloc, 1))?;
+    add(&mut events, report(alloc, 1))?;
     let asked = request(alloc, Mode::Exclusive, false, "a")?;
-    events.push_back(command(1, 0, asked))?;
-    events.push_back(BookEvent::Dead(1))?;
-    events.push_back(BookEvent::Dead(1))?;
+    add(&mut events, command(1, 0, asked))?;
+    add(&mut events, BookEvent::Dead(1))?;
+    add(&mut events, BookEvent::Dead(1))?;
     Ok(events)
 }
 
+/// Whether a reply sends nothing.
+fn is_nothing(reply: &Reply) -> bool {
+    match reply {
+        Reply::Outs(outs) => outs.as_slice().is_empty(),
+        Reply::Dropped(_) => false,
+    }
+}
+
+/// Asserts that the second of four receipts has this reply, and that the others send nothing.
+fn only_second_is(rt: &impl Abort, receipts: &[Receipt], reply: &Reply) {
+    same(rt, receipts.len(), 4);
+    for (place, receipt) in receipts.iter().enumerate() {
+        match place {
+            1 => assert!(rt; receipt.reply == *reply),
+            _ => assert!(rt; is_nothing(&receipt.reply), "at {place}"),
+        }
+    }
+}
+
+/// Asserts that there is a step for each of the four events.
+fn are_four(rt: &impl Abort, taken: &Taken, granted: &Reply) {
+    same(rt, taken.refused, None);
+    are_in_place(rt, taken.receipts.as_slice());
+    only_second_is(rt, taken.receipts.as_slice(), granted);
+    same(rt, taken.history.steps().len(), 4);
+}
+
 fn take_four<R: Wait + Abort>(rt: &R, alloc: Global) -> Result<(), AllocError> {
-    let granted = granted(alloc)?;
     let taken = take_all(rt, alloc, 4, request_and_deaths(alloc)?)?;
-    assert_eq!(rt; taken.refused, None);
-    assert!(rt; are_in_place(taken.receipts.as_slice()));
-    let nothing = Reply::Outs(Sequence::new(Vec::new(alloc)));
-    let replies = [&nothing, &granted, &nothing, &nothing];
-    assert!(rt;
-        taken
-            .receipts
-            .iter()
-            .map(|receipt| &receipt.reply)
-            .eq(replies)
-    );
-    assert_eq!(rt; taken.history.steps().len(), 4);
+    let granted = granted(alloc)?;
+    are_four(rt, &taken, &granted);
+    drop(granted);
     Ok(())
 }
 
@@ -457,6 +505,28 @@ fn close<J: Shards>(
     broker.close(lanes)
 }
 
+/// How the lanes of a broker end, each with a list of works, and the histories.
+fn run_and_close<J: Shards + Send + Sync, G: Gate + Sync, R: Threads + Wait + Clock + Abort + Sync>(
+    rt: &R,
+    alloc: Global,
+    broker: Sharded<J>,
+    lanes: Vec<ShardLane<J>>,
+    scripts: Vec<VecDeque<Work>>,
+    gate: &G,
+    handed: Handed,
+) -> Result<Ran, AllocError> {
+    match run_scripts(rt, alloc, &broker, lanes, scripts, gate) {
+        Ok((ends, lanes)) => Ok(Ran {
+            ends,
+            closed: close(broker, lanes, handed),
+        }),
+        Err(refused) => {
+            drop(broker);
+            Err(refused)
+        }
+    }
+}
+
 /// Runs a lane for each list of works, up to 16. No tab is listed.
 fn run_named<J: Shards + Send + Sync, G: Gate + Sync, R: Threads + Wait + Clock + Abort + Sync>(
     rt: &R,
@@ -477,11 +547,7 @@ fn run_named<J: Shards + Send + Sync, G: Gate + Sync, R: Threads + Wait + Clock 
         ≡ record { generation = 1; listed = []; shards = shards; lanes = lanes; limit = limit } }
 {
     let (broker, lanes, _hellos) = Sharded::<J>::new(alloc, blanks, 1, &[], limit, lanes, shards)?;
-    let (ends, lanes) = run_scripts(rt, alloc, &broker, lanes, scripts, gate)?;
-    Ok(Ran {
-        ends,
-        closed: close(broker, lanes, handed),
-    })
+    run_and_close(rt, alloc, broker, lanes, scripts, gate, handed)
 }
 
 /// The same, with a lane for each list.
@@ -506,7 +572,7 @@ pub(super) fn run_over<G: Gate + Sync, R: Threads + Wait + Clock + Abort + Sync>
 /// The history of the only shard.
 fn only<R: Abort>(rt: &R, closed: Result<Vec<History>, (u16, CloseFault)>) -> History {
     let mut histories = closed.expect(rt, "the steps of all lanes");
-    assert_eq!(rt; histories.len(), 1);
+    same(rt, histories.len(), 1);
     histories.pop().expect(rt, "one shard")
 }
 
@@ -517,15 +583,22 @@ pub(super) fn ended(steps: u32) -> LaneEnd {
     }
 }
 
+/// Compares how two lanes ended.
+pub(super) fn end_so(rt: &impl Abort, ends: &[LaneEnd], first: LaneEnd, second: LaneEnd) {
+    same(rt, ends.len(), 2);
+    same(rt, ends.first().copied(), Some(first));
+    same(rt, ends.last().copied(), Some(second));
+}
+
 fn run_two<R: Threads + Wait + Clock + Abort + Sync>(
     rt: &R,
     alloc: Global,
 ) -> Result<(), AllocError> {
     let scripts = handing_over(alloc, 50)?;
     let ran = run_over(rt, alloc, 1, 202, scripts, &Open, Handed::All)?;
-    assert_eq!(rt; ran.ends.as_slice(), [ended(101), ended(101)].as_slice());
+    end_so(rt, ran.ends.as_slice(), ended(101), ended(101));
     let history = only(rt, ran.closed);
-    assert_eq!(rt; history.steps().len(), 202);
+    same(rt, history.steps().len(), 202);
     Ok(())
 }
 
@@ -543,8 +616,8 @@ fn leave_out<R: Threads + Wait + Clock + Abort + Sync>(
 ) -> Result<(), AllocError> {
     let scripts = handing_over(alloc, 0)?;
     let ran = run_over(rt, alloc, 1, 9, scripts, &Open, Handed::First)?;
-    assert_eq!(rt; ran.ends.as_slice(), [ended(1), ended(1)].as_slice());
-    assert_eq!(rt; ran.closed.err(), Some((0, CloseFault::WrongCount)));
+    end_so(rt, ran.ends.as_slice(), ended(1), ended(1));
+    same(rt, ran.closed.err(), Some((0, CloseFault::WrongCount)));
     Ok(())
 }
 
@@ -553,161 +626,6 @@ fn a_lane_left_out(rt: HostRuntime) {
     let alloc = rt.alloc();
     if leave_out(&rt, alloc).is_err() {
         leave_out(&rt, alloc).expect(&rt, "memory is back");
-    }
-}
-
-// ---- lanes at the same time
-
-/// How often a lane that is held asks again.
-const TURNS: u32 = 10_000;
-
-/// How often a lane stood at a gate, and how often it was answered.
-#[derive(Clone, Copy, Debug, PartialEq, Eq)]
-struct Calls {
-    stood: u32,
-    answered: u32,
-}
-
-/// What two lanes did at a gate.
-#[derive(Drop)]
-struct Seen {
-    lanes: [Calls; 2],
-    /// Whether any call was not one `pass` and then one `answered` of one of the lanes.
-    is_out_of_order: bool,
-    /// Whether a lane was held for too long: one that memory refused a thread runs after the other.
-    has_given_up: bool,
-}
-
-impl Seen {
-    fn new() -> Seen {
-        let none = Calls {
-            stood: 0,
-            answered: 0,
-        };
-        Seen {
-            lanes: [none, none],
-            is_out_of_order: false,
-            has_given_up: false,
-        }
-    }
-
-    fn stand(&mut self, lane: u16) {
-        match self.lanes.get_mut(usize::from(lane)) {
-            Some(calls) if calls.stood == calls.answered => {
-                calls.stood = calls.stood.wrapping_add(1);
-            }
-            _ => self.is_out_of_order = true,
-        }
-    }
-
-    /// Lane 0 is held until lane 1 stands there for the second time, and that one until lane 0 is answered.
-    fn lets_pass(&self, lane: u16) -> bool {
-        let [first, second] = self.lanes;
-        match lane {
-            0 => second.stood >= 2,
-            _ => second.stood < 2 || first.answered >= 1,
-        }
-    }
-
-    fn answer(&mut self, lane: u16) {
-        match self.lanes.get_mut(usize::from(lane)) {
-            Some(calls) if calls.stood == calls.answered.wrapping_add(1) => {
-                calls.answered = calls.stood;
-            }
-            _ => self.is_out_of_order = true,
-        }
-    }
-}
-
-/// A gate that two lanes pass only if they run at the same time.
-#[derive(Drop)]
-struct Turnstile {
-    seen: Mutex<Seen>,
-}
-
-impl Gate for Turnstile {
-    fn pass<R: Wait + Clock>(&self, rt: &R, lane: u16) -> bool {
-        self.seen.lock(rt).stand(lane);
-        for _turn in 0..TURNS {
-            let seen = self.seen.lock(rt);
-            if seen.has_given_up {
-                return false;
-            }
-            if seen.lets_pass(lane) {
-                return true;
-            }
-            drop(seen);
-            thread::sleep(rt, Duration::from_millis(1));
-        }
-        self.seen.lock(rt).has_given_up = true;
-        false
-    }
-
-    fn answered<R: Wait + Clock>(&self, rt: &R, lane: u16) {
-        self.seen.lock(rt).answer(lane);
-    }
-}
-
-/// The works of the report of a tab, so often. The tab is alone in the partition of its number.
-fn reports(alloc: Global, shards: u16, tab: u16, times: u32) -> Result<VecDeque<Work>, AllocError>
-    requires { 0 < shards }
-{
-    let mut events = VecDeque::new(alloc);
-    for _time in 0..times {
-        events.push_back(report_in(alloc, tab, tab))?;
-    }
-    dealt(alloc, shards, events)
-}
-
-/// Lane 0 has a report, and lane 1 another one twice, each of a partition of its own.
-fn once_and_twice(alloc: Global, shards: u16) -> Result<Vec<VecDeque<Work>>, AllocError>
-    requires { 0 < shards }
-{
-    let mut scripts = Vec::new(alloc);
-    scripts.push(reports(alloc, shards, 1, 1)?)?;
-    scripts.push(reports(alloc, shards, 2, 2)?)?;
-    Ok(scripts)
-}
-
-/// Runs two lanes, each of which waits for the other one. Where one got no thread, that is for want of memory.
-fn run_gated<R: Threads + Wait + Clock + Abort + Sync>(
-    rt: &R,
-    alloc: Global,
-    shards: u16,
-) -> Result<(), AllocError>
-    requires { 0 < shards }
-{
-    let scripts = once_and_twice(alloc, shards)?;
-    let gate = Turnstile {
-        seen: Mutex::new(Seen::new()),
-    };
-    let ran = run_over(rt, alloc, shards, 3, scripts, &gate, Handed::All)?;
-    let seen = gate.seen.into_inner();
-    if seen.has_given_up {
-        return Err(AllocError);
-    }
-    assert_eq!(rt; ran.ends.as_slice(), [ended(1), ended(2)].as_slice());
-    assert!(rt; ran.closed.is_ok());
-    assert!(rt; !seen.is_out_of_order);
-    let [first, second] = seen.lanes;
-    assert_eq!(rt; (first.stood, first.answered), (1, 1));
-    assert_eq!(rt; (second.stood, second.answered), (2, 2));
-    Ok(())
-}
-
-#[test]
-fn two_lanes_at_the_same_time(rt: HostRuntime) {
-    let alloc = rt.alloc();
-    if run_gated(&rt, alloc, 1).is_err() {
-        run_gated(&rt, alloc, 1).expect(&rt, "memory is back");
-    }
-}
-
-#[test]
-fn two_lanes_at_the_same_time_over_two_shards(rt: HostRuntime) {
-    let alloc = rt.alloc();
-    if run_gated(&rt, alloc, 2).is_err() {
-        run_gated(&rt, alloc, 2).expect(&rt, "memory is back");
     }
 }
 
@@ -745,13 +663,13 @@ pub(super) fn random_operation(
 /// A tab's report, its commands, and for some tabs their death.
 fn random_events(dice: &mut Dice, alloc: Global, tab: u16) -> Result<Events, AllocError> {
     let mut events = VecDeque::new(alloc);
-    events.push_back(report(alloc, tab))?;
+    add(&mut events, report(alloc, tab))?;
     for number in 0..COMMANDS {
         let operation = random_operation(dice, alloc, number)?;
-        events.push_back(command(tab, number, operation))?;
+        add(&mut events, command(tab, number, operation))?;
     }
     if dice.below(4) == 0 {
-        events.push_back(BookEvent::Dead(tab))?;
+        add(&mut events, BookEvent::Dead(tab))?;
     }
     Ok(events)
 }
@@ -774,6 +692,7 @@ pub(super) fn replay(rt: &impl Abort, alloc: Global, history: &History) -> Resul
     for step in history.steps() {
         let reply = answer(&mut broker, &step.event)?;
         assert!(rt; reply == step.reply);
+        drop(reply);
     }
     Ok(())
 }
@@ -798,6 +717,13 @@ pub(super) fn count(scripts: &[VecDeque<Work>]) -> usize {
     given
 }
 
+/// Asserts that each lane ended because its intake did.
+pub(super) fn have_ended(rt: &impl Abort, ends: &[LaneEnd]) {
+    for end in ends {
+        same(rt, end.why, Cause::Ended);
+    }
+}
+
 fn run_sixteen<R: Threads + Wait + Clock + Abort + Sync>(
     rt: &R,
     alloc: Global,
@@ -805,9 +731,9 @@ fn run_sixteen<R: Threads + Wait + Clock + Abort + Sync>(
     let scripts = random_scripts(alloc)?;
     let given = count(scripts.as_slice());
     let ran = run_over(rt, alloc, 1, 2_000, scripts, &Open, Handed::All)?;
-    assert!(rt; ran.ends.iter().all(|end| end.why == Cause::Ended));
+    have_ended(rt, ran.ends.as_slice());
     let history = only(rt, ran.closed);
-    assert_eq!(rt; history.steps().len(), given);
+    same(rt, history.steps().len(), given);
     replay(rt, alloc, &history)
 }
 

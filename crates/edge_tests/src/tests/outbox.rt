@@ -4,6 +4,7 @@
 ghost use Rattle.std.specs.Prelude.{◌≡◌, ◌≤◌, [], true, false, All};
 ghost use Rattle.wl_outbox.specs.Passes.{IsOf, takes};
 
+use super::comparing::same;
 use std::alloc::Global;
 use std::process::Abort;
 use std::sync::Wait;
@@ -107,17 +108,28 @@ fn generation_in(taken: &Option<Parcel>) -> Option<u32> {
     }
 }
 
+/// Compares a parcel's address with that of its outbox.
+fn is_addressed(rt: &impl Abort, outbox: &Outbox, parcel: &Parcel) {
+    same(rt, parcel.partition(), outbox.partition());
+    same(rt, parcel.tab(), outbox.tab());
+}
+
+/// What the frame of a parcel can be told by.
+fn unpack(parcel: Parcel) -> Option<u32> {
+    let frame = parcel.into_frame();
+    let generation = generation_of(&frame);
+    drop(frame);
+    generation
+}
+
 /// Takes a parcel, which is for the outbox's tab and of generation 0.
 fn take_first<R: Wait + Abort>(rt: &R, outbox: &Outbox, pass: &mut Pass)
     requires { IsOf pass.old outbox.now × (takes pass.old ≡ true) }
     ensures { IsOf pass.new outbox.now × (takes pass.new ≡ true) }
 {
     let first = outbox.take(rt, pass).expect(rt, "the first parcel");
-    assert_eq!(rt; first.partition(), outbox.partition());
-    assert_eq!(rt; first.tab(), outbox.tab());
-    let frame = first.into_frame();
-    assert_eq!(rt; generation_of(&frame), Some(0));
-    drop(frame);
+    is_addressed(rt, outbox, &first);
+    same(rt, unpack(first), Some(0));
 }
 
 /// Whether there is no parcel.
@@ -137,8 +149,22 @@ fn take_all<R: Wait + Abort>(rt: &R, outbox: &Outbox, pass: &mut Pass, from: u32
     ensures { IsOf pass.new outbox.now × (takes pass.new ≡ true) }
 {
     for generation in from..to {
-        assert_eq!(rt; next_generation(rt, outbox, pass), Some(generation));
+        same(rt, next_generation(rt, outbox, pass), Some(generation));
     }
+}
+
+/// Puts a parcel that a full outbox gives back, and again once the first one is taken.
+fn put_again<R: Wait + Abort>(rt: &R, outbox: &Outbox, taker: &mut Pass, putter: &mut Pass)
+    requires taker { IsOf taker.old outbox.now × (takes taker.old ≡ true) }
+    requires putter { IsOf putter.old outbox.now × (takes putter.old ≡ false) }
+    requires tab { (outbox.now.partition ≡ 1) × (outbox.now.tab ≡ 2) }
+    ensures taker { IsOf taker.new outbox.now × (takes taker.new ≡ true) }
+    ensures putter { IsOf putter.new outbox.now × (takes putter.new ≡ false) }
+{
+    let back = given_back(rt, outbox, putter, parcel(rt, 256));
+    same(rt, generation_of(back.frame()), Some(256));
+    take_first(rt, outbox, taker);
+    put(rt, outbox, putter, back);
 }
 
 #[test]
@@ -147,18 +173,15 @@ fn a_full_outbox_gives_the_parcel_back(rt: HostRuntime) {
     assert!(&rt; taker.takes());
     assert!(&rt; !putter.takes());
     put_all(&rt, &outbox, &mut putter, 0, 256);
-    let back = given_back(&rt, &outbox, &mut putter, parcel(&rt, 256));
-    assert_eq!(&rt; generation_of(back.frame()), Some(256));
-    take_first(&rt, &outbox, &mut taker);
-    put(&rt, &outbox, &mut putter, back);
+    put_again(&rt, &outbox, &mut taker, &mut putter);
     take_all(&rt, &outbox, &mut taker, 1, 257);
     assert!(&rt; is_empty(&rt, &outbox, &mut taker));
 }
 
 #[test]
 fn a_parcel_stays_in_its_partition(rt: HostRuntime) {
-    let refused = Parcel::new(1, 2, 2, Frame::Hello(Hello { generation: 1 }));
-    assert!(&rt; matches!(refused, Err(CrossPartition)));
+    let refused = Parcel::new(1, 2, 2, Frame::Hello(Hello { generation: 1 })).err();
+    same(&rt, refused, Some(CrossPartition));
 }
 
 /// Puts a hundred parcels.
@@ -170,21 +193,25 @@ fn put_hundred<R: Wait + Abort>(rt: &R, outbox: &Outbox, mut pass: Pass, from: u
     put_all(rt, outbox, &mut pass, from, from + 100);
 }
 
+/// Compares a generation with the next one, which is one more from then on.
+fn is_next(rt: &impl Abort, generation: u32, next: &mut u32) {
+    same(rt, generation, *next);
+    *next = next.wrapping_add(1);
+}
+
 /// Takes two hundred parcels: those below 500 come in order, and so do the others.
 fn take_both<R: Wait + Abort>(rt: &R, outbox: &Outbox, pass: &mut Pass)
     requires { IsOf pass.old outbox.now × (takes pass.old ≡ true) }
     ensures { IsOf pass.new outbox.now × (takes pass.new ≡ true) }
 {
-    let mut next = 0u32;
-    let mut next_other = 500u32;
+    let mut next = 0;
+    let mut next_other = 500;
     for _ in 0..200 {
         let generation = next_generation(rt, outbox, pass).expect(rt, "a hello");
         if generation < 500 {
-            assert_eq!(rt; generation, next);
-            next = next.wrapping_add(1);
+            is_next(rt, generation, &mut next);
         } else {
-            assert_eq!(rt; generation, next_other);
-            next_other = next_other.wrapping_add(1);
+            is_next(rt, generation, &mut next_other);
         }
     }
 }

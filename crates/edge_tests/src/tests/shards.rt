@@ -3,9 +3,10 @@
 ghost use Rattle.std.specs.Prelude.{◌≡◌, []};
 ghost use Rattle.wl_locked.specs.Blanks.{HaveParts, AreNamed};
 
+use super::comparing::same;
 use super::lanes::{
-    Events, Handed, Open, command_in, count, dealt, random_operation, replay, report_in, request,
-    run_over,
+    Events, Handed, Open, add, command_in, count, dealt, have_ended, random_operation, replay,
+    report_in, request, run_over,
 };
 use std::alloc::{AllocError, Global};
 use std::collections::VecDeque;
@@ -19,21 +20,24 @@ use wl_frames::Mode;
 use wl_locked::{
     Blanks, BookEvent, History, LANE_LIMIT, NotStepped, Receipt, ShardLane, Sharded, Shards, Work,
 };
-use wl_workers::Cause;
 
 // ---- two shards of two steps
 
-/// Does a work, which has to be dealt.
+/// Does a work, which has to be dealt, in memory of its own.
 fn take<J: Shards, R: Wait + Abort>(
     rt: &R,
+    alloc: Global,
     broker: &Sharded<J>,
     lane: &mut ShardLane<J>,
-    shard: u16,
-    event: BookEvent,
+    work: &Work,
 ) -> Result<Receipt, NotStepped> {
-    let work = Work { shard, event };
-    assert!(rt; work.is_dealt(broker.shards()));
-    broker.take(rt, lane, work)
+    let event = work.event.copy(alloc)?;
+    let copy = Work {
+        shard: work.shard,
+        event,
+    };
+    assert!(rt; copy.is_dealt(broker.shards()));
+    broker.take(rt, lane, copy)
 }
 
 /// How many receipts a lane has of each of two shards.
@@ -47,17 +51,13 @@ fn answered<J: Shards, R: Wait + Abort>(
     alloc: Global,
     broker: &Sharded<J>,
     lane: &mut ShardLane<J>,
-    shard: u16,
-    event: BookEvent,
+    work: &Work,
 ) -> Result<Receipt, NotStepped> {
     let before = counts(lane);
-    let Ok(again) = event.copy(alloc) else {
-        return Err(NotStepped::Memory);
-    };
-    match take(rt, broker, lane, shard, event) {
+    match take(rt, alloc, broker, lane, work) {
         Err(NotStepped::Memory) => {
-            assert_eq!(rt; counts(lane), before);
-            take(rt, broker, lane, shard, again)
+            same(rt, counts(lane), before);
+            take(rt, alloc, broker, lane, work)
         }
         answer => answer,
     }
@@ -81,9 +81,11 @@ fn step<J: Shards, R: Wait + Abort>(
     work: Work,
     place: Option<u32>,
 ) -> Result<(), AllocError> {
-    let Work { shard, event } = work;
-    let found = place_of(&answered(rt, alloc, broker, lane, shard, event))?;
-    assert_eq!(rt; found, place);
+    let answer = answered(rt, alloc, broker, lane, &work);
+    let found = place_of(&answer);
+    drop(answer);
+    drop(work);
+    same(rt, found?, place);
     Ok(())
 }
 
@@ -115,17 +117,16 @@ fn step_through<J: Shards, R: Wait + Abort>(
     step(rt, alloc, broker, lane, asked(alloc)?, None)?;
     let event = report_of(alloc, 2);
     step(rt, alloc, broker, lane, Work { shard: 0, event }, Some(0))?;
-    assert_eq!(rt; counts(lane), (1, 2));
+    same(rt, counts(lane), (1, 2));
     Ok(())
 }
 
-/// The steps of each of two shards.
+/// Asserts how many steps each of two shards has.
 fn are_one_and_two(rt: &impl Abort, histories: &[History]) {
-    let steps = |shard: usize| histories.get(shard).map(|history| history.steps().len());
-    assert_eq!(rt;
-        (histories.len(), steps(0), steps(1)),
-        (2, Some(1), Some(2))
-    );
+    match histories {
+        [first, second] => same(rt, (first.steps().len(), second.steps().len()), (1, 2)),
+        _ => same(rt, histories.len(), 2),
+    }
 }
 
 /// The same for each lane of a broker.
@@ -141,6 +142,22 @@ fn step_all<J: Shards, R: Wait + Abort>(
     Ok(())
 }
 
+/// Uses up the steps of a broker, and closes it.
+fn step_and_close<J: Shards, R: Wait + Abort>(
+    rt: &R,
+    alloc: Global,
+    broker: Sharded<J>,
+    mut lanes: Vec<ShardLane<J>>,
+) -> Result<(), AllocError> {
+    if step_all(rt, alloc, &broker, lanes.as_mut_slice()).is_err() {
+        drop(broker);
+        return Err(AllocError);
+    }
+    let histories = broker.close(lanes).expect(rt, "the steps of one lane");
+    are_one_and_two(rt, histories.as_slice());
+    Ok(())
+}
+
 fn use_up_named<J: Shards, R: Wait + Abort>(
     rt: &R,
     alloc: Global,
@@ -150,12 +167,9 @@ fn use_up_named<J: Shards, R: Wait + Abort>(
     requires parts { HaveParts 1 blanks }
     requires run { J.run ≡ record { generation = 1; listed = []; shards = 2; lanes = 1; limit = 2 } }
 {
-    let (broker, mut lanes, hellos) = Sharded::<J>::new(alloc, blanks, 1, &[], 2, 1, 2)?;
+    let (broker, lanes, hellos) = Sharded::<J>::new(alloc, blanks, 1, &[], 2, 1, 2)?;
     assert!(rt; hellos.as_slice().is_empty());
-    step_all(rt, alloc, &broker, lanes.as_mut_slice())?;
-    let histories = broker.close(lanes).expect(rt, "the steps of one lane");
-    are_one_and_two(rt, histories.as_slice());
-    Ok(())
+    step_and_close(rt, alloc, broker, lanes)
 }
 
 fn use_up<R: Wait + Abort>(rt: &R, alloc: Global) -> Result<(), AllocError> {
@@ -186,13 +200,13 @@ const COMMANDS: u32 = 20;
 fn random_events(dice: &mut Dice, alloc: Global, tab: u16) -> Result<Events, AllocError> {
     let partition = (tab.saturating_sub(1) / TABS_OF_PARTITION).saturating_add(1);
     let mut events = VecDeque::new(alloc);
-    events.push_back(report_in(alloc, partition, tab))?;
+    add(&mut events, report_in(alloc, partition, tab))?;
     for number in 0..COMMANDS {
         let operation = random_operation(dice, alloc, number)?;
-        events.push_back(command_in(partition, tab, number, operation))?;
+        add(&mut events, command_in(partition, tab, number, operation))?;
     }
     if dice.below(4) == 0 {
-        events.push_back(BookEvent::Dead(tab))?;
+        add(&mut events, BookEvent::Dead(tab))?;
     }
     Ok(events)
 }
@@ -202,10 +216,8 @@ fn script_of(dice: &mut Dice, alloc: Global, lane: u16) -> Result<VecDeque<Work>
     let mut works = VecDeque::new(alloc);
     for tab in 1..=TABS {
         if tab % LANE_LIMIT == lane {
-            let events = random_events(dice, alloc, tab)?;
-            for work in dealt(alloc, SHARDS, events)? {
-                works.push_back(work)?;
-            }
+            let mut more = dealt(alloc, SHARDS, random_events(dice, alloc, tab)?)?;
+            works.append(&mut more)?;
         }
     }
     Ok(works)
@@ -220,6 +232,16 @@ fn scripts(alloc: Global) -> Result<Vec<VecDeque<Work>>, AllocError> {
     Ok(all)
 }
 
+/// Replays histories, and counts their steps.
+fn replay_all(rt: &impl Abort, alloc: Global, histories: &[History]) -> Result<usize, AllocError> {
+    let mut steps = 0usize;
+    for history in histories {
+        steps = steps.saturating_add(history.steps().len());
+        replay(rt, alloc, history)?;
+    }
+    Ok(steps)
+}
+
 fn run_sixteen<R: Threads + Wait + Clock + Abort + Sync>(
     rt: &R,
     alloc: Global,
@@ -227,15 +249,10 @@ fn run_sixteen<R: Threads + Wait + Clock + Abort + Sync>(
     let scripts = scripts(alloc)?;
     let given = count(scripts.as_slice());
     let ran = run_over(rt, alloc, SHARDS, 4_000, scripts, &Open, Handed::All)?;
-    assert!(rt; ran.ends.iter().all(|end| end.why == Cause::Ended));
+    have_ended(rt, ran.ends.as_slice());
     let histories = ran.closed.expect(rt, "the steps of all lanes");
-    assert_eq!(rt; histories.len(), usize::from(SHARDS));
-    let mut steps = 0usize;
-    for history in histories.iter() {
-        steps = steps.saturating_add(history.steps().len());
-        replay(rt, alloc, history)?;
-    }
-    assert_eq!(rt; steps, given);
+    same(rt, histories.len(), usize::from(SHARDS));
+    same(rt, replay_all(rt, alloc, histories.as_slice())?, given);
     Ok(())
 }
 

@@ -1,10 +1,12 @@
 //! The kernel's two ends of a tab's link. Where memory is refused, a frame is lost or the link ends; then the same is done
 //! again: so these tests pass whichever allocation is refused.
 
+ghost use Rattle.std.specs.Arc.{arc_value};
 ghost use Rattle.std.specs.Prelude.{◌≡◌, ◌≤◌, true, false, IfOk};
 ghost use Rattle.wl_board.specs.Calls.{IsOf as IsSeatOf};
 ghost use Rattle.wl_outbox.specs.Passes.{IsOf, takes};
 
+use super::comparing::same;
 use std::alloc::{AllocError, Global};
 use std::io::{Read, Write};
 use std::process::Abort;
@@ -27,6 +29,11 @@ use wl_workers::uplink::Uplink;
 static HELLOS: [u8; 30] = [
     0, 0, 0, 6, 1, 16, 0, 0, 0, 1, 0, 0, 0, 6, 1, 16, 0, 0, 0, 2, 0, 0, 0, 6, 1, 16, 0, 0, 0, 3,
 ];
+
+/// The bytes of these hellos.
+fn hellos() -> &'static [u8] {
+    HELLOS.as_slice()
+}
 
 /// A board of three tabs on which tab 2 is dead.
 fn dead_tab(alloc: Global) -> Result<BoardSeat, AllocError> {
@@ -90,7 +97,7 @@ fn writes_three<R: Wait + Clock + Abort>(rt: &R, alloc: Global) -> bool {
     let mut bytes = Vec::new(alloc);
     let mut sink = Sink::new(&mut bytes);
     let end = write_three(rt, alloc, &mut sink);
-    end == Ok(WriteEnd::Dead) && bytes.as_slice() == HELLOS.as_slice()
+    end == Ok(WriteEnd::Dead) && bytes.as_slice() == hellos()
 }
 
 #[test]
@@ -105,14 +112,14 @@ fn writes_front<R: Wait + Clock + Abort>(rt: &R, alloc: Global, bytes: usize) ->
     let mut sink = Sink::new(&mut writer);
     let end = write_three(rt, alloc, &mut sink);
     end == Ok(WriteEnd::Write)
-        && HELLOS.starts_with(writer.taken())
+        && hellos().starts_with(writer.taken())
         && writer.taken().len() == bytes
 }
 
 #[test]
 fn a_failing_writer_ends_the_link(rt: HostRuntime) {
     let alloc = rt.alloc();
-    for bytes in 0..HELLOS.len() {
+    for bytes in 0..hellos().len() {
         assert!(&rt;
             writes_front(&rt, alloc, bytes) || writes_front(&rt, alloc, bytes),
             "after {bytes} bytes"
@@ -133,9 +140,27 @@ struct LastWord<'a> {
 impl Lives for LastWord<'_> {
     fn look<R: Wait + Clock>(&mut self, rt: &R, _tab: u16) -> Life {
         if let Ok(parcel) = Parcel::new(1, 1, 2, Frame::Hello(Hello { generation: 3 })) {
-            let _full = self.outbox.put(rt, &mut self.pass, parcel);
+            drop(self.outbox.put(rt, &mut self.pass, parcel));
         }
         Life::Dead
+    }
+}
+
+/// Writes what is left for a tab that is found dead, and gives the bytes.
+fn write_until_dead<R: Wait + Clock, L: Lives>(
+    rt: &R,
+    alloc: Global,
+    outbox: &Outbox,
+    taker: &mut Pass,
+    lives: &mut L,
+) -> Result<Vec<u8>, AllocError>
+    requires { IsOf taker.old outbox.now × (takes taker.old ≡ true) }
+{
+    let mut bytes = Vec::new(alloc);
+    let mut sink = Sink::new(&mut bytes);
+    match tab_writer(rt, alloc, 2, outbox, taker, lives, &mut sink) {
+        WriteEnd::Dead => Ok(bytes),
+        WriteEnd::Write => Err(AllocError),
     }
 }
 
@@ -148,19 +173,13 @@ fn last_words<R: Wait + Clock + Abort>(rt: &R, alloc: Global) -> Result<Vec<u8>,
         outbox: &outbox,
         pass: putter,
     };
-    let mut bytes = Vec::new(alloc);
-    let mut sink = Sink::new(&mut bytes);
-    let end = tab_writer(rt, alloc, 2, &outbox, &mut taker, &mut lives, &mut sink);
-    if end == WriteEnd::Write {
-        return Err(AllocError);
-    }
-    Ok(bytes)
+    write_until_dead(rt, alloc, &outbox, &mut taker, &mut lives)
 }
 
 /// Whether these are the three hellos.
-fn is_whole(written: &Result<Vec<u8>, AllocError>) -> bool {
+fn is_whole(written: Result<Vec<u8>, AllocError>) -> bool {
     match written {
-        Ok(bytes) => bytes.as_slice() == HELLOS.as_slice(),
+        Ok(bytes) => bytes.as_slice() == hellos(),
         Err(_) => false,
     }
 }
@@ -168,7 +187,7 @@ fn is_whole(written: &Result<Vec<u8>, AllocError>) -> bool {
 #[test]
 fn what_was_put_before_the_death_was_seen_is_written(rt: HostRuntime) {
     let alloc = rt.alloc();
-    assert!(&rt; is_whole(&last_words(&rt, alloc)) || is_whole(&last_words(&rt, alloc)));
+    assert!(&rt; is_whole(last_words(&rt, alloc)) || is_whole(last_words(&rt, alloc)));
 }
 
 /// Puts three hellos and ends the tab, and rings the bell after each.
@@ -202,12 +221,7 @@ fn write_rung<R: Wait + Clock>(
 ) -> Result<Vec<u8>, AllocError>
     requires { IsOf taker outbox.now × (takes taker ≡ true) }
 {
-    let mut bytes = Vec::new(alloc);
-    let mut sink = Sink::new(&mut bytes);
-    match tab_writer(rt, alloc, 2, outbox, &mut taker, &mut lives, &mut sink) {
-        WriteEnd::Dead => Ok(bytes),
-        WriteEnd::Write => Err(AllocError),
-    }
+    write_until_dead(rt, alloc, outbox, &mut taker, &mut lives)
 }
 
 /// A board of three tabs, and two seats of it.
@@ -259,18 +273,29 @@ fn write_and_ring<R: Wait + Clock + Abort + Threads + Sync>(
     written
 }
 
+/// A bell, and looks at a board that sleep until it is rung.
+fn bell_and_lives(
+    alloc: Global,
+    board: &Arc<Board>,
+    seat: Seat,
+) -> Result<(Arc<Parker>, Rung<SharedSeat>), AllocError>
+    requires { IsSeatOf seat (arc_value board.now) }
+{
+    let seat = BoardSeat::new(Arc::try_clone(board)?, seat);
+    let seat = SharedSeat::new(Arc::new(alloc, Mutex::new(seat))?);
+    let bell = Arc::new(alloc, Parker::new())?;
+    Ok((Arc::try_clone(&bell)?, Rung::new(bell, seat)))
+}
+
 /// What is written where a bell is rung.
 fn rung<R: Wait + Clock + Abort + Threads + Sync>(
     rt: &R,
     alloc: Global,
 ) -> Result<Vec<u8>, AllocError> {
     let (board, watching, marking) = board_of_two(alloc)?;
-    let (outbox, taker, putter) = outbox_of_one(alloc)?;
     let board = Arc::new(alloc, board)?;
-    let bell = Arc::new(alloc, Parker::new())?;
-    let seat = BoardSeat::new(Arc::try_clone(&board)?, watching);
-    let shared_seat = SharedSeat::new(Arc::new(alloc, Mutex::new(seat))?);
-    let lives = Rung::new(Arc::try_clone(&bell)?, shared_seat);
+    let (bell, lives) = bell_and_lives(alloc, &board, watching)?;
+    let (outbox, taker, putter) = outbox_of_one(alloc)?;
     write_and_ring(
         rt, alloc, &outbox, taker, putter, lives, &bell, &board, marking,
     )
@@ -279,7 +304,7 @@ fn rung<R: Wait + Clock + Abort + Threads + Sync>(
 #[test]
 fn a_writer_sleeps_until_its_bell_rings(rt: HostRuntime) {
     let alloc = rt.alloc();
-    assert!(&rt; is_whole(&rung(&rt, alloc)) || is_whole(&rung(&rt, alloc)));
+    assert!(&rt; is_whole(rung(&rt, alloc)) || is_whole(rung(&rt, alloc)));
 }
 
 /// A tab that is found living so often, and then dead.
@@ -306,9 +331,10 @@ struct Counter {
 
 impl Uplink for Counter {
     fn up<R: Wait + Clock>(&mut self, _rt: &R, _tab: u16, frame: Frame) -> Result<(), RouteFault> {
-        if let Frame::Hello(_) = frame {
+        if let Frame::Hello(_) = &frame {
             self.hellos = self.hellos.wrapping_add(1);
         }
+        drop(frame);
         Err(RouteFault::WrongKind)
     }
 }
@@ -340,28 +366,40 @@ fn reads<R: Wait + Clock, S: Read + Copy + Drop>(
     }
 }
 
+/// How the reading of the first bytes of the hellos ends, where the tab is found living so often.
+fn reads_first<R: Wait + Clock + Abort>(
+    rt: &R,
+    alloc: Global,
+    bytes: usize,
+    looks: u32,
+    want: (ReadEnd, u32),
+) {
+    let all = hellos();
+    assert!(rt; bytes <= all.len());
+    same(rt, reads(rt, alloc, &all[..bytes], looks), want);
+}
+
 #[test]
 fn frames_of_a_living_tab_are_handed_up(rt: HostRuntime) {
     let alloc = rt.alloc();
-    assert_eq!(&rt; reads(&rt, alloc, HELLOS.as_slice(), 9), (ReadEnd::End, 3));
-    assert_eq!(&rt; reads(&rt, alloc, HELLOS.as_slice(), 1), (ReadEnd::Dead, 1));
-    assert_eq!(&rt;
-        reads(&rt, alloc, &HELLOS[..25], 9),
-        (ReadEnd::Frame(FrameFault::Truncated), 2)
-    );
+    reads_first(&rt, alloc, 30, 9, (ReadEnd::End, 3));
+    reads_first(&rt, alloc, 30, 1, (ReadEnd::Dead, 1));
+    let cut = ReadEnd::Frame(FrameFault::Truncated);
+    reads_first(&rt, alloc, 25, 9, (cut, 2));
+}
+
+/// Compares how the reading ends, and how many hellos are handed up, where the reader fails after so many reads.
+fn fails_after<R: Wait + Clock + Abort>(rt: &R, alloc: Global, bytes: u32, want: (ReadEnd, u32)) {
+    let reader = SlowReader::new(hellos(), bytes as usize);
+    let found = reads(rt, alloc, reader, 9);
+    assert!(rt; found == want, "after {bytes} bytes");
 }
 
 #[test]
 fn a_failing_reader_ends_the_link(rt: HostRuntime) {
     let alloc = rt.alloc();
     for bytes in 0..31u32 {
-        let reader = SlowReader::new(HELLOS.as_slice(), bytes as usize);
-        assert_eq!(&rt;
-            reads(&rt, alloc, reader, 9),
-            (ReadEnd::Read, bytes / 10),
-            "after {bytes} bytes"
-        );
+        fails_after(&rt, alloc, bytes, (ReadEnd::Read, bytes / 10));
     }
-    let reader = SlowReader::new(HELLOS.as_slice(), 31);
-    assert_eq!(&rt; reads(&rt, alloc, reader, 9), (ReadEnd::End, 3));
+    fails_after(&rt, alloc, 31, (ReadEnd::End, 3));
 }

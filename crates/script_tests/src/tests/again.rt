@@ -32,7 +32,7 @@ pub fn bytes(rt: &impl Abort, alloc: Global, byte: u8, count: usize) -> Vec<u8> 
 pub fn append(rt: &impl Abort, bytes: &mut Vec<u8>, more: &[u8]) {
     let len = bytes.len();
     if bytes.extend_from_slice(more).is_err() {
-        assert_eq!(rt; bytes.len(), len);
+        assert!(rt; bytes.len() == len);
         bytes.extend_from_slice(more).expect(rt, "memory is back");
     }
 }

@@ -14,7 +14,7 @@ use wl_frames::{Command, Operation, Post, Report, ReportPart, Sequence, Upward};
 use wl_origin::partition;
 use wl_world::event::{Event, Forged};
 use wl_world::holding::Holding;
-use wl_world::reply::Said;
+use wl_world::reply::{Reply, Said, Sent};
 use wl_world::world::World;
 
 const STEPS: u64 = 6_000;
@@ -64,13 +64,19 @@ impl Choices {
     }
 }
 
-/// A world, with how many messages were ever sent, the generation, and how many forgeries were sent.
-#[derive(Drop)]
-struct Play {
-    world: World,
+/// How many messages were ever sent, the generation, and how many forgeries were sent.
+#[derive(Clone, Copy)]
+struct Counts {
     sent: usize,
     generation: u32,
     forged: usize,
+}
+
+/// A world, and what was counted in it.
+#[derive(Drop)]
+struct Play {
+    world: World,
+    counts: Counts,
 }
 
 // Contracts see nothing of it, which keeps the proofs of all that plays on it small.
@@ -86,9 +92,11 @@ impl Play {
     fn new(alloc: Global) -> Play {
         Play {
             world: World::new(alloc),
-            sent: 0,
-            generation: 0,
-            forged: 0,
+            counts: Counts {
+                sent: 0,
+                generation: 0,
+                forged: 0,
+            },
         }
     }
 }
@@ -121,7 +129,7 @@ fn open(alloc: Global, tab: u16) -> Result<Event, AllocError> {
 
 /// A delivery: most often of one of the latest messages, else of any.
 fn delivery(choices: &mut Choices, alloc: Global, play: &Play) -> Result<Event, AllocError> {
-    let sent = play.sent as u64;
+    let sent = play.counts.sent as u64;
     let age = if choices.below(4) == 0 {
         choices.below(sent)
     } else {
@@ -220,37 +228,80 @@ fn operation(choices: &mut Choices, alloc: Global) -> Result<Operation, AllocErr
     })
 }
 
-/// What a tab that is taken over says, most often of the generation that runs.
+fn post(choices: &mut Choices, alloc: Global, number: u32) -> Result<Forged, AllocError> {
+    Ok(Forged::Post(Post {
+        number,
+        channel: choices.name(alloc)?,
+        bytes: Bytes::new(),
+    }))
+}
+
+fn report(
+    choices: &mut Choices,
+    alloc: Global,
+    generation: u32,
+    base: u32,
+) -> Result<Upward, AllocError> {
+    Ok(Upward::Report(Report {
+        generation,
+        base,
+        entries: entries(choices, alloc)?,
+    }))
+}
+
+fn report_part(
+    choices: &mut Choices,
+    alloc: Global,
+    generation: u32,
+    base: u32,
+) -> Result<Upward, AllocError> {
+    let part = u16::from(choices.below(2) == 0);
+    Ok(Upward::ReportPart(ReportPart {
+        generation,
+        base,
+        part,
+        parts: 2,
+        entries: entries(choices, alloc)?,
+    }))
+}
+
+fn command(
+    choices: &mut Choices,
+    alloc: Global,
+    generation: u32,
+    number: u32,
+) -> Result<Upward, AllocError> {
+    Ok(Upward::Command(Command {
+        generation,
+        number,
+        operation: operation(choices, alloc)?,
+    }))
+}
+
+/// The generation of a forgery: most often the one that runs.
+fn forged_generation(choices: &mut Choices, play: &Play) -> u32 {
+    match choices.below(4) {
+        0 => play.counts.generation.saturating_add(1),
+        _ => play.counts.generation.max(1),
+    }
+}
+
+/// What a tab that is taken over says.
 fn forged(choices: &mut Choices, alloc: Global, play: &Play) -> Result<Forged, AllocError> {
-    let generation = match choices.below(4) {
-        0 => play.generation.saturating_add(1),
-        _ => play.generation.max(1),
-    };
+    let generation = forged_generation(choices, play);
     let number = choices.number();
-    Ok(match choices.below(5) {
-        0 => Forged::Post(Post {
-            number,
-            channel: choices.name(alloc)?,
-            bytes: Bytes::new(),
-        }),
-        1 => Forged::Upward(Upward::Report(Report {
-            generation,
-            base: number,
-            entries: entries(choices, alloc)?,
-        })),
-        2 => Forged::Upward(Upward::ReportPart(ReportPart {
-            generation,
-            base: number,
-            part: u16::from(choices.below(2) == 0),
-            parts: 2,
-            entries: entries(choices, alloc)?,
-        })),
-        _ => Forged::Upward(Upward::Command(Command {
-            generation,
-            number,
-            operation: operation(choices, alloc)?,
-        })),
-    })
+    let upward = match choices.below(5) {
+        0 => return post(choices, alloc, number),
+        1 => report(choices, alloc, generation, number),
+        2 => report_part(choices, alloc, generation, number),
+        _ => command(choices, alloc, generation, number),
+    };
+    Ok(Forged::Upward(upward?))
+}
+
+fn forge(choices: &mut Choices, alloc: Global, play: &Play, tab: u16) -> Result<Event, AllocError> {
+    let forged = forged(choices, alloc, play)?;
+    Ok(Event::Forge { tab, forged })
 }
 
 /// A hostile tab is taken over, or forges; now and then another one tries it in vain.
@@ -261,17 +312,11 @@ fn hostile(
     tab: u16,
 ) -> Result<Event, AllocError> {
     let hostile = tab.saturating_add(4) / 5 * 5;
-    Ok(match choices.below(5) {
-        0 => Event::Corrupt { tab: hostile },
-        1 => Event::Forge {
-            tab,
-            forged: forged(choices, alloc, play)?,
-        },
-        _ => Event::Forge {
-            tab: hostile,
-            forged: forged(choices, alloc, play)?,
-        },
-    })
+    match choices.below(5) {
+        0 => Ok(Event::Corrupt { tab: hostile }),
+        1 => forge(choices, alloc, play, tab),
+        _ => forge(choices, alloc, play, hostile),
+    }
 }
 
 // ---- runs
@@ -305,28 +350,37 @@ fn forgeries_in(said: &Said) -> usize {
     }
 }
 
+/// How many messages were ever sent, with these.
+fn sent_after(sent: &[Sent], before: usize) -> usize {
+    let mut most = before;
+    for message in sent {
+        most = most.max(message.place.saturating_add(1));
+    }
+    most
+}
+
+impl Counts {
+    /// The counts after an event that was answered so.
+    fn after(self, reply: &Reply) -> Counts {
+        Counts {
+            sent: sent_after(reply.sent.as_slice(), self.sent),
+            generation: generation_after(&reply.said, self.generation),
+            forged: self.forged.saturating_add(forgeries_in(&reply.said)),
+        }
+    }
+}
+
+/// The step alone.
+fn step_once(world: World, event: Event) -> Result<(World, Reply), AllocError> {
+    world.step(event)
+}
+
 fn then(play: Play, event: Event) -> Result<Play, AllocError> {
-    let Play {
-        world,
-        sent,
-        generation,
-        forged,
-    } = play;
-    let (world, reply) = world.step(event)?;
-    let generation = generation_after(&reply.said, generation);
-    let forged = forged.saturating_add(forgeries_in(&reply.said));
-    let sent = reply
-        .sent
-        .as_slice()
-        .iter()
-        .map(|sent| sent.place.saturating_add(1))
-        .fold(sent, |most, count| most.max(count));
-    Ok(Play {
-        world,
-        sent,
-        generation,
-        forged,
-    })
+    let Play { world, counts } = play;
+    let (world, reply) = step_once(world, event)?;
+    let counts = counts.after(&reply);
+    drop(reply);
+    Ok(Play { world, counts })
 }
 
 fn conflict(one: &Holding, other: &Holding) -> bool {
@@ -371,8 +425,8 @@ impl Seen {
         assert!(rt; !any_conflict(held, honest_alone));
         self.most = self.most.max(held.len());
         self.held = self.held.saturating_add(held.len());
-        self.sent = play.sent;
-        self.forged = play.forged;
+        self.sent = play.counts.sent;
+        self.forged = play.counts.forged;
         Ok(())
     }
 }

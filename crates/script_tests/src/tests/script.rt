@@ -95,8 +95,8 @@ fn expect<S: Read + Copy + Drop>(
         written.clear();
         ended = run(alloc, reader, &mut written);
     }
-    assert_eq!(rt; ended, end, "{name}");
-    assert_eq!(rt; written.as_slice(), output, "{name}");
+    assert!(rt; ended == end, "{name}");
+    assert!(rt; written.as_slice() == output, "{name}");
 }
 
 fn play_of_once(alloc: Global, row: &Row) -> Result<Play, AllocError> {
@@ -399,45 +399,53 @@ fn a_full_inbox(rt: HostRuntime) {
 
 // ---- how a run ends
 
-#[test]
-fn lines_of_other_forms(rt: HostRuntime) {
-    let cases: [(&[u8], u32, &[u8]); 6] = [
-        (b"stop\n# a comment\n\nstopp\nstop\n", 4, b"already down\n"),
-        (b"stop \nstop\n", 1, b""),
-        (b"stop\r\n", 1, b""),
-        (b"stop\nstart 0", 2, b"already down\n"),
-        (b"stop\nopen2 1 https://a.test/\n", 2, b"already down\n"),
-        (b"ask 1 shared %FF\n", 1, b""),
-    ];
-    for (script, number, output) in cases {
-        let end = Err(SimFault::Line(number));
-        expect(&rt, rt.alloc(), script, end, output, "another form");
-    }
+/// A line of this number is of another form, before which this is written.
+fn expect_other_form(rt: &impl Abort, alloc: Global, script: &[u8], number: u32, output: &[u8]) {
+    let end = Err(SimFault::Line(number));
+    expect(rt, alloc, script, end, output, "another form");
 }
 
 #[test]
+fn lines_of_other_forms(rt: HostRuntime) {
+    let alloc = rt.alloc();
+    let down = b"already down\n";
+    expect_other_form(&rt, alloc, b"stop\n# a comment\n\nstopp\nstop\n", 4, down);
+    expect_other_form(&rt, alloc, b"stop \nstop\n", 1, b"");
+    expect_other_form(&rt, alloc, b"stop\r\n", 1, b"");
+    expect_other_form(&rt, alloc, b"stop\nstart 0", 2, down);
+    expect_other_form(&rt, alloc, b"stop\nopen2 1 https://a.test/\n", 2, down);
+    expect_other_form(&rt, alloc, b"ask 1 shared %FF\n", 1, b"");
+}
+
+/// The last line of a script forges what is no body of a tab; a line before it finds no tab.
+fn expect_no_body(rt: &impl Abort, alloc: Global, script: &[u8]) {
+    let lines = script.iter().filter(|byte| **byte == b'\n').count();
+    let number = u32::try_from(lines).unwrap_or(0);
+    let output = if lines == 1 { "" } else { "no tab\n" };
+    let end = Err(SimFault::Line(number));
+    expect(rt, alloc, script, end, output.as_bytes(), "no body");
+}
+
+static NO_BODIES: [&[u8]; 11] = [
+    b"forge 1\n",
+    b"forge 1 \n",
+    b"forge 1 %\n",
+    b"forge 1 01\n",
+    // A digit is missing, a digit is in lower case, a byte is left over, a byte is missing.
+    b"forge 1 01030000000001610000\nforge 1 0103000000000161000\n",
+    b"forge 1 0103000000000161000a\n",
+    b"forge 1 0103000000000161000000\n",
+    b"forge 1 010300000000016100\n",
+    // A hello; a post of the second version, and a report of a third.
+    b"forge 1 011000000001\n",
+    b"forge 1 02030000000001610000\n",
+    b"forge 1 03020000000100000000000000010000\n",
+];
+
+#[test]
 fn what_is_no_body_of_a_tab(rt: HostRuntime) {
-    let cases: [&[u8]; 11] = [
-        b"forge 1\n",
-        b"forge 1 \n",
-        b"forge 1 %\n",
-        b"forge 1 01\n",
-        // A digit is missing, a digit is in lower case, a byte is left over, a byte is missing.
-        b"forge 1 01030000000001610000\nforge 1 0103000000000161000\n",
-        b"forge 1 0103000000000161000a\n",
-        b"forge 1 0103000000000161000000\n",
-        b"forge 1 010300000000016100\n",
-        // A hello; a post of the second version, and a report of a third.
-        b"forge 1 011000000001\n",
-        b"forge 1 02030000000001610000\n",
-        b"forge 1 03020000000100000000000000010000\n",
-    ];
-    for script in cases {
-        let lines = script.iter().filter(|byte| **byte == b'\n').count();
-        let number = u32::try_from(lines).unwrap_or(0);
-        let output = if lines == 1 { "" } else { "no tab\n" };
-        let end = Err(SimFault::Line(number));
-        expect(&rt, rt.alloc(), script, end, output.as_bytes(), "no body");
+    for script in &NO_BODIES {
+        expect_no_body(&rt, rt.alloc(), script);
     }
 }
 
@@ -464,18 +472,22 @@ fn a_line_that_is_too_long(rt: HostRuntime) {
     expect(&rt, rt.alloc(), script.as_slice(), end, output, "too long");
 }
 
+/// Two lines, which are read by so many reads at most.
+fn expect_reads(rt: &impl Abort, alloc: Global, reads: usize) {
+    let due = b"already down\nalready down\n".as_slice();
+    let (end, output) = match reads {
+        0..=4 => (Err(SimFault::Read), &due[..0]),
+        5..=9 => (Err(SimFault::Read), &due[..13]),
+        _ => (Ok(()), due),
+    };
+    let reader = SlowReader::new(b"stop\nstop", reads);
+    expect(rt, alloc, reader, end, output, "a failing reader");
+}
+
 #[test]
 fn a_reader_that_fails(rt: HostRuntime) {
-    let script = b"stop\nstop".as_slice();
-    let due = b"already down\nalready down\n".as_slice();
     for reads in 0..11 {
-        let (end, output) = match reads {
-            0..=4 => (Err(SimFault::Read), &due[..0]),
-            5..=9 => (Err(SimFault::Read), &due[..13]),
-            _ => (Ok(()), due),
-        };
-        let reader = SlowReader::new(script, reads);
-        expect(&rt, rt.alloc(), reader, end, output, "a failing reader");
+        expect_reads(&rt, rt.alloc(), reads);
     }
 }
 
@@ -487,22 +499,27 @@ fn write_until(alloc: Global, script: &[u8], writes: usize) -> (Result<(), SimFa
     (end, writer)
 }
 
-#[test]
-fn a_writer_that_fails(rt: HostRuntime) {
+/// Two lines, of which this many bytes are written at most.
+fn expect_writes(rt: &impl Abort, alloc: Global, writes: usize) {
     let script = b"stop\nstop\n".as_slice();
     let due = b"already down\nalready down\n".as_slice();
+    let (mut end, mut writer) = write_until(alloc, script, writes);
+    if end == Err(SimFault::Memory) {
+        assert!(rt; due.starts_with(writer.taken()), "after {writes} writes");
+        (end, writer) = write_until(alloc, script, writes);
+    }
+    let (expected, written) = if writes < due.len() {
+        (Err(SimFault::Write), &due[..writes])
+    } else {
+        (Ok(()), due)
+    };
+    assert!(rt; end == expected, "after {writes} writes");
+    assert!(rt; writer.taken() == written, "after {writes} writes");
+}
+
+#[test]
+fn a_writer_that_fails(rt: HostRuntime) {
     for writes in 0..28 {
-        let (mut end, mut writer) = write_until(rt.alloc(), script, writes);
-        if end == Err(SimFault::Memory) {
-            assert!(rt; due.starts_with(writer.taken()), "after {writes} writes");
-            (end, writer) = write_until(rt.alloc(), script, writes);
-        }
-        if writes < due.len() {
-            assert_eq!(rt; end, Err(SimFault::Write), "after {writes} writes");
-            assert_eq!(rt; writer.taken(), &due[..writes]);
-        } else {
-            assert_eq!(rt; end, Ok(()), "after {writes} writes");
-            assert_eq!(rt; writer.taken(), due);
-        }
+        expect_writes(&rt, rt.alloc(), writes);
     }
 }

@@ -1,21 +1,35 @@
+use crate::tests::comparing::same;
+use std::io::Read;
+use std::process::Abort;
 use wl_fakes::devices::{FullWriter, SlowReader, SlowWriter};
 use wl_workers::{READ_LIMIT, ReadFault, Sink, Source, WriteFault};
+
+/// Asserts what a source answers.
+fn answers<S: Read>(
+    rt: &impl Abort,
+    source: &mut Source<S>,
+    buffer: &mut [u8],
+    want: Result<usize, ReadFault>,
+) {
+    assert!(rt; !buffer.is_empty());
+    same(rt, source.read(buffer), want);
+}
 
 #[test]
 fn source_reads_to_the_end(rt: HostRuntime) {
     let mut source = Source::new(b"ab".as_slice());
     let mut buffer = [0; 4];
-    assert_eq!(rt; source.read(&mut buffer), Ok(2));
-    assert_eq!(rt; buffer, *b"ab\0\0");
-    assert_eq!(rt; source.read(&mut buffer), Ok(0));
+    answers(&rt, &mut source, &mut buffer, Ok(2));
+    same(&rt, buffer, *b"ab\0\0");
+    answers(&rt, &mut source, &mut buffer, Ok(0));
 }
 
 #[test]
 fn source_fails_where_its_reader_does(rt: HostRuntime) {
     let mut source = Source::new(SlowReader::new(b"ab", 1));
     let mut buffer = [0; 4];
-    assert_eq!(rt; source.read(&mut buffer), Ok(1));
-    assert_eq!(rt; source.read(&mut buffer), Err(ReadFault::Failed));
+    answers(&rt, &mut source, &mut buffer, Ok(1));
+    answers(&rt, &mut source, &mut buffer, Err(ReadFault::Failed));
 }
 
 #[test]
@@ -23,30 +37,34 @@ fn source_ends_at_its_limit(rt: HostRuntime) {
     let mut source = Source::new(b"".as_slice());
     let mut buffer = [0; 1];
     for _ in 0..READ_LIMIT {
-        assert_eq!(rt; source.read(&mut buffer), Ok(0));
+        answers(&rt, &mut source, &mut buffer, Ok(0));
     }
-    assert_eq!(rt; source.read(&mut buffer), Err(ReadFault::TooManyReads));
+    let too_many = Err(ReadFault::TooManyReads);
+    answers(&rt, &mut source, &mut buffer, too_many);
+}
+
+/// Writes into a writer that fails after so many writes, and compares what is answered, and how many bytes were taken.
+fn writes(rt: &impl Abort, writes: usize, want: Result<(), WriteFault>, taken: usize) {
+    let text = b"abcd";
+    let mut writer = SlowWriter::new(writes);
+    let done = Sink::new(&mut writer).write(text);
+    assert!(rt; done == want, "after {writes} writes");
+    assert!(rt; taken <= text.len());
+    assert!(rt; writer.taken() == &text[..taken], "after {writes} writes");
 }
 
 #[test]
 fn sink_writes_up_to_the_failure(rt: HostRuntime) {
-    let text = b"abcd";
-    for writes in 0..6 {
-        let mut writer = SlowWriter::new(writes);
-        let done = Sink::new(&mut writer).write(text);
-        if writes < text.len() {
-            assert_eq!(rt; done, Err(WriteFault), "after {writes} writes");
-            assert_eq!(rt; writer.taken(), &text[..writes]);
-        } else {
-            assert_eq!(rt; done, Ok(()), "after {writes} writes");
-            assert_eq!(rt; writer.taken(), text.as_slice());
-        }
+    for bytes in 0..4 {
+        writes(&rt, bytes, Err(WriteFault), bytes);
     }
+    writes(&rt, 4, Ok(()), 4);
+    writes(&rt, 5, Ok(()), 4);
 }
 
 #[test]
 fn sink_fails_where_nothing_is_taken(rt: HostRuntime) {
     let mut sink = Sink::new(FullWriter);
-    assert_eq!(rt; sink.write(b""), Ok(()));
-    assert_eq!(rt; sink.write(b"a"), Err(WriteFault));
+    same(&rt, sink.write(b""), Ok(()));
+    same(&rt, sink.write(b"a"), Err(WriteFault));
 }

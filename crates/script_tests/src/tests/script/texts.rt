@@ -26,7 +26,7 @@ fn has_word(rt: &impl Abort, alloc: Global, text: &str, word: &str) {
         clear_front(rt, &mut out, word);
         put_word_once(&mut out, text).expect(rt, "memory is back");
     }
-    assert_eq!(rt; out.as_slice(), word.as_bytes(), "of {text}");
+    assert!(rt; out.as_slice() == word.as_bytes(), "of {text}");
 }
 
 /// The text whose word this is, read again where memory was refused.
@@ -37,35 +37,46 @@ fn unescaped(alloc: Global, word: &str) -> Result<Vec<u8>, Unread> {
     }
 }
 
+fn is_text(read: &Result<Vec<u8>, Unread>, text: &str) -> bool {
+    match read {
+        Ok(bytes) => bytes.as_slice() == text.as_bytes(),
+        Err(_) => false,
+    }
+}
+
+/// Asserts that a word is that of a text, and is read as it.
+fn spells(rt: &impl Abort, alloc: Global, text: &str, word: &str) {
+    has_word(rt, alloc, text, word);
+    assert!(rt; is_text(&unescaped(alloc, word), text), "of {word}");
+}
+
 #[test]
 fn words(rt: HostRuntime) {
-    let cases = [
-        ("", "%"),
-        ("a", "a"),
-        ("!~-", "!~-"),
-        ("a b", "a%20b"),
-        ("%", "%25"),
-        ("\n", "%0A"),
-        ("\u{7f}", "%7F"),
-        ("é", "%C3%A9"),
-    ];
-    for (text, word) in cases {
-        has_word(&rt, rt.alloc(), text, word);
-        let back = unescaped(rt.alloc(), word);
-        assert!(rt;
-            matches!(&back, Ok(bytes) if bytes.as_slice() == text.as_bytes()),
-            "of {word}"
-        );
-    }
+    let alloc = rt.alloc();
+    spells(&rt, alloc, "", "%");
+    spells(&rt, alloc, "a", "a");
+    spells(&rt, alloc, "!~-", "!~-");
+    spells(&rt, alloc, "a b", "a%20b");
+    spells(&rt, alloc, "%", "%25");
+    spells(&rt, alloc, "\n", "%0A");
+    spells(&rt, alloc, "\u{7f}", "%7F");
+    spells(&rt, alloc, "é", "%C3%A9");
+}
+
+fn is_no_word(rt: &impl Abort, alloc: Global, word: &str) {
+    assert!(rt;
+        matches!(&unescaped(alloc, word), Err(Unread::Form)),
+        "of {word}"
+    );
 }
 
 #[test]
 fn other_spellings(rt: HostRuntime) {
     // No word; one digit; a byte that stands for itself; lower case; bytes that do not stand for themselves; `%` alone
     // within a word.
-    for word in ["", "%2", "%41", "%c3%a9", "a b", "é", "a%", "%%", "%G0"] {
-        let read = unescaped(rt.alloc(), word);
-        assert!(rt; matches!(&read, Err(Unread::Form)), "of {word}");
+    let words = ["", "%2", "%41", "%c3%a9", "a b", "é", "a%", "%%", "%G0"];
+    for word in &words {
+        is_no_word(&rt, rt.alloc(), word);
     }
 }
 
@@ -147,14 +158,21 @@ fn put_message_once(out: &mut Vec<u8>, message: &Message) -> Result<(), AllocErr
     put_message(out, message)
 }
 
-/// Whether a message has this text. A call that memory ended has written a prefix of it, and is made again.
-fn has_text(rt: &impl Abort, alloc: Global, message: &Message, text: &str) {
+/// What is written of a message. A call that memory ended has written a prefix of its text, and is made again.
+fn written(rt: &impl Abort, alloc: Global, message: &Message, text: &str) -> Vec<u8> {
     let mut out = Vec::new(alloc);
     if put_message_once(&mut out, message).is_err() {
         clear_front(rt, &mut out, text);
         put_message_once(&mut out, message).expect(rt, "memory is back");
     }
-    assert_eq!(rt; out.as_slice(), text.as_bytes(), "of {text}");
+    out
+}
+
+/// Asserts that a message has this text.
+fn has_text(rt: &impl Abort, alloc: Global, message: Message, text: &str) {
+    let written = written(rt, alloc, &message, text);
+    drop(message);
+    assert!(rt; written.as_slice() == text.as_bytes(), "of {text}");
 }
 
 fn waiting_once(rt: &impl Abort, alloc: Global) -> Result<Vec<Entry>, AllocError> {
@@ -201,132 +219,175 @@ fn locks(rt: &impl Abort, alloc: Global) -> Sequence<SnapshotEntry> {
     Sequence::new(entries)
 }
 
+/// What tab 2 says, with the partition 1.
+fn up(inner: Upward) -> Message {
+    Message::Up(Stamped {
+        tab: 2,
+        partition: 1,
+        inner,
+    })
+}
+
+/// A command of tab 2 has this text.
+fn commands(rt: &impl Abort, alloc: Global, number: u32, operation: Operation, text: &str) {
+    let command = Command {
+        generation: 1,
+        number,
+        operation,
+    };
+    has_text(rt, alloc, up(Upward::Command(command)), text);
+}
+
+/// A request of tab 2 has this text.
+fn requests(
+    rt: &impl Abort,
+    alloc: Global,
+    mode: Mode,
+    if_available: bool,
+    lock: &str,
+    text: &str,
+) {
+    let operation = Operation::Request {
+        mode,
+        if_available,
+        name: name(rt, alloc, lock),
+    };
+    commands(rt, alloc, 0, operation, text);
+}
+
+fn reports(rt: &impl Abort, alloc: Global, text: &str) {
+    let report = Report {
+        generation: 2,
+        base: 1,
+        entries: waiting(rt, alloc),
+    };
+    has_text(rt, alloc, up(Upward::Report(report)), text);
+}
+
 #[test]
 fn upward(rt: HostRuntime) {
     let alloc = rt.alloc();
-    let sent = |inner| {
-        Message::Up(Stamped {
-            tab: 2,
-            partition: 1,
-            inner,
-        })
-    };
-    let command = |number, operation| {
-        sent(Upward::Command(Command {
-            generation: 1,
-            number,
-            operation,
-        }))
-    };
-    let cases = [
-        (
-            command(
-                0,
-                Operation::Request {
-                    mode: Mode::Shared,
-                    if_available: false,
-                    name: name(&rt, alloc, "a"),
-                },
-            ),
-            "2>b gen 1 #0 request shared a",
-        ),
-        (
-            command(
-                0,
-                Operation::Request {
-                    mode: Mode::Exclusive,
-                    if_available: true,
-                    name: name(&rt, alloc, ""),
-                },
-            ),
-            "2>b gen 1 #0 probe exclusive %",
-        ),
-        (
-            command(2, Operation::Release { number: 0 }),
-            "2>b gen 1 #2 release 0",
-        ),
-        (
-            command(1, Operation::Abort { number: 0 }),
-            "2>b gen 1 #1 abort 0",
-        ),
-        (command(1, Operation::Query), "2>b gen 1 #1 query"),
-        (
-            sent(Upward::Report(Report {
-                generation: 2,
-                base: 1,
-                entries: waiting(&rt, alloc),
-            })),
-            "2>b report 2 base 1 #0 waiting exclusive a",
-        ),
-    ];
-    for (message, text) in cases {
-        has_text(&rt, alloc, &message, text);
+    let (shared, exclusive) = (Mode::Shared, Mode::Exclusive);
+    requests(
+        &rt,
+        alloc,
+        shared,
+        false,
+        "a",
+        "2>b gen 1 #0 request shared a",
+    );
+    requests(
+        &rt,
+        alloc,
+        exclusive,
+        true,
+        "",
+        "2>b gen 1 #0 probe exclusive %",
+    );
+    let release = Operation::Release { number: 0 };
+    commands(&rt, alloc, 2, release, "2>b gen 1 #2 release 0");
+    let abort = Operation::Abort { number: 0 };
+    commands(&rt, alloc, 1, abort, "2>b gen 1 #1 abort 0");
+    commands(&rt, alloc, 1, Operation::Query, "2>b gen 1 #1 query");
+    reports(&rt, alloc, "2>b report 2 base 1 #0 waiting exclusive a");
+}
+
+/// What tab 1 is told.
+fn down(sender: Sender, inner: Downward) -> Message {
+    Message::Down {
+        sender,
+        addressed: Addressed { tab: 1, inner },
     }
+}
+
+/// An answer to tab 1 has this text.
+fn answers(rt: &impl Abort, alloc: Global, number: u32, outcome: Outcome, upto: u32, text: &str) {
+    let answer = Answer {
+        generation: 1,
+        upto,
+        number,
+        outcome,
+    };
+    has_text(
+        rt,
+        alloc,
+        down(Sender::Broker, Downward::Answer(answer)),
+        text,
+    );
+}
+
+fn greets(rt: &impl Abort, alloc: Global, text: &str) {
+    let hello = Hello { generation: 2 };
+    has_text(
+        rt,
+        alloc,
+        down(Sender::Kernel, Downward::Hello(hello)),
+        text,
+    );
+}
+
+fn lists(rt: &impl Abort, alloc: Global, text: &str) {
+    let snapshot = Snapshot {
+        generation: 1,
+        number: 1,
+        part: 0,
+        parts: 1,
+        entries: locks(rt, alloc),
+    };
+    has_text(
+        rt,
+        alloc,
+        down(Sender::Broker, Downward::Snapshot(snapshot)),
+        text,
+    );
 }
 
 #[test]
 fn downward(rt: HostRuntime) {
     let alloc = rt.alloc();
-    let sent = |sender, inner| Message::Down {
-        sender,
-        addressed: Addressed { tab: 1, inner },
-    };
-    let answer = |number, outcome, upto| {
-        sent(
-            Sender::Broker,
-            Downward::Answer(Answer {
-                generation: 1,
-                upto,
-                number,
-                outcome,
-            }),
-        )
-    };
-    let cases = [
-        (
-            sent(Sender::Kernel, Downward::Hello(Hello { generation: 2 })),
-            "k>1 hello 2",
-        ),
-        (
-            answer(0, Outcome::Waiting, 1),
-            "b>1 gen 1 #0 waiting upto 1",
-        ),
-        (
-            answer(2, Outcome::Granted, 3),
-            "b>1 gen 1 #2 granted upto 3",
-        ),
-        (answer(0, Outcome::Gone, 1), "b>1 gen 1 #0 gone upto 1"),
-        (answer(1, Outcome::Taken, 2), "b>1 gen 1 #1 taken upto 2"),
-        (
-            sent(
-                Sender::Broker,
-                Downward::Snapshot(Snapshot {
-                    generation: 1,
-                    number: 1,
-                    part: 0,
-                    parts: 1,
-                    entries: locks(&rt, alloc),
-                }),
-            ),
-            "b>1 gen 1 #1 part 0 of 1 held 1 exclusive a waiting 2 shared a",
-        ),
-    ];
-    for (message, text) in cases {
-        has_text(&rt, alloc, &message, text);
-    }
+    greets(&rt, alloc, "k>1 hello 2");
+    answers(
+        &rt,
+        alloc,
+        0,
+        Outcome::Waiting,
+        1,
+        "b>1 gen 1 #0 waiting upto 1",
+    );
+    answers(
+        &rt,
+        alloc,
+        2,
+        Outcome::Granted,
+        3,
+        "b>1 gen 1 #2 granted upto 3",
+    );
+    answers(&rt, alloc, 0, Outcome::Gone, 1, "b>1 gen 1 #0 gone upto 1");
+    answers(
+        &rt,
+        alloc,
+        1,
+        Outcome::Taken,
+        2,
+        "b>1 gen 1 #1 taken upto 2",
+    );
+    let text = "b>1 gen 1 #1 part 0 of 1 held 1 exclusive a waiting 2 shared a";
+    lists(&rt, alloc, text);
 }
 
 #[test]
 fn across(rt: HostRuntime) {
     let alloc = rt.alloc();
-    let message = Message::Across {
-        tab: 2,
-        heard: Heard {
-            source: 1,
-            number: 1,
-            channel: name(&rt, alloc, "n"),
-            bytes: Bytes::new(),
-        },
+    let heard = Heard {
+        source: 1,
+        number: 1,
+        channel: name(&rt, alloc, "n"),
+        bytes: Bytes::new(),
     };
-    has_text(&rt, alloc, &message, "1>2 post 1 n %");
+    has_text(
+        &rt,
+        alloc,
+        Message::Across { tab: 2, heard },
+        "1>2 post 1 n %",
+    );
 }
