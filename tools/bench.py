@@ -35,8 +35,9 @@ has requests and releases of a tab that is alone in its partition. A broker that
 many steps a second there were, of all lanes together, the best of the runs, and that rate as a ratio to the rate of one lane on
 one shard, the middle one of the runs.
 Where the broker alone has a ratio of 2, a step of a lane takes twice as long as one without lock, history and receipts; a locked
-step takes as many times as long as the rate of `alone` is that of `locked`. All of it is done again with an allocator that asks
-for huge pages, since what a step stores is memory that is touched for the first time.
+step takes as many times as long as the rate of `alone` is that of `locked`. Each of the three has a process of its own, so that
+none finds memory as another left it. All of it is done again with an allocator that asks for huge pages, since what a step stores
+is memory that is touched for the first time.
 
 Processes: a kernel, its broker with two lanes, and tabs, each of which asks for an exclusive lock, waits for it and gives it up,
 2,000 times: one tab; four tabs of one origin with a name each, and with one name for all; sixteen tabs of four origins with a
@@ -322,11 +323,13 @@ def locked(program):
     for title, more in (("locked", {}), ("locked, huge pages", HUGE_PAGES)):
         rates, ratios = {}, {}
         for _ in range(RUNS):
-            done = subprocess.run([program, "time"], stdout=subprocess.PIPE, check=True, env={**os.environ, **more})
             run = {}
-            for line in done.stdout.decode().splitlines():
-                what, lanes, shards, steps, taken = line.split()
-                run[what, lanes, shards] = int(steps) / int(taken) * 1e9
+            for part in ("alone", "locked", "lanes"):
+                words = [program, "time", part]
+                done = subprocess.run(words, stdout=subprocess.PIPE, check=True, env={**os.environ, **more})
+                for line in done.stdout.decode().splitlines():
+                    what, lanes, shards, steps, taken = line.split()
+                    run[what, lanes, shards] = int(steps) / int(taken) * 1e9
             for key, rate in run.items():
                 rates.setdefault(key, []).append(rate)
                 ratios.setdefault(key, []).append(rate / run["lanes", "1", "1"])

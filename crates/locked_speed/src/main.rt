@@ -1,6 +1,7 @@
 //! Times lanes that step a broker in shards, each behind a lock of its own, beside the same events taken by a broker that no other
-//! thread has, and by a locked broker that one thread steps. With the argument `time` it prints nanoseconds; without it, it makes
-//! small runs and prints how many steps they made, the same each time.
+//! thread has, and by a locked broker that one thread steps. With the argument `time` it prints nanoseconds, and with one more,
+//! `alone`, `locked` or `lanes`, those runs alone; without arguments it makes small runs and prints how many steps they made, the
+//! same each time.
 #![tactic(auto)]
 
 mod events;
@@ -44,16 +45,32 @@ pub(crate) struct Outcome {
 
 fn main(rt: HostRuntime) -> io::Result<()> {
     let alloc = rt.alloc();
-    let is_timed = std::env::args(&rt)?.nth(1).is_some();
+    let mut words = std::env::args(&rt)?.skip(1);
+    let is_timed = words.next().is_some();
+    let only = words.next();
     let locks = if is_timed { MANY } else { FEW };
-    tell(&rt, "alone", (1, 1), is_timed, alone(&rt, alloc, locks)?)?;
-    let locked = steps::run(&rt, alloc, locks)?;
-    tell(&rt, "locked", (1, 1), is_timed, locked)?;
-    for (lanes, shards) in RUNS {
-        let outcome = lanes::run(&rt, alloc, lanes, shards, locks)?;
-        tell(&rt, "lanes", (lanes, shards), is_timed, outcome)?;
+    if is_wanted(&only, "alone") {
+        tell(&rt, "alone", (1, 1), is_timed, alone(&rt, alloc, locks)?)?;
+    }
+    if is_wanted(&only, "locked") {
+        let locked = steps::run(&rt, alloc, locks)?;
+        tell(&rt, "locked", (1, 1), is_timed, locked)?;
+    }
+    if is_wanted(&only, "lanes") {
+        for (lanes, shards) in RUNS {
+            let outcome = lanes::run(&rt, alloc, lanes, shards, locks)?;
+            tell(&rt, "lanes", (lanes, shards), is_timed, outcome)?;
+        }
     }
     Ok(())
+}
+
+/// Whether these runs are to be made: all are, unless some are named.
+fn is_wanted(only: &Option<String>, what: &str) -> bool {
+    match only {
+        Some(word) => word.as_str() == what,
+        None => true,
+    }
 }
 
 /// Has a broker that no other thread has take the events of a tab.
