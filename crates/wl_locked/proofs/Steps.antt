@@ -1,14 +1,10 @@
 -- One step more.
 use Rattle.std.proofs.Common.{◌≡◌, ◌<◌, ◌+◌, ℕ, List, [], ◌∷◌, ◌++◌, length, replicate, Bool, false, refl, sym, ap, ◌∙◌, arith}
-use Rattle.std.specs.Prelude.{IfOk, Result, Ok, Err}
 use Rattle.std.proofs.lemmas.List.{replicate_more, length_push}
 use Rattle.wl_broker.specs.Broker.{BrokerState}
 use Rattle.wl_locked.specs.Stepping.{stepped}
-use Rattle.wl_locked.specs.declared.event.BookEvent.{BookEvent}
 use Rattle.wl_locked.specs.declared.receipt.Step.{Step}
-use Rattle.wl_locked.specs.declared.receipt.Receipt.{Receipt}
-use Rattle.wl_locked.specs.declared.receipt.NotStepped.{NotStepped}
-use Rattle.wl_locked.specs.History.{replay, events, IsReplay, IsAnswer, IsKept}
+use Rattle.wl_locked.specs.History.{replay, events, IsReplay, IsKept}
 
 pub replay-push : (s : BrokerState) (es : List Step) (e : Step) → replay s (events (es ++ e ∷ [])) ≡ (stepped (replay s (events es)) e.event).0
 replay-push s [] e = refl
@@ -36,9 +32,3 @@ IsKept-push opening now next steps longer e marks more limit count total h moved
       within = rw (is, length_push) (omega arith);
       unmarked = marks_are ∙ ap (λ ms. ms ++ false ∷ []) h.unmarked ∙ replicate_more (length steps) false ∙ ap (λ n. replicate n false) (sym (ap length is ∙ length_push steps e));
     }
-
--- what a book says of its own steps, said of some list of events
-pub answers : (s : BrokerState) (steps : List Step) (event : BookEvent) (r : Result Receipt NotStepped) → IfOk r (λ x. x.place ≡ length steps)
-    → IfOk r (λ x. x.reply ≡ (stepped (replay s (events steps)) event).1) → IfOk r (λ x. IsAnswer s x.place event x.reply)
-answers s steps event (Ok x) place reply = (events steps, length-events steps ∙ sym place, reply)
-answers s steps event (Err e) place reply = tt

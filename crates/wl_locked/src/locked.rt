@@ -120,7 +120,13 @@ impl<J: Generation> LockedBroker<J> {
         let copied = copies(self.alloc, &event);
         // Where it is refused, it is so again under the lock, after all else that comes first.
         let _grown = lane.grow();
-        self.book.lock(rt).take_copied(lane, event, copied)
+        let (receipt, kept) = self
+            .book
+            .lock(rt)
+            .store_for(&mut lane.share, &mut lane.receipts, event, copied)?;
+        // The lane's own receipt needs no lock.
+        lane.receipts.push_reserved(kept);
+        Ok(receipt)
     }
 
     /// The history, where it is made of the lanes' receipts. It takes no memory.
