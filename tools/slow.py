@@ -1,7 +1,9 @@
-"""Lists what took longest in the last check of a crate, function by function: python3 tools/slow.py CRATE [COUNT]
+"""Lists what took most in the last check of a crate, function by function: python3 tools/slow.py CRATE [COUNT]
 
-It reads when each file was written that `rt check --jobs 1`, in the crate's folder, keeps of what it has proved: the time of a
-function is that of its files, each since the one before. With `rm -r out` before, all of the crate is timed.
+It reads what `rt check --jobs 1`, in the crate's folder, keeps of each function that it has proved: the size of its files, and
+when each was written, since the time of a function is that of its files, each since the one before. With `rm -r out` before, all
+of the crate is seen. The sizes depend on no other work. Where a check goes in batches (it prints `so far:`), a function that
+comes first in its batch is charged with the time of another batch, too: a few megabytes beside minutes tell of that.
 """
 import collections
 import os
@@ -15,24 +17,27 @@ APART = 300
 
 
 def written(folder):
-    """The files that were kept, in the order in which they were written."""
+    """The files that were kept, with their sizes, in the order in which they were written."""
     for at, _, names in os.walk(folder):
         for name in names:
             if name.endswith(".oantt"):
-                yield os.stat(os.path.join(at, name)).st_mtime_ns, name
+                status = os.stat(os.path.join(at, name))
+                yield status.st_mtime_ns, name, status.st_size
 
 
 def main():
     crate, count = sys.argv[1], int(sys.argv[2]) if len(sys.argv) > 2 else 20
-    files = sorted(written(f"crates/{crate}/out/incremental"))
-    seconds = collections.Counter()
-    for (before, _), (after, name) in zip(files, files[1:]):
-        if after - before < APART * 1_000_000_000:
-            function = re.sub(PARTS, "", re.sub(r"^Rattle-\w+?-(proofs|specs)\.", "", name))
-            seconds[function] += (after - before) / 1_000_000_000
-    print(f"{sum(seconds.values()):8.1f} seconds in all")
-    for function, spent in seconds.most_common(count):
-        print(f"{spent:8.1f} {function}")
+    seconds, sizes = collections.Counter(), collections.Counter()
+    before = None
+    for at, name, size in sorted(written(f"crates/{crate}/out/incremental")):
+        function = re.sub(PARTS, "", re.sub(r"^Rattle-\w+?-(proofs|specs)\.", "", name))
+        sizes[function] += size
+        if before is not None and at - before < APART * 1_000_000_000:
+            seconds[function] += (at - before) / 1_000_000_000
+        before = at
+    print(f"{sum(sizes.values()) / 1e6:8.1f} megabytes {sum(seconds.values()):8.1f} seconds in all")
+    for function, size in sizes.most_common(count):
+        print(f"{size / 1e6:8.1f} megabytes {seconds[function]:8.1f} seconds  {function}")
 
 
 if __name__ == "__main__":
