@@ -1,6 +1,7 @@
 //! One file a part.
 
 mod again;
+mod comparing;
 mod process_script;
 mod random;
 mod script;

@@ -10,6 +10,7 @@ mod fours;
 mod gathering;
 pub mod lane;
 pub mod locked;
+mod locking;
 mod marking;
 pub mod receipt;
 mod room;

@@ -12,6 +12,7 @@ ghost use Rattle.wl_locked.specs.declared.shards.TheConstants.{SHARD_LIMIT};
 use crate::book::{Book, Ending, copies};
 use crate::event::{BookEvent, Reply};
 use crate::lane::{Generation, Kept, Lane};
+use crate::locking::lock;
 use crate::receipt::{CloseFault, History, NotStepped, Receipt};
 use std::alloc::{AllocError, Global};
 use std::sync::ledger::{Blank, Share};
@@ -120,10 +121,12 @@ impl<J: Generation> LockedBroker<J> {
         let copied = copies(self.alloc, &event);
         // Where it is refused, it is so again under the lock, after all else that comes first.
         let _grown = lane.grow();
-        let (receipt, kept) = self
-            .book
-            .lock(rt)
-            .store_for(&mut lane.share, &mut lane.receipts, event, copied)?;
+        let (receipt, kept) = lock(&self.book, rt).store_for(
+            &mut lane.share,
+            &mut lane.receipts,
+            event,
+            copied,
+        )?;
         // The lane's own receipt needs no lock.
         lane.receipts.push_reserved(kept);
         Ok(receipt)

@@ -1,5 +1,8 @@
 //! Why a process ended before its work was done.
 
+ghost use Rattle.std.specs.Prelude.{◌≡◌};
+ghost use Rattle.wl_process.specs.Status.{status_of};
+
 use std::alloc::{AllocError, AllocFailed};
 use std::io;
 use std::io::ErrorKind;
@@ -47,7 +50,9 @@ pub const DEVICE_OR_MEMORY: u8 = 3;
 
 impl ProcessFault {
     /// The status with which a process ends for it: 1 for what was refused, 3 for a device or memory.
-    pub fn status(self) -> u8 {
+    pub fn status(self) -> u8
+        ensures { result ≡ status_of self }
+    {
         match self {
             ProcessFault::Line(_)
             | ProcessFault::Frame(_)

@@ -5,7 +5,7 @@ ghost use Rattle.std.specs.Prelude.{◌≡◌, ◌≤◌};
 ghost use Rattle.wl_board.specs.Calls.{IsOf};
 ghost use Rattle.wl_board.specs.Rule.{Has};
 
-use super::comparing::same;
+use crate::tests::comparing::same;
 use std::alloc::Global;
 use std::process::Abort;
 use std::thread;

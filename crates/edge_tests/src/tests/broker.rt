@@ -3,7 +3,7 @@
 
 ghost use Rattle.wl_grammar.specs.Grammar.{TabsRiseFrom};
 
-use crate::tests::comparing::same;
+use crate::tests::comparing::{same, same_of};
 use crate::tests::desk::rows::{DEATH_HANDS_OVER, HANDOVER, RESTART_WHILE_HELD, Row, SNAPSHOT};
 use crate::tests::desk::{append, bytes};
 use std::alloc::{AllocError, Global};
@@ -143,7 +143,7 @@ fn frames(rt: &impl Abort, alloc: Global, row: &Row) -> Vec<Frame> {
 /// Compares what a broker wrote with what a row says.
 fn writes(rt: &impl Abort, alloc: Global, written: &[u8], row: &Row) {
     let output = bytes(rt, alloc, &[row.output]);
-    assert!(rt; written == output.as_slice(), "{}", row.name);
+    same_of(rt, row.name, written, output.as_slice());
 }
 
 /// Gives the broker the row's frames, and compares what it answers, its hellos first. Where a place is given, each answer is

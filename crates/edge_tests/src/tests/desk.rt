@@ -1,7 +1,7 @@
 mod devices;
 pub mod rows;
 
-use super::comparing::same;
+use crate::tests::comparing::{same, same_of};
 use rows::{FIRST_GRANT, Row};
 use std::alloc::{AllocError, Global};
 use std::io::Read;
@@ -96,8 +96,8 @@ fn are_as(
     wanted: (Result<(), DeskFault>, &[u8]),
     name: &str,
 ) {
-    assert!(rt; found.0 == wanted.0, "{name}: {:?}", found.0);
-    assert!(rt; found.1 == wanted.1, "{name}: {:?}", found.1);
+    same_of(rt, name, found.0, wanted.0);
+    same_of(rt, name, found.1, wanted.1);
 }
 
 fn expect_row(rt: &impl Abort, alloc: Global, row: &Row) {
@@ -324,10 +324,7 @@ fn fail_after(rt: &impl Abort, alloc: Global, input: &[u8], output: &[u8], write
     }
     same(rt, end, Err(DeskFault::Write));
     assert!(rt; writes <= output.len());
-    assert!(rt;
-        writer.taken() == &output[..writes],
-        "after {writes} writes"
-    );
+    same(rt, writer.taken(), &output[..writes]);
 }
 
 #[test]

@@ -6,8 +6,8 @@ ghost use Rattle.wl_broker.specs.Broker.{started};
 ghost use Rattle.wl_grammar.specs.Grammar.{TabsRiseFrom};
 ghost use Rattle.wl_locked.specs.declared.locked.TheConstants.{LANE_LIMIT};
 
-use super::comparing::same;
 use super::lanes::{command, report, request, take_once};
+use crate::tests::comparing::same;
 use std::alloc::{AllocError, Global};
 use std::marker::Brand;
 use std::process::Abort;

@@ -1,7 +1,7 @@
 //! How a lane ends, as its intake, its desk, its gate and its outlet say.
 
-use super::comparing::same;
 use super::lanes::{Counter, Open, granted};
+use crate::tests::comparing::same;
 use std::alloc::{AllocError, Global};
 use std::collections::VecDeque;
 use std::process::Abort;

@@ -7,7 +7,7 @@ ghost use Rattle.wl_locked.specs.Blanks.{HaveParts, AreNamed};
 ghost use Rattle.wl_locked.specs.declared.locked.TheConstants.{LANE_LIMIT};
 ghost use Rattle.wl_locked.specs.declared.shards.TheConstants.{SHARD_LIMIT};
 
-use super::comparing::same;
+use crate::tests::comparing::same;
 use std::alloc::{AllocError, Global};
 use std::collections::VecDeque;
 use std::marker::{Brand, Model, PhantomData};

@@ -4,7 +4,7 @@
 ghost use Rattle.std.specs.Prelude.{◌≡◌, ◌≤◌, [], true, false, All};
 ghost use Rattle.wl_outbox.specs.Passes.{IsOf, takes};
 
-use super::comparing::same;
+use crate::tests::comparing::same;
 use std::alloc::Global;
 use std::process::Abort;
 use std::sync::Wait;

@@ -1,7 +1,7 @@
 //! Frames on their way out of a process. An append that is refused memory leaves what was gathered as it was, and is made
 //! again: so these tests pass whichever allocation is refused.
 
-use super::comparing::same;
+use crate::tests::comparing::same;
 use std::alloc::{AllocError, Global};
 use std::process::Abort;
 use wl_frames::{Answer, Frame, Hello, Outcome};
@@ -49,5 +49,5 @@ fn frames_are_gathered(rt: HostRuntime) {
     // A generation that no frame has: nothing is appended.
     let hello = Hello { generation: 0 };
     gathers(&rt, alloc, &mut bytes, Frame::Hello(hello));
-    assert!(&rt; bytes.as_slice() == GATHERED.as_slice());
+    same(&rt, bytes.as_slice(), GATHERED.as_slice());
 }

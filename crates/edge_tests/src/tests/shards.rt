@@ -3,11 +3,11 @@
 ghost use Rattle.std.specs.Prelude.{◌≡◌, []};
 ghost use Rattle.wl_locked.specs.Blanks.{HaveParts, AreNamed};
 
-use super::comparing::same;
 use super::lanes::{
     Events, Handed, Open, add, command_in, count, dealt, have_ended, random_operation, replay,
     report_in, request, run_over,
 };
+use crate::tests::comparing::same;
 use std::alloc::{AllocError, Global};
 use std::collections::VecDeque;
 use std::marker::Brand;

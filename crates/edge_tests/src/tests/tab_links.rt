@@ -6,7 +6,7 @@ ghost use Rattle.std.specs.Prelude.{◌≡◌, ◌≤◌, true, false, IfOk};
 ghost use Rattle.wl_board.specs.Calls.{IsOf as IsSeatOf};
 ghost use Rattle.wl_outbox.specs.Passes.{IsOf, takes};
 
-use super::comparing::same;
+use crate::tests::comparing::same;
 use std::alloc::{AllocError, Global};
 use std::io::{Read, Write};
 use std::process::Abort;
@@ -392,7 +392,7 @@ fn frames_of_a_living_tab_are_handed_up(rt: HostRuntime) {
 fn fails_after<R: Wait + Clock + Abort>(rt: &R, alloc: Global, bytes: u32, want: (ReadEnd, u32)) {
     let reader = SlowReader::new(hellos(), bytes as usize);
     let found = reads(rt, alloc, reader, 9);
-    assert!(rt; found == want, "after {bytes} bytes");
+    same(rt, (bytes, found), (bytes, want));
 }
 
 #[test]

@@ -2,8 +2,8 @@
 
 ghost use Rattle.std.specs.Prelude.{◌<◌};
 
-use super::comparing::same;
 use super::lanes::{Handed, add, dealt, end_so, ended, report_in, run_over};
+use crate::tests::comparing::same;
 use std::alloc::{AllocError, Global};
 use std::collections::VecDeque;
 use std::process::Abort;

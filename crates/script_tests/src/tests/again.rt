@@ -1,5 +1,6 @@
 //! What several of the tests make. Where memory is refused it is made again.
 
+use crate::tests::comparing::same;
 use std::alloc::{AllocError, Global};
 use std::process::Abort;
 use wl_frames::Name;
@@ -32,7 +33,7 @@ pub fn bytes(rt: &impl Abort, alloc: Global, byte: u8, count: usize) -> Vec<u8> 
 pub fn append(rt: &impl Abort, bytes: &mut Vec<u8>, more: &[u8]) {
     let len = bytes.len();
     if bytes.extend_from_slice(more).is_err() {
-        assert!(rt; bytes.len() == len);
+        same(rt, bytes.len(), len);
         bytes.extend_from_slice(more).expect(rt, "memory is back");
     }
 }

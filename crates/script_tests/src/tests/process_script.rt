@@ -2,6 +2,7 @@
 //! memory is made again: so these tests pass whichever allocation is refused.
 
 use super::again::{clear_front, name};
+use crate::tests::comparing::{same_of, same_text};
 use std::alloc::{AllocError, Global};
 use std::process::Abort;
 use wl_frames::Mode;
@@ -254,7 +255,7 @@ fn prints(rt: &impl Abort, alloc: Global, reply: KernelReply<'_>, text: &str) {
         clear_front(rt, &mut out, text);
         put_once(&reply, &mut out).expect(rt, "memory is back");
     }
-    assert!(rt; out.as_slice() == text.as_bytes(), "of {text}");
+    same_text(rt, "a reply", out.as_slice(), text.as_bytes());
 }
 
 /// What is printed of brokers.
@@ -325,11 +326,11 @@ fn counts_as(rt: &impl Abort, alloc: Global, count: u32, text: &str) {
         clear_front(rt, &mut out, text);
         put_count_once(&mut out, count).expect(rt, "memory is back");
     }
-    assert!(rt; out.as_slice() == text.as_bytes(), "of {count}");
+    same_text(rt, "a count", out.as_slice(), text.as_bytes());
 }
 
 fn is_count(rt: &impl Abort, text: &str, count: u32) {
-    assert!(rt; count_of(text.as_bytes()) == Some(count), "of {text}");
+    same_of(rt, text, count_of(text.as_bytes()), Some(count));
 }
 
 /// Texts of other forms than a count's.

@@ -5,6 +5,7 @@ pub mod rows;
 mod texts;
 
 use super::again::{append, bytes};
+use crate::tests::comparing::{same, same_of, same_text};
 use rows::{JOINED_1, Row};
 use std::alloc::{AllocError, Global};
 use std::io::Read;
@@ -95,8 +96,8 @@ fn expect<S: Read + Copy + Drop>(
         written.clear();
         ended = run(alloc, reader, &mut written);
     }
-    assert!(rt; ended == end, "{name}");
-    assert!(rt; written.as_slice() == output, "{name}");
+    same_of(rt, name, ended, end);
+    same_text(rt, name, written.as_slice(), output);
 }
 
 fn play_of_once(alloc: Global, row: &Row) -> Result<Play, AllocError> {
@@ -513,8 +514,8 @@ fn expect_writes(rt: &impl Abort, alloc: Global, writes: usize) {
     } else {
         (Ok(()), due)
     };
-    assert!(rt; end == expected, "after {writes} writes");
-    assert!(rt; writer.taken() == written, "after {writes} writes");
+    same(rt, (writes, end), (writes, expected));
+    same_text(rt, "two lines", writer.taken(), written);
 }
 
 #[test]

@@ -6,6 +6,7 @@
 
 use super::script::rows::Row;
 use super::script::{Play, play_of, play_of_refusals, rows, run};
+use crate::tests::comparing::same_of;
 use std::alloc::{AllocError, Global};
 use std::process::Abort;
 use wl_script::sim::SimFault;
@@ -143,10 +144,7 @@ fn expect_conflicts(rt: &impl Abort, alloc: Global, lists: &str, count: usize, c
     let opened = "opened 1 https://a.test\nopened 2 https://a.test\nopened 3 http://a.test\n";
     let output = joined(rt, alloc, opened, lists);
     let told = told_by(rt, alloc, output.as_str());
-    assert!(rt;
-        (told.lists, told.conflicts) == (count, conflicts),
-        "in {lists}"
-    );
+    same_of(rt, lists, (told.lists, told.conflicts), (count, conflicts));
 }
 
 #[test]
@@ -284,12 +282,12 @@ fn written_for(rt: &impl Abort, alloc: Global, script: &[u8], name: &str) -> Vec
     let mut written = Vec::new(alloc);
     let end = run(alloc, script, &mut written);
     if !is_refused(end) {
-        assert!(rt; end == Ok(()), "{name}");
+        same_of(rt, name, end, Ok(()));
         return written;
     }
     let mut whole = Vec::new(alloc);
     let end = run(alloc, script, &mut whole);
-    assert!(rt; end == Ok(()), "{name}");
+    same_of(rt, name, end, Ok(()));
     assert!(rt; whole.as_slice().starts_with(written.as_slice()), "{name}");
     whole
 }
@@ -299,8 +297,7 @@ fn play(rt: &impl Abort, alloc: Global, watched: &Watched, name: &str) -> Tally 
     let written = written_for(rt, alloc, watched.script.as_slice(), name);
     let output = str::from_utf8(written.as_slice()).expect(rt, "a text");
     let told = told_by(rt, alloc, output);
-    assert!(rt; told.lists == watched.lists, "{name}");
-    assert!(rt; told.conflicts == 0, "{name}");
+    same_of(rt, name, (told.lists, told.conflicts), (watched.lists, 0));
     Tally {
         runs: 1,
         locks: told.locks,

@@ -1,4 +1,4 @@
-use crate::tests::comparing::same;
+use crate::tests::comparing::{same, same_text};
 use std::io::Read;
 use std::process::Abort;
 use wl_fakes::devices::{FullWriter, SlowReader, SlowWriter};
@@ -48,9 +48,9 @@ fn writes(rt: &impl Abort, writes: usize, want: Result<(), WriteFault>, taken: u
     let text = b"abcd";
     let mut writer = SlowWriter::new(writes);
     let done = Sink::new(&mut writer).write(text);
-    assert!(rt; done == want, "after {writes} writes");
+    same(rt, (writes, done), (writes, want));
     assert!(rt; taken <= text.len());
-    assert!(rt; writer.taken() == &text[..taken], "after {writes} writes");
+    same_text(rt, "abcd", writer.taken(), &text[..taken]);
 }
 
 #[test]

@@ -1,6 +1,7 @@
 // Words, lines that are refused, and the texts of messages. The rows have each form of a line.
 // A call that is refused memory is made again.
 use super::super::again::{append, bytes, clear_front, name};
+use crate::tests::comparing::same_text;
 use bytes::Bytes;
 use std::alloc::{AllocError, Global};
 use std::process::Abort;
@@ -26,7 +27,7 @@ fn has_word(rt: &impl Abort, alloc: Global, text: &str, word: &str) {
         clear_front(rt, &mut out, word);
         put_word_once(&mut out, text).expect(rt, "memory is back");
     }
-    assert!(rt; out.as_slice() == word.as_bytes(), "of {text}");
+    same_text(rt, text, out.as_slice(), word.as_bytes());
 }
 
 /// The text whose word this is, read again where memory was refused.
@@ -172,7 +173,7 @@ fn written(rt: &impl Abort, alloc: Global, message: &Message, text: &str) -> Vec
 fn has_text(rt: &impl Abort, alloc: Global, message: Message, text: &str) {
     let written = written(rt, alloc, &message, text);
     drop(message);
-    assert!(rt; written.as_slice() == text.as_bytes(), "of {text}");
+    same_text(rt, "a message", written.as_slice(), text.as_bytes());
 }
 
 fn waiting_once(rt: &impl Abort, alloc: Global) -> Result<Vec<Entry>, AllocError> {

@@ -1,0 +1,17 @@
+-- The status with which a process ends.
+use Rattle.std.specs.Prelude.{ℕ}
+use Rattle.wl_process.specs.declared.fault.ProcessFault.{ProcessFault}
+use Rattle.wl_process.specs.declared.fault.ProcessFault.TheVariants.{Line, LineFailed, Frame, Unexpected, Read, Write, TooManyReads, Device, Memory}
+use Rattle.wl_process.specs.declared.fault.TheConstants.{REFUSED, DEVICE_OR_MEMORY}
+
+-- what the process was given and refused is told apart from a device or memory that failed it
+abbrev pub status_of : ProcessFault → ℕ
+status_of (Line _) = REFUSED
+status_of (Frame _) = REFUSED
+status_of Unexpected = REFUSED
+status_of TooManyReads = REFUSED
+status_of (LineFailed _) = DEVICE_OR_MEMORY
+status_of Read = DEVICE_OR_MEMORY
+status_of Write = DEVICE_OR_MEMORY
+status_of Device = DEVICE_OR_MEMORY
+status_of Memory = DEVICE_OR_MEMORY
