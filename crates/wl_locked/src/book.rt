@@ -1,6 +1,6 @@
 //! The book: a broker with all that it did.
 
-ghost use Rattle.std.specs.Prelude.{◌≡◌, ◌≢◌, ◌+◌, ◌<◌, ◌≤◌, ◌↔◌, ◌∷◌, ◌++◌, [], ℕ, List, length, map, true, false, Ok, Err, IfOk, IsTrue, OnOk, OnErr, vec_len, vec_capacity};
+ghost use Rattle.std.specs.Prelude.{◌≡◌, ◌≢◌, ◌+◌, ◌<◌, ◌≤◌, ◌↔◌, ◌∷◌, ◌++◌, [], ℕ, List, length, map, true, false, Ok, Err, IfOk, IsOk, IsTrue, OnOk, OnErr, vec_len, vec_capacity};
 ghost use Rattle.wl_locked.specs.Stepping.{stepped};
 ghost use Rattle.wl_locked.specs.History.{replay, events, IsReplay};
 ghost use Rattle.wl_locked.specs.Receipts.{step_of, total, IsMadeOf, IsMismatch};
@@ -54,6 +54,21 @@ pub(crate) fn copies(alloc: Global, event: &BookEvent) -> Result<(BookEvent, Boo
     ensures second { IfOk result (λ c. c.1 ≡ event.now) }
 {
     Ok((event.copy(alloc)?, event.copy(alloc)?))
+}
+
+/// The same, and room for one of these receipts among others.
+pub(crate) fn copies_with_room(
+    alloc: Global,
+    receipts: &mut Vec<Receipt>,
+    event: &BookEvent,
+) -> Result<(BookEvent, BookEvent), AllocError>
+    ensures receipts { receipts.new.items ≡ receipts.old.items }
+    ensures room { OnOk result (vec_len receipts.new < vec_capacity receipts.new) }
+    ensures first { IfOk result (λ c. c.0 ≡ event.now) }
+    ensures second { IfOk result (λ c. c.1 ≡ event.now) }
+{
+    receipts.reserve(1)?;
+    copies(alloc, event)
 }
 
 impl<J: Generation> Book<J> {
@@ -126,51 +141,15 @@ impl<J: Generation> Book<J> {
         ensures spent { (result ≡ Err NotStepped.GenerationSpent) ↔ (length self.old ≡ J.limit) }
         ensures err { OnErr result ((self.new ≡ self.old) × (lane.new ≡ lane.old)) }
     {
-        let copied = copies(self.alloc, &event);
-        let (receipt, kept) = self.store_for(&mut lane.share, &mut lane.receipts, event, copied)?;
+        let copied = copies_with_room(self.alloc, &mut lane.receipts, &event);
+        let (receipt, kept) = self.store(&mut lane.share, event, copied)?;
         lane.receipts.push_reserved(kept);
         Ok(receipt)
     }
 
-    /// The same for a lane that has these receipts, and has room for one more then. The copies of the event were made before, or
-    /// could not be made.
-    pub(crate) fn store_for(
-        &mut self,
-        share: &mut Share<J>,
-        receipts: &mut Vec<Receipt>,
-        event: BookEvent,
-        copied: Result<(BookEvent, BookEvent), AllocError>,
-    ) -> Result<(Receipt, Receipt), NotStepped>
-        requires share { 0 < share.old.parts }
-        requires first { IfOk copied (λ c. c.0 ≡ event) }
-        requires second { IfOk copied (λ c. c.1 ≡ event) }
-        ensures equal { IfOk result (λ r. r.0 ≡ r.1) }
-        ensures event { IfOk result (λ r. r.0.event ≡ event) }
-        ensures place { IfOk result (λ r. r.0.place ≡ length self.old) }
-        ensures reply { IfOk result (λ r.
-            r.0.reply ≡ (stepped (replay J.opening (events self.old)) event).1) }
-        ensures cause { IfOk result (λ r. r.0.reply ≢ Reply.Dropped Dropped.Memory) }
-        ensures stored { IfOk result (λ r. self.new ≡ self.old ++ step_of r.0 ∷ []) }
-        ensures counted { OnOk result (share.new.amount ≡ share.old.amount + 1) }
-        ensures parts { share.new.parts ≡ share.old.parts }
-        ensures behind { OnOk result (share.old.amount ≤ length self.old) }
-        ensures spent { (result ≡ Err NotStepped.GenerationSpent) ↔ (length self.old ≡ J.limit) }
-        ensures err { OnErr result ((self.new ≡ self.old) × (share.new.amount ≡ share.old.amount)) }
-        ensures receipts { receipts.new.items ≡ receipts.old.items }
-        ensures room { OnOk result (vec_len receipts.new < vec_capacity receipts.new) }
-    {
-        match room::for_receipt(self.is_spent(), receipts) {
-            Ok(()) => self.store(share, event, copied),
-            Err(fault) => {
-                // Dropped by a call, here and below: a drop at the end of a scope is proved again at each way out.
-                drop((event, copied));
-                Err(fault)
-            }
-        }
-    }
-
-    /// Steps the broker and stores the step. All growths come before the broker is stepped.
-    fn store(
+    /// Steps the broker and stores the step. All growths come before the broker is stepped, and copies of the event were made
+    /// before, or could not be made.
+    pub(crate) fn store(
         &mut self,
         share: &mut Share<J>,
         event: BookEvent,
@@ -179,6 +158,7 @@ impl<J: Generation> Book<J> {
         requires share { 0 < share.old.parts }
         requires first { IfOk copied (λ c. c.0 ≡ event) }
         requires second { IfOk copied (λ c. c.1 ≡ event) }
+        ensures copied { OnOk result (IsOk copied) }
         ensures equal { IfOk result (λ r. r.0 ≡ r.1) }
         ensures event { IfOk result (λ r. r.0.event ≡ event) }
         ensures place { IfOk result (λ r. r.0.place ≡ length self.old) }

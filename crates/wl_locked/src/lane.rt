@@ -4,7 +4,7 @@ ghost use Rattle.std.specs.Prelude.{◌≡◌, ◌+◌, [], length};
 ghost use Rattle.wl_locked.specs.Receipts.{total};
 
 use crate::receipt::Receipt;
-use std::alloc::{AllocError, Global};
+use std::alloc::Global;
 use std::marker::{Brand, Model};
 use std::sync::ledger::{Ledger, Share};
 
@@ -69,13 +69,6 @@ impl<J: Generation> Lane<J> {
         ensures { result.now ≡ self.now }
     {
         self.receipts.as_slice()
-    }
-
-    /// Makes room for one receipt more.
-    pub(crate) fn grow(&mut self) -> Result<(), AllocError>
-        ensures { self.new ≡ self.old }
-    {
-        self.receipts.reserve(1)
     }
 
     pub(crate) fn into_share(self) -> Share<J>

@@ -9,7 +9,7 @@ ghost use Rattle.wl_locked.specs.Receipts.{total, IsMadeOf, IsMismatch};
 ghost use Rattle.wl_locked.specs.Closing.{IsCompared};
 ghost use Rattle.wl_locked.specs.declared.shards.TheConstants.{SHARD_LIMIT};
 
-use crate::book::{Book, Ending, copies};
+use crate::book::{Book, Ending, copies_with_room};
 use crate::event::{BookEvent, Reply};
 use crate::lane::{Generation, Kept, Lane};
 use crate::locking::lock;
@@ -118,15 +118,8 @@ impl<J: Generation> LockedBroker<J> {
         ensures kept { IfOk result (λ r. lane.new ≡ lane.old ++ r ∷ []) }
         ensures err { OnErr result (lane.new ≡ lane.old) }
     {
-        let copied = copies(self.alloc, &event);
-        // Where it is refused, it is so again under the lock, after all else that comes first.
-        let _grown = lane.grow();
-        let (receipt, kept) = lock(&self.book, rt).store_for(
-            &mut lane.share,
-            &mut lane.receipts,
-            event,
-            copied,
-        )?;
+        let copied = copies_with_room(self.alloc, &mut lane.receipts, &event);
+        let (receipt, kept) = lock(&self.book, rt).store(&mut lane.share, event, copied)?;
         // The lane's own receipt needs no lock.
         lane.receipts.push_reserved(kept);
         Ok(receipt)

@@ -2,20 +2,7 @@
 
 ghost use Rattle.std.specs.Prelude.{◌≡◌, ◌<◌, ◌↔◌, true, Err, OnOk, vec_len, vec_capacity};
 
-use crate::receipt::{NotStepped, Receipt, Step};
-
-/// Makes room for a receipt of a lane, where the book is not spent.
-pub(crate) fn for_receipt(is_spent: bool, receipts: &mut Vec<Receipt>) -> Result<(), NotStepped>
-    ensures items { receipts.new.items ≡ receipts.old.items }
-    ensures room { OnOk result (vec_len receipts.new < vec_capacity receipts.new) }
-    ensures spent { (result ≡ Err NotStepped.GenerationSpent) ↔ (is_spent ≡ true) }
-{
-    if is_spent {
-        return Err(NotStepped::GenerationSpent);
-    }
-    receipts.reserve(1)?;
-    Ok(())
-}
+use crate::receipt::{NotStepped, Step};
 
 /// Makes room for a step with its mark, where the book is not spent.
 pub(crate) fn for_step(
