@@ -1,6 +1,7 @@
 //! Why a process ended before its work was done.
 
-ghost use Rattle.std.specs.Prelude.{◌≡◌};
+ghost use Rattle.std.specs.IoError.{error_kind};
+ghost use Rattle.std.specs.Prelude.{◌≡◌, ◌≢◌};
 ghost use Rattle.wl_process.specs.Status.{status_of};
 
 use std::alloc::{AllocError, AllocFailed};
@@ -67,7 +68,10 @@ impl ProcessFault {
     }
 
     /// What an error of the system is, where it is neither of a read nor of a write.
-    pub fn of_device(error: io::Error) -> ProcessFault {
+    pub fn of_device(error: io::Error) -> ProcessFault
+        ensures memory { error_kind error ≡ ErrorKind.OutOfMemory → result ≡ ProcessFault.Memory }
+        ensures device { error_kind error ≢ ErrorKind.OutOfMemory → result ≡ ProcessFault.Device }
+    {
         match error.kind() {
             ErrorKind::OutOfMemory => ProcessFault::Memory,
             _ => ProcessFault::Device,
@@ -75,7 +79,10 @@ impl ProcessFault {
     }
 
     /// What an error of reading a file is.
-    pub fn of_reading(error: io::Error) -> ProcessFault {
+    pub fn of_reading(error: io::Error) -> ProcessFault
+        ensures memory { error_kind error ≡ ErrorKind.OutOfMemory → result ≡ ProcessFault.Memory }
+        ensures reader { error_kind error ≢ ErrorKind.OutOfMemory → result ≡ ProcessFault.Read }
+    {
         match error.kind() {
             ErrorKind::OutOfMemory => ProcessFault::Memory,
             _ => ProcessFault::Read,
