@@ -1,5 +1,5 @@
 # `make demo` builds the program and shows it at work, `make demo-processes` as processes, and `make try` with nothing proved;
-# `make bench` times it, `make soak` and `make fuzz` run it hard, `make refuse` runs tests with each allocation refused in its turn;
+# `make bench` times it, `make soak` and `make fuzz` run it hard, `make refuse` runs tests with each allocation refused in turn;
 # `make test` is the gate, and `make more-edits` tries the must-fail edits that the gate leaves out.
 .PHONY: bench demo demo-processes fuzz more-edits refuse soak test try
 

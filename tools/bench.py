@@ -22,8 +22,8 @@ Waiting: in one partition one tab holds a lock for which so many requests wait, 
 wants and gives it up, again and again. Prints for each count of waiting requests the processor's time of a command, and its ratio
 to that of the smallest count.
 
-Answers: one tab asks for a lock and gives it up, so many commands in all. Prints the processor's time of a command with its answer,
-start and end of the program included.
+Answers: one tab asks for a lock and gives it up, so many commands in all. Prints the processor's time of a command with its
+answer, start and end of the program included.
 
 Shared: several threads draw numbers from a board, look at a tab on it, or put parcels into an outbox that one more takes from.
 The same loops run over a `Mutex` in the same runs. Prints how many a second there were, the best of the runs, and the time as a
@@ -36,8 +36,10 @@ many steps a second there were, of all lanes together, the best of the runs, and
 one shard, the middle one of the runs.
 Where the broker alone has a ratio of 2, a step of a lane takes twice as long as one without lock, history and receipts; a locked
 step takes as many times as long as the rate of `alone` is that of `locked`. Each of the three has a process of its own, so that
-none finds memory as another left it. All of it is done again with an allocator that asks for huge pages, since what a step stores
-is memory that is touched for the first time.
+none finds memory as another left it. What a step stores is then memory that is touched for the first time, which costs more or
+less as the system makes it. So `alone` and `locked` run by turns in one process too, with an allocator that keeps what is given
+back to it: then all but the first turn finds memory that was touched before. Prints how many times as long a locked step took as
+one without lock, the middle, the least and the most of the turns after the first two, with that allocator and with the usual one.
 
 Processes: a kernel, its broker with two lanes, and tabs, each of which asks for an exclusive lock, waits for it and gives it up,
 2,000 times: one tab; four tabs of one origin with a name each, and with one name for all; sixteen tabs of four origins with a
@@ -46,8 +48,8 @@ broker's start to that of the tabs' ends. What a tab sends in a round is two fra
 the release, for whose answer it does not. Prints how many locks a second were granted, to all tabs together, the best of the
 runs. Sixteen tabs of four origins play again with four lanes, on one shard and on four. Beside it in each run stands `relay.c`, a
 program in C with the same hops, whose broker has a reader of its own and whose tabs have one thread, in which as many tabs each
-send a frame and wait for it as often; it is timed in the same way. Prints its round trips a second, the best of the runs, and the ratio
-of the first rate to the second, the middle one of the runs. Where there is no `cc` there is neither.
+send a frame and wait for it as often; it is timed in the same way. Prints its round trips a second, the best of the runs, and the
+ratio of the first rate to the second, the middle one of the runs. Where there is no `cc` there is neither.
 
 Idle: 64 tabs of one origin wait for a lock that one of them holds, that one too, by a second request behind the others'. Each
 sends its request again whenever it has heard nothing for 20 milliseconds. Prints the processor's time of kernel, broker and tabs
@@ -55,7 +57,8 @@ together over five seconds, as a share of one processor; beside it what the rela
 frame 20 milliseconds after the answer to the one before, and the ratio of the first to the second: of each the middle one of the
 runs; and the same of a kernel and a broker without tabs. It needs `/proc`.
 
-Where an older program is given, reports, waiting and answers also print how many times the time of the newer one the older one took.
+Where an older program is given, reports, waiting and answers also print how many times the time of the newer one the older one
+took.
 """
 
 import contextlib
@@ -315,28 +318,40 @@ def shared(program):
 # ---- a broker behind its lock
 
 
-# What has the allocator ask for huge pages, where the system grants them to whoever asks.
-HUGE_PAGES = {"GLIBC_TUNABLES": "glibc.malloc.hugetlb=1"}
+# An allocator that gives no memory back to the system, and takes none for a single list.
+KEEPING = {"GLIBC_TUNABLES": "glibc.malloc.trim_threshold=4294967296:glibc.malloc.mmap_threshold=4294967296"}
+# How many turns come before those that count.
+FIRST_TURNS = 2
 
 
 def locked(program):
-    for title, more in (("locked", {}), ("locked, huge pages", HUGE_PAGES)):
-        rates, ratios = {}, {}
-        for _ in range(RUNS):
-            run = {}
-            for part in ("alone", "locked", "lanes"):
-                words = [program, "time", part]
-                done = subprocess.run(words, stdout=subprocess.PIPE, check=True, env={**os.environ, **more})
-                for line in done.stdout.decode().splitlines():
-                    what, lanes, shards, steps, taken = line.split()
-                    run[what, lanes, shards] = int(steps) / int(taken) * 1e9
-            for key, rate in run.items():
-                rates.setdefault(key, []).append(rate)
-                ratios.setdefault(key, []).append(rate / run["lanes", "1", "1"])
-        for key, some in rates.items():
-            what, lanes, shards = key
-            ratio = statistics.median(ratios[key])
-            print(f"{title}: {what} {lanes} on {shards} {max(some) / 1e6:8.3f} million a second  ratio to one lane {ratio:5.2f}")
+    rates, ratios = {}, {}
+    for _ in range(RUNS):
+        run = {}
+        for part in ("alone", "locked", "lanes"):
+            run.update(steps_a_second(program, part, {}))
+        for key, (rate,) in run.items():
+            rates.setdefault(key, []).append(rate)
+            ratios.setdefault(key, []).append(rate / run["lanes", "1", "1"][0])
+    for key, some in rates.items():
+        what, lanes, shards = key
+        ratio = statistics.median(ratios[key])
+        print(f"locked: {what} {lanes} on {shards} {max(some) / 1e6:8.3f} million a second  ratio to one lane {ratio:5.2f}")
+    for title, more in (("memory kept", KEEPING), ("memory given back", {})):
+        run = [steps_a_second(program, "turns", more) for _ in range(RUNS)]
+        turns = [zip(one["alone", "1", "1"], one["locked", "1", "1"]) for one in run]
+        times = [alone / locked for one in turns for alone, locked in list(one)[FIRST_TURNS:]]
+        print(f"a locked step by turns, {title}: {statistics.median(times):4.2f} times ({min(times):4.2f} to {max(times):4.2f})")
+
+
+def steps_a_second(program, part, more):
+    """The rates of a part's runs, in their order, by what ran, in how many lanes, on how many shards."""
+    found = {}
+    done = subprocess.run([program, "time", part], stdout=subprocess.PIPE, check=True, env={**os.environ, **more})
+    for line in done.stdout.decode().splitlines():
+        what, lanes, shards, steps, taken = line.split()
+        found.setdefault((what, lanes, shards), []).append(int(steps) / int(taken) * 1e9)
+    return found
 
 
 # ---- the processes

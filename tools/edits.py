@@ -2,8 +2,8 @@
 
 usage: edits.py LOG .. > docs/EDITS.md
 
-LOG is what `rt ci`, or `rt must-fail`, printed. Beside each edit in crates/*/must-fail stands the first goal that the prover told as
-unproved, with its function. An edit that no LOG tells of has none. It needs the repository's folder to be the current one.
+LOG is what `rt ci`, or `rt must-fail`, printed. Beside each edit in crates/*/must-fail stands the first goal that the prover told
+as unproved, with its function. An edit that no LOG tells of has none. It needs the repository's folder to be the current one.
 """
 
 import glob

@@ -3,16 +3,16 @@
 usage: fuzz.py MEGABYTES SEED PROGRAM
        fuzz.py --wrong SEED PROGRAM
 
-Cases are made from the seed and their number, one after another, until so many megabytes were taken in. For the desk and the broker
-a case is a stream of frames: a start, then commands that are in turn and others that are not, reports, parts and deaths, with
-fields at and over their limits; most are mutated: bits, bytes that are put in or taken out, frames of other kinds, random bodies,
-noise, an end within a frame. What the stream is worth is worked out here from docs/PROTOCOL.md alone: the bytes of its frames up to
-the first fault, and that fault's name. For the sim a case is a script, and lines of it are mutated.
+Cases are made from the seed and their number, one after another, until so many megabytes were taken in. For the desk and the
+broker a case is a stream of frames: a start, then commands that are in turn and others that are not, reports, parts and deaths,
+with fields at and over their limits; most are mutated: bits, bytes that are put in or taken out, frames of other kinds, random
+bodies, noise, an end within a frame. What the stream is worth is worked out here from docs/PROTOCOL.md alone: the bytes of its
+frames up to the first fault, and that fault's name. For the sim a case is a script, and lines of it are mutated.
 
 It fails, with status 1, where
 - a program ends by a signal, or not within SECONDS, or with another status than the documented one: desk and broker 0 without a
-  fault, else 1 and the fault's name on standard error; a broker 0 where its generation had more events than steps; sim 0, or 1 and
-  `wlb: line N`, where N is no line before the first mutated one;
+  fault, else 1 and the fault's name on standard error; a broker 0 where its generation had more events than steps; sim 0, or 1
+  and `wlb: line N`, where N is no line before the first mutated one;
 - the desk answers a stream with a fault otherwise than the frames before it alone;
 - a broker of one lane, which gets the stream over its socket in pieces, answers otherwise than the desk; or a broker of several
   lanes answers what are no frames to a tab;

@@ -4,22 +4,22 @@ usage: hostile.py SEED PROGRAM
        hostile.py --wrong SEED PROGRAM
 
 Each honest tab asks for its origin's lock, waits for it, adds one to the number in a file, and gives it up, ROUNDS times, so each
-origin hands its lock over that often at least. First this is timed without a hostile tab, RUNS times, then with each of these, which
-speak the socket protocol in Python and write as fast as they can, until the other origin's tabs have ended:
+origin hands its lock over that often at least. First this is timed without a hostile tab, RUNS times, then with each of these,
+which speak the socket protocol in Python and write as fast as they can, until the other origin's tabs have ended:
 
     talker    commands, in turn and not, with operations on any number, and reports, of the current generation
     claimer   reports that say that it holds the honest tabs' lock, and requests, releases and aborts of it
     poster    posts of 16,384 bytes, and it never reads what comes
     breaker   many short-lived tabs: frames as the others', and then noise, a length that no frame has, or half a frame
 
-Prints the rates of both origins, as locks a second and as a ratio to those without; the goal for the other origin is a half. A goal
-that is missed is printed as that and is no fault: nothing is promised of time. The hostile tab's own origin
-may wait as long as that tab lives (docs/SCRIPTS.md, "Tabs that are taken over"); so that tab is killed MERCY seconds after the
-other origin's end, and then its origin's tabs have to end too.
+Prints the rates of both origins, as locks a second and as a ratio to those without; the goal for the other origin is a half. A
+goal that is missed is printed as that and is no fault: nothing is promised of time. The hostile tab's own origin may wait as long
+as that tab lives (docs/SCRIPTS.md, "Tabs that are taken over"); so that tab is killed MERCY seconds after the other origin's end,
+and then its origin's tabs have to end too.
 
-It fails, with status 1, where an addition is lost, an honest tab ends with another status than 0, the kernel ends with another status
-than 0 or not in time, kernel or broker take more memory than ROOM, or a process is left. `--wrong` plays the program with honest tabs
-that do not ask for their lock, and ends with status 0 where the check sees what is lost.
+It fails, with status 1, where an addition is lost, an honest tab ends with another status than 0, the kernel ends with another
+status than 0 or not in time, kernel or broker take more memory than ROOM, or a process is left. `--wrong` plays the program with
+honest tabs that do not ask for their lock, and ends with status 0 where the check sees what is lost.
 
 All is in a temporary directory, which is removed. It needs `/proc`.
 """

@@ -2,12 +2,13 @@
 
 usage: refuse.py TESTS [MOST] [WORD ..]
 
-TESTS is what `rt test` leaves of a crate's tests, `crates/NAME/out/NAME_tests`. Each test whose name contains one of the words, or
-each, is run once for each of its allocations, which is refused in that run and no other; of a test with more than MOST of them, a
-number, for MOST that are spread evenly. Prints for each test how many were refused, and how it failed where it did. The status is
-0 where all runs passed: where a call that was refused memory had changed nothing, was made again, and gave its answer.
+TESTS is what `rt test` leaves of a crate's tests, `crates/NAME/out/NAME_tests`. Each test whose name contains one of the words,
+or each, is run once for each of its allocations, which is refused in that run and no other; of a test with more than MOST of
+them, a number, for MOST that are spread evenly. Prints for each test how many were refused, and how it failed where it did. The
+status is 0 where all runs passed: where a call that was refused memory had changed nothing, was made again, and gave its answer.
 
-Tests with threads may allocate in another order each time, so there a number names no certain allocation. It needs `cc` and glibc.
+Tests with threads may allocate in another order each time, so there a number names no certain allocation. It needs `cc` and
+glibc.
 """
 
 import collections

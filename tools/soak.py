@@ -4,10 +4,10 @@ usage: soak.py MINUTES SEED PROGRAM
        soak.py --wrong hasty|forgetful SEED PROGRAM
 
 Kernels are run one after another until the minutes are over, each for some twenty seconds, with lanes, shards and `--limit` drawn
-from the seed. In each, three origins have tabs that count: each round of such a tab asks for a lock of its origin, waits for it, adds
-one to the number in that lock's file, and gives it up. Meanwhile other tabs are opened that ask, probe, hold and wait, and never
-count; each of these is killed by SIGKILL at a random moment, its start included. So is the broker, again and again, some also
-while the tabs still report to it. Now and then the kernel's script stops the broker and starts it.
+from the seed. In each, three origins have tabs that count: each round of such a tab asks for a lock of its origin, waits for it,
+adds one to the number in that lock's file, and gives it up. Meanwhile other tabs are opened that ask, probe, hold and wait, and
+never count; each of these is killed by SIGKILL at a random moment, its start included. So is the broker, again and again, some
+also while the tabs still report to it. Now and then the kernel's script stops the broker and starts it.
 
 Of the tabs some are the program, and some are witnesses: tabs in Python that speak the socket protocol, count too (or are
 killed), and write each entry and each exit of a lock's section into a file.
@@ -22,8 +22,8 @@ It fails, with status 1, where
 - a socket or a process is left.
 
 Prints for each kernel what was done: brokers and tabs killed, generations, locks granted a second (those that were counted and
-those that witnesses wrote of). What is killed and when depends on the machine's pace too, so a seed repeats scripts and the draws,
-not the interleaving.
+those that witnesses wrote of). What is killed and when depends on the machine's pace too, so a seed repeats scripts and the
+draws, not the interleaving.
 
 `--wrong` plays one kernel in which tabs do not keep the rules, to show that the checks see it: `hasty` tabs do not ask for their
 locks, `forgetful` witnesses do not report the locks that they hold to the next broker. The status is then 0 where the checks

@@ -1,7 +1,7 @@
-//! Times lanes that step a broker in shards, each behind a lock of its own, beside the same events taken by a broker that no other
-//! thread has, and by a locked broker that one thread steps. With the argument `time` it prints nanoseconds, and with one more,
-//! `alone`, `locked` or `lanes`, those runs alone; without arguments it makes small runs and prints how many steps they made, the
-//! same each time.
+//! Times lanes that step a broker in shards, each behind a lock of its own, beside the same events taken by a broker that no
+//! other thread has, and by a locked broker that one thread steps. With the argument `time` it prints nanoseconds, and with one
+//! more, `alone`, `locked` or `lanes`, those runs alone, or `turns`, the first two of them by turns, again and again; without
+//! arguments it makes small runs and prints how many steps they made, the same each time.
 #![tactic(auto)]
 
 mod events;
@@ -36,6 +36,9 @@ const FEW: u32 = 50;
 
 const MANY: u32 = 100_000;
 
+/// How often the broker alone and the locked one run by turns.
+const TURNS: u32 = 12;
+
 /// How a run went.
 #[derive(Clone, Copy)]
 pub(crate) struct Outcome {
@@ -49,6 +52,9 @@ fn main(rt: HostRuntime) -> io::Result<()> {
     let is_timed = words.next().is_some();
     let only = words.next();
     let locks = if is_timed { MANY } else { FEW };
+    if is_named(&only, "turns") {
+        return by_turns(&rt, alloc, is_timed, locks);
+    }
     if is_wanted(&only, "alone") {
         tell(&rt, "alone", (1, 1), is_timed, alone(&rt, alloc, locks)?)?;
     }
@@ -67,10 +73,29 @@ fn main(rt: HostRuntime) -> io::Result<()> {
 
 /// Whether these runs are to be made: all are, unless some are named.
 fn is_wanted(only: &Option<String>, what: &str) -> bool {
+    only.is_none() || is_named(only, what)
+}
+
+fn is_named(only: &Option<String>, what: &str) -> bool {
     match only {
         Some(word) => word.as_str() == what,
-        None => true,
+        None => false,
     }
+}
+
+/// Has a broker that no other thread has, and then a locked one, take the events of a tab, again and again.
+fn by_turns<R: Wait + Clock + Print>(
+    rt: &R,
+    alloc: Global,
+    is_timed: bool,
+    locks: u32,
+) -> io::Result<()> {
+    for _ in 0..TURNS {
+        tell(rt, "alone", (1, 1), is_timed, alone(rt, alloc, locks)?)?;
+        let locked = steps::run(rt, alloc, locks)?;
+        tell(rt, "locked", (1, 1), is_timed, locked)?;
+    }
+    Ok(())
 }
 
 /// Has a broker that no other thread has take the events of a tab.

@@ -255,7 +255,8 @@ fn a_query_prints_what_is_held(rt: HostRuntime) {
     played.tells(&rt, &["opened 2 https://t.test https://a.test\n"]);
 }
 
-/// A script that asks for so many locks under names of their own, waits for each, then for the lock `gate`, and prints what is held.
+/// A script that asks for so many locks under names of their own, waits for each, then for the lock `gate`, and prints what is
+/// held.
 fn many_locks(alloc: Global, count: u32) -> Result<String, AllocError> {
     let mut script = String::new(alloc);
     for number in 0..count {

@@ -15,7 +15,7 @@ pub enum Dropped {
     /// A command in a partition of which not every listed tab has come.
     #[error("Recovering")]
     Recovering,
-    /// A command whose number is above the next one.
+    /// A command whose number is above the next one, or the last of all numbers.
     #[error("OutOfTurn")]
     OutOfTurn,
     /// The tab was named dead.
@@ -30,7 +30,7 @@ pub enum Dropped {
     /// A report with an entry that is not below its base, or that does not fit the parts that are kept.
     #[error("BadReport")]
     BadReport,
-    /// The tab is listed or has joined under another partition.
+    /// The tab is listed or has joined under another partition, or a part of its report has come under another one.
     #[error("Misplaced")]
     Misplaced,
     /// Memory was refused.

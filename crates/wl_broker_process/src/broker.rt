@@ -1,4 +1,5 @@
-//! The broker's process: lanes take turns at reading the link, each takes what is its own to the book, and writes what comes of it.
+//! The broker's process: lanes take turns at reading the link, each takes what is its own to the book, and writes what comes of
+//! it.
 
 ghost use Rattle.std.specs.Prelude.{◌≡◌, ◌<◌, ◌≤◌, IfOk};
 ghost use Rattle.wl_grammar.specs.Grammar.{TabsRiseFrom};
@@ -24,8 +25,8 @@ use wl_workers::{Cause, Desk, Gate, Intake, LaneEnd, Outlet, OutletFault, lane};
 /// After how many works a lane writes what it has gathered, though it has more to take.
 const FLUSH_EVERY: u32 = 64;
 
-/// What a lane sends, gathered until it has nothing more to take, or has taken enough. The lock is the lane's own and never waited
-/// for; the link is shared by all lanes.
+/// What a lane sends, gathered until it has nothing more to take, or has taken enough. The lock is the lane's own and never
+/// waited for; the link is shared by all lanes.
 #[derive(Drop)]
 struct Outbound {
     alloc: Global,
@@ -305,8 +306,8 @@ fn run_lanes<R: Host, J: Shards + Send + Sync>(
     end_of(rt, inbox, jobs.as_slice())
 }
 
-/// Runs one lane to its end, unless another one has no thread. A lane that ends before its events do ends the reading of the link, and
-/// with it the other lanes.
+/// Runs one lane to its end, unless another one has no thread. A lane that ends before its events do ends the reading of the
+/// link, and with it the other lanes.
 fn run_lane<R: Host, J: Shards>(
     rt: &R,
     broker: &Sharded<J>,

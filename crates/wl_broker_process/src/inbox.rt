@@ -147,7 +147,7 @@ impl<'a> Inbox<'a> {
         }
     }
 
-    /// Why the reading of the link ended; Ok where it did not.
+    /// The fault that ended the reading of the link; Ok where there is none.
     pub(crate) fn end<R: Wait>(&self, rt: &R) -> Result<(), ProcessFault> {
         match &*self.turn.lock(rt) {
             Turn::Over(Err(fault)) => Err(*fault),
@@ -155,8 +155,8 @@ impl<'a> Inbox<'a> {
         }
     }
 
-    /// What reads the link, if it is nobody's turn. A lane with a work in its mailbox does that first: it may have been dealt since
-    /// the lane looked, and whoever dealt it leaves the reading to this lane.
+    /// What reads the link, if it is nobody's turn. A lane with a work in its mailbox does that first: it may have been dealt
+    /// since the lane looked, and whoever dealt it leaves the reading to this lane.
     fn take_turn<R: Wait>(&self, rt: &R, mailbox: &Mailbox) -> Option<Incoming<'a>> {
         let mut turn = self.turn.lock(rt);
         if mailbox.has_work(rt) {
@@ -171,8 +171,9 @@ impl<'a> Inbox<'a> {
         }
     }
 
-    /// Reads once and deals what came, and returns whether the lane goes on by itself: where another has a few works, that one reads
-    /// on when it has done them. The turn's lock is held while works are dealt, so a lane that is woken by one finds the turn free.
+    /// Reads once and deals what came, and returns whether the lane goes on by itself: where another has a few works, that one
+    /// reads on when it has done them. The turn's lock is held while works are dealt, so a lane that is woken by one finds the
+    /// turn free.
     fn read<R: Wait>(&self, rt: &R, lane: usize, mut incoming: Incoming<'a>) -> bool {
         let came = incoming.next();
         let mut turn = self.turn.lock(rt);

@@ -1,5 +1,5 @@
-//! What the kernel's threads share. Locks are taken in the order in which they stand here, and none but the links' is held
-//! while a device is called; the Start frame, which a fresh socket takes, is the one exception.
+//! What the kernel's threads share. Locks are taken in the order in which they stand here. While a device is called none is held
+//! but the link's and the broker's, and the supervisor's while the Start frame is written, which a fresh socket takes.
 
 mod orders;
 

@@ -12,7 +12,7 @@ use wl_frames::{Downward, Frame};
 use wl_process::{Host, Incoming, ProcessFault};
 use wl_process_rules::Restarts;
 
-/// How often a broker's process that ends before it connects is started again.
+/// How often a broker's process is started at most, where each ends before it connects.
 const TRIES: u32 = 16;
 
 /// How a broker's process is started.

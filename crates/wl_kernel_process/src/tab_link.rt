@@ -224,8 +224,8 @@ fn read_and_bury<R: Host>(rt: &R, alloc: Global, hub: &Hub, process: &TabProcess
     process.end_and_bury(rt, hub, mercy);
 }
 
-/// Writes what is put for a tab, until it is dead. Where its link takes no more, or memory is refused, the link is ended: the tab would
-/// wait for what was lost.
+/// Writes what is put for a tab, until it is dead. Where its link takes no more, or memory is refused for what is gathered, the
+/// link is ended: the tab would wait for what was lost.
 fn write_link_or_end<R: Host>(
     rt: &R,
     alloc: Global,

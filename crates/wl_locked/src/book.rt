@@ -56,7 +56,7 @@ pub(crate) fn copies(alloc: Global, event: &BookEvent) -> Result<(BookEvent, Boo
     Ok((event.copy(alloc)?, event.copy(alloc)?))
 }
 
-/// The same, and room for one of these receipts among others.
+/// Two copies of an event, and room for one receipt more among these.
 pub(crate) fn copies_with_room(
     alloc: Global,
     receipts: &mut Vec<Receipt>,

@@ -1,5 +1,5 @@
-//! The broker of one generation behind one lock, with its whole history. Lanes step it from any thread, and each keeps a
-//! receipt of every step of its own; in the end the history is compared with the receipts.
+//! The broker of one generation behind one lock, or in shards behind one each, with its whole history. Lanes step it from any
+//! thread, and each keeps a receipt of every step of its own; `close` compares the history with the receipts.
 #![tactic(auto)]
 
 mod answering;

@@ -1,5 +1,5 @@
-//! What the processes decide by values alone: which tabs' processes run and how the others ended, how fast a tab may send, how long
-//! it waits, how soon a broker is started again, and which of its lanes reads next.
+//! What the processes decide by values alone: which tabs' processes run and how the others ended, how fast a tab may send, how
+//! long it waits, how soon a broker is started again, and which of its lanes reads next.
 #![tactic(auto)]
 
 pub mod ends;

@@ -1,5 +1,5 @@
-//! How fast a tab may send to the broker, whose link all tabs share: one that floods its own link waits there, and what others send
-//! does not wait behind all of that.
+//! How fast a tab may send to the broker, whose link all tabs share: one that floods its own link waits there, and what others
+//! send does not wait behind all of that.
 
 ghost use Rattle.std.specs.Prelude.{◌≡◌, ◌+◌, ◌*◌, ◌^◌, ◌-◌, min};
 ghost use Rattle.wl_process_rules.specs.declared.pace.TheConstants.{FRAME_COST, BYTE_COST, BURST};

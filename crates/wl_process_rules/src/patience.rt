@@ -8,7 +8,7 @@ use std::marker::Model;
 /// How many times a waiting tab sends its commands again.
 pub const RESEND_LIMIT: u16 = 3_000;
 
-/// What a waiting tab does when nothing has come for a while.
+/// What a waiting tab does when nothing that may end its waiting has come for a while.
 #[derive(Clone, Copy, Debug, PartialEq, Eq)]
 pub enum Next {
     /// It sends its commands again.
@@ -39,7 +39,7 @@ impl Patience {
         Patience { resends: 0 }
     }
 
-    /// Nothing has come for a while.
+    /// Nothing that may end the waiting has come for a while.
     pub fn quiet(&mut self) -> Next
         ensures resend { self.old < RESEND_LIMIT → (result ≡ Next.Resend) × (self.new ≡ self.old + 1) }
         ensures give_up { RESEND_LIMIT ≤ self.old → (result ≡ Next.GiveUp) × (self.new ≡ self.old) }

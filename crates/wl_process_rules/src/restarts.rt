@@ -1,5 +1,5 @@
-//! How long the kernel's keeper pauses before it starts the next broker: where brokers end at once again and again and answer nothing,
-//! as they do while memory is short, their generations are not to be used up meanwhile.
+//! How long the kernel's keeper pauses before it starts the next broker: where brokers end at once again and again and answer
+//! nothing, as they do while memory is short, their generations are not to be used up meanwhile.
 
 ghost use Rattle.std.specs.Prelude.{◌≡◌, ◌<◌, ◌≤◌, ◌+◌, ◌-◌, ◌*◌, ◌^◌, min, true, false};
 ghost use Rattle.wl_process_rules.specs.declared.restarts.TheConstants.{SHORT, FREE, STEP, LONGEST};

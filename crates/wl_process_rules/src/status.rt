@@ -7,8 +7,8 @@ ghost use Rattle.wl_process_rules.specs.Status.{status_of_number, status_of_sign
 /// by itself nor by a signal.
 const SIGNALLED: u8 = 128;
 
-/// The status of a process that ended: its own code, or 128 and the number of the signal that ended it, as shells say it. A number
-/// that is no byte counts as 255.
+/// The status of a process that ended: its own code, or 128 and the number of the signal that ended it, as shells say it. A
+/// number that is no byte counts as 255.
 pub fn status_of(code: Option<i32>, signal: Option<i32>) -> u8
     ensures exited { IfSome code (λ code. result ≡ status_of_number code) }
     ensures signalled { code ≡ None → IfSome signal (λ signal. result ≡ status_of_signal signal) }

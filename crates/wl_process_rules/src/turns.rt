@@ -1,5 +1,5 @@
-//! Which of the lanes of a broker's process reads its link next: the lane that has read deals what came, and then reads on itself,
-//! leaves that to a lane with works to do, or has a lane with none read.
+//! Which of the lanes of a broker's process reads its link next: the lane that has read deals what came, and then reads on
+//! itself, leaves that to a lane with works to do, or has a lane with none read.
 
 ghost use Rattle.std.specs.Prelude.{◌≡◌, ◌<◌, ◌≤◌, true, false};
 ghost use Rattle.wl_process_rules.specs.declared.turns.TheConstants.{FEW};

@@ -26,7 +26,7 @@ pub enum TabLine {
         mode: Mode,
         name: Name,
     },
-    /// The tab waits until this request or probe is answered.
+    /// The tab waits until this number is asked no more: granted, or, of a probe, refused.
     Wait {
         number: u32,
     },

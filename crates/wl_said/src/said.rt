@@ -171,7 +171,7 @@ pub enum Refusal {
 /// Why a message that was delivered was dropped.
 #[derive(Clone, Copy, Debug, PartialEq, Eq)]
 pub enum Reason {
-    /// Its target, or the tab that posted it, is dead.
+    /// Its target is dead.
     DeadTab,
     /// The tab that it came to dropped it.
     AtTab(Unheard),

@@ -1,4 +1,5 @@
-//! The words for why an event did nothing, and why a message was dropped. Those for refused memory no answer says, by `law_answers`.
+//! The words for why an event did nothing, and why a message was dropped. Those for refused memory no answer says, by
+//! `law_answers`.
 
 ghost use Rattle.std.specs.Prelude.{◌≡◌, ◌++◌, OnOk};
 ghost use Rattle.wl_script.specs.ReplyTexts.{open_fault_text, start_fault_text, agent_fault_text, channel_fault_text, refusal_text, unheard_text, dropped_text, reason_text};

@@ -12,7 +12,8 @@ use wl_process::{Host, ProcessFault, append};
 use wl_process_rules::patience::RESEND_LIMIT;
 use wl_process_rules::{Next, Patience};
 
-/// How many milliseconds a waiting tab hears nothing before it sends its commands again.
+/// How many milliseconds a waiting tab waits for what may end its waiting before it sends its commands again. Whatever else comes
+/// does not count.
 const QUIET: u64 = 20;
 
 /// Why a tab's command was not done.
@@ -201,7 +202,7 @@ impl Page {
         }
     }
 
-    /// Nothing was heard for a while: what may not have come is sent again, unless that was done too often.
+    /// Nothing that may end the waiting has come for a while: what may be lost is sent again, unless that was done too often.
     fn resend(&mut self, patience: &mut Patience) -> Result<(), Undone> {
         match patience.quiet() {
             Next::Resend => {

@@ -20,7 +20,7 @@ use wl_frames::device::{BUNDLE_LEN, PIECE_LEN, READ_LIMIT, ReadFault, Sink, Sour
 use wl_frames::{Addressed, Dead, Feed, Frame, FrameFault, Sequence, Stamped, Start, encode_into};
 use wl_table::IndexedTable;
 
-/// Why the desk ended before its input did.
+/// Why a run of the desk did not end well.
 #[derive(Clone, Copy, Debug, PartialEq, Eq, Error)]
 pub enum DeskFault {
     /// The input is no stream of frames; or it ended within a frame.

@@ -1,5 +1,5 @@
-//! Lanes on threads of their own, over a broker in shards, each behind its lock. Where memory is refused there is no run, or an event is
-//! lost; then the same is done again: so these tests pass whichever allocation is refused.
+//! Lanes on threads of their own, over a broker in shards, each behind its lock. Where memory is refused there is no run, or an
+//! event is lost; then the same is done again: so these tests pass whichever allocation is refused.
 
 ghost use Rattle.std.specs.Prelude.{◌≡◌, ◌<◌, ◌≤◌, []};
 ghost use Rattle.wl_broker.specs.Broker.{started};

@@ -76,8 +76,8 @@ pub fn run<S: Read + Drop>(
     sim_run(alloc, &mut source, &mut sink)
 }
 
-/// Plays a script, and compares how it ends and what is written. A run that memory ended has written a prefix of that, and is made
-/// again.
+/// Plays a script, and compares how it ends and what is written. A run that memory ended has written a prefix of that, and is
+/// made again.
 fn expect<S: Read + Copy + Drop>(
     rt: &impl Abort,
     alloc: Global,
