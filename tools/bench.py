@@ -52,10 +52,10 @@ send a frame and wait for it as often; it is timed in the same way. Prints its r
 ratio of the first rate to the second, the middle one of the runs. Where there is no `cc` there is neither.
 
 Idle: 64 tabs of one origin wait for a lock that one of them holds, that one too, by a second request behind the others'. Each
-sends its request again whenever it has heard nothing for 20 milliseconds. Prints the processor's time of kernel, broker and tabs
-together over five seconds, as a share of one processor; beside it what the relay's processes take, of whose 64 tabs each sends a
-frame 20 milliseconds after the answer to the one before, and the ratio of the first to the second: of each the middle one of the
-runs; and the same of a kernel and a broker without tabs. It needs `/proc`.
+sends its request again whenever nothing has come for 20 milliseconds that may end its waiting. Prints the processor's time of
+kernel, broker and tabs together over five seconds, as a share of one processor; beside it what the relay's processes take, of
+whose 64 tabs each sends a frame 20 milliseconds after the answer to the one before, and the ratio of the first to the second: of
+each the middle one of the runs; and the same of a kernel and a broker without tabs. It needs `/proc`.
 
 Where an older program is given, reports, waiting and answers also print how many times the time of the newer one the older one
 took.
@@ -92,7 +92,7 @@ TURNOUTS += [("16 tabs of 4 origins, a name each", 4, 4, True, None)]
 IDLE_GOAL = 0.25
 IDLE_SECONDS = 5
 IDLE_RUNS = 3
-# In milliseconds: how long a tab that waits hears nothing until it asks again.
+# In milliseconds: how long a tab waits for what may end its waiting until it asks again.
 QUIET = 20
 # No run of processes takes longer.
 SECONDS = 120

@@ -17,8 +17,8 @@ HEAD = """# The must-fail edits of the gate
 
 Each edit changes a line or a few of the code, or of a definition, so that it means something else, and the prover has to refuse
 it. Beside it stands the first goal that was told as unproved, in the last run that is recorded here: the function, and which of
-its goals. Where a lemma is named the edit shows less, since all that is seen is that this lemma does not fit any more.
-`tools/edits.py` makes this page of the gate's output.
+its goals; a function with `+` in front is one of several that call each other. Where a lemma is named the edit shows less, since
+all that is seen is that this lemma does not fit any more. `tools/edits.py` makes this page of the gate's output.
 """
 
 

@@ -37,7 +37,11 @@ const FEW: u32 = 50;
 const MANY: u32 = 100_000;
 
 /// How often the broker alone and the locked one run by turns.
-const TURNS: u32 = 12;
+const TURNS: u32 = 24;
+
+/// How many locks they hand over in each turn. With two steps a lock and one for the report, these are all the steps but one that a
+/// generation may have in a shard.
+const WHOLE: u32 = 32_767;
 
 /// How a run went.
 #[derive(Clone, Copy)]
@@ -53,7 +57,7 @@ fn main(rt: HostRuntime) -> io::Result<()> {
     let only = words.next();
     let locks = if is_timed { MANY } else { FEW };
     if is_named(&only, "turns") {
-        return by_turns(&rt, alloc, is_timed, locks);
+        return by_turns(&rt, alloc, is_timed);
     }
     if is_wanted(&only, "alone") {
         tell(&rt, "alone", (1, 1), is_timed, alone(&rt, alloc, locks)?)?;
@@ -84,15 +88,10 @@ fn is_named(only: &Option<String>, what: &str) -> bool {
 }
 
 /// Has a broker that no other thread has, and then a locked one, take the events of a tab, again and again.
-fn by_turns<R: Wait + Clock + Print>(
-    rt: &R,
-    alloc: Global,
-    is_timed: bool,
-    locks: u32,
-) -> io::Result<()> {
+fn by_turns<R: Wait + Clock + Print>(rt: &R, alloc: Global, is_timed: bool) -> io::Result<()> {
     for _ in 0..TURNS {
-        tell(rt, "alone", (1, 1), is_timed, alone(rt, alloc, locks)?)?;
-        let locked = steps::run(rt, alloc, locks)?;
+        tell(rt, "alone", (1, 1), is_timed, alone(rt, alloc, WHOLE)?)?;
+        let locked = steps::run(rt, alloc, WHOLE)?;
         tell(rt, "locked", (1, 1), is_timed, locked)?;
     }
     Ok(())
