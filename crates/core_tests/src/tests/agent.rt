@@ -1,5 +1,6 @@
-//! A tab's locks. A call that is refused for memory is made again, and has to give the row's answer then: so these tests
-//! pass whichever allocation is refused.
+//! A tab's locks. Whatever is refused leaves the tab as it was, and a call that is refused for memory is made again, and has to
+//! give the row's answer then: so these tests pass whichever allocation is refused. A call that only borrows the tab can't change
+//! it, and is just made again.
 
 use super::again::{is_spelled, name, spelling};
 use std::alloc::{AllocError, Global};
@@ -47,27 +48,6 @@ static RELEASE: &[u8] = b"\0\0\0\x0f\x01\x01\0\0\0\x02\0\0\0\x03\x02\0\0\0\0";
 
 // ---- calls on a tab
 
-fn request(agent: &mut Agent, name: &str, mode: Mode) -> Result<Pending, AgentFault> {
-    match agent.request(name, mode) {
-        Err(AgentFault::Memory) => agent.request(name, mode),
-        answer => answer,
-    }
-}
-
-fn probe(rt: &impl Abort, agent: &mut Agent, name: &str, mode: Mode) -> Probe {
-    match agent.probe(name, mode) {
-        Ok(probe) => probe,
-        Err(_) => agent.probe(name, mode).expect(rt, "memory is back"),
-    }
-}
-
-fn query(agent: &mut Agent) -> Result<Asking, AgentFault> {
-    match agent.query() {
-        Err(AgentFault::Memory) => agent.query(),
-        answer => answer,
-    }
-}
-
 fn message(agent: &Agent, number: u32) -> Result<Frame, MessageFault> {
     match agent.message(number) {
         Err(MessageFault::Memory) => agent.message(number),
@@ -89,16 +69,154 @@ fn resend(rt: &impl Abort, agent: &Agent) -> Resend {
     }
 }
 
-fn deliver(agent: &mut Agent, frame: &Frame) -> Delivered {
+/// How many of a tab's messages are looked at.
+const SEEN: usize = 3;
+
+type Message = Result<Frame, MessageFault>;
+
+/// What is told of a tab: its report and its first messages, which say whether it has entered a generation, and what it sends
+/// again, which ends with its last command. It takes memory only once a generation is entered.
+#[derive(Drop)]
+struct State {
+    report: Result<Sequence<Frame>, MessageFault>,
+    messages: [Message; SEEN],
+    resend: Resend,
+}
+
+fn state_of(rt: &impl Abort, agent: &Agent) -> State {
+    State {
+        report: report(agent),
+        messages: [message(agent, 0), message(agent, 1), message(agent, 2)],
+        resend: resend(rt, agent),
+    }
+}
+
+/// Whether two frames that a tab sends are the same.
+fn is_same(frame: &Frame, other: &Frame) -> bool {
+    match (frame, other) {
+        (Frame::Command(command), Frame::Command(other)) => command == other,
+        (Frame::Report(report), Frame::Report(other)) => report == other,
+        (Frame::ReportPart(part), Frame::ReportPart(other)) => part == other,
+        _ => false,
+    }
+}
+
+fn is_same_message(message: &Message, other: &Message) -> bool {
+    match (message, other) {
+        (Ok(frame), Ok(other)) => is_same(frame, other),
+        (Err(fault), Err(other)) => fault == other,
+        _ => false,
+    }
+}
+
+fn are_same(frames: &[Frame], others: &[Frame]) -> bool {
+    frames.len() == others.len()
+        && frames
+            .iter()
+            .zip(others)
+            .all(|(frame, other)| is_same(frame, other))
+}
+
+impl State {
+    fn has_report_of(&self, other: &State) -> bool {
+        match (&self.report, &other.report) {
+            (Ok(frames), Ok(others)) => are_same(frames.as_slice(), others.as_slice()),
+            (Err(fault), Err(other)) => fault == other,
+            _ => false,
+        }
+    }
+
+    fn has_messages_of(&self, other: &State) -> bool {
+        self.messages
+            .iter()
+            .zip(other.messages.iter())
+            .all(|(message, other)| is_same_message(message, other))
+    }
+
+    fn resends_as(&self, other: &State) -> bool {
+        self.resend.report == other.resend.report && self.resend.numbers == other.resend.numbers
+    }
+}
+
+/// Asserts that a refused call has changed nothing.
+fn is_as_before(rt: &impl Abort, agent: &Agent, before: &State) {
+    let now = state_of(rt, agent);
+    assert!(rt; now.has_report_of(before));
+    assert!(rt; now.has_messages_of(before));
+    assert!(rt; now.resends_as(before));
+    drop(now);
+}
+
+fn request(
+    rt: &impl Abort,
+    agent: &mut Agent,
+    name: &str,
+    mode: Mode,
+) -> Result<Pending, AgentFault> {
+    let before = state_of(rt, agent);
+    match agent.request(name, mode) {
+        Ok(pending) => Ok(pending),
+        Err(fault) => {
+            is_as_before(rt, agent, &before);
+            if fault == AgentFault::Memory {
+                agent.request(name, mode)
+            } else {
+                Err(fault)
+            }
+        }
+    }
+}
+
+fn probe(rt: &impl Abort, agent: &mut Agent, name: &str, mode: Mode) -> Result<Probe, AgentFault> {
+    let before = state_of(rt, agent);
+    match agent.probe(name, mode) {
+        Ok(probe) => Ok(probe),
+        Err(fault) => {
+            is_as_before(rt, agent, &before);
+            if fault == AgentFault::Memory {
+                agent.probe(name, mode)
+            } else {
+                Err(fault)
+            }
+        }
+    }
+}
+
+fn query(rt: &impl Abort, agent: &mut Agent) -> Result<Asking, AgentFault> {
+    let before = state_of(rt, agent);
+    match agent.query() {
+        Ok(asking) => Ok(asking),
+        Err(fault) => {
+            is_as_before(rt, agent, &before);
+            if fault == AgentFault::Memory {
+                agent.query()
+            } else {
+                Err(fault)
+            }
+        }
+    }
+}
+
+fn deliver(rt: &impl Abort, agent: &mut Agent, frame: &Frame) -> Delivered {
+    let before = state_of(rt, agent);
     match agent.deliver(frame) {
-        Delivered::Dropped(Unheard::Memory) => agent.deliver(frame),
+        Delivered::Dropped(Unheard::Memory) => {
+            is_as_before(rt, agent, &before);
+            agent.deliver(frame)
+        }
         delivered => delivered,
     }
 }
 
 /// The number of a request, whose token is spent, or why it is refused.
-fn ask(agent: &mut Agent, dead: &DeadAgent, name: &str, mode: Mode) -> Result<u32, AgentFault> {
-    let pending = request(agent, name, mode)?;
+fn ask(
+    rt: &impl Abort,
+    agent: &mut Agent,
+    dead: &DeadAgent,
+    name: &str,
+    mode: Mode,
+) -> Result<u32, AgentFault> {
+    let pending = request(rt, agent, name, mode)?;
     let number = pending.number();
     dead.void(Token::Pending(pending));
     Ok(number)
@@ -133,20 +251,20 @@ fn told_by(delivered: &Delivered) -> Told {
 }
 
 /// What comes of a frame, which is gone then.
-fn delivered(agent: &mut Agent, frame: Frame) -> Delivered {
-    let delivered = deliver(agent, &frame);
+fn delivered(rt: &impl Abort, agent: &mut Agent, frame: Frame) -> Delivered {
+    let delivered = deliver(rt, agent, &frame);
     drop(frame);
     delivered
 }
 
 /// What a frame that comes is to the tab.
-fn taken_as(agent: &mut Agent, frame: Frame) -> Told {
-    told_by(&delivered(agent, frame))
+fn taken_as(rt: &impl Abort, agent: &mut Agent, frame: Frame) -> Told {
+    told_by(&delivered(rt, agent, frame))
 }
 
 /// Delivers a frame, and asserts what it is to the tab.
 fn hears(rt: &impl Abort, agent: &mut Agent, frame: Frame, want: Told) {
-    assert!(rt; taken_as(agent, frame) == want);
+    assert!(rt; taken_as(rt, agent, frame) == want);
 }
 
 fn hello(generation: u32) -> Frame {
@@ -217,7 +335,7 @@ fn spells_all(rt: &impl Abort, alloc: Global, frames: Sequence<Frame>, want: &[u
 
 /// The report that a hello gives.
 fn entering(rt: &impl Abort, agent: &mut Agent, generation: u32) -> Sequence<Frame> {
-    match delivered(agent, hello(generation)) {
+    match delivered(rt, agent, hello(generation)) {
         Delivered::Entered(frames) => frames,
         _ => panic!(rt; "no generation was entered"),
     }
@@ -313,7 +431,7 @@ fn entered(rt: &impl Abort, alloc: Global, tab: u16) -> Agent {
 /// A tab that asks for `a`.
 fn asked(rt: &impl Abort, alloc: Global, tab: u16, mode: Mode) -> (Agent, Pending) {
     let mut agent = entered(rt, alloc, tab);
-    let pending = request(&mut agent, "a", mode).expect(rt, "issued");
+    let pending = request(rt, &mut agent, "a", mode).expect(rt, "issued");
     (agent, pending)
 }
 
@@ -330,12 +448,17 @@ fn granted(rt: &impl Abort, alloc: Global, mode: Mode) -> (Agent, Pending) {
 }
 
 fn refuses_request(rt: &impl Abort, agent: &mut Agent, want: AgentFault) {
-    let fault = request(agent, "a", Mode::Exclusive).expect_err(rt, "refused");
+    let fault = request(rt, agent, "a", Mode::Exclusive).expect_err(rt, "refused");
+    assert_eq!(rt; fault, want);
+}
+
+fn refuses_probe(rt: &impl Abort, agent: &mut Agent, want: AgentFault) {
+    let fault = probe(rt, agent, "a", Mode::Exclusive).expect_err(rt, "refused");
     assert_eq!(rt; fault, want);
 }
 
 fn refuses_query(rt: &impl Abort, agent: &mut Agent, want: AgentFault) {
-    let fault = query(agent).expect_err(rt, "refused");
+    let fault = query(rt, agent).expect_err(rt, "refused");
     assert_eq!(rt; fault, want);
 }
 
@@ -349,14 +472,14 @@ fn refuses_report(rt: &impl Abort, agent: &Agent, want: MessageFault) {
 
 /// Issues a request, which has to have this number.
 fn requests(rt: &impl Abort, agent: &mut Agent, name: &str, number: u32) -> Pending {
-    let pending = request(agent, name, Mode::Exclusive).expect(rt, "issued");
+    let pending = request(rt, agent, name, Mode::Exclusive).expect(rt, "issued");
     assert_eq!(rt; pending.number(), number);
     pending
 }
 
 /// Issues a query, which has to have this number.
 fn queries(rt: &impl Abort, agent: &mut Agent, number: u32) -> Asking {
-    let asking = query(agent).expect(rt, "issued");
+    let asking = query(rt, agent).expect(rt, "issued");
     assert_eq!(rt; asking.number(), number);
     asking
 }
@@ -418,7 +541,7 @@ fn agent_3(rt: HostRuntime) {
 fn agent_4(rt: HostRuntime) {
     let mut agent = Agent::new(rt.alloc(), 1, 3);
     let mut other = Agent::new(rt.alloc(), 2, 3);
-    let pending = request(&mut agent, "a", Mode::Exclusive).expect(&rt, "issued");
+    let pending = request(&rt, &mut agent, "a", Mode::Exclusive).expect(&rt, "issued");
     let Foreign { value: pending } = other.settle(pending).expect_err(&rt, "foreign");
     assert_eq!(rt; pending.number(), 0);
     aborts(&rt, &mut agent, pending, 1);
@@ -490,7 +613,7 @@ fn restart_while_held(rt: HostRuntime) {
 fn snapshot(rt: HostRuntime) {
     let alloc = rt.alloc();
     let (mut agent, pending) = granted(&rt, alloc, Mode::Exclusive);
-    let asking = query(&mut agent).expect(&rt, "issued");
+    let asking = query(&rt, &mut agent).expect(&rt, "issued");
     let whole = part(1, 0, 1, locks(&rt, alloc));
     hears(&rt, &mut agent, whole, Told::Whole(1));
     is_answered(&rt, &mut agent, asking);
@@ -501,7 +624,7 @@ fn snapshot(rt: HostRuntime) {
 fn snapshot_in_parts(rt: HostRuntime) {
     let alloc = rt.alloc();
     let mut agent = entered(&rt, alloc, 1);
-    let asking = query(&mut agent).expect(&rt, "issued");
+    let asking = query(&rt, &mut agent).expect(&rt, "issued");
     let last = part(0, 1, 2, locks(&rt, alloc));
     hears(&rt, &mut agent, last, Told::Part(0));
     let again = part(0, 1, 2, Vec::new(alloc));
@@ -517,7 +640,7 @@ fn snapshot_in_parts(rt: HostRuntime) {
 #[test]
 fn snapshot_is_lost(rt: HostRuntime) {
     let mut agent = entered(&rt, rt.alloc(), 2);
-    let asking = query(&mut agent).expect(&rt, "issued");
+    let asking = query(&rt, &mut agent).expect(&rt, "issued");
     let gone = answer(1, 0, Outcome::Gone, 1);
     hears(&rt, &mut agent, gone, Told::Lost(0));
     is_lost(&rt, &mut agent, asking);
@@ -527,7 +650,7 @@ fn snapshot_is_lost(rt: HostRuntime) {
 /// Issues requests for `b` from this number up to the last live one.
 fn fill(rt: &impl Abort, agent: &mut Agent, dead: &DeadAgent, first: u32, limit: u32) {
     for number in first..limit {
-        assert_eq!(rt; ask(agent, dead, "b", Mode::Shared), Ok(number));
+        assert_eq!(rt; ask(rt, agent, dead, "b", Mode::Shared), Ok(number));
     }
 }
 
@@ -539,16 +662,15 @@ fn is_answered_by(
     name: &str,
     want: Result<u32, AgentFault>,
 ) {
-    let answer = ask(agent, dead, name, Mode::Exclusive);
+    let answer = ask(rt, agent, dead, name, Mode::Exclusive);
     assert_eq!(rt; answer, want);
 }
 
-/// Names at the limit of their length, and after `-`.
+/// Names at the limit of their length.
 fn names(rt: &impl Abort, agent: &mut Agent, dead: &DeadAgent) {
     let letters = [b'a'; 256];
     let too_long = str::from_utf8(&letters).expect(rt, "a text");
     let longest = str::from_utf8(&letters[..255]).expect(rt, "a text");
-    is_answered_by(rt, agent, dead, "-x", Err(AgentFault::NotSupported));
     is_answered_by(rt, agent, dead, longest, Ok(1));
     is_answered_by(rt, agent, dead, too_long, Err(AgentFault::NameTooLong));
 }
@@ -558,20 +680,68 @@ fn refusals(rt: HostRuntime) {
     let alloc = rt.alloc();
     let dead = Agent::new(alloc, 9, 0).die();
     let mut agent = entered(&rt, alloc, 1);
+    is_answered_by(&rt, &mut agent, &dead, "-x", Err(AgentFault::NotSupported));
     let empty = requests(&rt, &mut agent, "", 0);
     names(&rt, &mut agent, &dead);
     fill(&rt, &mut agent, &dead, 2, 64);
     refuses_request(&rt, &mut agent, AgentFault::TooMany);
+    refuses_probe(&rt, &mut agent, AgentFault::TooMany);
     refuses_query(&rt, &mut agent, AgentFault::TooMany);
     aborts(&rt, &mut agent, empty, 64);
-    assert_eq!(rt; ask(&mut agent, &dead, "b", Mode::Shared), Ok(65));
+    fill(&rt, &mut agent, &dead, 65, 66);
     agent.die();
 }
+
+// ---- limits of numbers
+
+/// Asserts that the tab has no number for any command.
+fn has_no_number(rt: &impl Abort, agent: &mut Agent) {
+    refuses_request(rt, agent, AgentFault::NumbersUsedUp);
+    refuses_probe(rt, agent, AgentFault::NumbersUsedUp);
+    refuses_query(rt, agent, AgentFault::NumbersUsedUp);
+}
+
+/// A request or a probe keeps a number beside its own. A query has its own alone.
+#[test]
+fn one_number(rt: HostRuntime) {
+    let mut agent = Agent::new(rt.alloc(), 1, 1);
+    refuses_request(&rt, &mut agent, AgentFault::NumbersUsedUp);
+    refuses_probe(&rt, &mut agent, AgentFault::NumbersUsedUp);
+    let asking = queries(&rt, &mut agent, 0);
+    has_no_number(&rt, &mut agent);
+    agent.die().void(Token::Asking(asking));
+}
+
+#[test]
+fn two_numbers(rt: HostRuntime) {
+    let mut agent = Agent::new(rt.alloc(), 1, 2);
+    let pending = requests(&rt, &mut agent, "a", 0);
+    has_no_number(&rt, &mut agent);
+    aborts(&rt, &mut agent, pending, 1);
+    has_no_number(&rt, &mut agent);
+    agent.die();
+}
+
+/// Where too many numbers are live and none is left, it is the first that is told.
+#[test]
+fn last_numbers_of_a_full_tab(rt: HostRuntime) {
+    let dead = Agent::new(rt.alloc(), 9, 0).die();
+    let mut agent = Agent::new(rt.alloc(), 1, 128);
+    let first = requests(&rt, &mut agent, "a", 0);
+    fill(&rt, &mut agent, &dead, 1, 64);
+    refuses_request(&rt, &mut agent, AgentFault::TooMany);
+    refuses_query(&rt, &mut agent, AgentFault::TooMany);
+    aborts(&rt, &mut agent, first, 64);
+    has_no_number(&rt, &mut agent);
+    agent.die();
+}
+
+// ---- generations
 
 /// A tab that holds `a`, probes for it and asks for a snapshot.
 fn busy(rt: &impl Abort, alloc: Global) -> (Agent, Pending, Probe, Asking) {
     let (mut agent, pending) = granted(rt, alloc, Mode::Exclusive);
-    let probe = probe(rt, &mut agent, "a", Mode::Shared);
+    let probe = probe(rt, &mut agent, "a", Mode::Shared).expect(rt, "issued");
     assert_eq!(rt; probe.number(), 1);
     let asking = queries(rt, &mut agent, 2);
     (agent, pending, probe, asking)
@@ -599,7 +769,7 @@ fn resend_all(rt: HostRuntime) {
     sends_again(&rt, &agent, false, &[]);
     enters(&rt, alloc, &mut agent, 1, FIRST_REPORT);
     sends_again(&rt, &agent, true, &[]);
-    let pending = request(&mut agent, "a", Mode::Shared).expect(&rt, "issued");
+    let pending = request(&rt, &mut agent, "a", Mode::Shared).expect(&rt, "issued");
     sends_again(&rt, &agent, true, &[0]);
     let granted = answer(1, 0, Outcome::Granted, 1);
     hears(&rt, &mut agent, granted, Told::Granted(0));

@@ -1,9 +1,9 @@
-//! A tab's channels. Each call that may answer for want of memory is made again where it does, and has to answer as if it
-//! had not been refused: so these tests pass whichever allocation is refused.
+//! A tab's channels. Each call that may answer for want of memory is made again where it does, once the channels were seen to be
+//! as before, and has to answer as if it had not been refused: so these tests pass whichever allocation is refused.
 
 use super::again::{bytes, letters, name};
 use bytes::Bytes;
-use std::alloc::Global;
+use std::alloc::{AllocError, Global};
 use std::process::Abort;
 use wl_broadcast::{Channel, ChannelFault, Channels, Foreign, Hearing, Letter, Posted};
 use wl_frames::{Frame, Heard};
@@ -14,21 +14,59 @@ fn open_once(channels: &mut Channels, name: &str) -> Result<Channel, ChannelFaul
     channels.open(name)
 }
 
-fn open(rt: &impl Abort, channels: &mut Channels, name: &str) -> Channel {
+fn inbox_once(channels: &Channels, channel: &Channel) -> Result<usize, ChannelFault> {
+    channels.inbox(channel)
+}
+
+/// How many channels are looked at for the state of a tab's channels.
+const SEEN: usize = 3;
+
+/// What is told of those channels that a test holds: how many posts wait in each that is open. Looking takes no memory. Which
+/// number the next channel or post has is seen once the call is made again.
+type Inboxes = [Option<usize>; SEEN];
+
+fn inboxes(channels: &Channels, held: &[&Channel]) -> Inboxes {
+    let mut inboxes = [None; SEEN];
+    for (inbox, channel) in inboxes.iter_mut().zip(held) {
+        *inbox = inbox_once(channels, channel).ok();
+    }
+    inboxes
+}
+
+/// Asserts that a call was refused for memory alone, and has changed nothing.
+fn is_as_before(
+    rt: &impl Abort,
+    channels: &Channels,
+    held: &[&Channel],
+    before: Inboxes,
+    fault: ChannelFault,
+) {
+    assert!(rt; fault == ChannelFault::Memory);
+    assert!(rt; inboxes(channels, held) == before);
+}
+
+/// Opens a channel beside those that are held, which has to have this number.
+fn opened(
+    rt: &impl Abort,
+    channels: &mut Channels,
+    held: &[&Channel],
+    name: &str,
+    number: usize,
+) -> Channel {
+    let channel = open(rt, channels, held, name);
+    assert!(rt; channel.number() == number);
+    channel
+}
+
+fn open(rt: &impl Abort, channels: &mut Channels, held: &[&Channel], name: &str) -> Channel {
+    let before = inboxes(channels, held);
     match open_once(channels, name) {
         Ok(channel) => channel,
         Err(fault) => {
-            assert!(rt; fault == ChannelFault::Memory);
+            is_as_before(rt, channels, held, before, fault);
             open_once(channels, name).expect(rt, "memory is back")
         }
     }
-}
-
-/// Opens a channel, which has to have this number.
-fn opened(rt: &impl Abort, channels: &mut Channels, name: &str, number: usize) -> Channel {
-    let channel = open(rt, channels, name);
-    assert!(rt; channel.number() == number);
-    channel
 }
 
 fn close(rt: &impl Abort, channels: &mut Channels, channel: Channel) {
@@ -51,12 +89,15 @@ fn post_once(
     channels.post(channel, data)
 }
 
-fn post(rt: &impl Abort, channels: &mut Channels, channel: &Channel, data: &[u8]) -> Posted {
-    match post_once(channels, channel, data) {
+/// Posts on the first of the channels that are held.
+fn post(rt: &impl Abort, channels: &mut Channels, held: &[&Channel], data: &[u8]) -> Posted {
+    let sender = held.first().expect(rt, "a channel");
+    let before = inboxes(channels, held);
+    match post_once(channels, sender, data) {
         Ok(posted) => posted,
         Err(fault) => {
-            assert!(rt; fault == ChannelFault::Memory);
-            post_once(channels, channel, data).expect(rt, "memory is back")
+            is_as_before(rt, channels, held, before, fault);
+            post_once(channels, sender, data).expect(rt, "memory is back")
         }
     }
 }
@@ -87,20 +128,28 @@ fn hear_once(channels: &mut Channels, frame: &Frame) -> Result<Hearing, ChannelF
     channels.heard(frame)
 }
 
-fn hear(rt: &impl Abort, channels: &mut Channels, frame: &Frame) -> Hearing {
+fn hear(rt: &impl Abort, channels: &mut Channels, held: &[&Channel], frame: &Frame) -> Hearing {
+    let before = inboxes(channels, held);
     match hear_once(channels, frame) {
         Ok(hearing) => hearing,
         Err(fault) => {
-            assert!(rt; fault == ChannelFault::Memory);
+            is_as_before(rt, channels, held, before, fault);
             hear_once(channels, frame).expect(rt, "memory is back")
         }
     }
 }
 
-/// How the post of tab 1 is heard.
-fn hear_post(rt: &impl Abort, alloc: Global, channels: &mut Channels, number: u32) -> Hearing {
-    let frame = heard(rt, alloc, 1, number);
-    let hearing = hear(rt, channels, &frame);
+/// How the post of another tab is heard.
+fn hear_post(
+    rt: &impl Abort,
+    alloc: Global,
+    channels: &mut Channels,
+    held: &[&Channel],
+    source: u16,
+    number: u32,
+) -> Hearing {
+    let frame = heard(rt, alloc, source, number);
+    let hearing = hear(rt, channels, held, &frame);
     drop(frame);
     hearing
 }
@@ -117,16 +166,25 @@ fn hears_new(
     rt: &impl Abort,
     alloc: Global,
     channels: &mut Channels,
+    held: &[&Channel],
     number: u32,
     takers: &[usize],
     filled: &[usize],
 ) -> bool {
-    is_new(&hear_post(rt, alloc, channels, number), takers, filled)
+    let hearing = hear_post(rt, alloc, channels, held, 1, number);
+    is_new(&hearing, takers, filled)
 }
 
 /// Whether the post of tab 1 that comes is an old one.
-fn hears_old(rt: &impl Abort, alloc: Global, channels: &mut Channels, number: u32) -> bool {
-    matches!(&hear_post(rt, alloc, channels, number), Hearing::Old)
+fn hears_old(
+    rt: &impl Abort,
+    alloc: Global,
+    channels: &mut Channels,
+    held: &[&Channel],
+    number: u32,
+) -> bool {
+    let hearing = hear_post(rt, alloc, channels, held, 1, number);
+    matches!(&hearing, Hearing::Old)
 }
 
 /// Whether this was the post of the source and the number, with the data `x`.
@@ -197,24 +255,30 @@ fn given_back(rt: &impl Abort, channels: &mut Channels, channel: Channel) -> Cha
     }
 }
 
-/// Whether this is the tab's first post, which channel 1 alone took.
-fn is_posted_to_twin(posted: &Posted) -> bool {
-    is_post(&posted.frame, 0)
-        && posted.took.as_slice() == [1].as_slice()
+/// Whether this is the tab's post of this number, which these channels took.
+fn is_posted(posted: &Posted, number: u32, takers: &[usize]) -> bool {
+    is_post(&posted.frame, number)
+        && posted.took.as_slice() == takers
         && posted.full.as_slice().is_empty()
 }
 
-/// Asserts that a post is taken by channel 1 alone, and that its frame is none that comes.
-fn posts_to_twin(rt: &impl Abort, channels: &mut Channels, sender: &Channel) {
-    let posted = post(rt, channels, sender, b"x");
-    assert!(rt; is_posted_to_twin(&posted));
+/// Asserts that the first channel's post has this number and is taken by these others, and that its frame is none that comes.
+fn posts(
+    rt: &impl Abort,
+    channels: &mut Channels,
+    held: &[&Channel],
+    number: u32,
+    takers: &[usize],
+) {
+    let posted = post(rt, channels, held, b"x");
+    assert!(rt; is_posted(&posted, number, takers));
     assert!(rt; refuses_frame(channels, &posted.frame, ChannelFault::WrongKind));
     drop(posted);
 }
 
 /// Whether a post is taken by no channel.
 fn posts_to_none(rt: &impl Abort, channels: &mut Channels, sender: &Channel, data: &[u8]) -> bool {
-    let posted = post(rt, channels, sender, data);
+    let posted = post(rt, channels, &[sender], data);
     let is_taken_by_none = posted.took.as_slice().is_empty();
     drop(posted);
     is_taken_by_none
@@ -223,9 +287,9 @@ fn posts_to_none(rt: &impl Abort, channels: &mut Channels, sender: &Channel, dat
 #[test]
 fn broadcast(rt: HostRuntime) {
     let mut channels = Channels::new(rt.alloc(), 1);
-    let sender = opened(&rt, &mut channels, "n", 0);
-    let twin = opened(&rt, &mut channels, "n", 1);
-    posts_to_twin(&rt, &mut channels, &sender);
+    let sender = opened(&rt, &mut channels, &[], "n", 0);
+    let twin = opened(&rt, &mut channels, &[&sender], "n", 1);
+    posts(&rt, &mut channels, &[&sender, &twin], 0, &[1]);
     assert!(rt; reads(&mut channels, &twin, 1, 0));
     assert!(rt; reads_nothing(&mut channels, &twin));
     assert!(rt; reads_nothing(&mut channels, &sender));
@@ -237,21 +301,43 @@ fn broadcast(rt: HostRuntime) {
 fn broadcast_to_another_tab(rt: HostRuntime) {
     let alloc = rt.alloc();
     let mut channels = Channels::new(alloc, 2);
-    let channel = opened(&rt, &mut channels, "n", 0);
-    assert!(rt; hears_new(&rt, alloc, &mut channels, 0, &[0], &[]));
-    assert!(rt; hears_old(&rt, alloc, &mut channels, 0));
+    let channel = opened(&rt, &mut channels, &[], "n", 0);
+    assert!(rt; hears_new(&rt, alloc, &mut channels, &[&channel], 0, &[0], &[]));
+    assert!(rt; hears_old(&rt, alloc, &mut channels, &[&channel], 0));
     assert!(rt; reads(&mut channels, &channel, 1, 0));
     assert!(rt; reads_nothing(&mut channels, &channel));
     close_last(&rt, channels, channel);
+}
+
+/// Posts that several channels take: none of them has a post of which another one was refused its room.
+fn play_to_all(rt: &impl Abort, alloc: Global, channels: &mut Channels, held: &[&Channel]) {
+    posts(rt, channels, held, 0, &[1, 2]);
+    posts(rt, channels, held, 1, &[1, 2]);
+    assert!(rt; hears_new(rt, alloc, channels, held, 0, &[0, 1, 2], &[]));
+    assert!(rt; hears_new(rt, alloc, channels, held, 1, &[0, 1, 2], &[]));
+    assert!(rt; inboxes(channels, held) == [Some(2), Some(4), Some(4)]);
+}
+
+#[test]
+fn broadcast_to_all(rt: HostRuntime) {
+    let alloc = rt.alloc();
+    let mut channels = Channels::new(alloc, 2);
+    let first = opened(&rt, &mut channels, &[], "n", 0);
+    let second = opened(&rt, &mut channels, &[&first], "n", 1);
+    let third = opened(&rt, &mut channels, &[&first, &second], "n", 2);
+    play_to_all(&rt, alloc, &mut channels, &[&first, &second, &third]);
+    close(&rt, &mut channels, first);
+    close(&rt, &mut channels, second);
+    close_last(&rt, channels, third);
 }
 
 #[test]
 fn broadcast_1(rt: HostRuntime) {
     let alloc = rt.alloc();
     let mut channels = Channels::new(alloc, 2);
-    let channel = opened(&rt, &mut channels, "n", 0);
-    assert!(rt; hears_new(&rt, alloc, &mut channels, 1, &[0], &[]));
-    assert!(rt; hears_old(&rt, alloc, &mut channels, 0));
+    let channel = opened(&rt, &mut channels, &[], "n", 0);
+    assert!(rt; hears_new(&rt, alloc, &mut channels, &[&channel], 1, &[0], &[]));
+    assert!(rt; hears_old(&rt, alloc, &mut channels, &[&channel], 0));
     assert!(rt; channels.inbox(&channel) == Ok(1));
     close_last(&rt, channels, channel);
 }
@@ -260,12 +346,12 @@ fn broadcast_1(rt: HostRuntime) {
 fn broadcast_2(rt: HostRuntime) {
     let alloc = rt.alloc();
     let mut channels = Channels::new(alloc, 2);
-    let channel = opened(&rt, &mut channels, "n", 0);
+    let channel = opened(&rt, &mut channels, &[], "n", 0);
     for number in 0..256 {
-        assert!(rt; hears_new(&rt, alloc, &mut channels, number, &[0], &[]));
+        assert!(rt; hears_new(&rt, alloc, &mut channels, &[&channel], number, &[0], &[]));
     }
-    assert!(rt; hears_new(&rt, alloc, &mut channels, 256, &[], &[0]));
-    assert!(rt; hears_old(&rt, alloc, &mut channels, 256));
+    assert!(rt; hears_new(&rt, alloc, &mut channels, &[&channel], 256, &[], &[0]));
+    assert!(rt; hears_old(&rt, alloc, &mut channels, &[&channel], 256));
     assert!(rt; reads(&mut channels, &channel, 1, 0));
     assert!(rt; channels.inbox(&channel) == Ok(255));
     close_last(&rt, channels, channel);
@@ -276,7 +362,7 @@ fn limit_of_names(rt: HostRuntime) {
     let alloc = rt.alloc();
     let mut channels = Channels::new(alloc, 1);
     let longest = letters(&rt, alloc, 255);
-    let channel = opened(&rt, &mut channels, longest.as_str(), 0);
+    let channel = opened(&rt, &mut channels, &[], longest.as_str(), 0);
     close(&rt, &mut channels, channel);
     let too_long = letters(&rt, alloc, 256);
     assert!(rt;
@@ -294,7 +380,7 @@ fn limit_of_names(rt: HostRuntime) {
 fn limit_of_data(rt: HostRuntime) {
     let alloc = rt.alloc();
     let mut channels = Channels::new(alloc, 1);
-    let channel = opened(&rt, &mut channels, "n", 0);
+    let channel = opened(&rt, &mut channels, &[], "n", 0);
     let longest = bytes(&rt, alloc, 0, 16_384);
     assert!(rt; posts_to_none(&rt, &mut channels, &channel, longest.as_slice()));
     let too_long = bytes(&rt, alloc, 0, 16_385);
@@ -307,7 +393,7 @@ fn limit_of_data(rt: HostRuntime) {
 fn foreign_channel(rt: HostRuntime) {
     let alloc = rt.alloc();
     let mut channels = Channels::new(alloc, 1);
-    let channel = opened(&rt, &mut channels, "n", 0);
+    let channel = opened(&rt, &mut channels, &[], "n", 0);
     let mut others = Channels::new(alloc, 2);
     refuses_foreign(&rt, &mut others, &channel);
     let channel = given_back(&rt, &mut others, channel);
@@ -321,27 +407,50 @@ fn refuses_foreign(rt: &impl Abort, others: &mut Channels, channel: &Channel) {
     assert!(rt; others.inbox(channel) == Err(ChannelFault::ForeignChannel));
 }
 
-/// Opens 64 channels.
-fn open_all(rt: &impl Abort, alloc: Global, channels: &mut Channels) -> Vec<Channel> {
-    let mut held = Vec::new(alloc);
-    // One more than there may be, since the list may be refused once.
-    for _ in 0..65 {
-        if held.len() < 64 {
-            let channel = open(rt, channels, "n");
-            if let Err(refused) = held.push(channel) {
-                close(rt, channels, refused.value);
-            }
-        }
+fn room_once(alloc: Global) -> Result<Vec<Channel>, AllocError> {
+    Vec::with_capacity(alloc, 64)
+}
+
+/// Room for 64 channels.
+fn room(rt: &impl Abort, alloc: Global) -> Vec<Channel> {
+    match room_once(alloc) {
+        Ok(room) => room,
+        Err(_) => room_once(alloc).expect(rt, "memory is back"),
     }
-    held
+}
+
+/// Opens the channel of the next number, and keeps it with the others, for which there is room.
+fn open_next(rt: &impl Abort, channels: &mut Channels, held: &mut Vec<Channel>, number: usize) {
+    let channel = opened(rt, channels, &[], "n", number);
+    if let Err(refused) = held.push(channel) {
+        close(rt, channels, refused.value);
+    }
+}
+
+/// Closes one of the channels, whichever.
+fn close_one(rt: &impl Abort, channels: &mut Channels, held: &mut Vec<Channel>) {
+    let channel = held.pop().expect(rt, "a channel");
+    close(rt, channels, channel);
+}
+
+/// Asserts that no more channels are opened than these 64.
+fn has_no_channel(rt: &impl Abort, channels: &mut Channels, held: &[Channel]) {
+    assert!(rt; held.len() == 64);
+    assert!(rt; refuses_name(rt, channels, "n", ChannelFault::TooManyChannels));
 }
 
 #[test]
 fn limit_of_channels(rt: HostRuntime) {
     let alloc = rt.alloc();
     let mut channels = Channels::new(alloc, 1);
-    let held = open_all(&rt, alloc, &mut channels);
-    assert!(rt; held.len() == 64);
-    assert!(rt; refuses_name(&rt, &mut channels, "n", ChannelFault::TooManyChannels));
+    let mut held = room(&rt, alloc);
+    for number in 0..64 {
+        open_next(&rt, &mut channels, &mut held, number);
+    }
+    has_no_channel(&rt, &mut channels, &held);
+    // A closed one makes room for another, which has a number of its own.
+    close_one(&rt, &mut channels, &mut held);
+    open_next(&rt, &mut channels, &mut held, 64);
+    has_no_channel(&rt, &mut channels, &held);
     channels.end(held);
 }

@@ -526,6 +526,122 @@ fn at_most_64_entries(rt: HostRuntime) {
     expect_limit(&rt, rt.alloc(), REPORT_PART, 0xD0, 0xD7);
 }
 
+/// A body's front and behind it a byte so many times, behind their length.
+fn filled_once(alloc: Global, front: &[u8], byte: u8, count: u16) -> Result<Vec<u8>, AllocError> {
+    let front_len = u32::try_from(front.len()).unwrap_or(u32::MAX);
+    let length = front_len.saturating_add(u32::from(count));
+    let mut bytes = Vec::new(alloc);
+    bytes.extend_from_slice(&length.to_be_bytes())?;
+    bytes.extend_from_slice(front)?;
+    for _time in 0..count {
+        bytes.push(byte)?;
+    }
+    Ok(bytes)
+}
+
+fn filled(rt: &impl Abort, alloc: Global, front: &[u8], byte: u8, count: u16) -> Vec<u8> {
+    match filled_once(alloc, front, byte, count) {
+        Ok(bytes) => bytes,
+        Err(_) => filled_once(alloc, front, byte, count).expect(rt, "memory is back"),
+    }
+}
+
+/// Asserts that the first bytes are a frame, and that the others, which have one more of what is counted, are none.
+fn expect_most(rt: &impl Abort, alloc: Global, most: Vec<u8>, one_more: Vec<u8>) {
+    let mut feed = Feed::new(alloc);
+    assert!(rt; pushed(rt, &mut feed, most.as_slice()).len() == 1);
+    fails(rt, &mut feed, one_more.as_slice(), 0, FrameFault::BadField);
+}
+
+#[test]
+fn at_most_16384_bytes_of_data(rt: HostRuntime) {
+    let most = filled(
+        &rt,
+        rt.alloc(),
+        b"\x01\x03\x00\x00\x00\x09\x01n\x40\x00",
+        7,
+        16_384,
+    );
+    let one_more = filled(
+        &rt,
+        rt.alloc(),
+        b"\x01\x03\x00\x00\x00\x09\x01n\x40\x01",
+        7,
+        16_385,
+    );
+    expect_most(&rt, rt.alloc(), most, one_more);
+}
+
+#[test]
+fn at_most_4096_bytes_of_an_origin(rt: HostRuntime) {
+    let most = filled(&rt, rt.alloc(), b"\x01\x14\x00\x07\x10\x00", b'x', 4_096);
+    let one_more = filled(&rt, rt.alloc(), b"\x01\x14\x00\x07\x10\x01", b'x', 4_097);
+    expect_most(&rt, rt.alloc(), most, one_more);
+}
+
+/// A Start frame with so many listed tabs, all of one partition.
+fn start_once(alloc: Global, count: u16) -> Result<Vec<u8>, AllocError> {
+    let length = 8u32.saturating_add(u32::from(count).saturating_mul(4));
+    let mut bytes = Vec::new(alloc);
+    bytes.extend_from_slice(&length.to_be_bytes())?;
+    bytes.extend_from_slice(b"\x01\x21\x00\x00\x00\x01")?;
+    bytes.extend_from_slice(&count.to_be_bytes())?;
+    for place in 0..count {
+        bytes.extend_from_slice(&place.saturating_add(1).to_be_bytes())?;
+        bytes.extend_from_slice(&[0, 1])?;
+    }
+    Ok(bytes)
+}
+
+fn start(rt: &impl Abort, alloc: Global, count: u16) -> Vec<u8> {
+    match start_once(alloc, count) {
+        Ok(bytes) => bytes,
+        Err(_) => start_once(alloc, count).expect(rt, "memory is back"),
+    }
+}
+
+#[test]
+fn at_most_1024_listed_tabs(rt: HostRuntime) {
+    let most = start(&rt, rt.alloc(), 1_024);
+    let one_more = start(&rt, rt.alloc(), 1_025);
+    expect_most(&rt, rt.alloc(), most, one_more);
+}
+
+/// A snapshot's only part with so many locks of tab 1, all of the empty name.
+fn snapshot_once(alloc: Global, count: u16) -> Result<Vec<u8>, AllocError> {
+    let length = 16u32.saturating_add(u32::from(count).saturating_mul(5));
+    let mut bytes = Vec::new(alloc);
+    bytes.extend_from_slice(&length.to_be_bytes())?;
+    bytes.extend_from_slice(b"\x01\x12\x00\x00\x00\x01\x00\x00\x00\x00\x00\x00\x00\x01")?;
+    bytes.extend_from_slice(&count.to_be_bytes())?;
+    for _entry in 0..count {
+        bytes.extend_from_slice(b"\x01\x00\x01\x01\x00")?;
+    }
+    Ok(bytes)
+}
+
+fn snapshot(rt: &impl Abort, alloc: Global, count: u16) -> Vec<u8> {
+    match snapshot_once(alloc, count) {
+        Ok(bytes) => bytes,
+        Err(_) => snapshot_once(alloc, count).expect(rt, "memory is back"),
+    }
+}
+
+#[test]
+fn at_most_64_locks_of_a_snapshot(rt: HostRuntime) {
+    let most = snapshot(&rt, rt.alloc(), 64);
+    let one_more = snapshot(&rt, rt.alloc(), 65);
+    expect_most(&rt, rt.alloc(), most, one_more);
+}
+
+/// A body of 65,536 bytes is read to its end, whatever it is; one more is refused by its length alone.
+#[test]
+fn at_most_65536_bytes_of_a_body(rt: HostRuntime) {
+    let most = filled(&rt, rt.alloc(), &COMMAND[4..], 0, 65_521);
+    expect_fault(&rt, rt.alloc(), most.as_slice(), FrameFault::LeftOver);
+    expect_fault(&rt, rt.alloc(), &[0, 1, 0, 1], FrameFault::BadLength);
+}
+
 // ---- which frames are well formed
 
 /// Whether the frame is well formed is what is wanted.

@@ -1,10 +1,11 @@
 //! Both lock tables side by side: whatever is called, they answer the same, and their snapshots agree. In the worked rows a call
 //! that is refused for memory is made again, once the table was seen to be as before, and then gives the row's answer: so each
-//! growth of each call can be refused in its turn (`rt try --test --fail-alloc 1..`), and the rows pass.
+//! growth of each call can be refused in its turn (`make refuse`), and the rows pass.
 
-use super::again::{Reported, are, are_rows, entries_of, name_of};
+use super::again::{Reported, are, entries_of, name_of};
 use std::alloc::{AllocError, Global};
 use std::marker::Model;
+use std::ops::Range;
 use std::process::Abort;
 use std::test::Fail;
 use wl_fakes::dice::Dice;
@@ -287,15 +288,21 @@ impl Both {
         indexed
     }
 
-    /// Compares the snapshots, and answers how many are held and how many wait.
-    fn compare(&self, rt: &impl Abort) -> Result<(usize, usize), AllocError> {
+    /// Compares the snapshots, and answers the rows of both lists.
+    fn rows(&self, rt: &impl Abort) -> Result<Rows, AllocError> {
         let plain = rows_of(&self.plain)?;
         let indexed = rows_of(&self.indexed)?;
         expect_same_rows(rt, &plain, &indexed);
-        Ok((indexed.0.len(), indexed.1.len()))
+        Ok(indexed)
     }
 
-    /// Makes a call that grants these pairs, and looks at its own pair afterwards.
+    /// Compares the snapshots, and answers how many are held and how many wait.
+    fn compare(&self, rt: &impl Abort) -> Result<(usize, usize), AllocError> {
+        let (held, waiting) = self.rows(rt)?;
+        Ok((held.len(), waiting.len()))
+    }
+
+    /// Makes a call that grants these pairs, after which its own pair stands so.
     fn grants(
         &mut self,
         rt: &impl Abort,
@@ -303,35 +310,47 @@ impl Both {
         number: u32,
         call: Call<'_>,
         pairs: &[(u16, u32)],
+        standing: Standing,
     ) -> Result<(), AllocError> {
         let granted = self.make_again(rt, client, number, call)?;
         assert!(rt; are(granted.as_slice(), pairs), "{client} {number}");
-        self.look(rt, client, number);
+        self.stands(rt, client, number, standing);
         Ok(())
     }
 
     fn stands(&self, rt: &impl Abort, client: u16, number: u32, standing: Standing) {
-        assert_eq!(rt; self.look(rt, client, number).0, standing);
+        assert_eq!(rt;
+            self.look(rt, client, number).0,
+            standing,
+            "{client} {number}"
+        );
     }
 
     fn is_grantable(&self, rt: &impl Abort, client: u16, number: u32) {
         assert!(rt; self.look(rt, client, number).1, "{client} {number}");
     }
 
-    fn lists(&self, rt: &impl Abort, counts: (usize, usize)) -> Result<(), AllocError> {
-        assert_eq!(rt; self.compare(rt)?, counts);
+    fn lists(
+        &self,
+        rt: &impl Abort,
+        held: &[Listed],
+        waiting: &[Listed],
+    ) -> Result<(), AllocError> {
+        let rows = self.rows(rt)?;
+        assert!(rt; are_listed(rows.0.as_slice(), held));
+        assert!(rt; are_listed(rows.1.as_slice(), waiting));
         Ok(())
     }
 
     /// Takes a step, and looks at its pair afterwards.
     fn step(&mut self, rt: &impl Abort, step: Step<'_>) -> Result<(), AllocError> {
         match step {
-            Step::Make(client, number, call, pairs) => {
-                return self.grants(rt, client, number, call, pairs);
+            Step::Make(client, number, call, pairs, standing) => {
+                return self.grants(rt, client, number, call, pairs, standing);
             }
             Step::Stands(client, number, standing) => self.stands(rt, client, number, standing),
             Step::Grantable(client, number) => self.is_grantable(rt, client, number),
-            Step::Lists(held, waiting) => return self.lists(rt, (held, waiting)),
+            Step::Lists(held, waiting) => return self.lists(rt, held, waiting),
         }
         Ok(())
     }
@@ -343,34 +362,59 @@ impl Both {
         Ok(())
     }
 
-    fn play_all(&mut self, rt: &impl Abort, rows: &[&[Step<'_>]]) -> Result<(), AllocError> {
+    /// The tabs from 1 to this one join, one after another: what they report first is nothing.
+    fn join(&mut self, rt: &impl Abort, tabs: u16) -> Result<(), AllocError> {
+        for tab in 1..=tabs {
+            self.grants(rt, tab, 0, JOINS, &[], Standing::Absent)?;
+        }
+        Ok(())
+    }
+
+    fn play_all(
+        &mut self,
+        rt: &impl Abort,
+        tabs: u16,
+        rows: &[&[Step<'_>]],
+    ) -> Result<(), AllocError> {
+        self.join(rt, tabs)?;
         for row in rows {
             self.play(rt, row)?;
         }
         Ok(())
     }
 
-    /// Client 1 takes all others up to the 64th, of one name.
+    /// Client 1 asks for all others up to the 64th, of one name.
     fn take_shared(&mut self, rt: &impl Abort) -> Result<(), AllocError> {
+        let request = Call::Request(Mode::Shared, "b");
         for number in 2..64 {
-            let pairs = [(1, number)];
-            let request = Call::Request(Mode::Shared, "b");
-            self.grants(rt, 1, number, request, &pairs)?;
+            self.grants(rt, 1, number, request, &[(1, number)], Standing::Held)?;
         }
+        Ok(())
+    }
+
+    /// Asserts that client 1 holds all 64.
+    fn holds_many(&self, rt: &impl Abort) -> Result<(), AllocError> {
+        let (held, waiting) = self.rows(rt)?;
+        assert!(rt; are_many(held.as_slice()) && waiting.is_empty());
+        Ok(())
+    }
+
+    /// Asserts that client 1 holds those that are left and the one that replaces the first.
+    fn holds_others(&self, rt: &impl Abort) -> Result<(), AllocError> {
+        let (held, waiting) = self.rows(rt)?;
+        assert!(rt; are_others(held.as_slice()) && waiting.is_empty());
         Ok(())
     }
 
     /// All 64 are taken, one of them is replaced, and all end.
     fn take_many(&mut self, rt: &impl Abort) -> Result<(), AllocError> {
-        self.play(rt, &FIRST_TWO)?;
+        self.join(rt, 1)?;
+        self.play(rt, &LIMITS_OF_NAMES)?;
         self.take_shared(rt)?;
-        self.play(rt, &GIVEN_BACK)
-    }
-
-    /// The snapshot of the indexed one after a row.
-    fn rows_after(&mut self, rt: &impl Abort, row: &[Step<'_>]) -> Result<Rows, AllocError> {
-        self.play(rt, row)?;
-        rows_of(&self.indexed)
+        self.holds_many(rt)?;
+        self.play(rt, &ONE_REPLACED)?;
+        self.holds_others(rt)?;
+        self.play(rt, &ALL_END)
     }
 }
 
@@ -387,91 +431,174 @@ fn expect_same_rows(rt: &impl Abort, plain: &Rows, indexed: &Rows) {
 
 // ---- worked rows
 
-/// A step of a worked row.
+/// A lock as a snapshot lists it: its client, its number, its mode and its name.
+type Listed = (u16, u32, Mode, &'static str);
+
+fn is_listed(row: &Row, listed: &Listed) -> bool {
+    row.client == listed.0
+        && row.number == listed.1
+        && row.mode == listed.2
+        && row.name.as_str() == listed.3
+}
+
+fn are_listed(rows: &[Row], list: &[Listed]) -> bool {
+    rows.len() == list.len()
+        && rows
+            .iter()
+            .zip(list)
+            .all(|(row, listed)| is_listed(row, listed))
+}
+
+/// A step of a worked row: the calls that a broker makes of the table of one partition, and what it is answered.
 #[derive(Clone, Copy)]
 enum Step<'a> {
-    /// A client's call under a number, and the pairs that it grants.
-    Make(u16, u32, Call<'a>, &'a [(u16, u32)]),
-    /// Where a pair stands.
+    /// A client's call under a number, the pairs that it grants, and where its own pair stands then.
+    Make(u16, u32, Call<'a>, &'a [(u16, u32)], Standing),
+    /// Where a pair stands, which is what a request that comes again is answered.
     Stands(u16, u32, Standing),
     /// A pair can be granted.
     Grantable(u16, u32),
-    /// How many are held and how many wait; the snapshots agree.
-    Lists(usize, usize),
+    /// What is held and what waits, which is what a query is answered.
+    Lists(&'a [Listed], &'a [Listed]),
 }
 
-/// Plays rows one after another on two new tables.
-fn play(rt: &impl Abort, alloc: Global, rows: &[&[Step<'_>]]) -> Result<(), Fail> {
+/// A tab's first report, which says nothing, once no other tab is missing.
+const JOINS: Call<'static> = Call::Restore {
+    report: &[],
+    settle: true,
+};
+
+/// The same while another tab is missing.
+const JOINS_EARLY: Call<'static> = Call::Restore {
+    report: &[],
+    settle: false,
+};
+
+const SHARED: Call<'static> = Call::Request(Mode::Shared, "a");
+
+const EXCLUSIVE: Call<'static> = Call::Request(Mode::Exclusive, "a");
+
+/// Plays rows one after another on two new tables, once the tabs from 1 to this one have joined.
+fn play(rt: &impl Abort, alloc: Global, tabs: u16, rows: &[&[Step<'_>]]) -> Result<(), Fail> {
     let mut both = Both::new(alloc);
-    let played = both.play_all(rt, rows);
+    let played = both.play_all(rt, tabs, rows);
     drop(both);
     Ok(played?)
 }
 
 /// A shared lock is held, an exclusive one waits for it, and another shared one waits behind.
-static SHARED_THEN_EXCLUSIVE: [Step<'static>; 3] = [
-    Step::Make(1, 0, Call::Request(Mode::Shared, "a"), &[(1, 0)]),
-    Step::Make(2, 0, Call::Request(Mode::Exclusive, "a"), &[]),
-    Step::Make(3, 0, Call::Request(Mode::Shared, "a"), &[]),
+static SHARED_THEN_EXCLUSIVE: [Step<'static>; 4] = [
+    Step::Make(1, 0, SHARED, &[(1, 0)], Standing::Held),
+    Step::Make(2, 0, EXCLUSIVE, &[], Standing::Waiting),
+    Step::Make(3, 0, SHARED, &[], Standing::Waiting),
+    Step::Lists(
+        &[(1, 0, Mode::Shared, "a")],
+        &[(2, 0, Mode::Exclusive, "a"), (3, 0, Mode::Shared, "a")],
+    ),
 ];
 
-static PROBED: [Step<'static>; 3] = [
-    Step::Make(4, 0, Call::Probe(Mode::Shared, "a"), &[]),
-    Step::Stands(4, 0, Standing::Absent),
-    Step::Lists(1, 2),
+static PROBE_BEHIND_QUEUE: [Step<'static>; 2] = [
+    Step::Make(4, 0, Call::Probe(Mode::Shared, "a"), &[], Standing::Absent),
+    Step::Lists(
+        &[(1, 0, Mode::Shared, "a")],
+        &[(2, 0, Mode::Exclusive, "a"), (3, 0, Mode::Shared, "a")],
+    ),
 ];
 
-static ABORTED_THEN_RELEASED: [Step<'static>; 6] = [
-    Step::Make(2, 0, Call::Abort, &[(3, 0)]),
-    Step::Make(2, 2, Call::Request(Mode::Exclusive, "a"), &[]),
-    Step::Make(1, 0, Call::Release, &[]),
-    Step::Make(3, 0, Call::Release, &[(2, 2)]),
+static ABORT_UNBLOCKS: [Step<'static>; 3] = [
+    Step::Make(2, 0, Call::Abort, &[(3, 0)], Standing::Absent),
+    Step::Stands(3, 0, Standing::Held),
+    Step::Lists(&[(1, 0, Mode::Shared, "a"), (3, 0, Mode::Shared, "a")], &[]),
+];
+
+static RELEASE_HANDS_OVER: [Step<'static>; 5] = [
+    Step::Make(2, 2, EXCLUSIVE, &[], Standing::Waiting),
+    Step::Make(1, 0, Call::Release, &[], Standing::Absent),
+    Step::Make(3, 0, Call::Release, &[(2, 2)], Standing::Absent),
     Step::Stands(2, 2, Standing::Held),
-    Step::Lists(1, 0),
+    Step::Lists(&[(2, 2, Mode::Exclusive, "a")], &[]),
 ];
 
 #[test]
-fn a_probe_behind_the_queue_gets_nothing(rt: HostRuntime) -> Result<(), Fail> {
-    play(&rt, rt.alloc(), &[&SHARED_THEN_EXCLUSIVE, &PROBED])
+fn shared_then_exclusive(rt: HostRuntime) -> Result<(), Fail> {
+    play(&rt, rt.alloc(), 4, &[&SHARED_THEN_EXCLUSIVE])
 }
 
 #[test]
-fn an_abort_lets_those_behind_it_pass(rt: HostRuntime) -> Result<(), Fail> {
+fn probe_behind_queue(rt: HostRuntime) -> Result<(), Fail> {
     play(
         &rt,
         rt.alloc(),
-        &[&SHARED_THEN_EXCLUSIVE, &PROBED, &ABORTED_THEN_RELEASED],
+        4,
+        &[&SHARED_THEN_EXCLUSIVE, &PROBE_BEHIND_QUEUE],
+    )
+}
+
+#[test]
+fn abort_unblocks(rt: HostRuntime) -> Result<(), Fail> {
+    play(
+        &rt,
+        rt.alloc(),
+        4,
+        &[&SHARED_THEN_EXCLUSIVE, &PROBE_BEHIND_QUEUE, &ABORT_UNBLOCKS],
+    )
+}
+
+#[test]
+fn release_hands_over(rt: HostRuntime) -> Result<(), Fail> {
+    play(
+        &rt,
+        rt.alloc(),
+        4,
+        &[
+            &SHARED_THEN_EXCLUSIVE,
+            &PROBE_BEHIND_QUEUE,
+            &ABORT_UNBLOCKS,
+            &RELEASE_HANDS_OVER,
+        ],
     )
 }
 
 /// An exclusive lock is held, and another one waits for it.
 static TWO_EXCLUSIVE: [Step<'static>; 3] = [
-    Step::Make(1, 0, Call::Request(Mode::Exclusive, "a"), &[(1, 0)]),
-    Step::Make(2, 0, Call::Request(Mode::Exclusive, "a"), &[]),
-    Step::Lists(1, 1),
+    Step::Make(1, 0, EXCLUSIVE, &[(1, 0)], Standing::Held),
+    Step::Make(2, 0, EXCLUSIVE, &[], Standing::Waiting),
+    Step::Lists(
+        &[(1, 0, Mode::Exclusive, "a")],
+        &[(2, 0, Mode::Exclusive, "a")],
+    ),
 ];
 
-static HELD_ABORTED: [Step<'static>; 2] = [
-    Step::Make(1, 0, Call::Abort, &[(2, 0)]),
-    Step::Stands(1, 0, Standing::Absent),
+/// An abort of a lock whose grant has not been told releases it.
+static LATE_GRANT_AFTER_ABORT: [Step<'static>; 3] = [
+    Step::Make(1, 0, Call::Abort, &[(2, 0)], Standing::Absent),
+    Step::Stands(2, 0, Standing::Held),
+    Step::Lists(&[(2, 0, Mode::Exclusive, "a")], &[]),
 ];
 
 #[test]
-fn an_abort_of_a_held_lock_releases_it(rt: HostRuntime) -> Result<(), Fail> {
-    play(&rt, rt.alloc(), &[&TWO_EXCLUSIVE, &HELD_ABORTED])
+fn late_grant_after_abort(rt: HostRuntime) -> Result<(), Fail> {
+    play(
+        &rt,
+        rt.alloc(),
+        2,
+        &[&TWO_EXCLUSIVE, &LATE_GRANT_AFTER_ABORT],
+    )
 }
 
-static RELEASED_TWICE: [Step<'static>; 5] = [
-    Step::Make(1, 0, Call::Request(Mode::Shared, "a"), &[(1, 0)]),
+/// The request comes twice more while its lock is held, and once when it is over.
+static REPEATED_REQUEST: [Step<'static>; 6] = [
+    Step::Make(1, 0, SHARED, &[(1, 0)], Standing::Held),
     Step::Stands(1, 0, Standing::Held),
-    Step::Make(1, 0, Call::Release, &[]),
+    Step::Stands(1, 0, Standing::Held),
+    Step::Make(1, 0, Call::Release, &[], Standing::Absent),
     Step::Stands(1, 0, Standing::Absent),
-    Step::Make(1, 0, Call::Release, &[]),
+    Step::Lists(&[], &[]),
 ];
 
 #[test]
-fn a_lock_is_over_once_it_is_released(rt: HostRuntime) -> Result<(), Fail> {
-    play(&rt, rt.alloc(), &[&RELEASED_TWICE])
+fn repeated_request(rt: HostRuntime) -> Result<(), Fail> {
+    play(&rt, rt.alloc(), 1, &[&REPEATED_REQUEST])
 }
 
 /// A report of one exclusive entry of the name `a`, under number 0, which is held or waits.
@@ -479,7 +606,7 @@ const HELD: [Reported; 1] = [(0, true, Mode::Exclusive, "a")];
 
 const WAITS: [Reported; 1] = [(0, false, Mode::Exclusive, "a")];
 
-/// Client 2 has reported, and the other one has not.
+/// In a new generation tab 2 has reported, and tab 1 is missing.
 static FIRST_REPORT: [Step<'static>; 2] = [
     Step::Make(
         2,
@@ -489,11 +616,12 @@ static FIRST_REPORT: [Step<'static>; 2] = [
             settle: false,
         },
         &[],
+        Standing::Waiting,
     ),
-    Step::Stands(2, 0, Standing::Waiting),
+    Step::Lists(&[], &[(2, 0, Mode::Exclusive, "a")]),
 ];
 
-static LAST_REPORT: [Step<'static>; 2] = [
+static RESTART_WHILE_ASKED: [Step<'static>; 3] = [
     Step::Make(
         1,
         0,
@@ -502,11 +630,16 @@ static LAST_REPORT: [Step<'static>; 2] = [
             settle: true,
         },
         &[(2, 0)],
+        Standing::Waiting,
     ),
-    Step::Lists(1, 1),
+    Step::Stands(2, 0, Standing::Held),
+    Step::Lists(
+        &[(2, 0, Mode::Exclusive, "a")],
+        &[(1, 0, Mode::Exclusive, "a")],
+    ),
 ];
 
-static LAST_REPORT_HOLDS: [Step<'static>; 2] = [
+static RESTART_WHILE_HELD: [Step<'static>; 3] = [
     Step::Make(
         1,
         0,
@@ -515,58 +648,135 @@ static LAST_REPORT_HOLDS: [Step<'static>; 2] = [
             settle: true,
         },
         &[],
+        Standing::Held,
     ),
-    Step::Lists(1, 1),
+    Step::Stands(2, 0, Standing::Waiting),
+    Step::Lists(
+        &[(1, 0, Mode::Exclusive, "a")],
+        &[(2, 0, Mode::Exclusive, "a")],
+    ),
 ];
 
 #[test]
-fn the_last_report_settles(rt: HostRuntime) -> Result<(), Fail> {
-    play(&rt, rt.alloc(), &[&FIRST_REPORT, &LAST_REPORT])
+fn restart_while_asked(rt: HostRuntime) -> Result<(), Fail> {
+    play(&rt, rt.alloc(), 2, &[&TWO_EXCLUSIVE])?;
+    play(&rt, rt.alloc(), 0, &[&FIRST_REPORT, &RESTART_WHILE_ASKED])
 }
 
 #[test]
-fn a_reported_lock_stays_held(rt: HostRuntime) -> Result<(), Fail> {
-    play(&rt, rt.alloc(), &[&FIRST_REPORT, &LAST_REPORT_HOLDS])
+fn restart_while_held(rt: HostRuntime) -> Result<(), Fail> {
+    play(&rt, rt.alloc(), 2, &[&TWO_EXCLUSIVE])?;
+    play(&rt, rt.alloc(), 0, &[&FIRST_REPORT, &RESTART_WHILE_HELD])
 }
 
-static DEATH: [Step<'static>; 2] = [
-    Step::Make(1, 0, Call::End { settle: true }, &[(2, 0)]),
-    Step::Lists(1, 0),
+/// The query of tab 1 comes when it is dead, and is dropped before the table is asked.
+static DEATH_HANDS_OVER: [Step<'static>; 3] = [
+    Step::Make(
+        1,
+        0,
+        Call::End { settle: true },
+        &[(2, 0)],
+        Standing::Absent,
+    ),
+    Step::Stands(2, 0, Standing::Held),
+    Step::Lists(&[(2, 0, Mode::Exclusive, "a")], &[]),
 ];
 
 #[test]
-fn a_death_hands_over(rt: HostRuntime) -> Result<(), Fail> {
-    play(&rt, rt.alloc(), &[&TWO_EXCLUSIVE, &DEATH])
+fn death_hands_over(rt: HostRuntime) -> Result<(), Fail> {
+    play(&rt, rt.alloc(), 2, &[&TWO_EXCLUSIVE, &DEATH_HANDS_OVER])
 }
 
 /// What is left is grantable, and is granted by the next call that settles, whatever its name.
 static SETTLED_LATER: [Step<'static>; 5] = [
-    Step::Make(1, 0, Call::End { settle: false }, &[]),
+    Step::Make(1, 0, Call::End { settle: false }, &[], Standing::Absent),
     Step::Stands(2, 0, Standing::Waiting),
     Step::Grantable(2, 0),
-    Step::Make(3, 0, Call::Probe(Mode::Shared, "b"), &[(3, 0)]),
-    Step::Make(3, 0, Call::Release, &[(2, 0)]),
+    Step::Make(
+        3,
+        0,
+        Call::Probe(Mode::Shared, "b"),
+        &[(3, 0)],
+        Standing::Held,
+    ),
+    Step::Make(3, 0, Call::Release, &[(2, 0)], Standing::Absent),
 ];
 
 #[test]
 fn what_was_not_settled_is_settled_later(rt: HostRuntime) -> Result<(), Fail> {
-    play(&rt, rt.alloc(), &[&TWO_EXCLUSIVE, &SETTLED_LATER])
+    play(&rt, rt.alloc(), 2, &[&TWO_EXCLUSIVE, &SETTLED_LATER])
 }
 
-static OTHER_PARTITION: [Step<'static>; 1] = [Step::Make(
-    3,
-    0,
-    Call::Restore {
-        report: &WAITS,
-        settle: true,
-    },
-    &[(3, 0)],
-)];
+/// Tab 3 joins, alone in its partition.
+static THIRD_JOINS: [Step<'static>; 1] = [Step::Make(3, 0, JOINS, &[], Standing::Absent)];
+
+/// In a new generation tab 3 reports its request, alone in its partition, and no other tab has reported.
+static OTHER_ORIGIN_UNBLOCKED: [Step<'static>; 2] = [
+    Step::Make(
+        3,
+        0,
+        Call::Restore {
+            report: &WAITS,
+            settle: true,
+        },
+        &[(3, 0)],
+        Standing::Held,
+    ),
+    Step::Lists(&[(3, 0, Mode::Exclusive, "a")], &[]),
+];
 
 #[test]
-fn one_partition_does_not_wait_for_another(rt: HostRuntime) -> Result<(), Fail> {
-    play(&rt, rt.alloc(), &[&TWO_EXCLUSIVE])?;
-    play(&rt, rt.alloc(), &[&OTHER_PARTITION])
+fn other_origin_unblocked(rt: HostRuntime) -> Result<(), Fail> {
+    play(&rt, rt.alloc(), 2, &[])?;
+    play(&rt, rt.alloc(), 0, &[&THIRD_JOINS])?;
+    play(&rt, rt.alloc(), 0, &[&OTHER_ORIGIN_UNBLOCKED])
+}
+
+/// Tabs 1 and 2 are listed in one partition, and report one after another.
+static LISTED_JOIN: [Step<'static>; 2] = [
+    Step::Make(1, 0, JOINS_EARLY, &[], Standing::Absent),
+    Step::Make(2, 0, JOINS, &[], Standing::Absent),
+];
+
+static FIRST_ASKS: [Step<'static>; 2] = [
+    Step::Make(1, 0, EXCLUSIVE, &[(1, 0)], Standing::Held),
+    Step::Lists(&[(1, 0, Mode::Exclusive, "a")], &[]),
+];
+
+static THIRD_ASKS: [Step<'static>; 2] = [
+    Step::Make(3, 0, EXCLUSIVE, &[(3, 0)], Standing::Held),
+    Step::Lists(&[(3, 0, Mode::Exclusive, "a")], &[]),
+];
+
+static SECOND_ASKS: [Step<'static>; 2] = [
+    Step::Make(2, 0, EXCLUSIVE, &[], Standing::Waiting),
+    Step::Lists(
+        &[(1, 0, Mode::Exclusive, "a")],
+        &[(2, 0, Mode::Exclusive, "a")],
+    ),
+];
+
+/// Tabs 1 and 2 are of one partition, and tab 3 of another.
+fn ask_apart(rt: &impl Abort, here: &mut Both, there: &mut Both) -> Result<(), AllocError> {
+    here.play(rt, &LISTED_JOIN)?;
+    there.play(rt, &THIRD_JOINS)?;
+    here.play(rt, &FIRST_ASKS)?;
+    there.play(rt, &THIRD_ASKS)?;
+    here.play(rt, &SECOND_ASKS)
+}
+
+fn play_apart(rt: &impl Abort, alloc: Global) -> Result<(), Fail> {
+    let mut here = Both::new(alloc);
+    let mut there = Both::new(alloc);
+    let played = ask_apart(rt, &mut here, &mut there);
+    drop(here);
+    drop(there);
+    Ok(played?)
+}
+
+#[test]
+fn origins_apart(rt: HostRuntime) -> Result<(), Fail> {
+    play_apart(&rt, rt.alloc())
 }
 
 const LONGEST: &str =
@@ -575,19 +785,70 @@ const LONGEST: &str =
     nnnnnnnnnnnnnnnnnnnnnnnnnnnnnnnnnnnnnnnnnnnnnnnnnnnnnnn";
 
 /// A lock of the empty name, and one of the longest.
-static FIRST_TWO: [Step<'static>; 2] = [
-    Step::Make(1, 0, Call::Request(Mode::Exclusive, ""), &[(1, 0)]),
-    Step::Make(1, 1, Call::Request(Mode::Exclusive, LONGEST), &[(1, 1)]),
+static LIMITS_OF_NAMES: [Step<'static>; 2] = [
+    Step::Make(
+        1,
+        0,
+        Call::Request(Mode::Exclusive, ""),
+        &[(1, 0)],
+        Standing::Held,
+    ),
+    Step::Make(
+        1,
+        1,
+        Call::Request(Mode::Exclusive, LONGEST),
+        &[(1, 1)],
+        Standing::Held,
+    ),
 ];
 
-static GIVEN_BACK: [Step<'static>; 6] = [
-    Step::Lists(64, 0),
-    Step::Make(1, 0, Call::Abort, &[]),
-    Step::Make(1, 65, Call::Request(Mode::Shared, "b"), &[(1, 65)]),
-    Step::Lists(64, 0),
-    Step::Make(1, 0, Call::End { settle: true }, &[]),
-    Step::Lists(0, 0),
+/// The lock of the empty name is aborted, and another is asked for in its place.
+static ONE_REPLACED: [Step<'static>; 2] = [
+    Step::Make(1, 0, Call::Abort, &[], Standing::Absent),
+    Step::Make(
+        1,
+        65,
+        Call::Request(Mode::Shared, "b"),
+        &[(1, 65)],
+        Standing::Held,
+    ),
 ];
+
+static ALL_END: [Step<'static>; 2] = [
+    Step::Make(1, 1, Call::End { settle: true }, &[], Standing::Absent),
+    Step::Lists(&[], &[]),
+];
+
+/// Whether the rows are those of client 1's shared locks of one name under these numbers.
+fn are_shared(rows: &[Row], numbers: Range<u32>) -> bool {
+    rows.iter().zip(numbers).all(|(row, number)| is_listed(row, &(1, number, Mode::Shared, "b")))
+}
+
+/// Whether the rows are those of all 64, in the order of granting.
+fn are_many(rows: &[Row]) -> bool {
+    match rows {
+        [empty, longest, others @ ..] => {
+            is_listed(empty, &(1, 0, Mode::Exclusive, ""))
+                && is_listed(longest, &(1, 1, Mode::Exclusive, LONGEST))
+                && others.len() == 62
+                && are_shared(others, 2..64)
+        }
+        _ => false,
+    }
+}
+
+/// Whether the rows are those without the first, and behind them the one in its place.
+fn are_others(rows: &[Row]) -> bool {
+    match rows {
+        [longest, others @ .., last] => {
+            is_listed(longest, &(1, 1, Mode::Exclusive, LONGEST))
+                && others.len() == 62
+                && are_shared(others, 2..64)
+                && is_listed(last, &(1, 65, Mode::Shared, "b"))
+        }
+        _ => false,
+    }
+}
 
 fn take_many(rt: &impl Abort, alloc: Global) -> Result<(), Fail> {
     let mut both = Both::new(alloc);
@@ -596,26 +857,30 @@ fn take_many(rt: &impl Abort, alloc: Global) -> Result<(), Fail> {
     Ok(taken?)
 }
 
+/// As many locks as a tab may have. What its agent refuses comes to no table.
 #[test]
-fn a_client_has_many_locks(rt: HostRuntime) -> Result<(), Fail> {
+fn refusals(rt: HostRuntime) -> Result<(), Fail> {
     assert_eq!(rt; LONGEST.len(), 255);
     take_many(&rt, rt.alloc())
 }
 
-/// The snapshot of an indexed table in which one exclusive lock is held and another one waits.
-fn rows_of_two(rt: &impl Abort, alloc: Global) -> Result<Rows, AllocError> {
-    let mut both = Both::new(alloc);
-    let rows = both.rows_after(rt, &TWO_EXCLUSIVE);
-    drop(both);
-    rows
-}
+/// An exclusive lock is held, a shared one waits for it, and both tabs query. A query that comes again asks no table.
+static SNAPSHOT: [Step<'static>; 4] = [
+    Step::Make(1, 0, EXCLUSIVE, &[(1, 0)], Standing::Held),
+    Step::Make(2, 0, SHARED, &[], Standing::Waiting),
+    Step::Lists(
+        &[(1, 0, Mode::Exclusive, "a")],
+        &[(2, 0, Mode::Shared, "a")],
+    ),
+    Step::Lists(
+        &[(1, 0, Mode::Exclusive, "a")],
+        &[(2, 0, Mode::Shared, "a")],
+    ),
+];
 
 #[test]
-fn a_snapshot_has_both_lists(rt: HostRuntime) -> Result<(), Fail> {
-    let (held, waiting) = rows_of_two(&rt, rt.alloc())?;
-    assert!(rt; are_rows(held.as_slice(), &[1]));
-    assert!(rt; are_rows(waiting.as_slice(), &[2]));
-    Ok(())
+fn snapshot(rt: HostRuntime) -> Result<(), Fail> {
+    play(&rt, rt.alloc(), 2, &[&SNAPSHOT])
 }
 
 // ---- random calls
