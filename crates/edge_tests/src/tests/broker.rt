@@ -61,22 +61,48 @@ fn start(
     }
 }
 
+/// What is seen of a broker without a message: which of its first tabs have joined, and which partitions are active.
+fn seen(broker: &TestedBroker) -> [bool; 7] {
+    [
+        broker.is_joined(1),
+        broker.is_joined(2),
+        broker.is_joined(3),
+        broker.is_joined(4),
+        broker.is_active(1),
+        broker.is_active(2),
+        broker.is_active(3),
+    ]
+}
+
+/// Asserts that a broker which was refused memory is as before.
+fn is_unchanged(rt: &impl Abort, broker: &TestedBroker, before: [bool; 7]) {
+    assert!(rt; seen(broker) == before);
+}
+
 /// What a broker answers to a tab's message.
 fn take_once(broker: &mut TestedBroker, stamped: &Stamped) -> Result<Outs, Dropped> {
     broker.take(stamped)
 }
 
 /// The same; where memory is refused, once more.
-fn take_again(broker: &mut TestedBroker, stamped: &Stamped) -> Result<Outs, Dropped> {
+fn take_again(
+    rt: &impl Abort,
+    broker: &mut TestedBroker,
+    stamped: &Stamped,
+) -> Result<Outs, Dropped> {
+    let before = seen(broker);
     match take_once(broker, stamped) {
-        Err(Dropped::Memory) => take_once(broker, stamped),
+        Err(Dropped::Memory) => {
+            is_unchanged(rt, broker, before);
+            take_once(broker, stamped)
+        }
         answer => answer,
     }
 }
 
 /// What is answered to a tab's message: nothing where it is dropped, for a cause other than memory.
 fn take(rt: &impl Abort, alloc: Global, broker: &mut TestedBroker, stamped: &Stamped) -> Outs {
-    match take_again(broker, stamped) {
+    match take_again(rt, broker, stamped) {
         Ok(outs) => outs,
         Err(dropped) => {
             assert!(rt; dropped != Dropped::Memory);
@@ -87,9 +113,13 @@ fn take(rt: &impl Abort, alloc: Global, broker: &mut TestedBroker, stamped: &Sta
 
 /// What is answered to a tab's death.
 fn bury(rt: &impl Abort, broker: &mut TestedBroker, tab: u16) -> Outs {
+    let before = seen(broker);
     match broker.dead(tab) {
         Ok(outs) => outs,
-        Err(_) => broker.dead(tab).expect(rt, "memory is back"),
+        Err(_) => {
+            is_unchanged(rt, broker, before);
+            broker.dead(tab).expect(rt, "memory is back")
+        }
     }
 }
 
@@ -215,9 +245,13 @@ fn copy(
     frame: &Frame,
     place: usize,
 ) -> Outs {
+    let before = seen(broker);
     let copies = match told(alloc, broker, frame) {
         Ok(copies) => copies,
-        Err(_) => told(alloc, broker, frame).expect(rt, "memory is back"),
+        Err(_) => {
+            is_unchanged(rt, broker, before);
+            told(alloc, broker, frame).expect(rt, "memory is back")
+        }
     };
     match copies {
         Some(copies) => pick(rt, copies, place),
@@ -343,14 +377,14 @@ fn report(alloc: Global) -> Upward {
 
 /// Asserts why a message is dropped.
 fn drops(rt: &impl Abort, broker: &mut TestedBroker, stamped: Stamped, want: Dropped) {
-    let fault = take_again(broker, &stamped).err();
+    let fault = take_again(rt, broker, &stamped).err();
     drop(stamped);
     same(rt, fault, Some(want));
 }
 
 /// Asserts that a message is taken with no frames.
 fn keeps(rt: &impl Abort, broker: &mut TestedBroker, stamped: Stamped) {
-    let answer = take_again(broker, &stamped);
+    let answer = take_again(rt, broker, &stamped);
     drop(stamped);
     assert!(rt; answer.expect(rt, "it is kept").as_slice().is_empty());
 }
