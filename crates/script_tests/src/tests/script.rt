@@ -1,11 +1,13 @@
 // Scripts through the sim.
 mod hostile;
+mod limits;
 mod parts;
 pub mod rows;
 mod texts;
 
 use super::again::{append, bytes};
 use crate::tests::comparing::{same, same_of, same_text};
+use limits::Limit;
 use rows::{JOINED_1, Row};
 use std::alloc::{AllocError, Global};
 use std::io::Read;
@@ -66,11 +68,7 @@ impl Play {
 }
 
 /// Plays the script that a reader gives.
-pub fn run<S: Read + Drop>(
-    alloc: Global,
-    reader: S,
-    written: &mut Vec<u8>,
-) -> Result<(), SimFault> {
+fn run<S: Read + Drop>(alloc: Global, reader: S, written: &mut Vec<u8>) -> Result<(), SimFault> {
     let mut source = Source::new(reader);
     let mut sink = Sink::new(written);
     sim_run(alloc, &mut source, &mut sink)
@@ -98,6 +96,26 @@ fn expect<S: Read + Copy + Drop>(
     }
     same_of(rt, name, ended, end);
     same_text(rt, name, written.as_slice(), output);
+}
+
+/// Whether a run was refused memory: as a vector is written to, its writer fails for nothing else.
+fn is_refused(end: Result<(), SimFault>) -> bool {
+    end == Err(SimFault::Memory) || end == Err(SimFault::Write)
+}
+
+/// What is written for a script that is played to its end. A run that memory ended has written a prefix of it, and is made again.
+pub fn written_for(rt: &impl Abort, alloc: Global, script: &[u8], name: &str) -> Vec<u8> {
+    let mut written = Vec::new(alloc);
+    let end = run(alloc, script, &mut written);
+    if !is_refused(end) {
+        same_of(rt, name, end, Ok(()));
+        return written;
+    }
+    let mut whole = Vec::new(alloc);
+    let end = run(alloc, script, &mut whole);
+    same_of(rt, name, end, Ok(()));
+    assert!(rt; whole.as_slice().starts_with(written.as_slice()), "{name}");
+    whole
 }
 
 fn play_of_once(alloc: Global, row: &Row) -> Result<Play, AllocError> {
@@ -211,6 +229,11 @@ fn generation_ends_probes_and_queries(rt: HostRuntime) {
 }
 
 #[test]
+fn posts_that_none_hears(rt: HostRuntime) {
+    expect_row(&rt, rt.alloc(), &rows::POSTS_THAT_NONE_HEARS);
+}
+
+#[test]
 fn posts_in_order(rt: HostRuntime) {
     expect_row(&rt, rt.alloc(), &rows::POSTS_IN_ORDER);
 }
@@ -241,6 +264,21 @@ fn unheard_forgery(rt: HostRuntime) {
 }
 
 #[test]
+fn newcomer_that_holds(rt: HostRuntime) {
+    expect_row(&rt, rt.alloc(), &hostile::NEWCOMER_THAT_HOLDS);
+}
+
+#[test]
+fn later_generations(rt: HostRuntime) {
+    expect_row(&rt, rt.alloc(), &hostile::LATER_GENERATIONS);
+}
+
+#[test]
+fn odd_answers(rt: HostRuntime) {
+    expect_row(&rt, rt.alloc(), &hostile::ODD_ANSWERS);
+}
+
+#[test]
 fn reports_in_parts(rt: HostRuntime) {
     let alloc = rt.alloc();
     let play = match parts::in_two_parts(alloc) {
@@ -261,6 +299,16 @@ fn partitions_under_another_top(rt: HostRuntime) {
 }
 
 #[test]
+fn snapshots_in_parts(rt: HostRuntime) {
+    let alloc = rt.alloc();
+    let play = match parts::snapshot_in_two_parts(alloc) {
+        Ok(play) => play,
+        Err(_) => parts::snapshot_in_two_parts(alloc).expect(&rt, "memory is back"),
+    };
+    play.expect(&rt, alloc, "snapshots in parts");
+}
+
+#[test]
 fn refused_pairs(rt: HostRuntime) {
     expect_row(&rt, rt.alloc(), &parts::REFUSED_PAIRS);
 }
@@ -270,12 +318,17 @@ fn forged_parts(rt: HostRuntime) {
     expect_row(&rt, rt.alloc(), &parts::FORGED_PARTS);
 }
 
-fn letters(alloc: Global, count: usize) -> Result<String, AllocError> {
+fn repeated(alloc: Global, piece: &str, count: usize) -> Result<String, AllocError> {
     let mut text = String::new(alloc);
     for _ in 0..count {
-        text.push('n')?;
+        text.push_str(piece)?;
     }
     Ok(text)
+}
+
+/// A name of so many letters.
+pub fn letters(alloc: Global, count: usize) -> Result<String, AllocError> {
+    repeated(alloc, "n", count)
 }
 
 const SHORT_NAMES: &str = "\
@@ -396,6 +449,55 @@ fn a_full_inbox(rt: HostRuntime) {
         Err(_) => full_inbox_once(alloc).expect(&rt, "memory is back"),
     };
     play.expect(&rt, alloc, "a full inbox");
+}
+
+/// Goes up to a limit, and beyond it.
+fn expect_limit(rt: &impl Abort, alloc: Global, limit: Limit) {
+    let play = match limits::up_to(alloc, limit) {
+        Ok(play) => play,
+        Err(_) => limits::up_to(alloc, limit).expect(rt, "memory is back"),
+    };
+    play.expect(rt, alloc, limits::name_of(limit));
+}
+
+#[test]
+fn too_many_channels(rt: HostRuntime) {
+    expect_limit(&rt, rt.alloc(), Limit::Channels);
+}
+
+#[test]
+fn too_much_data(rt: HostRuntime) {
+    expect_limit(&rt, rt.alloc(), Limit::Data);
+}
+
+#[test]
+fn too_many_posts_to_itself(rt: HostRuntime) {
+    expect_limit(&rt, rt.alloc(), Limit::Inbox);
+}
+
+#[test]
+fn too_many_numbers(rt: HostRuntime) {
+    expect_limit(&rt, rt.alloc(), Limit::Numbers);
+}
+
+#[test]
+fn too_many_living_tabs(rt: HostRuntime) {
+    expect_limit(&rt, rt.alloc(), Limit::LivingTabs);
+}
+
+#[test]
+fn too_many_listed_tabs(rt: HostRuntime) {
+    expect_limit(&rt, rt.alloc(), Limit::ListedTabs);
+}
+
+#[test]
+fn too_many_locks(rt: HostRuntime) {
+    expect_limit(&rt, rt.alloc(), Limit::Locks);
+}
+
+#[test]
+fn too_many_locks_in_parts(rt: HostRuntime) {
+    expect_limit(&rt, rt.alloc(), Limit::LocksInParts);
 }
 
 // ---- how a run ends

@@ -5,11 +5,10 @@
 //! What is refused memory is made again, so that any allocation may be refused.
 
 use super::script::rows::Row;
-use super::script::{Play, play_of, play_of_refusals, rows, run};
+use super::script::{Play, play_of, play_of_refusals, rows, written_for};
 use crate::tests::comparing::same_of;
 use std::alloc::{AllocError, Global};
 use std::process::Abort;
-use wl_script::sim::SimFault;
 
 // ---- what an output tells
 
@@ -270,26 +269,6 @@ impl Tally {
         self.runs = self.runs.saturating_add(more.runs);
         self.locks = self.locks.saturating_add(more.locks);
     }
-}
-
-/// Whether a run was refused memory: as a vector is written to, its writer fails for nothing else.
-fn is_refused(end: Result<(), SimFault>) -> bool {
-    end == Err(SimFault::Memory) || end == Err(SimFault::Write)
-}
-
-/// What is written for a script that is played to its end. A run that memory ended has written a prefix of it, and is made again.
-fn written_for(rt: &impl Abort, alloc: Global, script: &[u8], name: &str) -> Vec<u8> {
-    let mut written = Vec::new(alloc);
-    let end = run(alloc, script, &mut written);
-    if !is_refused(end) {
-        same_of(rt, name, end, Ok(()));
-        return written;
-    }
-    let mut whole = Vec::new(alloc);
-    let end = run(alloc, script, &mut whole);
-    same_of(rt, name, end, Ok(()));
-    assert!(rt; whole.as_slice().starts_with(written.as_slice()), "{name}");
-    whole
 }
 
 /// Plays a script to its end: it lists what is held behind each line, and never two locks that conflict.

@@ -1,5 +1,8 @@
 // Rows of tabs, brokers and messages, each as a text of events, and what living tabs hold after them, event by event and as one
-// run. A row that meets a want of memory is played anew, so that any allocation may be refused.
+// run, and as the sim shows it. A row that meets a want of memory is played anew, so that any allocation may be refused.
+use super::again::append;
+use super::script::{letters, written_for};
+use crate::tests::comparing::same_text;
 use std::alloc::{AllocError, Global};
 use std::marker::Model;
 use std::process::Abort;
@@ -13,7 +16,8 @@ use wl_world::run::run;
 use wl_world::world::World;
 
 /// A broker is started with no tab listed, and tab 1 of https://a.test/ joins by the messages 1 and 2. A line is an event in the
-/// words of a script, but an opening greets no tab; or it says which locks living tabs hold.
+/// words of a script, but an opening greets no tab; or it says which locks living tabs hold. The sim greets the tab that it
+/// opens, and then finds that the row's own hello was sent before: so both give a message the same name.
 const FIRST: &str = "\
 start -
 open 1 https://a.test/
@@ -60,6 +64,7 @@ ask 2 exclusive a
 deliver m11
 ask 3 shared a
 deliver m13
+held
 ";
 
 /// A probe behind the queue gets null, and the abort of the exclusive request grants the last by the message 19.
@@ -67,6 +72,7 @@ const UNBLOCKED: &str = "\
 probe 4 shared a
 deliver m15
 deliver m16
+held
 abort 2 0
 deliver m17
 ";
@@ -135,19 +141,34 @@ fn mode_word(mode: Mode) -> &'static str {
     }
 }
 
-/// A lock as the rows write it: the tab and its number, the mode and the name.
+/// A lock: the tab and its number, the mode and the name. The names of the rows that are held need no escapes.
 fn lock_text(alloc: Global, holding: &Holding) -> Result<String, AllocError> {
     let (tab, number) = (holding.tab, holding.number);
     let (mode, name) = (mode_word(holding.mode), holding.name.as_str());
-    format!(in alloc; " {tab}#{number} {mode} {name}")
+    format!(in alloc; "{tab}#{number} {mode} {name}")
 }
 
+/// Locks as the rows write them.
 fn text_of(alloc: Global, holdings: &[Holding]) -> Result<String, AllocError> {
     let mut text = String::from_str(alloc, "held")?;
     for holding in holdings {
+        text.push(' ')?;
         text.push_str(lock_text(alloc, holding)?.as_str())?;
     }
     Ok(text)
+}
+
+/// Locks as the sim shows them.
+fn list_of(alloc: Global, holdings: &[Holding]) -> Result<String, AllocError> {
+    if holdings.is_empty() {
+        return String::from_str(alloc, "nothing held\n");
+    }
+    let mut list = String::new(alloc);
+    for holding in holdings {
+        list.push_str(lock_text(alloc, holding)?.as_str())?;
+        list.push('\n')?;
+    }
+    Ok(list)
 }
 
 /// Whether living tabs hold the locks of a line and no others.
@@ -169,20 +190,34 @@ fn hold_alike(alloc: Global, one: &World, other: &World, line: &str) -> Result<b
     )
 }
 
-/// Whether living tabs hold the locks of a line in this world, and in a run of its events.
-fn is_held(alloc: Global, world: &World, line: &str) -> Result<bool, AllocError> {
+/// Asserts that living tabs hold the locks of a line in both worlds, and lists those of the second one.
+fn list_alike(
+    rt: &impl Abort,
+    alloc: Global,
+    one: &World,
+    other: &World,
+    line: &str,
+) -> Result<String, AllocError> {
+    let is_held = hold_alike(alloc, one, other, line)?;
+    assert!(rt; is_held, "{line}");
+    list_of(alloc, holdings_once(other)?.as_slice())
+}
+
+/// Asserts that living tabs hold the locks of a line in this world, and in a run of its events, and lists them.
+fn list(rt: &impl Abort, alloc: Global, world: &World, line: &str) -> Result<String, AllocError> {
     let again = run_once(alloc, world.events())?;
-    let is_held = hold_alike(alloc, world, &again, line);
+    let list = list_alike(rt, alloc, world, &again, line);
     drop(again);
-    is_held
+    list
 }
 
 // ---- rows
 
-/// A world in which a row is played.
+/// A world in which a row is played, and the script that has the lines of the row so far.
 #[derive(Drop)]
 struct Play {
     world: World,
+    script: Vec<u8>,
 }
 
 // Contracts see nothing of it, which keeps the proofs of all that plays on it small.
@@ -198,18 +233,34 @@ impl Play {
     fn new(alloc: Global) -> Play {
         Play {
             world: World::new(alloc),
+            script: Vec::new(alloc),
         }
+    }
+
+    fn write(&mut self, rt: &impl Abort, line: &str) {
+        append(rt, &mut self.script, line.as_bytes());
+        append(rt, &mut self.script, b"\n");
+    }
+
+    /// Asserts that `show` prints this list behind the lines so far, and nothing else.
+    fn show(&mut self, rt: &impl Abort, alloc: Global, list: &str) {
+        let mut wanted = written_for(rt, alloc, self.script.as_slice(), list);
+        append(rt, &mut wanted, list.as_bytes());
+        self.write(rt, "show");
+        let written = written_for(rt, alloc, self.script.as_slice(), list);
+        same_text(rt, "a row", written.as_slice(), wanted.as_slice());
     }
 }
 
 /// The step alone.
 fn step_once(play: Play, event: Event) -> Result<Play, AllocError> {
-    let Play { world } = play;
+    let Play { world, script } = play;
     let (world, _reply) = world.step(event)?;
-    Ok(Play { world })
+    Ok(Play { world, script })
 }
 
-fn happens(rt: &impl Abort, alloc: Global, play: Play, line: &str) -> Result<Play, AllocError> {
+fn happens(rt: &impl Abort, alloc: Global, mut play: Play, line: &str) -> Result<Play, AllocError> {
+    play.write(rt, line);
     match event(rt, alloc, &play.world, line) {
         Ok(event) => step_once(play, event),
         Err(refused) => {
@@ -219,11 +270,11 @@ fn happens(rt: &impl Abort, alloc: Global, play: Play, line: &str) -> Result<Pla
     }
 }
 
-/// Asserts what living tabs hold.
-fn seen(rt: &impl Abort, alloc: Global, play: Play, line: &str) -> Result<Play, AllocError> {
-    match is_held(alloc, &play.world, line) {
-        Ok(is_held) => {
-            assert!(rt; is_held, "{line}");
+/// Asserts what living tabs hold, and that the sim shows it.
+fn seen(rt: &impl Abort, alloc: Global, mut play: Play, line: &str) -> Result<Play, AllocError> {
+    match list(rt, alloc, &play.world, line) {
+        Ok(list) => {
+            play.show(rt, alloc, list.as_str());
             Ok(play)
         }
         Err(refused) => {
@@ -571,4 +622,58 @@ held 1#0 exclusive a 2#0 exclusive a
 #[test]
 fn a_page_under_another_top_shares_no_lock(rt: HostRuntime) {
     check(&rt, rt.alloc(), &[FIRST, UNDER_ANOTHER_TOP]);
+}
+
+/// Names that no lock has, and those that are just short enough; as many requests as a tab may have, and one more; and the abort
+/// of the first makes room for the last.
+fn refusals_once(alloc: Global) -> Result<String, AllocError> {
+    let name = letters(alloc, 255)?;
+    let mut text = format!(in alloc;
+        "ask 1 exclusive -x\nask 1 exclusive %\nask 1 shared {name}\nask 1 shared {name}n\n"
+    )?;
+    for _ in 0..63 {
+        text.push_str("ask 1 shared b\n")?;
+    }
+    text.push_str("abort 1 0\nask 1 shared b\nheld\n")?;
+    Ok(text)
+}
+
+/// What was sent comes, and the answers to it. What was refused took no number and sent nothing, so no other lock is held.
+fn answers_once(alloc: Global) -> Result<String, AllocError> {
+    let mut text = String::new(alloc);
+    for message in 3..135_u32 {
+        let line = format!(in alloc; "deliver m{message}\n")?;
+        text.push_str(line.as_str())?;
+    }
+    let name = letters(alloc, 255)?;
+    text.push_str("held 1#1 shared ")?;
+    text.push_str(name.as_str())?;
+    for number in 2..64_u32 {
+        let lock = format!(in alloc; " 1#{number} shared b")?;
+        text.push_str(lock.as_str())?;
+    }
+    text.push_str(" 1#65 shared b\n")?;
+    Ok(text)
+}
+
+/// Where memory is refused the text is made again.
+fn refusals(rt: &impl Abort, alloc: Global) -> String {
+    match refusals_once(alloc) {
+        Ok(text) => text,
+        Err(_) => refusals_once(alloc).expect(rt, "memory is back"),
+    }
+}
+
+fn answers(rt: &impl Abort, alloc: Global) -> String {
+    match answers_once(alloc) {
+        Ok(text) => text,
+        Err(_) => answers_once(alloc).expect(rt, "memory is back"),
+    }
+}
+
+#[test]
+fn what_is_refused_takes_no_number(rt: HostRuntime) {
+    let alloc = rt.alloc();
+    let (refusals, answers) = (refusals(&rt, alloc), answers(&rt, alloc));
+    check(&rt, alloc, &[FIRST, refusals.as_str(), answers.as_str()]);
 }

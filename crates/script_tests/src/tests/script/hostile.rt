@@ -1,6 +1,6 @@
 //! Scripts with tabs that are taken over.
 
-use super::rows::Row;
+use super::rows::{JOINED_1, Row};
 
 /// Tabs 1 and 2 of one origin have joined.
 const JOINED_2: &str = "\
@@ -212,6 +212,137 @@ corrupted 1
 nothing
 ";
 
+/// A newcomer says in its report that it holds a lock, and then that it waits for it.
+const NEWCOMER_STEPS: &str = "\
+> start -
+up 1
+> open 1 https://a.test/
+opened 1 https://a.test
+m1 k>1 hello 1
+> corrupt 1
+corrupted 1
+> forge 1 0102000000010000000100010000000001020161
+m2 1>b report 1 base 1 #0 held exclusive a
+> deliver m2
+dropped held by newcomer
+> forge 1 0102000000010000000100010000000002020161
+m3 1>b report 1 base 1 #0 waiting exclusive a
+> deliver m3
+joined 1
+m4 b>1 gen 1 #0 granted upto 1
+";
+
+/// A tab speaks in a generation that is not there yet, and is answered in one that it has not heard of.
+const LATER_STEPS: &str = "\
+> open 1 https://a.test/
+opened 1 https://a.test
+> start
+up 1
+m1 b>1 hello 1
+> corrupt 1
+corrupted 1
+> forge 1 010200000002000000000000
+m2 1>b report 2 base 0
+> deliver m2
+dropped later generation
+> forge 1 0101000000020000000004
+m3 1>b gen 2 #0 query
+> deliver m3
+dropped later generation
+> forge 1 010200000001000000000000
+m4 1>b report 1 base 0
+> deliver m4
+joined 1
+> forge 1 010100000001000000000102000161
+m5 1>b gen 1 #0 request exclusive a
+> deliver m5
+m6 b>1 gen 1 #0 granted upto 1
+> deliver m6
+dropped later generation
+> deliver m1
+entered 1
+again m4
+> stop
+stopped 1
+> start
+up 2
+m7 b>1 hello 2
+> deliver m2
+joined 1
+> deliver m3
+m8 b>1 gen 2 #0 part 0 of 1
+> deliver m8
+dropped later generation
+> show
+nothing held
+";
+
+/// What a tab forges under a number, and what it then asks under that number itself, are two things: so the answer to the one
+/// is none to the other. The first answer comes before the number was issued.
+const ODD_STEPS: &str = "\
+> corrupt 1
+corrupted 1
+> forge 1 010100000001000000000102000161
+m3 1>b gen 1 #0 request exclusive a
+> deliver m3
+m4 b>1 gen 1 #0 granted upto 1
+> deliver m4
+dropped odd
+> query 1
+1#0
+m5 1>b gen 1 #0 query
+> deliver m4
+dropped odd
+> deliver m5
+m6 b>1 gen 1 #0 gone upto 1
+> deliver m6
+lost 0
+> deliver m4
+dropped over
+> ask 1 shared a
+1#1
+m7 1>b gen 1 #1 request shared a
+> forge 1 0101000000010000000104
+m8 1>b gen 1 #1 query
+> deliver m8
+m9 b>1 gen 1 #1 part 0 of 1 held 1 exclusive a
+> deliver m9
+dropped odd
+> deliver m7
+m10 b>1 gen 1 #1 gone upto 2
+> deliver m10
+dropped odd
+> probe 1 shared a
+1#2
+m11 1>b gen 1 #2 probe shared a
+> forge 1 010100000001000000020102000161
+m12 1>b gen 1 #2 request exclusive a
+> deliver m12
+m13 b>1 gen 1 #2 waiting upto 3
+> deliver m13
+dropped odd
+> abort 1 1
+1#3
+m14 1>b gen 1 #3 abort 1
+> forge 1 010100000001000000030101010162
+m15 1>b gen 1 #3 probe shared b
+> deliver m15
+m16 b>1 gen 1 #3 granted upto 4
+> deliver m16
+dropped odd
+> ask 1 shared b
+1#4
+m17 1>b gen 1 #4 request shared b
+> forge 1 010100000001000000040200000003
+m18 1>b gen 1 #4 release 3
+> deliver m18
+m19 b>1 gen 1 #4 taken upto 5
+> deliver m19
+dropped odd
+> show
+nothing held
+";
+
 pub static HONEST_HOLDER_STAYS: Row = Row {
     name: "honest holder stays",
     parts: &[JOINED_2, BESIEGED_STEPS],
@@ -225,4 +356,19 @@ pub static HOSTILE_TAB: Row = Row {
 pub static UNHEARD_FORGERY: Row = Row {
     name: "unheard forgery",
     parts: &[UNHEARD_STEPS],
+};
+
+pub static NEWCOMER_THAT_HOLDS: Row = Row {
+    name: "newcomer that holds",
+    parts: &[NEWCOMER_STEPS],
+};
+
+pub static LATER_GENERATIONS: Row = Row {
+    name: "later generations",
+    parts: &[LATER_STEPS],
+};
+
+pub static ODD_ANSWERS: Row = Row {
+    name: "odd answers",
+    parts: &[JOINED_1, ODD_STEPS],
 };

@@ -1,7 +1,7 @@
 //! Scripts of tabs that tell their reports in parts, and of pages under another at the top.
 
 use super::rows::Row;
-use super::{Play, asks};
+use super::{Play, asks, repeated};
 use std::alloc::{AllocError, Global};
 
 const OPENED: &str = "\
@@ -56,6 +56,35 @@ pub fn in_two_parts(alloc: Global) -> Result<Play, AllocError> {
     for number in 0..65 {
         granted(alloc, &mut play, number)?;
     }
+    Ok(play)
+}
+
+/// The list of 65 locks that a query is given.
+fn whole(alloc: Global) -> Result<String, AllocError> {
+    let lock = "{\"clientId\":\"1\",\"mode\":\"shared\",\"name\":\"b\"}";
+    let mut text = String::from_str(alloc, "{\"held\":[")?;
+    for _ in 0..64 {
+        text.push_str(lock)?;
+        text.push(',')?;
+    }
+    text.push_str(lock)?;
+    text.push_str("],\"pending\":[]}")?;
+    Ok(text)
+}
+
+/// The tab with 65 locks asks for a snapshot, which comes in two parts, and the first of them comes again.
+pub fn snapshot_in_two_parts(alloc: Global) -> Result<Play, AllocError> {
+    let mut play = in_two_parts(alloc)?;
+    play.line("query 1", &["1#65", "m136 1>b gen 2 #65 query"])?;
+    let locks = repeated(alloc, " held 1 shared b", 64)?;
+    let first = format!(in alloc; "m137 b>1 gen 2 #65 part 0 of 2{locks}")?;
+    let second = "m138 b>1 gen 2 #65 part 1 of 2 held 1 shared b";
+    play.line("deliver m136", &[first.as_str(), second])?;
+    play.line("deliver m137", &["part 0 of 2"])?;
+    play.line("deliver m137", &["dropped twice"])?;
+    let whole = whole(alloc)?;
+    play.line("deliver m138", &["whole 65", whole.as_str()])?;
+    play.line("deliver m137", &["dropped over"])?;
     Ok(play)
 }
 

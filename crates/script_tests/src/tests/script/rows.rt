@@ -531,6 +531,36 @@ m2 1>2 post 1 n %
 dropped old post
 ";
 
+/// Tab 2 has no channel of the name when the first post comes, and has closed it when the second one does.
+const UNHEARD_STEPS: &str = "\
+> open 1 https://a.test/
+opened 1 https://a.test
+> open 2 https://a.test/
+opened 2 https://a.test
+> channel 1 n
+channel 0
+> channel 2 o
+channel 0
+> post 1 0 x
+post 0
+m1 1>2 post 0 n x
+> deliver m1
+heard none
+> channel 2 n
+channel 1
+> deliver m1
+dropped old post
+> post 1 0 y
+post 1
+m2 1>2 post 1 n y
+> close 2 1
+closed 1
+> deliver m2
+heard none
+> read 2 0
+nothing
+";
+
 const ALONE_STEPS: &str = "\
 > start -
 up 1
@@ -776,6 +806,11 @@ pub static GENERATION_ENDS_PROBES_AND_QUERIES: Row = Row {
 pub static POSTS_IN_ORDER: Row = Row {
     name: "posts-in-order",
     parts: &[OTHER_TABS_STEPS],
+};
+
+pub static POSTS_THAT_NONE_HEARS: Row = Row {
+    name: "posts-that-none-hears",
+    parts: &[UNHEARD_STEPS],
 };
 
 pub static ORIGIN_ALONE: Row = Row {
