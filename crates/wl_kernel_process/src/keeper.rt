@@ -1,7 +1,7 @@
 //! The keeper of the broker: one thread that starts each generation's process, and reads its link to its end.
 
 use crate::hub::{BrokerProcess, Hub};
-use crate::listening::{Started, end, start_child};
+use crate::listening::{Started, end, front_of, start_child};
 use std::alloc::Global;
 use std::net::Shutdown;
 use std::os::unix::net::UnixStream;
@@ -30,7 +30,10 @@ impl BrokerWords {
     fn start<R: Host>(&self, rt: &R, generation: u32) -> Result<Started, ProcessFault> {
         let alloc = rt.alloc();
         let directory = self.directory.as_str();
-        let path = format!(in alloc; "{directory}/broker{generation}.sock")?;
+        let path = format!(in alloc;
+            "{}{directory}/broker{generation}.sock",
+            front_of(directory)
+        )?;
         let lanes = format!(in alloc; "{}", self.lanes)?;
         let shards = format!(in alloc; "{}", self.shards)?;
         let limit = format!(in alloc; "{}", self.limit)?;

@@ -2,7 +2,7 @@
 
 use crate::hub::{Hub, Opened, Stop, Unopened};
 use crate::keeper::{BrokerWords, keep};
-use crate::listening::{Started, start_child};
+use crate::listening::{Started, front_of, start_child};
 use crate::tab_link::{TabHandle, TabProcess};
 use std::alloc::{AllocError, Global};
 use std::io::Write;
@@ -257,10 +257,8 @@ impl Kernel {
         file: &str,
     ) -> Result<Started, ProcessFault> {
         let directory = self.words.directory.as_str();
-        let path = format!(in self.alloc; "{directory}/tab{tab}.sock")?;
-        // A path that begins like an option is spelled in another way.
-        let here = if file.starts_with('-') { "./" } else { "" };
-        let script = format!(in self.alloc; "{here}{file}")?;
+        let path = format!(in self.alloc; "{}{directory}/tab{tab}.sock", front_of(directory))?;
+        let script = format!(in self.alloc; "{}{file}", front_of(file))?;
         start_child(
             rt,
             self.words.program.as_str(),

@@ -17,6 +17,11 @@ pub(crate) struct Started {
     pub(crate) link: Option<UnixStream>,
 }
 
+/// What is spelled before a path that begins like an option, so that it is read as a path.
+pub(crate) fn front_of(path: &str) -> &'static str {
+    if path.starts_with('-') { "./" } else { "" }
+}
+
 /// Starts the program with these words and a socket that it is to connect to, and accepts its link. The socket's file is
 /// removed then.
 pub(crate) fn start_child<R: Host>(

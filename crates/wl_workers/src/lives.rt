@@ -1,17 +1,18 @@
 //! Who tells whether a tab lives.
 
-ghost use Rattle.std.specs.Prelude.{◌≡◌, ◌+◌, ◌≤◌, IfOk};
+ghost use Rattle.std.specs.Prelude.{◌≡◌, ◌+◌, ◌<◌, ◌≤◌, IfOk, OnOk, OnErr};
 ghost use Rattle.std.specs.Arc.{arc_value};
-ghost use Rattle.wl_board.specs.Calls.{IsOf, IsSameSeat, tab_seen, word_of};
+ghost use Rattle.wl_board.specs.Calls.{IsOf, IsSameSeat, generation_seen, tab_seen, word_of};
 ghost use Rattle.wl_board.specs.Rule.{Has};
-ghost use Rattle.wl_board.specs.Steps.{sees, marks, draws_number, bears};
+ghost use Rattle.wl_board.specs.Steps.{sees, marks, draws_number, bears, bumps_to};
+ghost use Rattle.wl_board.specs.declared.board.TheConstants.{STEP_LIMIT};
 ghost use Rattle.wl_workers.specs.Looks.{IsOnBoard, FindsDead};
 
 use std::marker::Model;
 use std::rt::Clock;
 use std::sync::{Arc, Mutex, Wait};
 use std::thread::Parker;
-use wl_board::{Birth, Board, DrawFault, Life, Seat, Ticket};
+use wl_board::{Birth, Board, DrawFault, Life, Seat, SeatSpent, Ticket};
 
 /// Looks whether tabs live. A look may wait, as for a bell.
 pub trait Lives {
@@ -85,6 +86,18 @@ impl BoardSeat {
             return;
         }
         self.board.mark_dead(&mut self.seat, tab);
+    }
+
+    /// Begins the next generation, and answers it.
+    pub fn bump(&mut self) -> Result<u64, SeatSpent>
+        ensures same { (self.new.board ≡ self.old.board) × IsSameSeat self.old.seat self.new.seat }
+        ensures later { IfOk result (λ g. generation_seen self.old.seat.view < g) }
+        ensures bumped { IfOk result (λ g. self.new.seat.view ≡ bumps_to self.old.seat.view g) }
+        ensures allowed { OnOk result (self.old.seat.view.bumps < STEP_LIMIT) }
+        ensures spent { OnErr result
+            ((self.old.seat.view.bumps ≡ STEP_LIMIT) × (self.new ≡ self.old)) }
+    {
+        self.board.bump(&mut self.seat)
     }
 }
 

@@ -1,6 +1,7 @@
 //! What the script wants of the broker's keeper, and what has come of it.
 
 use crate::hub::Hub;
+use crate::supervisor::StopFault;
 use std::sync::CondvarTimeouts;
 use std::time::Duration;
 use wl_process::{Host, ProcessFault};
@@ -84,7 +85,7 @@ impl Hub {
             Phase::Failed(fault) => return Err(fault),
             _ => {}
         }
-        let Ok(generation) = self.supervisor.lock(rt).stop() else {
+        let Ok(generation) = self.stop(rt) else {
             return Ok(Stop::GenerationsUsedUp);
         };
         orders.phase = Phase::Stopping;
@@ -94,6 +95,16 @@ impl Hub {
             orders.phase == Phase::Stopping
         });
         Ok(Stop::Stopped(generation))
+    }
+
+    /// Stops the broker's generation, and begins the next one on the board.
+    fn stop<R: Host>(&self, rt: &R) -> Result<u32, StopFault> {
+        let generation = self.supervisor.lock(rt).stop()?;
+        if let Some(seat) = self.seats.first() {
+            // A seat may bump more often than there are generations.
+            let _ = seat.lock(rt).bump();
+        }
+        Ok(generation)
     }
 
     /// The kernel ends, and with it the broker.
@@ -154,7 +165,7 @@ impl Hub {
     pub(crate) fn note_end_of_link<R: Host>(&self, rt: &R, generation: u32) {
         let mut orders = self.orders.lock(rt);
         if orders.phase == Phase::Up(generation) && !orders.is_ending {
-            orders.phase = match self.supervisor.lock(rt).stop() {
+            orders.phase = match self.stop(rt) {
                 Ok(_) => Phase::Starting,
                 Err(_) => Phase::Spent,
             };
