@@ -3,6 +3,8 @@
 #![tactic(auto)]
 
 #[cfg(test)]
+mod command_line;
+#[cfg(test)]
 mod foreign;
 #[cfg(test)]
 mod hostile;

@@ -3,29 +3,30 @@
 use crate::{foreign, hostile};
 use std::io;
 use wl_broker_process::run_broker;
+use wl_command_line::{Line, LineFault, line};
 use wl_kernel_process::{KernelWords, run_kernel};
-use wl_locked::{LANE_LIMIT, SHARD_LIMIT};
 use wl_process::{Host, ProcessFault};
 use wl_tab_process::run_tab;
 
-fn text(words: &[String], at: usize) -> &str {
-    match words.get(at) {
+/// Whether these are words of the program, and not those of a tests' binary.
+fn are_words(words: &[String]) -> bool {
+    words.len() > 2
+}
+
+/// The program that the first word names.
+fn program_of(words: &[String]) -> &str {
+    match words.first() {
         Some(word) => word.as_str(),
         None => "",
     }
 }
 
-fn small(words: &[String], at: usize) -> u16 {
-    text(words, at).parse().unwrap_or(1)
-}
-
-fn number(words: &[String], at: usize) -> u32 {
-    text(words, at).parse().unwrap_or(1)
-}
-
-/// Whether these are words of the program, and not those of a tests' binary.
-fn are_words(words: &[String]) -> bool {
-    words.len() > 2
+/// How a process ends that was given other words than its own.
+fn misused(line: Result<Line, LineFault>) -> ProcessFault {
+    match line {
+        Err(LineFault::Memory) => ProcessFault::Memory,
+        Err(LineFault::Usage(_)) | Ok(_) => ProcessFault::Unexpected,
+    }
 }
 
 /// `kernel --dir DIR --lanes N --shards S --limit N SCRIPT`.
@@ -34,15 +35,29 @@ pub(crate) fn be_kernel<R: Host>(rt: R, words: &[String]) -> Result<(), ProcessF
         return Ok(());
     }
     let alloc = rt.alloc();
-    let words = KernelWords {
-        directory: String::from_str(alloc, text(words, 3))?,
-        lanes: small(words, 5),
-        shards: small(words, 7),
-        limit: number(words, 9),
-        script: String::from_str(alloc, text(words, 10))?,
-        program: String::from_str(alloc, text(words, 0))?,
-    };
-    run_kernel(rt, alloc, words)
+    let program = String::from_str(alloc, program_of(words))?;
+    match line(alloc, words) {
+        Ok(
+            Line::Kernel {
+                directory,
+                lanes,
+                shards,
+                limit,
+                script,
+            },
+        ) => {
+            let kernel = KernelWords {
+                directory,
+                lanes,
+                shards,
+                limit,
+                script,
+                program,
+            };
+            run_kernel(rt, alloc, kernel)
+        }
+        other => Err(misused(other)),
+    }
 }
 
 /// `broker --socket PATH --lanes N --shards S --limit N`.
@@ -50,12 +65,18 @@ pub(crate) fn be_broker<R: Host>(rt: R, words: &[String]) -> Result<(), ProcessF
     if !are_words(words) {
         return Ok(());
     }
-    let (lanes, shards) = (small(words, 5), small(words, 7));
-    if lanes == 0 || lanes > LANE_LIMIT || shards == 0 || shards > SHARD_LIMIT {
-        return Err(ProcessFault::Unexpected);
+    let alloc = rt.alloc();
+    match line(alloc, words) {
+        Ok(
+            Line::Broker {
+                socket,
+                lanes,
+                shards,
+                limit,
+            },
+        ) => run_broker(rt, alloc, socket.as_str(), lanes, shards, limit),
+        other => Err(misused(other)),
     }
-    let (socket, limit) = (text(words, 3), number(words, 9));
-    run_broker(rt, rt.alloc(), socket, lanes, shards, limit)
 }
 
 /// What a client does that is not the program, if a script's name means one.
@@ -77,9 +98,13 @@ pub(crate) fn be_tab<R: Host>(rt: R, words: &[String]) -> Result<(), ProcessFaul
     if !are_words(words) {
         return Ok(());
     }
-    let (socket, script) = (text(words, 3), text(words, 4));
-    match be_stranger(&rt, socket, script) {
-        Some(done) => done.map_err(ProcessFault::of_device),
-        None => run_tab(rt, rt.alloc(), socket, script),
+    match line(rt.alloc(), words) {
+        Ok(Line::Tab { socket, script }) => {
+            match be_stranger(&rt, socket.as_str(), script.as_str()) {
+                Some(done) => done.map_err(ProcessFault::of_device),
+                None => run_tab(rt, rt.alloc(), socket.as_str(), script.as_str()),
+            }
+        }
+        other => Err(misused(other)),
     }
 }

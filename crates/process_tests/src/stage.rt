@@ -33,8 +33,9 @@ impl Stage {
         Ok(stage)
     }
 
+    /// The path of a file, spelled so that it does not begin like an option.
     pub(crate) fn path(&self, rt: &HostRuntime, name: &str) -> io::Result<String> {
-        Ok(format!(in rt.alloc(); "{}/{name}", self.directory.as_str())?)
+        Ok(format!(in rt.alloc(); "./{}/{name}", self.directory.as_str())?)
     }
 
     /// Writes a script.
@@ -53,9 +54,10 @@ impl Stage {
         limit: &str,
     ) -> io::Result<Child> {
         let script = self.path(rt, "KERNEL")?;
+        let directory = format!(in rt.alloc(); "--dir={}", self.directory.as_str())?;
         let mut command = Command::new(rt.alloc(), self.program.as_str())?;
         command.arg("kernel")?;
-        put_word(&mut command, "--dir", self.directory.as_str())?;
+        command.arg(directory.as_str())?;
         put_word(&mut command, "--lanes", lanes)?;
         put_word(&mut command, "--shards", shards)?;
         put_word(&mut command, "--limit", limit)?;
@@ -125,6 +127,11 @@ pub(crate) fn wait_for(rt: &HostRuntime, kernel: Child) -> io::Result<Played> {
     })
 }
 
+/// Whether a line is the kernel's own: a tests' binary tells its result too.
+fn is_own(line: &str) -> bool {
+    !line.is_empty() && !line.starts_with("test result: ")
+}
+
 impl Played {
     /// Asserts that all of these stand in what was printed.
     pub(crate) fn tells(&self, rt: &impl Abort, lines: &[&str]) {
@@ -133,12 +140,18 @@ impl Played {
         }
     }
 
-    /// The last line that is the kernel's own: a tests' binary tells its result too.
+    /// Asserts that these lines are all that the kernel printed, in this order.
+    pub(crate) fn is_just(&self, rt: &impl Abort, lines: &[&str]) {
+        let mut told = self.text.lines().filter(|line| is_own(line));
+        for line in lines {
+            assert_eq!(rt; told.next(), Some(*line), "{}", self.text);
+        }
+        assert_eq!(rt; told.next(), None, "{}", self.text);
+    }
+
+    /// The last line that is the kernel's own.
     pub(crate) fn last_line(&self) -> Option<&str> {
-        self.text
-            .lines()
-            .filter(|line| !line.is_empty() && !line.starts_with("test result: "))
-            .last()
+        self.text.lines().filter(|line| is_own(line)).last()
     }
 }
 

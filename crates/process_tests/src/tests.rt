@@ -15,18 +15,21 @@ use wl_tab_process::run_tab;
 static FORTY_ROUNDS: &str =
     "start\nopen https://a.test/ DIR/TAB\nopen https://a.test/ DIR/TAB\nopen https://a.test/ DIR/TAB\nopen https://a.test/ DIR/TAB\npause 50\nstop\nstart\npause 50\nstop\nstart\njoin\n";
 
-/// What a kernel prints of them, among other lines.
-static FORTY_LINES: [&str; 10] = [
-    "up 1\n",
-    "opened 4 https://a.test\n",
-    "stopped 1\n",
-    "up 2\n",
-    "stopped 2\n",
-    "up 3\n",
-    "ended 1 0\n",
-    "ended 2 0\n",
-    "ended 3 0\n",
-    "ended 4 0\n",
+/// What a kernel prints of them.
+static FORTY_LINES: [&str; 13] = [
+    "up 1",
+    "opened 1 https://a.test",
+    "opened 2 https://a.test",
+    "opened 3 https://a.test",
+    "opened 4 https://a.test",
+    "stopped 1",
+    "up 2",
+    "stopped 2",
+    "up 3",
+    "ended 1 0",
+    "ended 2 0",
+    "ended 3 0",
+    "ended 4 0",
 ];
 
 /// Plays four tabs of ten rounds each, while the broker is stopped twice: what the kernel printed, and what the counter has
@@ -51,7 +54,7 @@ fn make_forty_rounds(
 /// Asserts that forty rounds were made.
 fn are_forty(rt: &impl Abort, made: io::Result<(Played, String)>) {
     let (played, counter) = made.expect(rt, "no socket is left");
-    played.tells(rt, &FORTY_LINES);
+    played.is_just(rt, &FORTY_LINES);
     assert!(rt; played.is_success);
     assert_eq!(rt; counter.as_str(), "40\n");
 }
@@ -138,8 +141,23 @@ fn a_killed_tab_lets_go(rt: HostRuntime) {
 fn an_opaque_origin_is_refused(rt: HostRuntime) {
     let ended = play(&rt, "opaque", "open data:,x TAB\n", ROUND);
     let (played, _counter) = ended.expect(&rt, "a play");
-    played.tells(&rt, &["SecurityError\n"]);
+    played.is_just(&rt, &["SecurityError"]);
     assert!(&rt; played.is_success);
+}
+
+/// The kernel's directory, and so the path of a tab's script, begin like an option.
+#[test]
+fn a_directory_may_begin_like_an_option(rt: HostRuntime) {
+    let ended = play(
+        &rt,
+        "-x",
+        "start\nopen https://a.test/ DIR/TAB\njoin\n",
+        ROUND,
+    );
+    let (played, counter) = ended.expect(&rt, "a play");
+    played.is_just(&rt, &["up 1", "opened 1 https://a.test", "ended 1 0"]);
+    assert!(&rt; played.is_success);
+    assert_eq!(&rt; counter.as_str(), "1\n");
 }
 
 /// Plays a tab whose script has a refused line, one with a refused command, one without a script, and one with a round.

@@ -1,14 +1,11 @@
 //! `wlb`: the lock broker of a browser's tabs, as a program.
 #![tactic(auto)]
 
-mod command;
-mod words;
-
-use command::{Line, LineFault};
 use std::alloc::{AllocError, Global};
 use std::io::ErrorKind;
 use std::process::ExitCode;
 use wl_broker_process::run_broker;
+use wl_command_line::{Line, LineFault, line};
 use wl_frames::device::{Sink, Source};
 use wl_kernel_process::{KernelWords, run_kernel};
 use wl_process::fault::{DEVICE_OR_MEMORY, ProcessFault, REFUSED};
@@ -31,7 +28,7 @@ fn main(rt: HostRuntime) -> ExitCode {
     let Ok(words) = arguments.collect::<Vec<String>>(alloc) else {
         return failed(&rt, "Memory", DEVICE_OR_MEMORY);
     };
-    match words::line(alloc, words.as_slice()) {
+    match line(alloc, words.as_slice()) {
         Ok(Line::Desk) => {
             let mut source = Source::new(rt.stdin());
             let mut sink = Sink::new(rt.stdout());
