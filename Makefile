@@ -36,6 +36,7 @@ crates/locked_speed/out/locked_speed: crates.txt $(wildcard crates/wl_*/src/*.rt
 
 test:
 	rt ci
+	@python3 tools/check_program.py crates/wlb/out/wlb
 
 more-edits:
 	python3 tools/more_edits.py $(CRATES)
