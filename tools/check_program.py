@@ -26,16 +26,35 @@ SIZE = ["--lanes", "1", "--shards", "1", "--limit", "8"]
 KERNEL = ["kernel", "--dir", ".", "--lanes", "2", "--shards", "1", "--limit", "65536", "KERNEL"]
 ROUND = "ask exclusive f\nwait 0\nadd COUNTER\nrelease 0\n"
 
+# A tab that is not the program: it leaves a child behind, which keeps the link open until the kernel ends it.
+LEAVER = """#!{python}
+import os, socket, sys
+link = socket.socket(socket.AF_UNIX)
+link.connect(sys.argv[3])
+link.recv(1)
+if os.fork() == 0:
+    while link.recv(4096):
+        pass
+    os._exit(0)
+os._exit(7)
+"""
+
 differences = []
 
 
 class Ended:
-    """How a run of the program ended."""
+    """How a run of the program ended. A kernel starts the program that `name` says, where it is given."""
 
-    def __init__(self, program, words, stdin=b"", stdout=subprocess.PIPE, folder=None):
+    def __init__(self, program, words, stdin=b"", stdout=subprocess.PIPE, folder=None, name=None):
         source = {"input": stdin} if isinstance(stdin, bytes) else {"stdin": stdin}
-        ran = subprocess.run([program, *words], stdout=stdout, stderr=subprocess.PIPE, cwd=folder, timeout=SECONDS, check=False, **source)
-        self.stdout, self.stderr, self.status = ran.stdout, ran.stderr.decode(), ran.returncode
+        words = [name or program, *words]
+        try:
+            ran = subprocess.run(
+                words, executable=program, stdout=stdout, stderr=subprocess.PIPE, cwd=folder, timeout=SECONDS, check=False, **source
+            )
+            self.stdout, self.stderr, self.status = ran.stdout, ran.stderr.decode(), ran.returncode
+        except subprocess.TimeoutExpired:
+            self.stdout, self.stderr, self.status = None, "", f"none after {SECONDS} seconds"
 
 
 def bytes_of(*frames):
@@ -173,10 +192,22 @@ def check_processes(program):
     held = '{"held":[{"clientId":"1","mode":"exclusive","name":"a"}],"pending":[]}'
     ended, _counter = play(program, "start\nopen https://a.test/ TAB\njoin\n", TAB=query)
     ends("a query", ended, f"up 1\nopened 1 https://a.test\n{held}\nended 1 0\n".encode(), [], 0)
+    check_leaver(program)
     for example in ["counter", "killed"]:
         words = [sys.executable, TOP / "tools" / "demo_processes.py", TOP / "examples" / "processes" / example, program]
         ran = subprocess.run(words, capture_output=True, text=True, timeout=3 * SECONDS, check=False)
         same(f"examples/processes/{example}", "the status", (ran.returncode, ran.stdout if ran.returncode else ""), (0, ""))
+
+
+def check_leaver(program):
+    """A tab's process ends while its link stays open: the kernel sees that, and `join` tells it."""
+    with tempfile.TemporaryDirectory() as folder:
+        leaver = pathlib.Path(folder, "leaver")
+        leaver.write_text(LEAVER.format(python=sys.executable), encoding="utf-8")
+        leaver.chmod(0o755)
+        pathlib.Path(folder, "KERNEL").write_text("open https://a.test/ TAB\njoin\n", encoding="utf-8")
+        ended = Ended(program, KERNEL, folder=folder, name=str(leaver))
+    ends("a tab that leaves a child", ended, b"opened 1 https://a.test\nended 1 7\n", [], 0)
 
 
 def main():

@@ -1,12 +1,14 @@
 //! A tab's link and process in the kernel: the thread that reads, the thread that writes, and the end of both.
 
+ghost use Rattle.std.specs.Io.{ReadsAtMost};
+
 use crate::bundle::{Bundle, Flushed, Gathering};
 use crate::hub::Hub;
 use crate::link_end::{Mercy, mercy_at};
 use crate::post::{Post, Taking};
 use std::alloc::{AllocError, AllocFailed, Global};
 use std::cell::RefCell;
-use std::io::Read;
+use std::io::{ErrorKind, Read};
 use std::net::Shutdown;
 use std::os::unix::net::UnixStream;
 use std::os::unix::process::ExitStatusExt;
@@ -27,6 +29,9 @@ use wl_workers::{ReadEnd, Rung, SharedSeat, Uplink, WriteEnd};
 
 /// How many milliseconds a process has to end by itself when its link has merely ended.
 const GRACE: u32 = 1_000;
+
+/// How many milliseconds a link may be still before its process is looked at.
+const STILLNESS: u64 = 1_000;
 
 /// A tab's process.
 #[derive(Drop)]
@@ -49,6 +54,11 @@ impl TabProcess {
         if let Some(link) = &self.link {
             let _ = link.shutdown(Shutdown::Both);
         }
+    }
+
+    /// Whether the process has ended.
+    fn has_ended<R: Wait>(&self, rt: &R) -> bool {
+        matches!(self.child.lock(rt).try_wait(), Ok(Some(_)))
     }
 
     /// Ends what is left of the process, and buries the tab.
@@ -155,6 +165,7 @@ struct TabLink<'a, R> {
     rt: R,
     hub: &'a Hub,
     gathered: &'a RefCell<Gathered>,
+    process: &'a TabProcess,
     link: &'a UnixStream,
 }
 
@@ -169,13 +180,35 @@ impl<R: Wait + Clock> TabLink<'_, R> {
             thread::sleep(&self.rt, pause);
         }
     }
+
+    /// Reads the link. It counts as ended where nothing comes and the process has ended: a child of the tab may keep it open.
+    fn read_link(&self, buffer: &mut [u8]) -> io::Result<usize>
+        ensures bound { ReadsAtMost result buffer.new }
+    {
+        let mut link = self.link;
+        for _turn in 0..u32::MAX {
+            match link.read(buffer) {
+                Err(error) if is_still(&error) => {
+                    if self.process.has_ended(&self.rt) {
+                        return Ok(0);
+                    }
+                }
+                done => return done,
+            }
+        }
+        Ok(0)
+    }
+}
+
+/// Whether a read has ended because nothing came.
+fn is_still(error: &io::Error) -> bool {
+    matches!(error.kind(), ErrorKind::WouldBlock | ErrorKind::TimedOut)
 }
 
 impl<R: Wait + Clock> Read for TabLink<'_, R> {
     fn read(&mut self, buffer: &mut [u8]) -> io::Result<usize> {
         self.hand_on();
-        let mut link = self.link;
-        let count = link.read(buffer)?;
+        let count = self.read_link(buffer)?;
         if let Ok(mut gathered) = self.gathered.try_borrow_mut() {
             let bytes = u32::try_from(count).unwrap_or(u32::MAX);
             gathered.load.bytes = gathered.load.bytes.saturating_add(bytes);
@@ -189,9 +222,12 @@ fn read_link<R: Host>(
     rt: &R,
     alloc: Global,
     hub: &Hub,
-    tab: u16,
+    process: &TabProcess,
     link: &UnixStream,
 ) -> Result<ReadEnd, AllocError> {
+    // Where the link has no such limit, the end of the process is seen by the end of the link alone.
+    let _ = link.set_read_timeout(Some(Duration::from_millis(STILLNESS)));
+    let tab = process.tab;
     let gathered = RefCell::new(Gathered::new(alloc));
     let mut lives = SharedSeat::new(hub.seat_of(tab)?);
     let mut uplink = KernelLink {
@@ -202,6 +238,7 @@ fn read_link<R: Host>(
         rt: *rt,
         hub,
         gathered: &gathered,
+        process,
         link,
     });
     let end = tab_reader(rt, alloc, tab, &mut source, &mut lives, &mut uplink);
@@ -214,7 +251,7 @@ fn read_link<R: Host>(
 /// Reads a tab's link to its end, and buries the tab.
 fn read_and_bury<R: Host>(rt: &R, alloc: Global, hub: &Hub, process: &TabProcess) {
     let end = match &process.link {
-        Some(link) => read_link(rt, alloc, hub, process.tab, link),
+        Some(link) => read_link(rt, alloc, hub, process, link),
         None => Ok(ReadEnd::End),
     };
     let mercy = match end {
