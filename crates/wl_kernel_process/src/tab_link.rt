@@ -186,12 +186,15 @@ impl<R: Wait + Clock> TabLink<'_, R> {
         ensures bound { ReadsAtMost result buffer.new }
     {
         let mut link = self.link;
+        // What it sent before its end is read, since nothing has to come after that, too.
+        let mut has_ended = false;
         for _turn in 0..u32::MAX {
             match link.read(buffer) {
                 Err(error) if is_still(&error) => {
-                    if self.process.has_ended(&self.rt) {
+                    if has_ended {
                         return Ok(0);
                     }
+                    has_ended = self.process.has_ended(&self.rt);
                 }
                 done => return done,
             }
