@@ -39,7 +39,9 @@ step takes as many times as long as the rate of `alone` is that of `locked`. Eac
 none finds memory as another left it. What a step stores is then memory that is touched for the first time, which costs more or
 less as the system makes it. So `alone` and `locked` run by turns in one process too, with an allocator that keeps what is given
 back to it: then all but the first turn finds memory that was touched before. Prints how many times as long a locked step took as
-one without lock, the middle, the least and the most of the turns after the first two, with that allocator and with the usual one.
+one without lock, the middle, the least and the most of the turns after the first two, with that allocator and with the usual one:
+of the events of a tab that is alone, and of sixteen tabs of one partition, of which four want each of four locks, so that each
+release grants a lock to another tab and each request waits.
 
 Processes: a kernel, its broker with two lanes, and tabs, each of which asks for an exclusive lock, waits for it and gives it up,
 2,000 times: one tab; four tabs of one origin with a name each, and with one name for all; sixteen tabs of four origins with a
@@ -335,13 +337,18 @@ def locked(program):
             ratios.setdefault(key, []).append(rate / run["lanes", "1", "1"][0])
     for key, some in rates.items():
         what, lanes, shards = key
+        if what.endswith("-contended"):
+            # Another trace than that of the lanes.
+            continue
         ratio = statistics.median(ratios[key])
         print(f"locked: {what} {lanes} on {shards} {max(some) / 1e6:8.3f} million a second  ratio to one lane {ratio:5.2f}")
     for title, more in (("memory kept", KEEPING), ("memory given back", {})):
         run = [steps_a_second(program, "turns", more) for _ in range(RUNS)]
-        turns = [zip(one["alone", "1", "1"], one["locked", "1", "1"]) for one in run]
-        times = [alone / locked for one in turns for alone, locked in list(one)[FIRST_TURNS:]]
-        print(f"a locked step by turns, {title}: {statistics.median(times):4.2f} times ({min(times):4.2f} to {max(times):4.2f})")
+        for whose, trace in (("of a tab that is alone", ""), ("of tabs that contend", "-contended")):
+            turns = [zip(one["alone" + trace, "1", "1"], one["locked" + trace, "1", "1"]) for one in run]
+            times = [alone / locked for one in turns for alone, locked in list(one)[FIRST_TURNS:]]
+            middle = f"{statistics.median(times):4.2f} times ({min(times):4.2f} to {max(times):4.2f})"
+            print(f"a locked step by turns, {whose}, {title}: {middle}")
 
 
 def steps_a_second(program, part, more):

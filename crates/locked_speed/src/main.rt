@@ -39,9 +39,18 @@ const MANY: u32 = 100_000;
 /// How often the broker alone and the locked one run by turns.
 const TURNS: u32 = 24;
 
-/// How many locks they hand over in each turn. With two steps a lock and one for the report, these are all the steps but one that a
-/// generation may have in a shard.
-const WHOLE: u32 = 32_767;
+/// How many locks they hand over in each turn: with the reports and first requests before, these are as many steps as a
+/// generation may have in a shard, or some fewer.
+const WHOLE: u32 = 32_751;
+
+/// Whose events one broker takes: those of a tab that is alone, or of tabs that want the same locks.
+#[derive(Clone, Copy)]
+enum Trace {
+    OneTab,
+    Tabs,
+}
+
+const TRACES: [Trace; 2] = [Trace::OneTab, Trace::Tabs];
 
 /// How a run went.
 #[derive(Clone, Copy)]
@@ -59,12 +68,13 @@ fn main(rt: HostRuntime) -> io::Result<()> {
     if is_named(&only, "turns") {
         return by_turns(&rt, alloc, is_timed);
     }
-    if is_wanted(&only, "alone") {
-        tell(&rt, "alone", (1, 1), is_timed, alone(&rt, alloc, locks)?)?;
-    }
-    if is_wanted(&only, "locked") {
-        let locked = steps::run(&rt, alloc, locks)?;
-        tell(&rt, "locked", (1, 1), is_timed, locked)?;
+    for trace in TRACES {
+        if is_wanted(&only, "alone") {
+            run_alone(&rt, alloc, trace, is_timed, locks)?;
+        }
+        if is_wanted(&only, "locked") {
+            run_locked(&rt, alloc, trace, is_timed, locks)?;
+        }
     }
     if is_wanted(&only, "lanes") {
         for (lanes, shards) in RUNS {
@@ -87,20 +97,55 @@ fn is_named(only: &Option<String>, what: &str) -> bool {
     }
 }
 
-/// Has a broker that no other thread has, and then a locked one, take the events of a tab, again and again.
+/// Has a broker that no other thread has, and then a locked one, take the events of a trace, again and again.
 fn by_turns<R: Wait + Clock + Print>(rt: &R, alloc: Global, is_timed: bool) -> io::Result<()> {
-    for _ in 0..TURNS {
-        tell(rt, "alone", (1, 1), is_timed, alone(rt, alloc, WHOLE)?)?;
-        let locked = steps::run(rt, alloc, WHOLE)?;
-        tell(rt, "locked", (1, 1), is_timed, locked)?;
+    for trace in TRACES {
+        for _ in 0..TURNS {
+            run_alone(rt, alloc, trace, is_timed, WHOLE)?;
+            run_locked(rt, alloc, trace, is_timed, WHOLE)?;
+        }
     }
     Ok(())
 }
 
-/// Has a broker that no other thread has take the events of a tab.
-fn alone<R: Clock>(rt: &R, alloc: Global, locks: u32) -> io::Result<Outcome> {
+/// Has a broker that no other thread has take the events of a trace.
+fn run_alone<R: Clock + Print>(
+    rt: &R,
+    alloc: Global,
+    trace: Trace,
+    is_timed: bool,
+    locks: u32,
+) -> io::Result<()> {
+    let what = match trace {
+        Trace::OneTab => "alone",
+        Trace::Tabs => "alone-contended",
+    };
+    let events = events_of(alloc, trace, locks)?;
     let mut broker = started(alloc)?;
-    timed(rt, alloc, &mut broker, locks)
+    tell(rt, what, (1, 1), is_timed, timed(rt, &mut broker, events)?)
+}
+
+/// Has a locked broker take the events of a trace.
+fn run_locked<R: Wait + Clock + Print>(
+    rt: &R,
+    alloc: Global,
+    trace: Trace,
+    is_timed: bool,
+    locks: u32,
+) -> io::Result<()> {
+    let what = match trace {
+        Trace::OneTab => "locked",
+        Trace::Tabs => "locked-contended",
+    };
+    let events = events_of(alloc, trace, locks)?;
+    tell(rt, what, (1, 1), is_timed, steps::run(rt, alloc, events)?)
+}
+
+fn events_of(alloc: Global, trace: Trace, locks: u32) -> Result<Events, AllocError> {
+    match trace {
+        Trace::OneTab => events::of_tab(alloc, 1, locks),
+        Trace::Tabs => events::of_tabs(alloc, locks),
+    }
 }
 
 /// A broker of the first generation, without what it says at its start.
@@ -110,14 +155,12 @@ fn started(alloc: Global) -> Result<Broker<IndexedTable>, AllocError> {
     Ok(broker)
 }
 
-/// Times how a broker takes the events of a tab.
+/// Times how a broker takes these events.
 fn timed<R: Clock>(
     rt: &R,
-    alloc: Global,
     broker: &mut Broker<IndexedTable>,
-    locks: u32,
+    events: Events,
 ) -> io::Result<Outcome> {
-    let events = events::of_tab(alloc, 1, locks)?;
     let start = Instant::now(rt)?;
     let steps = steps_of(broker, events);
     Ok(Outcome {

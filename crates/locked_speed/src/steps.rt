@@ -3,7 +3,7 @@
 ghost use Rattle.std.specs.Prelude.{◌≡◌, []};
 ghost use Rattle.wl_broker.specs.Broker.{started};
 
-use crate::events::{Events, of_tab};
+use crate::events::Events;
 use crate::{Outcome, is_taken};
 use std::alloc::Global;
 use std::io;
@@ -13,16 +13,16 @@ use std::sync::ledger::Blank;
 use std::time::{Clock, Instant};
 use wl_locked::{Generation, Lane, LockedBroker};
 
-/// Has a locked broker's one lane take the events of a tab.
-pub(crate) fn run<R: Wait + Clock>(rt: &R, alloc: Global, locks: u32) -> io::Result<Outcome> {
-    run_named::<Brand, R>(rt, alloc, Blank::new(1), locks)
+/// Has a locked broker's one lane take these events.
+pub(crate) fn run<R: Wait + Clock>(rt: &R, alloc: Global, events: Events) -> io::Result<Outcome> {
+    run_named::<Brand, R>(rt, alloc, Blank::new(1), events)
 }
 
 fn run_named<J: Generation, R: Wait + Clock>(
     rt: &R,
     alloc: Global,
     blank: Blank,
-    locks: u32,
+    events: Events,
 ) -> io::Result<Outcome>
     requires name { blank.name ≡ J.name }
     requires parts { (blank.parts ≡ J.parts) × (J.parts ≡ 1) }
@@ -32,20 +32,18 @@ fn run_named<J: Generation, R: Wait + Clock>(
     let (broker, mut lanes, hellos) = LockedBroker::<J>::new(alloc, blank, 1, &[], u32::MAX, 1)?;
     drop(hellos);
     match lanes.get_mut(0) {
-        Some(lane) => timed(rt, alloc, &broker, lane, locks),
+        Some(lane) => timed(rt, &broker, lane, events),
         None => Err(io::Error::from(io::ErrorKind::Other)),
     }
 }
 
-/// Times how a lane takes the events of a tab.
+/// Times how a lane takes these events.
 fn timed<J: Generation, R: Wait + Clock>(
     rt: &R,
-    alloc: Global,
     broker: &LockedBroker<J>,
     lane: &mut Lane<J>,
-    locks: u32,
+    events: Events,
 ) -> io::Result<Outcome> {
-    let events = of_tab(alloc, 1, locks)?;
     let start = Instant::now(rt)?;
     let steps = steps_of(rt, broker, lane, events);
     Ok(Outcome {

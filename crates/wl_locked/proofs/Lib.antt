@@ -1,4 +1,5 @@
 pub mod Steps
+pub mod Replying
 pub mod Runs
 pub mod Same
 pub mod Raising

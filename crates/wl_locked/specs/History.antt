@@ -15,6 +15,10 @@ abbrev pub events : List Step → List BookEvent
 events [] = []
 events (e ∷ es) = e.event ∷ events es
 
+-- the step of an event after these
+abbrev pub taken : BrokerState → List Step → BookEvent → Step
+taken s es e = record { event = e; reply = (stepped (replay s (events es)) e).1 }
+
 -- each reply is that of its step
 abbrev pub IsReplay : BrokerState → List Step → Type 0
 IsReplay s [] = Unit {0}

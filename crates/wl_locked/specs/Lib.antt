@@ -1,5 +1,6 @@
 pub use Rattle.wl_broker.specs.Broker
 pub mod Stepping
+pub mod Replying
 pub mod History
 pub mod Receipts
 pub mod Marks

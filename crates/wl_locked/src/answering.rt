@@ -1,58 +1,67 @@
-//! What the broker answers to an event, thrice: for the history, for the receipt that is handed out, and for the lane's own.
+//! What the broker answers to an event, as often as it is told: to the history, in the receipt that is handed out, and in the
+//! lane's own.
 
-ghost use Rattle.std.specs.Prelude.{◌≡◌, ◌≢◌, List, length, replicate, Err, IfOk, OnOk, OnErr};
-ghost use Rattle.wl_grammar.specs.declared.frame.Addressed.{Addressed};
+ghost use Rattle.std.specs.Prelude.{◌≡◌, ◌≢◌, ◌+◌, ℕ, Err, OnOk, OnErr, IfOk};
 ghost use Rattle.wl_locked.specs.Stepping.{stepped};
+ghost use Rattle.wl_locked.specs.Replying.{HasNext, AreReplies};
+ghost use Rattle.wl_locked.specs.declared.event.Reply.{Reply};
 
 use crate::event::{BookEvent, Reply};
 use crate::receipt::NotStepped;
 use wl_broker::{Broker, Dropped, Outs};
 use wl_table::IndexedTable;
 
-/// How many copies of its reply a step needs.
-const COPIES: usize = 3;
+/// How often a step's reply is told.
+pub(crate) const COPIES: usize = 3;
 
-/// Steps the broker, and answers three equal replies. Otherwise it is as before.
+/// Equal replies. Each is made where it is kept, since a list is handed on for less than the replies are.
+#[derive(Drop)]
+pub(crate) enum Replies {
+    /// The broker did what it was told, and sends each of these.
+    Sent(Vec<Outs>),
+    /// It dropped the message for this cause.
+    Refused(Dropped),
+}
+
+impl Replies {
+    /// The next one.
+    pub(crate) fn next(&mut self) -> Reply
+        requires { HasNext self.old }
+        ensures { (n : ℕ) → (reply : Reply) → AreReplies (n + 1) reply self.old
+            → (result ≡ reply) × AreReplies n reply self.new }
+    {
+        match self {
+            Replies::Sent(all) => Reply::Outs(all.pop().unwrap()),
+            Replies::Refused(reason) => Reply::Dropped(*reason),
+        }
+    }
+
+    /// The last one.
+    pub(crate) fn last(mut self) -> Reply
+        requires { HasNext self }
+        ensures { (n : ℕ) → (reply : Reply) → AreReplies (n + 1) reply self → result ≡ reply }
+    {
+        self.next()
+    }
+}
+
+/// Steps the broker, and answers equal replies. Otherwise it is as before.
 pub(crate) fn answer(
     broker: &mut Broker<IndexedTable>,
     event: &BookEvent,
-) -> Result<(Reply, Reply, Reply), NotStepped>
-    ensures first { IfOk result (λ r. r.0 ≡ (stepped broker.old event.now).1) }
-    ensures second { IfOk result (λ r. r.1 ≡ (stepped broker.old event.now).1) }
-    ensures third { IfOk result (λ r. r.2 ≡ (stepped broker.old event.now).1) }
-    ensures cause { IfOk result (λ r. r.0 ≢ Reply.Dropped Dropped.Memory) }
+) -> Result<Replies, NotStepped>
+    ensures replies { IfOk result (λ r. AreReplies COPIES (stepped broker.old event.now).1 r) }
+    ensures cause { OnOk result ((stepped broker.old event.now).1 ≢ Reply.Dropped Dropped.Memory) }
     ensures broker { OnOk result (broker.new ≡ (stepped broker.old event.now).0) }
     ensures err { OnErr result (broker.new ≡ broker.old) }
     ensures unspent { result ≢ Err NotStepped.GenerationSpent }
 {
     match event {
         BookEvent::Take(stamped) => match broker.take_copies(stamped, COPIES) {
-            Ok(all) => Ok(sent(all)),
+            Ok(all) => Ok(Replies::Sent(all)),
             Err(Dropped::Memory) => Err(NotStepped::Memory),
-            Err(reason) => Ok(dropped(reason)),
+            Err(reason) => Ok(Replies::Refused(reason)),
         },
-        BookEvent::Dead(tab) => Ok(sent(broker.dead_copies(*tab, COPIES)?)),
+        BookEvent::Dead(tab) => Ok(Replies::Sent(broker.dead_copies(*tab, COPIES)?)),
     }
-}
-
-/// The replies that send these.
-fn sent(mut all: Vec<Outs>) -> (Reply, Reply, Reply)
-    requires { length all.items ≡ COPIES }
-    ensures { (outs : List Addressed) → all.items ≡ replicate COPIES outs
-        → result ≡ (Reply.Outs outs, Reply.Outs outs, Reply.Outs outs) }
-{
-    let third = all.pop().unwrap();
-    let second = all.pop().unwrap();
-    let first = all.pop().unwrap();
-    (Reply::Outs(first), Reply::Outs(second), Reply::Outs(third))
-}
-
-fn dropped(reason: Dropped) -> (Reply, Reply, Reply)
-    ensures { result ≡ (Reply.Dropped reason, Reply.Dropped reason, Reply.Dropped reason) }
-{
-    (
-        Reply::Dropped(reason),
-        Reply::Dropped(reason),
-        Reply::Dropped(reason),
-    )
 }

@@ -1,14 +1,15 @@
 //! The book: a broker with all that it did.
 
-ghost use Rattle.std.specs.Prelude.{◌≡◌, ◌≢◌, ◌+◌, ◌<◌, ◌≤◌, ◌↔◌, ◌∷◌, ◌++◌, [], ℕ, List, length, map, true, false, Ok, Err, IfOk, IsOk, IsTrue, OnOk, OnErr, vec_len, vec_capacity};
+ghost use Rattle.std.specs.Prelude.{◌≡◌, ◌≢◌, ◌+◌, ◌<◌, ◌≤◌, ◌↔◌, ◌∷◌, ◌++◌, [], ℕ, List, length, map, true, false, Ok, Err, IfOk, IsTrue, OnOk, OnErr, vec_len, vec_capacity};
 ghost use Rattle.wl_locked.specs.Stepping.{stepped};
-ghost use Rattle.wl_locked.specs.History.{replay, events, IsReplay};
+ghost use Rattle.wl_locked.specs.Replying.{AreReplies};
+ghost use Rattle.wl_locked.specs.History.{replay, events, taken, IsReplay};
 ghost use Rattle.wl_locked.specs.Receipts.{step_of, total, IsMadeOf, IsMismatch};
 ghost use Rattle.wl_locked.specs.Closing.{IsClosed, IsCompared};
 ghost use Rattle.wl_locked.specs.declared.receipt.Receipt.{Receipt};
 ghost use Rattle.wl_locked.specs.declared.shards.TheConstants.{SHARD_LIMIT};
 
-use crate::answering::answer;
+use crate::answering::{Replies, answer};
 use crate::event::{BookEvent, Reply};
 use crate::lane::{Generation, Kept, Lane, gather};
 use crate::marking::compare;
@@ -125,8 +126,28 @@ impl<J: Generation> Book<J> {
         ensures spent { (result ≡ Err NotStepped.GenerationSpent) ↔ (length self.old ≡ J.limit) }
         ensures err { OnErr result ((self.new ≡ self.old) × (share.new.amount ≡ share.old.amount)) }
     {
-        let copied = copies(self.alloc, &event);
-        self.store(share, event, copied)
+        let Ok((first, second)) = copies(self.alloc, &event) else {
+            drop(event);
+            return Err(self.without_memory());
+        };
+        let (place, mut replies) = match self.store(share, event) {
+            Ok(stored) => stored,
+            Err(fault) => {
+                drop((first, second));
+                return Err(fault);
+            }
+        };
+        let one = Receipt {
+            place,
+            event: first,
+            reply: replies.next(),
+        };
+        let other = Receipt {
+            place,
+            event: second,
+            reply: replies.last(),
+        };
+        Ok((one, other))
     }
 
     /// Steps the broker for a lane, which keeps a receipt. Otherwise the lane and the book are as before.
@@ -141,31 +162,55 @@ impl<J: Generation> Book<J> {
         ensures spent { (result ≡ Err NotStepped.GenerationSpent) ↔ (length self.old ≡ J.limit) }
         ensures err { OnErr result ((self.new ≡ self.old) × (lane.new ≡ lane.old)) }
     {
-        let copied = copies_with_room(self.alloc, &mut lane.receipts, &event);
-        let (receipt, kept) = self.store(&mut lane.share, event, copied)?;
+        let Ok((first, second)) = copies_with_room(self.alloc, &mut lane.receipts, &event) else {
+            drop(event);
+            return Err(self.without_memory());
+        };
+        let (place, mut replies) = match self.store(&mut lane.share, event) {
+            Ok(stored) => stored,
+            Err(fault) => {
+                drop((first, second));
+                return Err(fault);
+            }
+        };
+        let kept = Receipt {
+            place,
+            event: second,
+            reply: replies.next(),
+        };
         lane.receipts.push_reserved(kept);
-        Ok(receipt)
+        Ok(Receipt {
+            place,
+            event: first,
+            reply: replies.last(),
+        })
     }
 
-    /// Steps the broker and stores the step. All growths come before the broker is stepped, and copies of the event were made
-    /// before, or could not be made.
+    /// Why nothing is stepped where memory was refused before: that the book is spent comes first.
+    pub(crate) fn without_memory(&self) -> NotStepped
+        ensures { (result ≡ NotStepped.GenerationSpent) ↔ (length self.now ≡ J.limit) }
+    {
+        if self.is_spent() {
+            NotStepped::GenerationSpent
+        } else {
+            NotStepped::Memory
+        }
+    }
+
+    /// Steps the broker and stores the step, and answers its place, and its reply twice. All growths come before the broker is
+    /// stepped.
     pub(crate) fn store(
         &mut self,
         share: &mut Share<J>,
         event: BookEvent,
-        copied: Result<(BookEvent, BookEvent), AllocError>,
-    ) -> Result<(Receipt, Receipt), NotStepped>
+    ) -> Result<(u32, Replies), NotStepped>
         requires share { 0 < share.old.parts }
-        requires first { IfOk copied (λ c. c.0 ≡ event) }
-        requires second { IfOk copied (λ c. c.1 ≡ event) }
-        ensures copied { OnOk result (IsOk copied) }
-        ensures equal { IfOk result (λ r. r.0 ≡ r.1) }
-        ensures event { IfOk result (λ r. r.0.event ≡ event) }
-        ensures place { IfOk result (λ r. r.0.place ≡ length self.old) }
-        ensures reply { IfOk result (λ r.
-            r.0.reply ≡ (stepped (replay J.opening (events self.old)) event).1) }
-        ensures cause { IfOk result (λ r. r.0.reply ≢ Reply.Dropped Dropped.Memory) }
-        ensures stored { IfOk result (λ r. self.new ≡ self.old ++ step_of r.0 ∷ []) }
+        ensures place { IfOk result (λ r. r.0 ≡ length self.old) }
+        ensures replies { IfOk result (λ r.
+            AreReplies 2 (stepped (replay J.opening (events self.old)) event).1 r.1) }
+        ensures cause { OnOk result
+            ((stepped (replay J.opening (events self.old)) event).1 ≢ Reply.Dropped Dropped.Memory) }
+        ensures stored { OnOk result (self.new ≡ self.old ++ taken J.opening self.old event ∷ []) }
         ensures counted { OnOk result (share.new.amount ≡ share.old.amount + 1) }
         ensures parts { share.new.parts ≡ share.old.parts }
         ensures behind { OnOk result (share.old.amount ≤ length self.old) }
@@ -173,40 +218,23 @@ impl<J: Generation> Book<J> {
         ensures err { OnErr result ((self.new ≡ self.old) × (share.new.amount ≡ share.old.amount)) }
     {
         if let Err(fault) = room::for_step(self.is_spent(), &mut self.steps, &mut self.marks) {
-            drop((event, copied));
+            drop(event);
             return Err(fault);
         }
-        let Ok((first, second)) = copied else {
-            drop(event);
-            return Err(NotStepped::Memory);
-        };
-        let (stored, reply, also) = match answer(&mut self.broker, &event) {
+        let mut replies = match answer(&mut self.broker, &event) {
             Ok(replies) => replies,
             Err(fault) => {
-                drop((event, first, second));
+                drop(event);
                 return Err(fault);
             }
         };
         let place = self.steps.len() as u32;
         self.calls.audit(share);
         self.calls.add(share, 1);
-        self.steps.push_reserved(Step {
-            event,
-            reply: stored,
-        });
+        let reply = replies.next();
+        self.steps.push_reserved(Step { event, reply });
         self.marks.push_reserved(false);
-        Ok((
-            Receipt {
-                place,
-                event: first,
-                reply,
-            },
-            Receipt {
-                place,
-                event: second,
-                reply: also,
-            },
-        ))
+        Ok((place, replies))
     }
 
     /// Compares the history with the lanes' receipts, by marking their places. It takes no memory.

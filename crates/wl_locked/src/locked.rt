@@ -118,11 +118,29 @@ impl<J: Generation> LockedBroker<J> {
         ensures kept { IfOk result (λ r. lane.new ≡ lane.old ++ r ∷ []) }
         ensures err { OnErr result (lane.new ≡ lane.old) }
     {
-        let copied = copies_with_room(self.alloc, &mut lane.receipts, &event);
-        let (receipt, kept) = lock(&self.book, rt).store(&mut lane.share, event, copied)?;
-        // The lane's own receipt needs no lock.
+        let Ok((first, second)) = copies_with_room(self.alloc, &mut lane.receipts, &event) else {
+            drop(event);
+            return Err(lock(&self.book, rt).without_memory());
+        };
+        let (place, mut replies) = match lock(&self.book, rt).store(&mut lane.share, event) {
+            Ok(stored) => stored,
+            Err(fault) => {
+                drop((first, second));
+                return Err(fault);
+            }
+        };
+        // The receipts need no lock.
+        let kept = Receipt {
+            place,
+            event: second,
+            reply: replies.next(),
+        };
         lane.receipts.push_reserved(kept);
-        Ok(receipt)
+        Ok(Receipt {
+            place,
+            event: first,
+            reply: replies.last(),
+        })
     }
 
     /// The history, where it is made of the lanes' receipts. It takes no memory.
