@@ -2,6 +2,7 @@ pub mod Stuck
 mod OrderLemmas
 pub mod SettleLemmas
 mod WithoutLemmas
+mod QueueLemmas
 pub mod IndexLemmas
 mod PlaceLemmas
 mod EntryLemmas

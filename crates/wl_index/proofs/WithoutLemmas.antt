@@ -16,7 +16,7 @@ count-one t x xs = sum_by-cons (λ y. cond (t y) 1 0) x xs
 numbers-above_step : (k j : ℕ) (js : List ℕ) → (are_above k js ≡ true → without_number k js ≡ js) → are_above k (j ∷ js) ≡ true → without_number k (j ∷ js) ≡ j ∷ js
 numbers-above_step k j js below a = grind (arith, nat_tests)
 
-numbers-above : (k : ℕ) (js : List ℕ) → are_above k js ≡ true → without_number k js ≡ js
+pub numbers-above : (k : ℕ) (js : List ℕ) → are_above k js ≡ true → without_number k js ≡ js
 numbers-above k [] a = refl
 numbers-above k (j ∷ js) a = numbers-above_step k j js (numbers-above k js) a
 
@@ -50,7 +50,7 @@ rise-tail j js r = grind (arith, nat_tests)
 at-later : (k j : ℕ) (js rest : List ℕ) → j < k → rest ≡ without_number k js → j ∷ rest ≡ without_number k (j ∷ js)
 at-later k j js rest l e = grind (arith, nat_tests)
 
-no_index : (i : ℕ) → i < 0 → ⊥
+pub no_index : (i : ℕ) → i < 0 → ⊥
 no_index i l = omega (arith, l)
 
 pub remove-at : (k i : ℕ) (js : List ℕ) → do_rise js ≡ true → i < length js → get_or js i 0 ≡ k → remove js i ≡ without_number k js

@@ -2,7 +2,6 @@
 use Rattle.std.specs.Prelude.{ℕ, ◌+◌, ◌-◌, List, [], ◌∷◌, ◌++◌, count_by, Bool, ◌&&◌, ◌==◌, IsSome, bytes_eq}
 use Rattle.std.specs.Option.{option_map_or}
 use Rattle.std.specs.HashMap.{get_by_text}
-use Rattle.std.specs.VecDeque.{deque_len, deque_capacity}
 use Rattle.wl_draft.specs.declared.mode.Mode.{Mode}
 use Rattle.wl_draft.specs.declared.mode.Mode.TheVariants.{Shared, Exclusive}
 use Rattle.wl_draft.specs.declared.row.Row.{Row}
@@ -43,7 +42,7 @@ without_waiter s order = record { shared = s.shared; exclusive = s.exclusive; qu
 
 -- how many more may wait with no allocation
 abbrev pub line_room : Line → ℕ
-line_room l = deque_capacity l.queue - deque_len l.queue
+line_room l = l.queue.room
 
 -- what is kept of a name
 abbrev pub line_at : Lines → List ℕ → LineState

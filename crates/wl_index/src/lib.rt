@@ -8,6 +8,7 @@ pub mod index;
 pub mod line;
 pub mod lines;
 pub mod place_index;
+pub mod queue;
 mod removal;
 pub mod restoring;
 pub mod rows;

@@ -1,13 +1,12 @@
 //! The requests and locks of one name: its queue, and how many hold it.
 
-ghost use Rattle.std.specs.Prelude.{◌≡◌, true, Some, ◌+◌, ◌<◌, ◌≤◌, ◌^◌, OnOk, length, ◌==◌, slice_get};
+ghost use Rattle.std.specs.Prelude.{◌≡◌, true, ◌+◌, ◌<◌, ◌≤◌, ◌^◌, OnOk, length, ◌==◌, slice_get};
 ghost use Rattle.wl_draft.specs.declared.mode.Mode.TheVariants.{Shared, Exclusive};
 ghost use Rattle.wl_index.specs.Lines.{nobody, line_seen, lets_in, with_holder, with_waiter, without_holder, without_waiter, line_room};
-ghost use Rattle.wl_index.specs.Orders.{do_rise, without_number};
-ghost use Rattle.std.specs.VecDeque.{deque_len, deque_capacity};
+ghost use Rattle.wl_index.specs.Orders.{do_rise};
 
+use crate::queue::Queue;
 use std::alloc::{AllocError, Global};
-use std::collections::VecDeque;
 use wl_draft::Mode;
 
 /// How many hold a name in each mode, and the numbers of the requests that wait for it, rising.
@@ -15,7 +14,7 @@ use wl_draft::Mode;
 pub struct Line {
     pub shared: usize,
     pub exclusive: usize,
-    pub queue: VecDeque<u64>,
+    pub queue: Queue,
 }
 
 impl Line {
@@ -25,7 +24,7 @@ impl Line {
         Line {
             shared: 0,
             exclusive: 0,
-            queue: VecDeque::new(alloc),
+            queue: Queue::new(alloc),
         }
     }
 
@@ -42,10 +41,7 @@ impl Line {
     pub fn front(&self) -> Option<u64>
         ensures { result ≡ slice_get (line_seen self.now).queue 0 }
     {
-        match self.queue.front() {
-            Some(order) => Some(*order),
-            None => None,
-        }
+        self.queue.front()
     }
 
     pub fn reserve(&mut self, count: usize) -> Result<(), AllocError>
@@ -73,7 +69,7 @@ impl Line {
         ensures seen { line_seen self.new ≡ with_waiter (line_seen self.old) order }
         ensures room { line_room self.old ≡ line_room self.new + 1 }
     {
-        self.queue.push_back(order).unwrap();
+        self.queue.push(order);
     }
 
     pub fn is_queue_empty(&self) -> bool
@@ -105,34 +101,6 @@ impl Line {
         ensures seen { line_seen self.new ≡ without_waiter (line_seen self.old) order }
         ensures room { line_room self.old ≤ line_room self.new }
     {
-        take_number(&mut self.queue, order);
-    }
-}
-
-// Takes a number out of numbers that rise: the first at once, any other by a binary search.
-fn take_number(queue: &mut VecDeque<u64>, order: u64)
-    requires { do_rise queue.old.items ≡ true }
-    ensures items { queue.new.items ≡ without_number order queue.old.items }
-    ensures len { deque_len queue.new ≤ deque_len queue.old }
-    ensures capacity { deque_capacity queue.new ≡ deque_capacity queue.old }
-{
-    if is_first(queue, order) {
-        let _ = queue.pop_front();
-        return;
-    }
-    match queue.binary_search(&order) {
-        Ok(index) => {
-            let _ = queue.remove(index);
-        }
-        Err(_) => queue.retain(|other| *other != order),
-    }
-}
-
-fn is_first(queue: &VecDeque<u64>, order: u64) -> bool
-    ensures { result ≡ true → slice_get queue.now.items 0 ≡ Some order }
-{
-    match queue.front() {
-        Some(first) => *first == order,
-        None => false,
+        self.queue.take_out(order);
     }
 }
