@@ -90,9 +90,9 @@ pub(crate) fn key_of(message: &Message) -> Key
             },
             Downward::Snapshot(part) => Key::Part {
                 tab: addressed.tab,
-                generation: part.generation,
-                number: part.number,
-                part: part.part,
+                generation: part.get().generation,
+                number: part.get().number,
+                part: part.get().part,
             },
         },
         Message::Across { tab, heard } => Key::Post {

@@ -1,5 +1,5 @@
 -- What stands of a draft's clients: each stands under its own number, from call to call.
-use Rattle.std.proofs.Common.{⊎_elim, ℕ, ◌+◌, Bool, true, false, List, [], ◌∷◌, ◌++◌, filter, sym, subst}
+use Rattle.std.proofs.Common.{⊎_elim, ℕ, Bool, true, false, List, [], ◌∷◌, ◌++◌, filter, sym, subst}
 use Rattle.wl_draft.specs.declared.row.Row.{Row}
 use Rattle.wl_draft.specs.declared.row.Entry.{Entry}
 use Rattle.wl_draft.specs.Locks.{Locks, is_grantable, granted, left_waiting, newly, settle, row_of, rows_of, held_of, waiting_of, queued, probed, released, aborted, ended, restored}

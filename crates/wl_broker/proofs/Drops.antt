@@ -1,6 +1,7 @@
 -- Which messages are dropped, case by case in the definition's order.
 use Rattle.std.proofs.Common.{◌≡◌, ◌≢◌, ℕ, ◌<◌, ◌≤◌, Bool, true, false, not, cond, ◌&&◌, ◌||◌, eqb, nat_lt, nat_le, refl, ◌∷◌, [], arith}
 use Rattle.std.proofs.lemmas.Bool.{lt-ltb, le-ltb, ne_eqb}
+use Rattle.wl_limits.specs.declared.tabs.TheConstants.{LAST_NUMBER}
 use Rattle.wl_draft.specs.Locks.{live}
 use Rattle.wl_grammar.specs.declared.frame.Operation.{Operation}
 use Rattle.wl_grammar.specs.declared.frame.Stamped.{Stamped}
@@ -66,24 +67,24 @@ module _ (b : BrokerState) (t p n : ℕ) (o : Operation) where
   recovering h a = rw (h, a) refl
 
 module _ (b : BrokerState) (t p n : ℕ) (o : Operation) (joined : is_joined (seat_of b t) ≡ true) (active : is_active b p ≡ true) where
-  pub out_of_turn : (nat_lt (next_of b t) n || eqb n 4294967295) ≡ true → take_command b t p n o ≡ Drops OutOfTurn
+  pub out_of_turn : (nat_lt (next_of b t) n || eqb n LAST_NUMBER) ≡ true → take_command b t p n o ≡ Drops OutOfTurn
   unfolding take_command
   out_of_turn h = rw (joined, active, h) refl
 
-  pub taken_before : n < next_of b t → n ≢ 4294967295 → take_command b t p n o ≡ Does b (later_answer b t p n o ∷ [])
+  pub taken_before : n < next_of b t → n ≢ LAST_NUMBER → take_command b t p n o ≡ Does b (later_answer b t p n o ∷ [])
   unfolding take_command
   taken_before h last =
-      rw (joined, active, le-ltb (next_of b t) n (omega arith), ne_eqb n 4294967295 last, lt-ltb n (next_of b t) h) refl
+      rw (joined, active, le-ltb (next_of b t) n (omega arith), ne_eqb n LAST_NUMBER last, lt-ltb n (next_of b t) h) refl
 
-  pub too_many : n ≡ next_of b t → n ≢ 4294967295 → (is_lock o && nat_le (limit_of b t) (live (manager_of b p) t)) ≡ true → take_command b t p n o ≡ Drops TooMany
+  pub too_many : n ≡ next_of b t → n ≢ LAST_NUMBER → (is_lock o && nat_le (limit_of b t) (live (manager_of b p) t)) ≡ true → take_command b t p n o ≡ Drops TooMany
   unfolding take_command
   too_many h last many =
-      rw (joined, active, le-ltb (next_of b t) n (omega arith), ne_eqb n 4294967295 last, le-ltb n (next_of b t) (omega arith), many) refl
+      rw (joined, active, le-ltb (next_of b t) n (omega arith), ne_eqb n LAST_NUMBER last, le-ltb n (next_of b t) (omega arith), many) refl
 
-  pub command_taken : n ≡ next_of b t → n ≢ 4294967295 → (is_lock o && nat_le (limit_of b t) (live (manager_of b p) t)) ≡ false → take_command b t p n o ≡ perform b t p n o
+  pub command_taken : n ≡ next_of b t → n ≢ LAST_NUMBER → (is_lock o && nat_le (limit_of b t) (live (manager_of b p) t)) ≡ false → take_command b t p n o ≡ perform b t p n o
   unfolding take_command
   command_taken h last few =
-      rw (joined, active, le-ltb (next_of b t) n (omega arith), ne_eqb n 4294967295 last, le-ltb n (next_of b t) (omega arith), few) refl
+      rw (joined, active, le-ltb (next_of b t) n (omega arith), ne_eqb n LAST_NUMBER last, le-ltb n (next_of b t) (omega arith), few) refl
 
 join_taken_as : (b : BrokerState) (t p : ℕ) (k : Partial) (c : Bool) → IsTaken (cond c (join b t p (whole_of k)) (Does (keeping t k b) []))
 unfolding join

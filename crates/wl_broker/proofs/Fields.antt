@@ -7,6 +7,7 @@ use Rattle.std.specs.Ordering.{nat_cmp}
 use Rattle.std.specs.BTreeMap.{is_at, insert_entry}
 use Rattle.std.specs.Map.{remove_entry, keys_of}
 use Rattle.std.specs.List.Sorted.{IsStrictlySortedBy}
+use Rattle.wl_limits.specs.declared.tabs.TheConstants.{LAST_NUMBER}
 use Rattle.wl_draft.specs.Tables.{Table, find, has_row, put, at}
 use Rattle.wl_draft.specs.Locks.{live}
 use Rattle.wl_draft.specs.declared.row.Entry.{Entry}
@@ -107,10 +108,10 @@ module _ (g : ℕ) (listed : List (ℕ × ℕ)) (seats : Table Seat) (partitions
   waiting_here row r = rw (← v, manager_of-fields g listed seats partitions partial p, ← r) refl
 
   -- the number of its command is no later than the next one
-  pub turn_here : (next n : ℕ) (out : Bool) → next ≡ next_in o → out ≡ (nat_lt next n || eqb n 4294967295) → out ≡ false → (n ≤ next_of b t) × (n ≢ 4294967295)
+  pub turn_here : (next n : ℕ) (out : Bool) → next ≡ next_in o → out ≡ (nat_lt next n || eqb n LAST_NUMBER) → out ≡ false → (n ≤ next_of b t) × (n ≢ LAST_NUMBER)
   turn_here next n out e r f =
-      let parts = or_parts (nat_lt next n) (eqb n 4294967295) (sym r ∙ f) in
-      (omega (arith, ltb-false next n parts.0, e, next_here), eqb-false n 4294967295 parts.1)
+      let parts = or_parts (nat_lt next n) (eqb n LAST_NUMBER) (sym r ∙ f) in
+      (omega (arith, ltb-false next n parts.0, e, next_here), eqb-false n LAST_NUMBER parts.1)
 
   -- a tab may have one more lock, or may not
   pub live_here : (row : PartitionState) → row ≡ at no_partition partitions p → (limit : ℕ) (u : Operation) (many : Bool) → limit ≡ limit_in o → many ≡ (is_lock u && nat_le limit (live row.locks t)) → (is_lock u && nat_le (limit_of b t) (live (manager_of b p) t)) ≡ many

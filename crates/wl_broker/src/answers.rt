@@ -13,7 +13,9 @@ use std::alloc::{AllocError, Global};
 use std::collections::BTreeMap;
 use std::vec::IntoIter;
 use wl_draft::{Grant, Row, Standing};
-use wl_grammar::{Addressed, Answer, Downward, Hello, Outcome, Sequence, Snapshot, SnapshotEntry};
+use wl_grammar::{
+    Addressed, Answer, Boxed, Downward, Hello, Outcome, Sequence, Snapshot, SnapshotEntry,
+};
 use wl_limits::frames::{ENTRY_LIMIT, SNAPSHOT_PART_LIMIT};
 
 fn hello(generation: u32, tab: u16) -> Addressed
@@ -186,15 +188,17 @@ fn snapshot_parts(
     let mut rest = entries.into_iter();
     for part in 0..parts {
         let entries = Sequence::new(next_part(alloc, &mut rest)?);
+        let snapshot = Snapshot {
+            generation,
+            number,
+            part,
+            parts,
+            entries,
+        };
+        let boxed = Boxed::new(alloc, snapshot)?;
         outs.push(Addressed {
             tab,
-            inner: Downward::Snapshot(Snapshot {
-                generation,
-                number,
-                part,
-                parts,
-                entries,
-            }),
+            inner: Downward::Snapshot(boxed),
         })?;
     }
     Ok(outs)

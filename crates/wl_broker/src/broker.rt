@@ -1,6 +1,7 @@
 //! The broker.
 
 ghost use Rattle.std.specs.Prelude.{◌≡◌, ◌≢◌, ◌<◌, IfOk, IfErr, OnErr, List, [], ◌∷◌, true, false, length, replicate};
+ghost use Rattle.wl_limits.specs.declared.tabs.TheConstants.{LAST_NUMBER};
 ghost use Rattle.wl_grammar.specs.declared.frame.Addressed.{Addressed};
 ghost use Rattle.wl_grammar.specs.declared.frame.Operation.TheVariants.{Query};
 ghost use Rattle.wl_grammar.specs.Grammar.{TabsRiseFrom};
@@ -504,7 +505,7 @@ impl<T: LockTable> Broker<T> {
         requires joined { seat_of self.old tab ≡ Some (Joined partition number limit) }
         requires waiting { waiting ≡ length (manager_of self.old partition).waiting }
         requires active { is_active self.old partition ≡ true }
-        requires more { number < 4294967295 }
+        requires more { number < LAST_NUMBER }
         ensures performed { IfOk result (λ all.
             copied copies (perform self.old tab partition number operation.now) ≡ Some (self.new, all.items)) }
         ensures err { OnErr result (self.new ≡ self.old) }
@@ -557,7 +558,7 @@ impl<T: LockTable> Broker<T> {
     ) -> Result<Vec<Outs>, AllocError>
         requires joined { seat_of self.old tab ≡ Some (Joined partition number limit) }
         requires active { is_active self.old partition ≡ true }
-        requires more { number < 4294967295 }
+        requires more { number < LAST_NUMBER }
         ensures performed { IfOk result (λ all.
             copied copies (perform self.old tab partition number Query) ≡ Some (self.new, all.items)) }
         ensures err { OnErr result (self.new ≡ self.old) }

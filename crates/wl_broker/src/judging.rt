@@ -2,8 +2,9 @@
 
 ghost use Rattle.std.specs.Prelude.{◌≡◌, ◌&&◌, ◌||◌, ◌==◌, not, nat_lt};
 ghost use Rattle.wl_draft.specs.Tables.{find};
-ghost use Rattle.wl_broker.specs.Broker.{generation_of, elsewhere, seated_at, kept_at, is_listed, has_held, all_below, fits, is_lock, last_number};
+ghost use Rattle.wl_broker.specs.Broker.{generation_of, elsewhere, seated_at, kept_at, is_listed, has_held, all_below, fits, is_lock};
 ghost use Rattle.wl_broker.specs.Kept.{told};
+ghost use Rattle.wl_limits.specs.declared.tabs.TheConstants.{LAST_NUMBER};
 
 use crate::heading::Heading;
 use crate::kept::{Kept, fits, kept_at};
@@ -12,6 +13,7 @@ use crate::seats::seated_at;
 use std::collections::BTreeMap;
 use wl_draft::Entry;
 use wl_grammar::{Operation, Upward};
+use wl_limits::tabs::LAST_NUMBER;
 
 pub fn generation_of(inner: &Upward) -> u32
     ensures { result ≡ generation_of inner.now }
@@ -90,7 +92,7 @@ pub fn is_lock(operation: &Operation) -> bool
 
 /// Whether the number is above the next one, or the last, under which no command is taken.
 pub fn is_out_of_turn(next: u32, number: u32) -> bool
-    ensures { result ≡ (nat_lt next number || number == last_number) }
+    ensures { result ≡ (nat_lt next number || number == LAST_NUMBER) }
 {
-    next < number || number == u32::MAX
+    next < number || number == LAST_NUMBER
 }

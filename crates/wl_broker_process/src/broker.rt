@@ -9,7 +9,7 @@ ghost use Rattle.wl_locked.specs.declared.shards.TheConstants.{SHARD_LIMIT};
 
 use crate::inbox::Inbox;
 use std::alloc::{AllocError, Global};
-use std::io::Write;
+use std::io::{Read, Write};
 use std::marker::{Brand, Model, PhantomData};
 use std::net::Shutdown;
 use std::os::unix::net::UnixStream;
@@ -363,7 +363,10 @@ fn start_of(frame: Frame) -> Result<Start, ProcessFault>
 }
 
 /// Reads the Start frame, which has to come first, and gives the frames behind it that have come with it.
-fn read_start(incoming: &mut Incoming<'_>) -> Result<(Start, Vec<Frame>), ProcessFault>
+fn read_start<S: Read>(
+    alloc: Global,
+    incoming: &mut Incoming<S>,
+) -> Result<(Start, Vec<Frame>), ProcessFault>
     ensures { IfOk result (λ r. TabsRiseFrom 1 r.0.list) }
 {
     for _reads in 0..READ_LIMIT {
@@ -373,7 +376,7 @@ fn read_start(incoming: &mut Incoming<'_>) -> Result<(Start, Vec<Frame>), Proces
         let mut frames = frames.into_iter();
         if let Some(first) = frames.next() {
             let start = start_of(first)?;
-            return Ok((start, frames.collect::<Vec<Frame>>(incoming.alloc())?));
+            return Ok((start, frames.collect::<Vec<Frame>>(alloc)?));
         }
     }
     Err(ProcessFault::TooManyReads)
@@ -394,10 +397,10 @@ pub fn run_broker<R: Host>(
 {
     let link = rt.connect(socket).map_err(ProcessFault::of_device)?;
     let mut incoming = Incoming::new(alloc, &link);
-    let (start, rest) = read_start(&mut incoming)?;
+    let (start, rest) = read_start(alloc, &mut incoming)?;
     let blanks = Blanks::new(u64::from(lanes));
     let served = serve::<R, Brand>(
-        &rt, alloc, blanks, start, lanes, shards, limit, rest, incoming,
+        &rt, alloc, blanks, start, lanes, shards, limit, &link, rest, incoming,
     );
     shut_down(&link);
     served
@@ -412,8 +415,9 @@ fn serve<R: Host, J: Shards + Send + Sync>(
     lanes: u16,
     shards: u16,
     limit: u32,
+    link: &UnixStream,
     rest: Vec<Frame>,
-    incoming: Incoming<'_>,
+    incoming: Incoming<&UnixStream>,
 ) -> Result<(), ProcessFault>
     requires list { TabsRiseFrom 1 start.list }
     requires names { AreNamed J.names blanks }
@@ -438,7 +442,7 @@ fn serve<R: Host, J: Shards + Send + Sync>(
         shards,
     )?;
     serve_link(
-        rt, alloc, &broker, places, hellos, lanes, shards, rest, incoming,
+        rt, alloc, &broker, places, hellos, lanes, shards, link, rest, incoming,
     )
 }
 
@@ -451,13 +455,13 @@ fn serve_link<R: Host, J: Shards + Send + Sync>(
     hellos: Outs,
     lanes: u16,
     shards: u16,
+    link: &UnixStream,
     rest: Vec<Frame>,
-    incoming: Incoming<'_>,
+    incoming: Incoming<&UnixStream>,
 ) -> Result<(), ProcessFault>
     requires some { 0 < shards }
     requires run { shards ≡ J.run.shards }
 {
-    let link = incoming.link();
     let outbounds = greet(alloc, link, lanes, hellos)?;
     let inbox = Inbox::new(alloc, lanes, shards, incoming)?;
     // What came with the Start frame waits for the lanes, which answer it also where a fault stands behind it.

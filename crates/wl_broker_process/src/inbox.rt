@@ -5,6 +5,7 @@ ghost use Rattle.std.specs.Prelude.{◌<◌};
 
 use crate::mailbox::{Mailbox, Woken};
 use std::alloc::{AllocError, Global};
+use std::os::unix::net::UnixStream;
 use std::rt::Clock;
 use std::sync::{Condvar, CondvarTimeouts, Mutex, Wait};
 use std::time::Duration;
@@ -29,7 +30,7 @@ struct Meeting {
 #[derive(Drop)]
 enum Turn<'a> {
     /// Nobody's: whoever has nothing to do reads.
-    Free(Incoming<'a>),
+    Free(Incoming<&'a UnixStream>),
     /// That of a lane which reads now.
     Taken,
     /// Nothing more is read, and this is why.
@@ -54,7 +55,7 @@ impl<'a> Inbox<'a> {
         alloc: Global,
         lanes: u16,
         shards: u16,
-        incoming: Incoming<'a>,
+        incoming: Incoming<&'a UnixStream>,
     ) -> Result<Inbox<'a>, AllocError>
         requires { 0 < shards }
     {
@@ -157,7 +158,7 @@ impl<'a> Inbox<'a> {
 
     /// What reads the link, if it is nobody's turn. A lane with a work in its mailbox does that first: it may have been dealt
     /// since the lane looked, and whoever dealt it leaves the reading to this lane.
-    fn take_turn<R: Wait>(&self, rt: &R, mailbox: &Mailbox) -> Option<Incoming<'a>> {
+    fn take_turn<R: Wait>(&self, rt: &R, mailbox: &Mailbox) -> Option<Incoming<&'a UnixStream>> {
         let mut turn = self.turn.lock(rt);
         if mailbox.has_work(rt) {
             return None;
@@ -174,7 +175,7 @@ impl<'a> Inbox<'a> {
     /// Reads once and deals what came, and returns whether the lane goes on by itself: where another has a few works, that one
     /// reads on when it has done them. The turn's lock is held while works are dealt, so a lane that is woken by one finds the
     /// turn free.
-    fn read<R: Wait>(&self, rt: &R, lane: usize, mut incoming: Incoming<'a>) -> bool {
+    fn read<R: Wait>(&self, rt: &R, lane: usize, mut incoming: Incoming<&'a UnixStream>) -> bool {
         let came = incoming.next();
         let mut turn = self.turn.lock(rt);
         let dealt = self.deal_all(rt, lane, came);
@@ -248,7 +249,10 @@ impl<'a> Inbox<'a> {
 }
 
 /// The turn after what has come with a read was dealt.
-fn turn_after<'a>(dealt: Result<Option<Dealt>, ProcessFault>, incoming: Incoming<'a>) -> Turn<'a> {
+fn turn_after<'a>(
+    dealt: Result<Option<Dealt>, ProcessFault>,
+    incoming: Incoming<&'a UnixStream>,
+) -> Turn<'a> {
     match dealt {
         Ok(Some(_)) => Turn::Free(incoming),
         Ok(None) => Turn::Over(Ok(())),

@@ -425,7 +425,7 @@ fn put_downward(out: &mut Vec<u8>, inner: &Downward) -> Result<(), AllocError>
     match inner {
         Downward::Hello(h) => put_hello(out, h),
         Downward::Answer(a) => put_answer(out, a),
-        Downward::Snapshot(s) => put_snapshot(out, s),
+        Downward::Snapshot(s) => put_snapshot(out, s.get()),
     }
 }
 

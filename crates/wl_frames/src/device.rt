@@ -80,7 +80,7 @@ impl<R: Read> Source<R> {
             × Keeps (R.remaining self.old.reader) (R.remaining self.new.reader) }
         ensures limit { result ≡ Err ReadFault.TooManyReads
             → (self.old.reads ≡ READ_LIMIT) × (self.new ≡ self.old) }
-        ensures within { self.new.reads ≤ 1000000 }
+        ensures within { self.new.reads ≤ READ_LIMIT }
     {
         if self.reads >= READ_LIMIT {
             return Err(ReadFault::TooManyReads);

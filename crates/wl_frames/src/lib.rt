@@ -11,7 +11,7 @@ pub use fault::{FrameFault, PushFault};
 pub use feed::Feed;
 pub use wl_encoding::{encode, encode_into};
 pub use wl_grammar::{
-    Addressed, Answer, Command, Dead, Downward, Entry, Frame, Heard, Hello, Memory, Mode, Name,
-    Operation, Origin, Outcome, PairWelcome, Post, Report, ReportPart, Sequence, Snapshot,
+    Addressed, Answer, Boxed, Command, Dead, Downward, Entry, Frame, Heard, Hello, Memory, Mode,
+    Name, Operation, Origin, Outcome, PairWelcome, Post, Report, ReportPart, Sequence, Snapshot,
     SnapshotEntry, Stamped, Start, Upward, Welcome,
 };

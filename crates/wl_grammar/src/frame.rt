@@ -1,5 +1,6 @@
 //! The frames of the protocol, one struct for each kind.
 
+use crate::boxed::Boxed;
 use crate::origin::Origin;
 use crate::sequence::Sequence;
 use bytes::Bytes;
@@ -152,7 +153,7 @@ pub enum Upward {
 pub enum Downward {
     Hello(Hello),
     Answer(Answer),
-    Snapshot(Snapshot),
+    Snapshot(Boxed<Snapshot>),
 }
 
 /// A frame of a tab, with the tab and the partition that the kernel set for it.

@@ -1,12 +1,14 @@
 //! Frames as values: what tabs, the kernel and the broker send each other, and which of these can be spelled.
 #![tactic(auto)]
 
+pub mod boxed;
 mod copy;
 pub mod frame;
 pub mod origin;
 pub mod sequence;
 mod well_formed;
 
+pub use boxed::Boxed;
 pub use frame::{
     Addressed, Answer, Command, Dead, Downward, Frame, Heard, Hello, Operation, Outcome,
     PairWelcome, Post, Report, ReportPart, Snapshot, SnapshotEntry, Stamped, Start, Upward,

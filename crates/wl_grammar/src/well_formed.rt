@@ -258,7 +258,7 @@ impl Downward {
         match self {
             Downward::Hello(h) => h.is_well_formed(),
             Downward::Answer(a) => a.is_well_formed(),
-            Downward::Snapshot(s) => s.is_well_formed(),
+            Downward::Snapshot(s) => s.get().is_well_formed(),
         }
     }
 }

@@ -25,7 +25,7 @@ pub(crate) fn generation_of(inner: &Downward) -> u32
     match inner {
         Downward::Hello(hello) => hello.generation,
         Downward::Answer(answer) => answer.generation,
-        Downward::Snapshot(snapshot) => snapshot.generation,
+        Downward::Snapshot(snapshot) => snapshot.get().generation,
     }
 }
 
@@ -47,7 +47,7 @@ pub(crate) fn frame_of(inner: Downward) -> Frame
     match inner {
         Downward::Hello(hello) => Frame::Hello(hello),
         Downward::Answer(answer) => Frame::Answer(answer),
-        Downward::Snapshot(snapshot) => Frame::Snapshot(snapshot),
+        Downward::Snapshot(snapshot) => Frame::Snapshot(snapshot.into_inner()),
     }
 }
 

@@ -12,6 +12,9 @@ pub const LAST_TAB: u16 = 65_535;
 /// The most commands that a tab issues.
 pub const COMMAND_LIMIT: u32 = 1_000_000;
 
+/// The greatest number that a frame can say. No command is taken under it.
+pub const LAST_NUMBER: u32 = 4_294_967_295;
+
 /// The most live locks of a tab that reports at once.
 pub const LIVE_LIMIT: usize = 64;
 

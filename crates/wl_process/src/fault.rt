@@ -2,6 +2,8 @@
 
 ghost use Rattle.std.specs.IoError.{error_kind};
 ghost use Rattle.std.specs.Prelude.{◌≡◌, ◌≢◌};
+ghost use Rattle.wl_process.specs.Faults.{of_read, of_frame};
+ghost use Rattle.wl_process.specs.declared.fault.ProcessFault.TheVariants.{Write as write_fault, Memory as memory};
 ghost use Rattle.wl_process.specs.Status.{status_of};
 
 use std::alloc::{AllocError, AllocFailed};
@@ -91,18 +93,24 @@ impl ProcessFault {
 }
 
 impl From<AllocError> for ProcessFault {
+    ghost from_gives = { λ _ e. e ≡ memory };
+
     fn from(_refused: AllocError) -> ProcessFault {
         ProcessFault::Memory
     }
 }
 
 impl<T: Drop> From<AllocFailed<T>> for ProcessFault {
+    ghost from_gives = { λ _ e. e ≡ memory };
+
     fn from(_refused: AllocFailed<T>) -> ProcessFault {
         ProcessFault::Memory
     }
 }
 
 impl From<FrameFault> for ProcessFault {
+    ghost from_gives = { λ fault e. e ≡ of_frame fault };
+
     fn from(fault: FrameFault) -> ProcessFault {
         match fault {
             FrameFault::Memory => ProcessFault::Memory,
@@ -112,6 +120,8 @@ impl From<FrameFault> for ProcessFault {
 }
 
 impl From<ReadFault> for ProcessFault {
+    ghost from_gives = { λ fault e. e ≡ of_read fault };
+
     fn from(fault: ReadFault) -> ProcessFault {
         match fault {
             ReadFault::Failed => ProcessFault::Read,
@@ -121,6 +131,8 @@ impl From<ReadFault> for ProcessFault {
 }
 
 impl From<WriteFault> for ProcessFault {
+    ghost from_gives = { λ _ e. e ≡ write_fault };
+
     fn from(_fault: WriteFault) -> ProcessFault {
         ProcessFault::Write
     }

@@ -1,64 +1,101 @@
 //! The frames of a link, as they come.
 
+ghost use Rattle.std.specs.Prelude.{◌≡◌, Ok, Err, None, OnOk, IfOk, IfErr, IfSome, false};
+ghost use Rattle.wl_process.specs.Links.{fresh_link, told, IsOver, Stops, Brings, Ended, Fails};
+
 use crate::fault::ProcessFault;
 use std::alloc::Global;
-use std::os::unix::net::UnixStream;
+use std::io::Read;
+use std::marker::Model;
 use wl_frames::device::{PIECE_LEN, Source};
 use wl_frames::{Feed, Frame};
 
 /// The reading end of a link.
 #[derive(Drop)]
-pub struct Incoming<'a> {
-    alloc: Global,
-    link: &'a UnixStream,
-    source: Source<&'a UnixStream>,
-    /// None after the end of the input.
+pub struct Incoming<R> {
+    source: Source<R>,
+    /// None once nothing more is read.
     feed: Option<Feed>,
-    /// What is told once the frames before it were given.
-    fault: Option<ProcessFault>,
+    /// Why nothing more is read.
+    end: Result<(), ProcessFault>,
 }
 
-impl<'a> Incoming<'a> {
-    pub fn new(alloc: Global, link: &'a UnixStream) -> Incoming<'a> {
+impl<R> Model for Incoming<R> {
+    ghost use Rattle.wl_process.specs.Links.{Link, unread_in, IsSound};
+
+    ghost Value = { Link R };
+
+    ghost view = { λ i. record { source = i.source; unread = unread_in i.feed; end = i.end } };
+
+    ghost invariant = { λ i. IsSound i.feed };
+}
+
+impl<R> Incoming<R> {
+    /// A link of which nothing was read.
+    pub fn new(alloc: Global, reader: R) -> Incoming<R>
+        ensures { result ≡ fresh_link reader }
+    {
         Incoming {
-            alloc,
-            link,
-            source: Source::new(link),
+            source: Source::new(reader),
             feed: Some(Feed::new(alloc)),
-            fault: None,
+            end: Ok(()),
         }
     }
 
-    pub fn alloc(&self) -> Global {
-        self.alloc
-    }
-
-    pub fn link(&self) -> &'a UnixStream {
-        self.link
-    }
-
-    /// The frames that come with the next read, perhaps none. None at the end of the input.
-    pub fn next(&mut self) -> Result<Option<Vec<Frame>>, ProcessFault> {
-        if let Some(fault) = self.fault {
-            return Err(fault);
+    /// What is told where nothing more is read.
+    fn told(&self) -> Result<Option<Vec<Frame>>, ProcessFault>
+        ensures { result ≡ told self.now.end }
+    {
+        match self.end {
+            Ok(()) => Ok(None),
+            Err(fault) => Err(fault),
         }
-        let mut buffer = [0; PIECE_LEN];
-        let n = self.source.read(&mut buffer)?;
-        if n == 0 {
-            if let Some(feed) = self.feed.take() {
-                feed.end()?;
+    }
+
+    /// The frames of a piece of the input, which has come behind what the feed keeps.
+    fn push(&mut self, mut feed: Feed, piece: &[u8]) -> Vec<Frame>
+        requires sound { feed.has_failed ≡ false }
+        ensures stops { Stops feed.rest piece.now result.items self.new }
+        ensures source { self.new.source ≡ self.old.source }
+    {
+        match feed.push(piece) {
+            Ok(frames) => {
+                self.feed = Some(feed);
+                frames
             }
-            return Ok(None);
-        }
-        let Some(feed) = &mut self.feed else {
-            return Ok(None);
-        };
-        match feed.push(&buffer[..n]) {
-            Ok(frames) => Ok(Some(frames)),
             Err(refused) => {
-                self.fault = Some(ProcessFault::from(refused.fault));
-                Ok(Some(refused.before))
+                self.feed = None;
+                self.end = Err(ProcessFault::from(refused.fault));
+                refused.before
             }
         }
+    }
+}
+
+impl<R: Read> Incoming<R> {
+    /// The frames that come with the next read, perhaps none. None at the end of the input. A fault is told once the frames
+    /// before it were given. The end and a fault are told by each later call too.
+    pub fn next(&mut self) -> Result<Option<Vec<Frame>>, ProcessFault>
+        ensures frames { IfOk result (λ came. IfSome came (λ frames. IfSome self.old.unread (λ rest.
+            Brings (R.remaining self.old.source.reader) (R.remaining self.new.source.reader)
+            rest frames.items self.new))) }
+        ensures end { result ≡ Ok None → IfSome self.old.unread (λ rest.
+            Ended (R.remaining self.old.source.reader) (R.remaining self.new.source.reader) rest) }
+        ensures fault { IfErr result (λ fault. IfSome self.old.unread (λ rest.
+            Fails (R.remaining self.old.source.reader) (R.remaining self.new.source.reader) rest fault self.new)) }
+        ensures closed { IfErr result (λ fault. IsOver self.new (Err fault)) }
+        ensures ended { result ≡ Ok None → IsOver self.new (Ok tt) }
+        ensures over { self.old.unread ≡ None → (result ≡ told self.old.end) × (self.new ≡ self.old) }
+    {
+        let Some(feed) = self.feed.take() else {
+            return self.told();
+        };
+        let mut buffer = [0; PIECE_LEN];
+        match self.source.read(&mut buffer) {
+            Ok(0) => self.end = feed.end().map_err(|fault| ProcessFault::from(fault)),
+            Ok(n) => return Ok(Some(self.push(feed, &buffer[..n]))),
+            Err(fault) => self.end = Err(ProcessFault::from(fault)),
+        }
+        self.told()
     }
 }

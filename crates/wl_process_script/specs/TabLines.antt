@@ -1,11 +1,12 @@
 -- What a line of a tab's script says.
 use Rattle.std.specs.Prelude.{ℕ, List, [], ◌∷◌, Option, Some, codes}
 use Rattle.wl_draft.specs.declared.mode.Mode.{Mode}
-use Rattle.wl_words.specs.Reading.{◌>>=◌, line_words_at, one, two, none, value_of, most_command, number_at, mode_at, name_at, url_at}
+use Rattle.wl_words.specs.Reading.{◌>>=◌, line_words_at, one, two, none, value_of, number_at, mode_at, name_at, url_at}
 use Rattle.wl_process_script.specs.declared.tab_line.TabLine.{TabLine}
 use Rattle.wl_process_script.specs.declared.tab_line.TabLine.TheVariants as line
 use Rattle.wl_process_script.specs.declared.tab_line.TabVerb.{TabVerb}
 use Rattle.wl_process_script.specs.declared.tab_line.TabVerb.TheVariants as verb
+use Rattle.wl_limits.specs.declared.tabs.TheConstants.{LAST_NUMBER}
 
 -- each verb and its word
 abbrev pub verbs : List (List ℕ × TabVerb)
@@ -31,9 +32,9 @@ mode_and_name words = do
 unfoldable pub said_by : TabVerb → List (List ℕ) → Option TabLine
 said_by verb.Ask words = mode_and_name words >>= λ x. Some (line.Ask x.0 x.1)
 said_by verb.Probe words = mode_and_name words >>= λ x. Some (line.Probe x.0 x.1)
-said_by verb.Wait words = one words >>= number_at most_command >>= λ n. Some (line.Wait n)
-said_by verb.Release words = one words >>= number_at most_command >>= λ n. Some (line.Release n)
-said_by verb.Abort words = one words >>= number_at most_command >>= λ n. Some (line.Abort n)
+said_by verb.Wait words = one words >>= number_at LAST_NUMBER >>= λ n. Some (line.Wait n)
+said_by verb.Release words = one words >>= number_at LAST_NUMBER >>= λ n. Some (line.Release n)
+said_by verb.Abort words = one words >>= number_at LAST_NUMBER >>= λ n. Some (line.Abort n)
 said_by verb.Query words = none words >>= λ x. Some line.Query
 -- the path of a file is spelled as a URL is
 said_by verb.Add words = one words >>= url_at >>= λ file. Some (line.Add file)

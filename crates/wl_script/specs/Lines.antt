@@ -2,7 +2,7 @@
 use Rattle.std.specs.Prelude.{ℕ, ◌==◌, ◌&&◌, List, [], ◌∷◌, length, Option, Some, None, bytes_eq, codes, if◌then◌else◌}
 use Rattle.wl_draft.specs.declared.mode.Mode.{Mode}
 use Rattle.wl_words.specs.Words.{unescaped}
-use Rattle.wl_words.specs.Reading.{◌>>=◌, line_words_at, one, two, three, none, value_of, most_command, most_number, number_at, tab_at, mode_at, name_at, url_at}
+use Rattle.wl_words.specs.Reading.{◌>>=◌, line_words_at, one, two, three, none, value_of, most_number, number_at, tab_at, mode_at, name_at, url_at}
 use Rattle.wl_script.specs.declared.line.Line.{Line}
 use Rattle.wl_script.specs.declared.line.Line.TheVariants as line
 use Rattle.wl_script.specs.declared.verb.Verb.{Verb}
@@ -10,6 +10,7 @@ use Rattle.wl_script.specs.declared.verb.Verb.TheVariants as verb
 use Rattle.wl_world.specs.declared.event.Event.TheVariants as event
 use Rattle.wl_world.specs.declared.event.Forged.{Forged}
 use Rattle.wl_script.specs.Forgeries.{forged_at}
+use Rattle.wl_limits.specs.declared.tabs.TheConstants.{LAST_NUMBER}
 
 -- each verb and its word
 abbrev pub verbs : List (List ℕ × Verb)
@@ -121,8 +122,8 @@ said_by verb.Tell words = tab_alone words >>= λ t. Some (line.Happens (event.Te
 said_by verb.Ask words = tab_mode_name words >>= λ x. Some (line.Happens (event.Ask x.0 x.1 x.2))
 said_by verb.Probe words = tab_mode_name words >>= λ x. Some (line.Happens (event.Probe x.0 x.1 x.2))
 said_by verb.Query words = tab_alone words >>= λ t. Some (line.Happens (event.Query t))
-said_by verb.Abort words = tab_and_number most_command words >>= λ x. Some (line.Happens (event.Abort x.0 x.1))
-said_by verb.Release words = tab_and_number most_command words >>= λ x. Some (line.Happens (event.Release x.0 x.1))
+said_by verb.Abort words = tab_and_number LAST_NUMBER words >>= λ x. Some (line.Happens (event.Abort x.0 x.1))
+said_by verb.Release words = tab_and_number LAST_NUMBER words >>= λ x. Some (line.Happens (event.Release x.0 x.1))
 said_by verb.Resend words = tab_alone words >>= λ t. Some (line.Happens (event.Resend t))
 said_by verb.Deliver words = one words >>= message_name_at >>= λ n. Some (line.Deliver n)
 said_by verb.Channel words = tab_and_name words >>= λ x. Some (line.Happens (event.Channel x.0 x.1))

@@ -230,7 +230,7 @@ pub(crate) fn put_downward(out: &mut Vec<u8>, downward: &Downward) -> Result<(),
     match downward {
         Downward::Hello(hello) => put_hello(out, hello),
         Downward::Answer(answer) => put_answer(out, answer),
-        Downward::Snapshot(snapshot) => put_snapshot(out, snapshot),
+        Downward::Snapshot(snapshot) => put_snapshot(out, snapshot.get()),
     }
 }
 

@@ -1,8 +1,9 @@
 //! Reading a line of a script.
 
-ghost use Rattle.wl_words.specs.Reading.{most_command, most_number, texts};
+ghost use Rattle.wl_words.specs.Reading.{most_number, texts};
 ghost use Rattle.wl_words.specs.Words.{Gives};
 ghost use Rattle.wl_script.specs.Lines.{message_name_at, tab_alone, tab_and_url, tab_and_urls, tab_mode_name, tab_and_name, tab_and_number, tab_channel_data, tab_and_forged, tabs_at, start_at, said_by, said_in, line_at};
+ghost use Rattle.wl_limits.specs.declared.tabs.TheConstants.{LAST_NUMBER};
 
 use crate::forgery::forged_of;
 use crate::line::Line;
@@ -171,7 +172,7 @@ fn tab_and_name(alloc: Global, words: &[&[u8]]) -> Result<(u16, Name), Unread>
 
 #[tactic(auto, unfolding(crate::specs::Lines::tab_and_number))]
 fn tab_and_command(words: &[&[u8]]) -> Result<(u16, u32), Unread>
-    ensures { Gives (λ x. x) result (tab_and_number most_command (texts words.now)) }
+    ensures { Gives (λ x. x) result (tab_and_number LAST_NUMBER (texts words.now)) }
 {
     let (tab, number) = two(words)?;
     Ok((tab_of(tab)?, command_of(number)?))

@@ -1,6 +1,6 @@
 //! The sim: a script in, the replies out.
 
-ghost use Rattle.std.specs.Prelude.{◌≡◌, ◌↔◌, ◌+◌, ◌<◌, ℕ, List, length, true, false, Err, OnOk};
+ghost use Rattle.std.specs.Prelude.{◌≡◌, ◌↔◌, ◌+◌, ◌<◌, ◌^◌, ℕ, List, length, true, false, Err, OnOk};
 ghost use Rattle.std.specs.Io.KnownBytes.{Appends, IsAtEnd};
 ghost use Rattle.wl_frames.specs.declared.device.TheConstants.{READ_LIMIT};
 ghost use Rattle.wl_script.specs.declared.sim.SimFault.TheVariants.{Write as write_fault, Memory as memory};
@@ -107,7 +107,7 @@ impl Sim {
         piece: &[u8],
         sink: &mut Sink<W>,
     ) -> Result<Sim, SimFault>
-        requires number { self.number + length piece.now < 4294967296 }
+        requires number { self.number + length piece.now < 2 ^ 32 }
         requires sink { sink.old.has_failed ≡ false }
         ensures taken { (output : List ℕ)
             × Appends (W.contents sink.old.writer) (W.contents sink.new.writer) output

@@ -66,10 +66,10 @@ fn read_link<R: Host>(
     deliver_all(rt, page, &mut incoming)
 }
 
-fn deliver_all<R: Host>(
+fn deliver_all<R: Host, S: Read>(
     rt: &R,
     page: &SharedPage,
-    incoming: &mut Incoming<'_>,
+    incoming: &mut Incoming<S>,
 ) -> Result<(), ProcessFault> {
     for _reads in 0..READ_LIMIT {
         let Some(frames) = incoming.next()? else {

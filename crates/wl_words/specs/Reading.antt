@@ -82,10 +82,7 @@ value_after n (d ∷ ds) = value_after (10 * n + (d - 48)) ds
 unfoldable pub number_at : ℕ → List ℕ → Option ℕ
 number_at most word = if is_number word then Some (min (value_after 0 word) most) else None
 
--- the greatest numbers of commands, and of anything else
-abbrev pub most_command : ℕ
-most_command = 4294967295
-
+-- the greatest number of anything but a command
 abbrev pub most_number : ℕ
 most_number = 18446744073709551615
 

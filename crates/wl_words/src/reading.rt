@@ -1,8 +1,9 @@
 //! Reading the words of a line.
 
 ghost use Rattle.std.specs.Prelude.{◌≡◌, IfOk};
-ghost use Rattle.wl_words.specs.Reading.{has_leading_zero as leading_zero, number_at, tab_at, mode_at, name_at, text_of as text_at, url_at, none, one, two, three, line_words_at, words_of, texts, most_command, most_number};
+ghost use Rattle.wl_words.specs.Reading.{has_leading_zero as leading_zero, number_at, tab_at, mode_at, name_at, text_of as text_at, url_at, none, one, two, three, line_words_at, words_of, texts, most_number};
 ghost use Rattle.wl_words.specs.Words.{Gives, unescaped};
+ghost use Rattle.wl_limits.specs.declared.tabs.TheConstants.{LAST_NUMBER};
 
 use crate::unread::Unread;
 use crate::words::unescape;
@@ -11,6 +12,7 @@ use std::alloc::{AllocError, Global};
 use std::str;
 use wl_draft::{Mode, Name};
 use wl_limits::scripts::LINE_LIMIT;
+use wl_limits::tabs::{LAST_NUMBER, LAST_TAB};
 
 // ---- lines
 
@@ -117,10 +119,10 @@ pub fn number_of(word: &[u8]) -> Result<u64, Unread>
 
 /// The number of a command; one above the greatest `u32` is read as that.
 pub fn command_of(word: &[u8]) -> Result<u32, Unread>
-    ensures { Gives (λ n. n) result (number_at most_command word.now) }
+    ensures { Gives (λ n. n) result (number_at LAST_NUMBER word.now) }
 {
     let number = number_of(word)?;
-    Ok(number.min(u64::from(u32::MAX)) as u32)
+    Ok(number.min(u64::from(LAST_NUMBER)) as u32)
 }
 
 /// The number of a tab, 1 to 65,535.
@@ -129,7 +131,7 @@ pub fn tab_of(word: &[u8]) -> Result<u16, Unread>
     ensures { Gives (λ n. n) result (tab_at word.now) }
 {
     let number = number_of(word)?;
-    if number < 1 || number > 65_535 {
+    if number < 1 || number > u64::from(LAST_TAB) {
         return Err(Unread::Form);
     }
     Ok(number as u16)

@@ -23,12 +23,13 @@ use Rattle.wl_grammar.specs.declared.frame.Downward.TheVariants as down
 use Rattle.wl_broker.specs.declared.seat.Seat.{Seat}
 use Rattle.wl_broker.specs.declared.seat.Seat.TheVariants.{Joined, Dead}
 use Rattle.wl_broker.specs.declared.dropped.Dropped.TheVariants.{OldGeneration, LaterGeneration, NotJoined, Recovering, OutOfTurn, DeadTab, AlreadyJoined, HeldByNewcomer, BadReport, Misplaced, TooMany, PartTwice}
-use Rattle.wl_broker.specs.Broker.{BrokerState, seat_of, manager_of, is_joined, is_dead, has_come, next_in, next_of, is_active, with_seat, settled_at, newly_at, answer_to, grants_to, outcome_of, snapshot_entries, parts_of, snapshot_part, snapshot_to, first_answer, later_answer, listed_at, is_listed, elsewhere, seated_at, or_else, has_held, all_below, is_lock, limit_in, limit_of, last_number, is_misplaced, place_of, generation_of, drafted, Taking, Drops, Does, join, perform, Partial, Told, Whole, partial_of, kept_at, at_once, in_part, fits, is_there, with_told, is_whole, whole_of, keeping, join_if, take_told, take_command, take_inner, taking, buried_at, burial}
+use Rattle.wl_broker.specs.Broker.{BrokerState, seat_of, manager_of, is_joined, is_dead, has_come, next_in, next_of, is_active, with_seat, settled_at, newly_at, answer_to, grants_to, outcome_of, snapshot_entries, parts_of, snapshot_part, snapshot_to, first_answer, later_answer, listed_at, is_listed, elsewhere, seated_at, or_else, has_held, all_below, is_lock, limit_in, limit_of, is_misplaced, place_of, generation_of, drafted, Taking, Drops, Does, join, perform, Partial, Told, Whole, partial_of, kept_at, at_once, in_part, fits, is_there, with_told, is_whole, whole_of, keeping, join_if, take_told, take_command, take_inner, taking, buried_at, burial}
 use Rattle.wl_broker.specs.Events.{broker_after}
 use Rattle.wl_broker.specs.Shards.{listed_of, is_seen, seen_at, taking_at, stands_in}
 use Rattle.wl_broker.proofs.Takings.{Takes, joins, keeps, repeats, performs, taking-Takes}
 use Rattle.wl_broker.proofs.shards.Cuts.{sieved, find-sieved, at-sieved, put-kept, put-lost, filter-spare}
 use Rattle.wl_broker.proofs.shards.Homes.{newly_at-Own, AtHome, Homes, Placed, manager_of-AtHome, with_seat-Homes, settled_at-Homes, with_told-home, place_of-Placed, Takes-Homes}
+use Rattle.wl_limits.specs.declared.tabs.TheConstants.{LAST_NUMBER}
 
 -- what is kept
 abbrev seat_test : (ℕ → Bool) → ℕ × Seat → Bool
@@ -231,8 +232,8 @@ module _ (home : ℕ → ℕ) (f : ℕ → Bool) where
       let o = c.operation in
       along (taking_at f) (not (is_joined (seat_of (seen_at f b) t))) (not (is_joined (seat_of b t))) _ _ (Drops NotJoined) _ (ap (λ s. not (is_joined s)) (for-seat b t i h)) (λ _. refl)
       (λ _. along (taking_at f) (not (is_active (seen_at f b) p)) (not (is_active b p)) _ _ (Drops Recovering) _ (ap not (for-active b p e h)) (λ _. refl)
-      (λ _. along (taking_at f) (nat_lt (next_of (seen_at f b) t) n || n == last_number) (nat_lt (next_of b t) n || n == last_number) _ _ (Drops OutOfTurn) _
-      (ap (λ s. nat_lt (next_in s) n || n == last_number) (for-seat b t i h)) (λ _. refl)
+      (λ _. along (taking_at f) (nat_lt (next_of (seen_at f b) t) n || n == LAST_NUMBER) (nat_lt (next_of b t) n || n == LAST_NUMBER) _ _ (Drops OutOfTurn) _
+      (ap (λ s. nat_lt (next_in s) n || n == LAST_NUMBER) (for-seat b t i h)) (λ _. refl)
       (λ _. along (taking_at f) (nat_lt n (next_of (seen_at f b) t)) (nat_lt n (next_of b t)) _ _ (Does b (later_answer b t p n o ∷ [])) _ (ap (λ s. nat_lt n (next_in s)) (for-seat b t i h))
       (λ _. ap (λ z. Does (seen_at f b) (z ∷ [])) (own-later_answer b t p n o i e h))
       (λ _. along (taking_at f) (is_lock o && nat_le (limit_of (seen_at f b) t) (live (manager_of (seen_at f b) p) t)) (is_lock o && nat_le (limit_of b t) (live (manager_of b p) t)) _ _ (Drops TooMany) (perform b t p n o)

@@ -12,6 +12,7 @@ use super::fields::{
 use super::kind::{Kind, kind_of};
 use std::alloc::Global;
 use wl_draft::{Entry, Mode, Name};
+use wl_grammar::boxed::Boxed;
 use wl_grammar::frame::{
     Addressed, Answer, Command, Dead, Downward, Frame, Heard, Hello, Operation, Outcome,
     PairWelcome, Post, Report, ReportPart, Snapshot, SnapshotEntry, Stamped, Start, Upward,
@@ -447,7 +448,7 @@ fn downward_fields_of(
         }
         Kind::Snapshot => {
             let (snapshot, rest) = snapshot_of(alloc, bytes)?;
-            Ok((Downward::Snapshot(snapshot), rest))
+            Ok((Downward::Snapshot(Boxed::new(alloc, snapshot)?), rest))
         }
         _ => Err(ReadFault::Field),
     }

@@ -21,13 +21,14 @@ use Rattle.wl_grammar.specs.declared.frame.Downward.TheVariants as down
 use Rattle.wl_broker.specs.declared.seat.Seat.{Seat}
 use Rattle.wl_broker.specs.declared.seat.Seat.TheVariants.{Joined, Dead}
 use Rattle.wl_broker.specs.declared.dropped.Dropped.TheVariants.{OldGeneration, LaterGeneration, NotJoined, Recovering, OutOfTurn, DeadTab, AlreadyJoined, HeldByNewcomer, BadReport, Misplaced, TooMany, PartTwice}
-use Rattle.wl_broker.specs.Broker.{BrokerState, seat_of, manager_of, is_joined, is_dead, has_come, next_in, next_of, is_active, with_seat, settled_at, newly_at, answer_to, grants_to, outcome_of, snapshot_entries, parts_of, snapshot_part, snapshot_to, first_answer, later_answer, listed_at, is_listed, elsewhere, seated_at, or_else, has_held, all_below, is_lock, limit_in, limit_of, last_number, is_misplaced, place_of, generation_of, drafted, Taking, Drops, Does, join, perform, Partial, Told, Whole, partial_of, kept_at, at_once, in_part, fits, is_there, with_told, is_whole, whole_of, keeping, join_if, take_told, take_command, take_inner, taking, buried_at, burial}
+use Rattle.wl_broker.specs.Broker.{BrokerState, seat_of, manager_of, is_joined, is_dead, has_come, next_in, next_of, is_active, with_seat, settled_at, newly_at, answer_to, grants_to, outcome_of, snapshot_entries, parts_of, snapshot_part, snapshot_to, first_answer, later_answer, listed_at, is_listed, elsewhere, seated_at, or_else, has_held, all_below, is_lock, limit_in, limit_of, is_misplaced, place_of, generation_of, drafted, Taking, Drops, Does, join, perform, Partial, Told, Whole, partial_of, kept_at, at_once, in_part, fits, is_there, with_told, is_whole, whole_of, keeping, join_if, take_told, take_command, take_inner, taking, buried_at, burial}
 use Rattle.wl_draft.specs.Membership.{In, Here, Later}
 use Rattle.wl_draft.proofs.Membership.{apart, either, by_test, along, filter-swap, map-same}
 use Rattle.wl_world.specs.Apart.{only, broker_for}
 use Rattle.wl_world.proofs.apart.Cuts.{filter-all, filter-nothing, filter-spare, find-only, at-only, only-put_in, only-put_out}
 use Rattle.wl_world.proofs.apart.CutMail.{outs_for}
 use Rattle.wl_world.proofs.apart.OnePartition.{Mates, Fits, first-told, later-told, grants-told, manager_of-Stands, with_seat-Fits, newly_at-Own, without-Own, Placed, place_of-Placed, settles, buries}
+use Rattle.wl_limits.specs.declared.tabs.TheConstants.{LAST_NUMBER}
 
 -- what is done, as the partition has it
 abbrev pub taking_for : (ℕ → Bool) → Taking → Taking
@@ -192,8 +193,8 @@ module _ (g f : ℕ → Bool) where
       let i : f p ≡ true = sym m.alike ∙ e in
       along (taking_for f) (not (is_joined (seat_of (broker_for f b) t))) (not (is_joined (seat_of b t))) _ _ (Drops NotJoined) _ (ap (λ s. not (is_joined s)) (for-seat b t e)) (λ _. refl)
       (λ _. along (taking_for f) (not (is_active (broker_for f b) p)) (not (is_active b p)) _ _ (Drops Recovering) _ (ap not (for-active b p i h)) (λ _. refl)
-      (λ _. along (taking_for f) (nat_lt (next_of (broker_for f b) t) n || n == last_number) (nat_lt (next_of b t) n || n == last_number) _ _ (Drops OutOfTurn) _
-      (ap (λ s. nat_lt (next_in s) n || n == last_number) (for-seat b t e)) (λ _. refl)
+      (λ _. along (taking_for f) (nat_lt (next_of (broker_for f b) t) n || n == LAST_NUMBER) (nat_lt (next_of b t) n || n == LAST_NUMBER) _ _ (Drops OutOfTurn) _
+      (ap (λ s. nat_lt (next_in s) n || n == LAST_NUMBER) (for-seat b t e)) (λ _. refl)
       (λ _. along (taking_for f) (nat_lt n (next_of (broker_for f b) t)) (nat_lt n (next_of b t)) _ _ (Does b (later_answer b t p n o ∷ [])) _ (ap (λ s. nat_lt n (next_in s)) (for-seat b t e))
       (λ _. ap (Does (broker_for f b)) (ap (λ z. z ∷ []) (own-later_answer b t p n o e i) ∙ sym (cond-true _ _ _ (ap f (later-told b t p n o) ∙ e))))
       (λ _. along (taking_for f) (is_lock o && nat_le (limit_of (broker_for f b) t) (live (manager_of (broker_for f b) p) t)) (is_lock o && nat_le (limit_of b t) (live (manager_of b p) t)) _ _ (Drops TooMany) (perform b t p n o)
@@ -292,7 +293,7 @@ module _ (g f : ℕ → Bool) where
       let o = c.operation in
       either (Unseen f b) (not (is_joined (seat_of b t))) (Drops NotJoined) _ (λ _. tt)
       (λ _. either (Unseen f b) (not (is_active b p)) (Drops Recovering) _ (λ _. tt)
-      (λ _. either (Unseen f b) (nat_lt (next_of b t) n || n == last_number) (Drops OutOfTurn) _ (λ _. tt)
+      (λ _. either (Unseen f b) (nat_lt (next_of b t) n || n == LAST_NUMBER) (Drops OutOfTurn) _ (λ _. tt)
       (λ _. either (Unseen f b) (nat_lt n (next_of b t)) (Does b (later_answer b t p n o ∷ [])) _
       (λ _. (refl, cond-false _ _ _ (ap f (later-told b t p n o) ∙ e)))
       (λ _. either (Unseen f b) (is_lock o && nat_le (limit_of b t) (live (manager_of b p) t)) (Drops TooMany) (perform b t p n o) (λ _. tt)

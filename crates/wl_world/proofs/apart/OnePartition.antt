@@ -19,9 +19,10 @@ use Rattle.wl_grammar.specs.declared.frame.Upward.TheVariants as up
 use Rattle.wl_broker.specs.declared.seat.Seat.{Seat}
 use Rattle.wl_broker.specs.declared.seat.Seat.TheVariants.{Joined, Dead}
 use Rattle.wl_broker.specs.declared.dropped.Dropped.TheVariants.{OldGeneration, LaterGeneration, NotJoined, Recovering, OutOfTurn, DeadTab, AlreadyJoined, HeldByNewcomer, BadReport, Misplaced, TooMany, PartTwice}
-use Rattle.wl_broker.specs.Broker.{BrokerState, seat_of, manager_of, is_joined, is_dead, next_of, is_active, with_seat, settled_at, newly_at, answer_to, grants_to, snapshot_entries, parts_of, snapshot_part, snapshot_to, first_answer, later_answer, listed_at, is_listed, seated_at, or_else, has_held, all_below, is_lock, limit_of, last_number, is_misplaced, place_of, generation_of, drafted, Taking, Drops, Does, join, perform, Partial, Told as ToldBy, Whole, partial_of, at_once, in_part, fits, is_there, with_told, is_whole, whole_of, keeping, join_if, take_told, take_command, take_inner, taking, buried_at, burial}
+use Rattle.wl_broker.specs.Broker.{BrokerState, seat_of, manager_of, is_joined, is_dead, next_of, is_active, with_seat, settled_at, newly_at, answer_to, grants_to, snapshot_entries, parts_of, snapshot_part, snapshot_to, first_answer, later_answer, listed_at, is_listed, seated_at, or_else, has_held, all_below, is_lock, limit_of, is_misplaced, place_of, generation_of, drafted, Taking, Drops, Does, join, perform, Partial, Told as ToldBy, Whole, partial_of, at_once, in_part, fits, is_there, with_told, is_whole, whole_of, keeping, join_if, take_told, take_command, take_inner, taking, buried_at, burial}
 use Rattle.wl_draft.specs.Membership.{In, Here, Later}
 use Rattle.wl_draft.proofs.Membership.{either, In-nil, In-one, In-append_cases, In-map_cases, In-filter_cases}
+use Rattle.wl_limits.specs.declared.tabs.TheConstants.{LAST_NUMBER}
 
 -- ---- the broker
 
@@ -198,7 +199,7 @@ module _ (g f : ℕ → Bool) where
       let o = c.operation in
       either (FitsTaking g f) (not (is_joined (seat_of b t))) (Drops NotJoined) _ (λ _. tt)
       (λ _. either (FitsTaking g f) (not (is_active b p)) (Drops Recovering) _ (λ _. tt)
-      (λ _. either (FitsTaking g f) (nat_lt (next_of b t) n || n == last_number) (Drops OutOfTurn) _ (λ _. tt)
+      (λ _. either (FitsTaking g f) (nat_lt (next_of b t) n || n == LAST_NUMBER) (Drops OutOfTurn) _ (λ _. tt)
       (λ _. either (FitsTaking g f) (nat_lt n (next_of b t)) (Does b (later_answer b t p n o ∷ [])) _
       (λ _. (h, λ y i. ap (λ z. g z.tab) (In-one i) ∙ ap g (later-told b t p n o) ∙ m.left))
       (λ _. either (FitsTaking g f) (is_lock o && nat_le (limit_of b t) (live (manager_of b p) t)) (Drops TooMany) (perform b t p n o) (λ _. tt)

@@ -20,15 +20,13 @@ use Rattle.wl_grammar.specs.declared.frame.Addressed.{Addressed}
 use Rattle.wl_grammar.specs.declared.frame.Stamped.{Stamped}
 use Rattle.wl_grammar.specs.declared.frame.Upward.{Upward}
 use Rattle.wl_grammar.specs.declared.frame.Upward.TheVariants as up
-use Rattle.wl_broker.specs.Broker.{BrokerState, Told, Does, join, join_if, take_told, perform, take_command, take_inner, at_once, in_part, taking, seat_of, is_joined, is_dead, is_misplaced, is_listed, listed_at, has_held, all_below, fits, partial_of, is_there, is_whole, with_told, is_active, next_of, last_number, is_lock, limit_of, manager_of, generation_of}
+use Rattle.wl_broker.specs.Broker.{BrokerState, Told, Does, join, join_if, take_told, perform, take_command, take_inner, at_once, in_part, taking, seat_of, is_joined, is_dead, is_misplaced, is_listed, listed_at, has_held, all_below, fits, partial_of, is_there, is_whole, with_told, is_active, next_of, is_lock, limit_of, manager_of, generation_of}
 use Rattle.wl_broadcast.specs.declared.letter.Letter.{Letter}
 use Rattle.wl_broadcast.specs.declared.fault.ChannelFault.{ChannelFault}
 use Rattle.wl_broadcast.specs.Channels.{ChannelState, open_refusal as channel_refusal, is_old, is_own as is_own_channel, first_of, inbox_at, post_limit, channel_limit, open_count}
 use Rattle.wl_agent.specs.declared.fault.AgentFault.{AgentFault}
 use Rattle.wl_agent.specs.declared.delivered.Unheard.{Unheard}
-use Rattle.wl_agent.specs.declared.delivered.Unheard.TheVariants as unheard
 use Rattle.wl_agent.specs.declared.delivered.Delivered.{Delivered}
-use Rattle.wl_agent.specs.declared.delivered.Delivered.TheVariants as told
 use Rattle.wl_agent.specs.declared.status.Status.{Status}
 use Rattle.wl_agent.specs.declared.status.Status.TheVariants.{Asked, Held, Querying}
 use Rattle.wl_agent.specs.Parts.{PartsState, with_part, is_whole as all_came, fits as fits_in}
@@ -51,6 +49,7 @@ use Rattle.wl_world.specs.declared.event.Event.TheVariants as event
 use Rattle.wl_world.specs.World.{WorldState, tab_of, channels_of, lives, is_corrupt, resent, forgery}
 use Rattle.wl_world.specs.Replies.{issued_next, some_resent, read_letter, some_forged, delivering, said_of, reply_of}
 use Rattle.wl_world.specs.Refusals.{says_memory, MemoryIsNeverSaid}
+use Rattle.wl_limits.specs.declared.tabs.TheConstants.{LAST_NUMBER}
 
 -- what is said of this does not give refused memory as its reason
 record Never {X : Type 0} (of : X → Said) (x : X) : Type 0 where
@@ -156,7 +155,7 @@ command-never s b t p n o =
     let of = taking_said s in
     by_test of (not (is_joined (seat_of b t))) (now refl)
     (by_test of (not (is_active b p)) (now refl)
-    (by_test of (nat_lt (next_of b t) n || n == last_number) (now refl)
+    (by_test of (nat_lt (next_of b t) n || n == LAST_NUMBER) (now refl)
     (by_test of (nat_lt n (next_of b t)) (does-never s _ _)
     (by_test of (is_lock o && nat_le (limit_of b t) (live (manager_of b p) t)) (now refl) (does-never s _ _)))))
 

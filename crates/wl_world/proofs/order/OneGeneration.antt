@@ -16,10 +16,11 @@ use Rattle.wl_grammar.specs.declared.frame.Downward.{Downward}
 use Rattle.wl_grammar.specs.declared.frame.Downward.TheVariants as down
 use Rattle.wl_broker.specs.declared.seat.Seat.TheVariants.{Joined, Dead}
 use Rattle.wl_broker.specs.declared.dropped.Dropped.TheVariants.{OldGeneration, LaterGeneration, NotJoined, Recovering, OutOfTurn, DeadTab, AlreadyJoined, HeldByNewcomer, BadReport, Misplaced, TooMany, PartTwice}
-use Rattle.wl_broker.specs.Broker.{BrokerState, seat_of, manager_of, is_joined, is_dead, next_of, is_active, with_seat, settled_at, newly_at, answer_to, grants_to, snapshot_entries, parts_of, snapshot_part, snapshot_to, first_answer, later_answer, listed_at, is_listed, has_held, all_below, is_lock, limit_of, last_number, is_misplaced, place_of, generation_of, drafted, Taking, Drops, Does, Told, Whole, partial_of, at_once, in_part, fits, is_there, with_told, is_whole, whole_of, keeping, join, join_if, perform, take_told, take_command, take_inner, taking, buried_at, burial}
+use Rattle.wl_broker.specs.Broker.{BrokerState, seat_of, manager_of, is_joined, is_dead, next_of, is_active, with_seat, settled_at, newly_at, answer_to, grants_to, snapshot_entries, parts_of, snapshot_part, snapshot_to, first_answer, later_answer, listed_at, is_listed, has_held, all_below, is_lock, limit_of, is_misplaced, place_of, generation_of, drafted, Taking, Drops, Does, Told, Whole, partial_of, at_once, in_part, fits, is_there, with_told, is_whole, whole_of, keeping, join, join_if, perform, take_told, take_command, take_inner, taking, buried_at, burial}
 use Rattle.wl_draft.specs.Membership.{In}
 use Rattle.wl_draft.proofs.Membership.{either, In-nil, In-one, In-append_cases, In-map_cases}
 use Rattle.wl_world.proofs.order.TakenIsPicked.{settled-fields}
+use Rattle.wl_limits.specs.declared.tabs.TheConstants.{LAST_NUMBER}
 
 abbrev pub AnswerDown : ℕ → Downward → Type 0
 AnswerDown g (down.Hello h) = ⊥
@@ -91,7 +92,7 @@ inner-speaks b t p (up.Command x) =
     let c = x.operation in
     either (Speaks b) (not (is_joined (seat_of b t))) (Drops NotJoined) _ (λ _. tt)
     (λ _. either (Speaks b) (not (is_active b p)) (Drops Recovering) _ (λ _. tt)
-    (λ _. either (Speaks b) (nat_lt (next_of b t) n || n == last_number) (Drops OutOfTurn) _ (λ _. tt)
+    (λ _. either (Speaks b) (nat_lt (next_of b t) n || n == LAST_NUMBER) (Drops OutOfTurn) _ (λ _. tt)
     (λ _. either (Speaks b) (nat_lt n (next_of b t)) (Does b (later_answer b t p n c ∷ [])) _
     (λ _. (refl, λ a i. subst (Of b.generation) (sym (In-one i)) (later-of b t p n c)))
     (λ _. either (Speaks b) (is_lock c && nat_le (limit_of b t) (live (manager_of b p) t)) (Drops TooMany) (perform b t p n c) (λ _. tt) (λ _. perform-speaks b t p n c)))))

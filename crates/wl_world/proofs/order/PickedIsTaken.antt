@@ -17,7 +17,7 @@ use Rattle.wl_broker.specs.declared.seat.Seat.{Seat}
 use Rattle.wl_broker.specs.declared.seat.Seat.TheVariants.{Joined, Dead}
 use Rattle.wl_broker.specs.declared.dropped.Dropped.{Dropped}
 use Rattle.wl_broker.specs.declared.dropped.Dropped.TheVariants.{OldGeneration, LaterGeneration, NotJoined, Recovering, OutOfTurn, DeadTab, AlreadyJoined, HeldByNewcomer, BadReport, Misplaced, TooMany, PartTwice}
-use Rattle.wl_broker.specs.Broker.{BrokerState, seat_of, manager_of, is_joined, is_dead, has_come, next_in, next_of as broker_next, limit_in, limit_of as broker_limit, Partial, partial_of, kept_at, Told, at_once, in_part, fits, is_there, with_told, is_whole, whole_of, keeping, join_if, is_active, with_seat, settled_at, newly_at, answer_to, listed_at, is_listed, elsewhere, seated_at, or_else, place_of, is_misplaced, has_held, all_below, last_number, generation_of, later_answer, Taking, Drops, Does, join, perform, take_told, take_command, take_inner, taking, buried_at, burial}
+use Rattle.wl_broker.specs.Broker.{BrokerState, seat_of, manager_of, is_joined, is_dead, has_come, next_in, next_of as broker_next, limit_in, limit_of as broker_limit, Partial, partial_of, kept_at, Told, at_once, in_part, fits, is_there, with_told, is_whole, whole_of, keeping, join_if, is_active, with_seat, settled_at, newly_at, answer_to, listed_at, is_listed, elsewhere, seated_at, or_else, place_of, is_misplaced, has_held, all_below, generation_of, later_answer, Taking, Drops, Does, join, perform, take_told, take_command, take_inner, taking, buried_at, burial}
 use Rattle.wl_bag.specs.declared.message.Message.{Message}
 use Rattle.wl_bag.specs.declared.message.Message.TheVariants.{Up}
 use Rattle.wl_bag.specs.Messages.{sent_all}
@@ -35,6 +35,7 @@ use Rattle.wl_world.proofs.order.RunsOfCommands.{ordered-dies}
 use Rattle.wl_world.proofs.order.BrokerIsPicked.{seat_by, Tied, Kept, own-tab, active-complete, seats-more, tied-more, kept-more}
 use Rattle.wl_world.proofs.order.Standings.{ended-stands, ended-none, standing-granted, joined-facts, dead-facts, seat_by-dies}
 use Rattle.wl_world.proofs.order.TakenIsPicked.{Tells, newly-here, settled-fields, Spoken, spoken-from, seated-facts, item-follows, join-follows, perform-follows}
+use Rattle.wl_limits.specs.declared.tabs.TheConstants.{LAST_NUMBER}
 
 active-is : (b : BrokerState) (p : ℕ) → is_active b p ≡ list_all (λ x. not (x.1 == p) || has_come (seat_of b x.0)) b.listed
 unfolding is_active
@@ -281,7 +282,7 @@ module _ (part : ℕ → ℕ) (opened : ℕ → Bool) (g : ℕ) (b : BrokerState
   unfolding takes_command take_command
   command-follows n c is =
       subst (λ v. Tells part opened g b issued honest bag (cond v (adds t p (Commands n c) k) k) taken) (sym same)
-      (command-cases (λ o v. Tells part opened g b issued honest bag (cond v (adds t p (Commands n c) k) k) o) (is_dead (seat_of b t)) (is_misplaced b t p) (has_report (of_tab t (of_partition p k.items))) (is_joined (seat_of b t)) (is_active b p) (nat_lt (broker_next b t) n) (n == last_number) (nat_lt n (broker_next b t))
+      (command-cases (λ o v. Tells part opened g b issued honest bag (cond v (adds t p (Commands n c) k) k) o) (is_dead (seat_of b t)) (is_misplaced b t p) (has_report (of_tab t (of_partition p k.items))) (is_joined (seat_of b t)) (is_active b p) (nat_lt (broker_next b t) n) (n == LAST_NUMBER) (nat_lt n (broker_next b t))
       (has_too_many (broker_limit b t) (manager_of b p) t c) (n == next_of (of_tab t (of_partition p k.items))) (Does b (later_answer b t p n c ∷ [])) (perform b t p n c)
       report-same
       (λ _ j e. let h : broker_next b t < n = ltb-true _ _ e in ne_eqb n _ (λ s. let q : broker_next b t ≡ next_of (of_tab t (of_partition p k.items)) = next j in let s' : n ≡ next_of (of_tab t (of_partition p k.items)) = s in omega arith))
@@ -306,11 +307,11 @@ module _ (part : ℕ → ℕ) (opened : ℕ → Bool) (g : ℕ) (b : BrokerState
       where_alive false false false f x y e = refl
       where_alive false false true f x y e = ap f (e refl refl)
 
-      same : takes_command k t p n c ≡ (not (is_dead (seat_of b t)) && (not (is_misplaced b t p) && (has_report (of_tab t (of_partition p k.items)) && (is_active b p && (not (n == last_number) && ((n == next_of (of_tab t (of_partition p k.items))) && not (has_too_many (broker_limit b t) (manager_of b p) t c)))))))
+      same : takes_command k t p n c ≡ (not (is_dead (seat_of b t)) && (not (is_misplaced b t p) && (has_report (of_tab t (of_partition p k.items)) && (is_active b p && (not (n == LAST_NUMBER) && ((n == next_of (of_tab t (of_partition p k.items))) && not (has_too_many (broker_limit b t) (manager_of b p) t c)))))))
       same = ap₂ (λ x y. not x && y) death-same (ap₂ (λ x y. not x && y) off-same
-          (ap₂ (λ x m. has_report (of_tab t (of_partition p k.items)) && (x && (not (n == last_number) && ((n == next_of (of_tab t (of_partition p k.items))) && not (has_too_many (limit_of (of_tab t (of_partition p k.items))) m t c)))))
+          (ap₂ (λ x m. has_report (of_tab t (of_partition p k.items)) && (x && (not (n == LAST_NUMBER) && ((n == next_of (of_tab t (of_partition p k.items))) && not (has_too_many (limit_of (of_tab t (of_partition p k.items))) m t c)))))
           (sym (active-complete part opened b k p kept.placed tie.same tie.places tie.seats)) (sym (tie.managers p))))
-          ∙ where_alive (is_dead (seat_of b t)) (is_misplaced b t p) (has_report (of_tab t (of_partition p k.items))) (λ l. is_active b p && (not (n == last_number) && ((n == next_of (of_tab t (of_partition p k.items))) && not (has_too_many l (manager_of b p) t c))))
+          ∙ where_alive (is_dead (seat_of b t)) (is_misplaced b t p) (has_report (of_tab t (of_partition p k.items))) (λ l. is_active b p && (not (n == LAST_NUMBER) && ((n == next_of (of_tab t (of_partition p k.items))) && not (has_too_many l (manager_of b p) t c))))
           (limit_of (of_tab t (of_partition p k.items))) (broker_limit b t) room
 
   -- the message is one that the tab may have sent, where it is honest

@@ -106,6 +106,6 @@ fn frame_of(alloc: Global, inner: &Downward) -> Result<Frame, AllocError>
             number: answer.number,
             outcome: answer.outcome,
         }),
-        Downward::Snapshot(snapshot) => Frame::Snapshot(snapshot.copy(alloc)?),
+        Downward::Snapshot(snapshot) => Frame::Snapshot(snapshot.get().copy(alloc)?),
     })
 }

@@ -6,8 +6,8 @@ use bytes::Bytes;
 use std::alloc::{AllocError, Global};
 use std::process::Abort;
 use wl_frames::{
-    Addressed, Answer, Command, Downward, Entry, Heard, Hello, Mode, Operation, Outcome, Report,
-    Sequence, Snapshot, SnapshotEntry, Stamped, Upward,
+    Addressed, Answer, Boxed, Command, Downward, Entry, Heard, Hello, Mode, Operation, Outcome,
+    Report, Sequence, Snapshot, SnapshotEntry, Stamped, Upward,
 };
 use wl_script::line::Line;
 use wl_script::reading::read_line;
@@ -327,13 +327,21 @@ fn greets(rt: &impl Abort, alloc: Global, text: &str) {
     );
 }
 
-fn lists(rt: &impl Abort, alloc: Global, text: &str) {
+fn only_part(rt: &impl Abort, alloc: Global) -> Result<Boxed<Snapshot>, AllocError> {
     let snapshot = Snapshot {
         generation: 1,
         number: 1,
         part: 0,
         parts: 1,
         entries: locks(rt, alloc),
+    };
+    Boxed::new(alloc, snapshot)
+}
+
+fn lists(rt: &impl Abort, alloc: Global, text: &str) {
+    let snapshot = match only_part(rt, alloc) {
+        Ok(snapshot) => snapshot,
+        Err(AllocError) => only_part(rt, alloc).expect(rt, "memory is back"),
     };
     has_text(
         rt,

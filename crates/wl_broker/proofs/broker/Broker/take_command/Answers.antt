@@ -1,6 +1,7 @@
 use Rattle.std.proofs.Common.{◌≡◌, ◌<◌, ◌||◌, ℕ, List, Some, nat_lt, eqb, sym, ap, ◌∙◌, subst, arith}
 use Rattle.std.proofs.Math.Path.{ap₂}
 use Rattle.std.proofs.lemmas.Result.{IfOk-weaker}
+use Rattle.wl_limits.specs.declared.tabs.TheConstants.{LAST_NUMBER}
 use Rattle.wl_grammar.specs.declared.frame.Addressed.{Addressed}
 use Rattle.wl_broker.specs.declared.seat.Seat.TheVariants.{Joined}
 use Rattle.wl_broker.specs.Broker.{BrokerState, Taking, copied, IsTaken, next_of}
@@ -26,7 +27,7 @@ returns-then-is_out_of_turn-clause-dropped g c = λ _.
     let joined = joined_here b.generation b.listed.entries b.seats.entries b.partitions.entries b.kept.entries c.args.self.now c.args.tab c.args.partition c.self.view_is c.requires.placed _ c.requires.seat (sym c.is_joined.ensures ∙ c.if-not-is_joined.false) in
     let active = active_here b.generation b.listed.entries b.seats.entries b.partitions.entries b.kept.entries c.args.self.now c.args.tab c.args.partition c.self.view_is c.requires.placed _ c.requires.seat (sym c.is_joined.ensures ∙ c.if-not-is_joined.false) _ c.row_at-row.ensures c.self.invariant.0 ∙ sym c.is_active_in.ensures ∙ c.if-not-is_active_in.false in
     let next = next_here b.generation b.listed.entries b.seats.entries b.partitions.entries b.kept.entries c.args.self.now c.args.tab c.args.partition c.self.view_is c.requires.placed _ c.requires.seat (sym c.is_joined.ensures ∙ c.if-not-is_joined.false) ∙ sym c.next_in-next.ensures in
-    let out = ap (λ (m : ℕ). nat_lt m c.args.number || eqb c.args.number 4294967295) next ∙ sym c.is_out_of_turn.ensures ∙ c.if-is_out_of_turn.true in
+    let out = ap (λ (m : ℕ). nat_lt m c.args.number || eqb c.args.number LAST_NUMBER) next ∙ sym c.is_out_of_turn.ensures ∙ c.if-is_out_of_turn.true in
     out_of_turn c.args.self.now c.args.tab c.args.partition c.args.number c.args.operation.now joined active out
 
 pub returns-then-number-next-clause-taken : goal.returns-then-number-next-clause-taken
