@@ -35,6 +35,7 @@ crates/locked_speed/out/locked_speed: crates.txt $(wildcard crates/wl_*/src/*.rt
 	cd crates/locked_speed && rt run > /dev/null
 
 test:
+	@python3 tools/more_edits.py --fit
 	rt ci
 	@python3 tools/check_program.py crates/wlb/out/wlb
 
