@@ -5,6 +5,7 @@ mod broker;
 mod comparing;
 mod desk;
 mod growths;
+mod incoming;
 mod lane_ends;
 mod lanes;
 mod outbox;
