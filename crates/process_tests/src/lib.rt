@@ -17,6 +17,8 @@ mod running;
 #[cfg(test)]
 mod stage;
 #[cfg(test)]
+mod supervising;
+#[cfg(test)]
 mod tests;
 
 #[cfg(test)]

@@ -1,13 +1,16 @@
 //! What the kernel's threads share. Locks are taken in the order in which they stand here. While a device is called none is held
 //! but the link's and the broker's, and the supervisor's while the Start frame is written, which a fresh socket takes.
 
+ghost use Rattle.std.specs.Prelude.{◌≡◌, ◌++◌, IfOk, OnOk, OnErr};
+ghost use Rattle.wl_grammar.specs.Grammar.{IsTab};
+ghost use Rattle.wl_kernel.specs.Routes.{IsWellRouted};
+ghost use Rattle.wl_kernel_rules.specs.Supervised.{IsSentOn, to_broker};
+
 mod orders;
 
-use crate::hub::orders::Orders;
 pub(crate) use crate::hub::orders::Stop;
 use crate::post::{Post, Taking};
-use crate::supervisor::Supervisor;
-use std::alloc::{AllocError, AllocFailed, Global};
+use std::alloc::{AllocError, Global};
 use std::collections::BTreeMap;
 use std::io::Write;
 use std::net::Shutdown;
@@ -15,8 +18,9 @@ use std::os::unix::net::UnixStream;
 use std::process::Child;
 use std::sync::{Arc, Condvar, Mutex, Wait};
 use wl_board::{Birth, Board};
-use wl_frames::{Dead, Frame, Hello, Origin, PairWelcome, Upward, Welcome, encode};
-use wl_kernel::{OpenFault, RouteFault, Routed};
+use wl_frames::{Frame, Hello};
+use wl_kernel::{RouteFault, Routed};
+use wl_kernel_rules::{Delivery, Orders, Origins, Sent, Supervisor, Unopened, death_of, told_late};
 use wl_limits::brokers::LAST_GENERATION;
 use wl_limits::tabs::LAST_TAB;
 use wl_origin::Partition;
@@ -59,25 +63,6 @@ impl BrokerProcess {
     }
 }
 
-/// Why a tab was not opened.
-pub(crate) enum Unopened {
-    TabsUsedUp,
-    Refused(OpenFault),
-    Failed(ProcessFault),
-}
-
-impl From<AllocError> for Unopened {
-    fn from(_refused: AllocError) -> Unopened {
-        Unopened::Failed(ProcessFault::Memory)
-    }
-}
-
-impl<T: Drop> From<AllocFailed<T>> for Unopened {
-    fn from(_refused: AllocFailed<T>) -> Unopened {
-        Unopened::Failed(ProcessFault::Memory)
-    }
-}
-
 /// A tab that was opened, and not started yet.
 #[derive(Drop)]
 pub(crate) struct Opened {
@@ -90,7 +75,9 @@ pub(crate) struct Opened {
 
 impl Opened {
     /// A tab of the partition of this number, for which nothing is put yet.
-    fn new(alloc: Global, tab: u16, partition: u16) -> Result<Opened, AllocError> {
+    fn new(alloc: Global, tab: u16, partition: u16) -> Result<Opened, AllocError>
+        requires { IsTab tab }
+    {
         let death = death_of(alloc, tab)?;
         let (post, taking) = Post::new(alloc, partition, tab)?;
         let post = Arc::new(alloc, post)?;
@@ -101,60 +88,6 @@ impl Opened {
             death,
         })
     }
-}
-
-/// What tells the broker that the tab is dead.
-fn death_of(alloc: Global, tab: u16) -> Result<Vec<u8>, AllocError> {
-    let mut death = Vec::new(alloc);
-    append_last(alloc, &mut death, Frame::Dead(Dead { tab }))?;
-    Ok(death)
-}
-
-/// Appends the encoding of a frame that is not needed any more.
-fn append_last(alloc: Global, bytes: &mut Vec<u8>, frame: Frame) -> Result<(), AllocError> {
-    append(alloc, bytes, &frame)
-}
-
-/// The origins of a page, of which its welcome tells.
-#[derive(Drop)]
-struct Origins {
-    /// That of the page at the top, where the welcome tells of both.
-    top: Option<Origin>,
-    own: Origin,
-}
-
-impl Origins {
-    fn new(alloc: Global, partition: &Partition, is_pair: bool) -> Result<Origins, AllocError> {
-        let own = origin_of(alloc, partition.text())?;
-        let top = match is_pair {
-            true => Some(origin_of(alloc, partition.top_text())?),
-            false => None,
-        };
-        Ok(Origins { top, own })
-    }
-
-    /// The welcome of a tab.
-    fn welcome(self, tab: u16) -> Frame {
-        let Origins { top, own } = self;
-        match top {
-            Some(top) => Frame::PairWelcome(PairWelcome { tab, top, own }),
-            None => Frame::Welcome(Welcome { tab, origin: own }),
-        }
-    }
-}
-
-fn origin_of(alloc: Global, text: &str) -> Result<Origin, AllocError> {
-    Ok(Origin::new(String::from_str(alloc, text)?))
-}
-
-/// A tab that has sent something.
-#[derive(Clone, Copy)]
-struct Sender {
-    tab: u16,
-    /// The number of its partition.
-    partition: u16,
-    /// The generation of the broker that runs.
-    current: Option<u32>,
 }
 
 #[derive(Drop)]
@@ -228,7 +161,9 @@ impl Hub {
     }
 
     /// Begins the life of a tab of the partition of this number: it has an outbox, and its end can be waited for.
-    fn begin<R: Wait>(&self, rt: &R, tab: u16, partition: u16) -> Result<Opened, AllocError> {
+    fn begin<R: Wait>(&self, rt: &R, tab: u16, partition: u16) -> Result<Opened, AllocError>
+        requires { IsTab tab }
+    {
         let opened = Opened::new(self.alloc, tab, partition)?;
         self.ends.lock(rt).begin(tab)?;
         self.keep_post(rt, tab, &opened.post)?;
@@ -247,7 +182,9 @@ impl Hub {
         rt: &R,
         supervisor: &mut Supervisor,
         partition: Partition,
-    ) -> Result<(u16, u16), Unopened> {
+    ) -> Result<(u16, u16), Unopened>
+        ensures { IfOk result (λ r. IsTab r.0) }
+    {
         let Some(drawing) = self.seats.first() else {
             return Err(Unopened::TabsUsedUp);
         };
@@ -257,11 +194,7 @@ impl Hub {
             return Err(Unopened::TabsUsedUp);
         };
         let tab = ticket.tab();
-        let number = match supervisor.open(tab, partition) {
-            Ok(number) => number,
-            Err(OpenFault::Memory) => return Err(Unopened::Failed(ProcessFault::Memory)),
-            Err(fault) => return Err(Unopened::Refused(fault)),
-        };
+        let number = supervisor.open(tab, partition)?;
         match seat.birth(ticket) {
             Birth::Born | Birth::WasDead => {}
         }
@@ -282,75 +215,72 @@ impl Hub {
         }
     }
 
-    /// What a tab sends goes on its way: a stamped frame is appended to those that go to the broker.
+    /// What a tab sends goes on its way: to the other tabs of its partition, or, stamped with its number and its partition's,
+    /// behind these bytes, which go to the broker. Who sent it for a generation that has ended is told of the current one.
     pub(crate) fn up<R: Wait>(
         &self,
         rt: &R,
         tab: u16,
         frame: Frame,
         bytes: &mut Vec<u8>,
-    ) -> Result<(), RouteFault> {
-        match self.route_up(rt, tab, frame)? {
-            (sender, Routed::Broker(frame)) => self.up_to_broker(rt, sender, &frame, bytes),
-            (sender, Routed::Tabs(heard)) => {
-                for (target, frame) in heard.into_vec() {
-                    self.put(rt, target, sender.partition, frame);
+    ) -> Result<(), RouteFault>
+        ensures sent { OnOk result (IsSentOn tab frame bytes.old.items bytes.new.items) }
+        ensures err { OnErr result (bytes.new.items ≡ bytes.old.items) }
+    {
+        let sent = self.supervisor.lock(rt).send(tab, frame)?;
+        self.pass_on(rt, tab, sent, bytes)?;
+        Ok(())
+    }
+
+    /// What a tab has sent goes on its way.
+    fn pass_on<R: Wait>(
+        &self,
+        rt: &R,
+        tab: u16,
+        sent: Sent,
+        bytes: &mut Vec<u8>,
+    ) -> Result<(), AllocError>
+        ensures passed { IsWellRouted sent.routed
+            → OnOk result (bytes.new.items ≡ bytes.old.items ++ to_broker sent.routed) }
+        ensures err { OnErr result (bytes.new.items ≡ bytes.old.items) }
+    {
+        let Sent {
+            routed,
+            partition,
+            current,
+        } = sent;
+        match routed {
+            Routed::Broker(frame) => {
+                if let Some(hello) = told_late(&frame, current) {
+                    self.put(rt, tab, partition, hello);
                 }
+                append(self.alloc, bytes, &frame)
+            }
+            Routed::Tabs(heard) => {
+                self.put_all(rt, partition, heard.into_vec());
                 Ok(())
             }
         }
     }
 
-    /// Where a tab's frame goes, and who has sent it.
-    fn route_up<R: Wait>(
-        &self,
-        rt: &R,
-        tab: u16,
-        frame: Frame,
-    ) -> Result<(Sender, Routed), RouteFault> {
-        let supervisor = self.supervisor.lock(rt);
-        let sender = supervisor.partition_number(tab).map(|partition| Sender {
-            tab,
-            partition,
-            current: supervisor.current(),
-        });
-        let routed = supervisor.route_up(tab, frame);
-        drop(supervisor);
-        match (routed, sender) {
-            (Ok(routed), Some(sender)) => Ok((sender, routed)),
-            (Err(fault), _) => Err(fault),
-            (Ok(_), None) => Err(RouteFault::NoTab),
+    /// Puts frames that come from the partition of this number into the outboxes of these tabs.
+    fn put_all<R: Wait>(&self, rt: &R, partition: u16, heard: Vec<(u16, Frame)>) {
+        for (target, frame) in heard {
+            self.put(rt, target, partition, frame);
         }
-    }
-
-    /// Appends a stamped frame to those that go to the broker. Who sent it for a generation that has ended is told of the current
-    /// one.
-    fn up_to_broker<R: Wait>(
-        &self,
-        rt: &R,
-        sender: Sender,
-        frame: &Frame,
-        bytes: &mut Vec<u8>,
-    ) -> Result<(), RouteFault> {
-        if let (Some(sent), Some(generation)) = (generation_of(frame), sender.current) {
-            if sent < generation {
-                let hello = Frame::Hello(Hello { generation });
-                self.put(rt, sender.tab, sender.partition, hello);
-            }
-        }
-        append(self.alloc, bytes, frame)?;
-        Ok(())
     }
 
     /// What the broker of this generation sends goes into its tab's outbox. A frame that is refused is lost.
     pub(crate) fn down<R: Wait>(&self, rt: &R, generation: u32, frame: Frame) {
-        let supervisor = self.supervisor.lock(rt);
-        let Ok((tab, frame)) = supervisor.route_down(generation, frame) else {
-            return;
-        };
-        let partition = supervisor.partition_number(tab);
-        drop(supervisor);
-        if let Some(partition) = partition {
+        let delivered = self.supervisor.lock(rt).deliver(generation, frame);
+        if let Ok(
+            Delivery {
+                tab,
+                partition,
+                frame,
+            },
+        ) = delivered
+        {
             self.put(rt, tab, partition, frame);
         }
     }
@@ -411,8 +341,9 @@ impl Hub {
     /// Starts the next generation over this link. Nothing is sent over it before its Start frame.
     pub(crate) fn install<R: Host>(&self, rt: &R, stream: UnixStream) -> Result<u32, ProcessFault> {
         let mut supervisor = self.supervisor.lock(rt);
+        let (generation, frame) = supervisor.start()?;
         let mut bytes = Vec::new(self.alloc);
-        let (generation, appended) = start(self.alloc, &mut supervisor, &mut bytes)?;
+        let appended = append(self.alloc, &mut bytes, &frame);
         self.set_link(rt, Link { generation, stream }, bytes.as_slice());
         drop(supervisor);
         appended?;
@@ -455,29 +386,5 @@ impl Hub {
         if let Some(process) = &mut *self.broker.lock(rt) {
             process.stop();
         }
-    }
-}
-
-/// Starts the next generation, gives its number, and appends its Start frame, if there is memory for that.
-fn start(
-    alloc: Global,
-    supervisor: &mut Supervisor,
-    bytes: &mut Vec<u8>,
-) -> Result<(u32, Result<(), AllocError>), ProcessFault> {
-    match supervisor.start() {
-        Ok(Some((generation, frame))) => Ok((generation, append_last(alloc, bytes, frame))),
-        _ => Err(ProcessFault::Memory),
-    }
-}
-
-/// The generation of a tab's frame.
-fn generation_of(frame: &Frame) -> Option<u32> {
-    match frame {
-        Frame::Stamped(stamped) => Some(match &stamped.inner {
-            Upward::Command(command) => command.generation,
-            Upward::Report(report) => report.generation,
-            Upward::ReportPart(part) => part.generation,
-        }),
-        _ => None,
     }
 }

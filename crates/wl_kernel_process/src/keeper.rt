@@ -8,7 +8,7 @@ use std::os::unix::net::UnixStream;
 use std::process::Child;
 use std::time::{Duration, Instant};
 use wl_frames::device::READ_LIMIT;
-use wl_frames::{Downward, Frame};
+use wl_kernel_rules::is_answer;
 use wl_process::{Host, Incoming, ProcessFault};
 use wl_process_rules::Restarts;
 
@@ -168,12 +168,4 @@ fn read_broker<R: Host>(
         }
     }
     has_answered
-}
-
-/// Whether a broker says more by this frame than that it is up.
-fn is_answer(frame: &Frame) -> bool {
-    match frame {
-        Frame::Addressed(addressed) => !matches!(&addressed.inner, Downward::Hello(_)),
-        _ => false,
-    }
 }

@@ -1,6 +1,6 @@
 //! The kernel's process: it runs a script that starts and stops the broker and its tabs, and serves their links.
 
-use crate::hub::{Hub, Opened, Stop, Unopened};
+use crate::hub::{Hub, Opened, Stop};
 use crate::keeper::{BrokerWords, keep};
 use crate::listening::{Started, front_of, start_child};
 use crate::tab_link::{TabHandle, TabProcess};
@@ -10,7 +10,7 @@ use std::sync::{Arc, Mutex};
 use std::thread::JoinHandle;
 use std::time::Duration;
 use std::{io, thread};
-use wl_kernel::OpenFault;
+use wl_kernel_rules::{unopened_reply, unread_reply};
 use wl_origin::{OriginFault, Partition, partition, partition_pair};
 use wl_process::{Host, ProcessFault, line_number, read_script};
 use wl_process_script::{KernelLine, KernelReply, read_kernel_line};
@@ -323,26 +323,5 @@ impl Texts {
         } else {
             KernelReply::Opened { tab, origin }
         }
-    }
-}
-
-/// What is printed for a page that has no partition.
-fn unread_reply(fault: OriginFault) -> Result<KernelReply<'static>, ProcessFault> {
-    match fault {
-        OriginFault::BadUrl => Ok(KernelReply::BadUrl),
-        OriginFault::Security => Ok(KernelReply::SecurityError),
-        OriginFault::Memory => Err(ProcessFault::Memory),
-    }
-}
-
-/// What is printed for a tab that was not opened.
-fn unopened_reply(fault: Unopened) -> Result<KernelReply<'static>, ProcessFault> {
-    match fault {
-        Unopened::TabsUsedUp => Ok(KernelReply::TabsUsedUp),
-        Unopened::Refused(OpenFault::NumberTaken) => Ok(KernelReply::NumberTaken),
-        Unopened::Refused(OpenFault::TooManyLiving) => Ok(KernelReply::TooManyLiving),
-        Unopened::Refused(OpenFault::PartitionFull) => Ok(KernelReply::PartitionFull),
-        Unopened::Refused(OpenFault::Memory) => Err(ProcessFault::Memory),
-        Unopened::Failed(fault) => Err(fault),
     }
 }

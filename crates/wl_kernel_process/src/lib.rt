@@ -9,7 +9,6 @@ pub mod kernel;
 pub mod link_end;
 mod listening;
 mod post;
-mod supervisor;
 mod tab_link;
 
 pub use kernel::{KernelWords, run_kernel};

@@ -1,5 +1,5 @@
 -- Aborts and releases by the tokens that are kept.
-use Rattle.std.proofs.Common.{◌≡◌, ℕ, Bool, true, false, ◌&&◌, cond, eqb, length, Option, Some, None, refl, sym, ap, ◌∙◌, List, get_or}
+use Rattle.std.proofs.Common.{◌≡◌, ℕ, Bool, true, false, not, ◌&&◌, cond, eqb, length, Option, Some, None, refl, sym, ap, ◌∙◌, List, get_or}
 use Rattle.std.proofs.lemmas.Bool.{eq-eqb, and_left, and_right}
 use Rattle.wl_grammar.specs.declared.frame.Operation.{Operation}
 use Rattle.wl_grammar.specs.declared.frame.Operation.TheVariants.{Request, Release, Abort, Query}
@@ -14,7 +14,7 @@ use Rattle.wl_agent.proofs.Rows.{AllRows-find}
 use Rattle.wl_tab.specs.declared.locks.Abortion.{Abortion}
 use Rattle.wl_tab.specs.declared.locks.Abortion.TheVariants as became
 use Rattle.wl_tab.specs.declared.locks.kept.Kept.{Kept}
-use Rattle.wl_tab.specs.TabTokens.{token_for, abortion, can_abort, can_release, is_lock, number_of, IsKept}
+use Rattle.wl_tab.specs.TabTokens.{token_for, is_open, abortion, can_abort, can_release, is_lock, number_of, IsKept}
 use Rattle.wl_tab.proofs.KeptTokens.{Stood, Found, nowhere, stood-at, stood-same}
 use Rattle.std.specs.List.{position}
 
@@ -85,6 +85,17 @@ lock-held a k x s lock =
 pub no-lock : (a : TabState) (k : ℕ) (x : Kept) → Stood a.tab k a.issued a.statuses x → is_lock x.token ≡ false → is_holding a k ≡ false
 no-lock a k x s free =
     ap is_held s.here ∙ no_lock_as a.tab k (operation_of a k) s.status (sym (ap (λ (y : Kept). is_lock y.token) s.kept) ∙ free)
+
+open_as : (tab k : ℕ) (o : Operation) (s : Status) → is_open (Some s) ≡ not (is_lock (token_for tab o k s))
+open_as tab k o Asked = elim (is_probe o) as (λ b. true ≡ not (is_lock (cond b (token.Probe (record { tab = tab; number = k })) (token.Pending (record { tab = tab; number = k }))))) [ true ↦ refl | false ↦ refl ]
+open_as tab k o Held = refl
+open_as tab k o (Querying p) = refl
+open_as tab k o (Whole s) = refl
+open_as tab k o Lost = refl
+
+-- a number whose token is kept is open, unless that is a lock
+pub open-there : (a : TabState) (k : ℕ) (x : Kept) → Stood a.tab k a.issued a.statuses x → is_open (status_of a k) ≡ not (is_lock x.token)
+open-there a k x s = ap is_open s.here ∙ open_as a.tab k (operation_of a k) s.status ∙ sym (ap (λ (y : Kept). not (is_lock y.token)) s.kept)
 
 -- what is known of the token of a request that is asked
 pub record IsAskedFor (a : TabState) (k : ℕ) (x : Kept) : Type 0 where

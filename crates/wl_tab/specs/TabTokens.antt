@@ -1,5 +1,5 @@
 -- What is kept beside a tab's agent: the command and the token of each of its numbers that is not over.
-use Rattle.std.specs.Prelude.{◌≡◌, ◌==◌, ℕ, List, [], Bool, true, false, not, length, map, filter, get_or, is_some, Option, Some, None, if◌then◌else◌}
+use Rattle.std.specs.Prelude.{◌≡◌, ◌==◌, ℕ, List, [], Bool, true, false, not, ◌&&◌, length, map, filter, get_or, is_some, Option, Some, None, if◌then◌else◌}
 use Rattle.std.specs.List.{AllByRecursion, filter_map}
 use Rattle.wl_draft.specs.Tables.{Table, Rises}
 use Rattle.wl_grammar.specs.declared.frame.Frame.{Frame}
@@ -67,6 +67,10 @@ number_of (token.Asking q) = q.number
 abbrev pub is_lock : Token → Bool
 is_lock (token.HeldLock lock) = true
 is_lock t = false
+
+-- a number of which nothing has come yet: a request or probe that no answer has settled, a query whose answer is not whole
+abbrev pub is_open : Option Status → Bool
+is_open s = is_some s && not (is_held s)
 
 -- ---- aborts and releases
 

@@ -1,7 +1,6 @@
 //! A tab's process: two threads round the agent that the crates below prove. It is proved safe; what it does is tested.
 #![tactic(auto)]
 
-mod locks;
 mod page;
 mod snapshots;
 pub mod tab;

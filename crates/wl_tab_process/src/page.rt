@@ -1,16 +1,17 @@
 //! What the two threads of a tab's process share: its locks and its link, under one lock.
 
-use crate::locks::{Fate, Locks};
-use std::alloc::Global;
+use std::alloc::{AllocError, Global};
 use std::io::Write;
 use std::os::unix::net::UnixStream;
 use std::sync::{Condvar, CondvarTimeouts, Mutex};
 use std::time::Duration;
-use wl_agent::{AgentFault, Delivered, MessageFault, Snapshot};
+use wl_agent::{AgentFault, MessageFault, Snapshot};
 use wl_frames::{Frame, Mode, Name};
 use wl_process::{Host, ProcessFault, append};
 use wl_process_rules::patience::RESEND_LIMIT;
 use wl_process_rules::{Next, Patience};
+use wl_said::Said;
+use wl_tab::{Abortion, TabLocks};
 
 /// How many milliseconds a waiting tab waits for what may end its waiting before it sends its commands again. Whatever else comes
 /// does not count.
@@ -48,11 +49,13 @@ pub(crate) struct Page {
     alloc: Global,
     link: UnixStream,
     /// None until the welcome has come.
-    locks: Option<Locks>,
+    locks: Option<TabLocks>,
     /// What is written next.
     bytes: Vec<u8>,
     /// The number that the script waits for.
     awaited: Option<u32>,
+    /// The query that was answered last, with its answer, until the script takes it.
+    answer: Option<(u32, Snapshot)>,
     /// Whether something has come that may end its waiting.
     has_come: bool,
     /// How the link has ended.
@@ -85,20 +88,24 @@ impl Page {
         };
         let due = locks.resend()?;
         if due.report {
-            self.say_report()?;
+            let _base = self.say_report()?;
         }
         self.say_from(0, due.numbers.as_slice())
     }
 
-    /// Appends the report, where a generation is entered.
-    fn say_report(&mut self) -> Result<(), ProcessFault> {
+    /// Appends the report, where a generation is entered, and gives its base.
+    fn say_report(&mut self) -> Result<u32, ProcessFault> {
         let Some(locks) = &self.locks else {
-            return Ok(());
+            return Ok(0);
         };
-        match &locks.report_frames() {
-            Ok(frames) => self.append_all(frames.as_slice()),
+        match locks.report_frames() {
+            Ok(report) => {
+                let report = report.into_vec();
+                self.append_all(report.as_slice())?;
+                Ok(base_of(report.as_slice()))
+            }
             Err(MessageFault::Memory) => Err(ProcessFault::Memory),
-            Err(_) => Ok(()),
+            Err(_) => Ok(0),
         }
     }
 
@@ -172,8 +179,8 @@ impl Page {
             return Ok(());
         };
         match locks.abort(number) {
-            Some(next) => self.tell(next),
-            None => Ok(()),
+            Abortion::Issued(next) => self.tell(next),
+            Abortion::Held | Abortion::Nothing => Ok(()),
         }
     }
 
@@ -192,14 +199,30 @@ impl Page {
         if let Some(fault) = self.end {
             return Some(Err(Undone::Fault(fault)));
         }
-        match settle(self, number) {
-            Some(told) => Some(Ok(told)),
-            None => {
-                self.awaited = Some(number);
-                self.has_come = false;
-                None
-            }
+        if self.is_open(number) {
+            self.awaited = Some(number);
+            self.has_come = false;
+            return None;
         }
+        Some(Ok(self.take_answer(number)))
+    }
+
+    /// Whether a number is asked still.
+    fn is_open(&self, number: u32) -> bool {
+        match &self.locks {
+            Some(locks) => locks.is_open(number),
+            None => false,
+        }
+    }
+
+    /// The answer of this query, if it has come.
+    fn take_answer(&mut self, number: u32) -> Option<Snapshot> {
+        let (query, snapshot) = self.answer.take()?;
+        if query == number {
+            return Some(snapshot);
+        }
+        drop(snapshot);
+        None
     }
 
     /// Nothing that may end the waiting has come for a while: what may be lost is sent again, unless that was done too often.
@@ -213,13 +236,15 @@ impl Page {
         }
     }
 
-    /// Takes in a frame that has come. The first one has to be a welcome.
+    /// Takes in a frame that has come. The first one has to be a welcome. One that memory refuses is lost, and comes again.
     fn take(&mut self, frame: &Frame) -> Result<(), ProcessFault> {
         let Some(locks) = &mut self.locks else {
             return self.welcome(frame);
         };
-        let delivered = locks.deliver(frame);
-        self.hear(&delivered)
+        match locks.deliver(frame) {
+            Ok(said) => self.hear(said),
+            Err(AllocError) => Ok(()),
+        }
     }
 
     /// The tab is welcomed by this frame.
@@ -230,26 +255,35 @@ impl Page {
     }
 
     /// A frame was delivered, and this came of it.
-    fn hear(&mut self, delivered: &Delivered) -> Result<(), ProcessFault> {
-        if let Delivered::Entered(frames) = delivered {
-            return self.enter(frames.as_slice());
-        }
-        let settled = settled_by(delivered);
-        if settled.is_some() && settled == self.awaited {
-            self.has_come = true;
+    fn hear(&mut self, said: Said) -> Result<(), ProcessFault> {
+        match said {
+            Said::Entered { .. } => return self.enter(),
+            Said::Granted(number) | Said::Null(number) | Said::Lost(number) => self.note(number),
+            Said::Whole { number, snapshot } => {
+                self.answer = Some((number, snapshot));
+                self.note(number);
+            }
+            _ => {}
         }
         Ok(())
     }
 
+    /// This number is not asked any more.
+    fn note(&mut self, number: u32) {
+        if self.awaited == Some(number) {
+            self.has_come = true;
+        }
+    }
+
     /// A generation is entered: its report is said, and what the report does not tell of.
-    fn enter(&mut self, report: &[Frame]) -> Result<(), ProcessFault> {
+    fn enter(&mut self) -> Result<(), ProcessFault> {
         self.has_come = true;
-        self.append_all(report)?;
+        let base = self.say_report()?;
         let Some(locks) = &self.locks else {
             return Ok(());
         };
         let due = locks.resend()?;
-        self.say_from(base_of(report), due.numbers.as_slice())
+        self.say_from(base, due.numbers.as_slice())
     }
 
     fn take_all(&mut self, frames: &[Frame]) -> Result<(), ProcessFault> {
@@ -269,17 +303,6 @@ fn base_of(report: &[Frame]) -> u32 {
     }
 }
 
-/// The number that is not asked any more after this delivery.
-fn settled_by(delivered: &Delivered) -> Option<u32> {
-    match delivered {
-        Delivered::Granted(number)
-        | Delivered::Null(number)
-        | Delivered::Lost(number)
-        | Delivered::Whole(number) => Some(*number),
-        _ => None,
-    }
-}
-
 /// A page that two threads share.
 #[derive(Drop)]
 pub(crate) struct SharedPage {
@@ -296,6 +319,7 @@ impl SharedPage {
                 locks: None,
                 bytes: Vec::new(alloc),
                 awaited: None,
+                answer: None,
                 has_come: false,
                 end: None,
             }),
@@ -398,22 +422,10 @@ impl SharedPage {
 }
 
 /// The locks of a tab, of which its welcome tells. The first frame has to be one.
-fn welcomed(alloc: Global, frame: &Frame) -> Result<Locks, ProcessFault> {
+fn welcomed(alloc: Global, frame: &Frame) -> Result<TabLocks, ProcessFault> {
     match frame {
-        Frame::Welcome(welcome) => Ok(Locks::new(alloc, welcome.tab)),
-        Frame::PairWelcome(welcome) => Ok(Locks::new_two(alloc, welcome.tab)),
+        Frame::Welcome(welcome) => Ok(TabLocks::new(alloc, welcome.tab)),
+        Frame::PairWelcome(welcome) => Ok(TabLocks::new_two(alloc, welcome.tab)),
         _ => Err(ProcessFault::Unexpected),
-    }
-}
-
-/// What became of a number that is not asked any more; None of one that is.
-fn settle(page: &mut Page, number: u32) -> Option<Option<Snapshot>> {
-    let Some(locks) = &mut page.locks else {
-        return Some(None);
-    };
-    match locks.settle(number) {
-        Fate::Asked => None,
-        Fate::Settled => Some(None),
-        Fate::Whole(snapshot) => Some(Some(snapshot)),
     }
 }

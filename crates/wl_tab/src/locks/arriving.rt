@@ -16,7 +16,7 @@ use wl_said::{Ended, Reason, Said};
 
 impl TabLocks {
     /// Takes in a frame, tells the tokens what came of it, and says it.
-    pub(crate) fn deliver(&mut self, frame: &Frame) -> Result<Said, AllocError>
+    pub fn deliver(&mut self, frame: &Frame) -> Result<Said, AllocError>
         ensures new { OnOk result (self.new ≡ told (delivery frame.now self.old).0) }
         ensures said { IfOk result (λ said. said ≡ arrival frame.now self.old) }
     {

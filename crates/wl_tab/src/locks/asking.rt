@@ -14,7 +14,7 @@ use wl_grammar::Operation;
 
 impl TabLocks {
     /// Asks for a lock, and gives the command's number. The room for its token is made first.
-    pub(crate) fn request(&mut self, name: &Name, mode: Mode) -> Result<u32, AgentFault>
+    pub fn request(&mut self, name: &Name, mode: Mode) -> Result<u32, AgentFault>
         ensures ok { OnOk result ((self.new ≡ asked mode false name.now self.old)
             × (ask_refusal self.old name.now ≡ None)) }
         ensures number { IfOk result (λ n. n ≡ length self.old.issued) }
@@ -33,7 +33,7 @@ impl TabLocks {
     }
 
     /// Asks for a lock that is to be had at once or not at all, and gives the command's number.
-    pub(crate) fn probe(&mut self, name: &Name, mode: Mode) -> Result<u32, AgentFault>
+    pub fn probe(&mut self, name: &Name, mode: Mode) -> Result<u32, AgentFault>
         ensures ok { OnOk result ((self.new ≡ asked mode true name.now self.old)
             × (ask_refusal self.old name.now ≡ None)) }
         ensures number { IfOk result (λ n. n ≡ length self.old.issued) }
@@ -52,7 +52,7 @@ impl TabLocks {
     }
 
     /// Asks for a snapshot of the partition's locks, and gives the command's number.
-    pub(crate) fn query(&mut self) -> Result<u32, AgentFault>
+    pub fn query(&mut self) -> Result<u32, AgentFault>
         ensures ok { OnOk result ((self.new ≡ queried self.old) × (query_refusal self.old ≡ None)) }
         ensures number { IfOk result (λ n. n ≡ length self.old.issued) }
         ensures refused { RefusesBy result (query_refusal self.old) AgentFault.Memory }

@@ -1,9 +1,9 @@
-//! Aborts and releases.
+//! Aborts and releases, and what is asked still.
 
 ghost use Rattle.std.specs.Prelude.{◌≡◌, ◌&&◌, ◌==◌, false, length, position, Some, None, IfOk, OnOk, OnErr, if◌then◌else◌};
 ghost use Rattle.wl_agent.specs.Tab.{aborted, released, status_of, is_asked};
 ghost use Rattle.wl_agent.specs.Tokens.{is_pending, is_holding};
-ghost use Rattle.wl_tab.specs.TabTokens.{abortion, number_of, can_abort, can_release};
+ghost use Rattle.wl_tab.specs.TabTokens.{abortion, is_open, number_of, can_abort, can_release};
 
 use crate::locks::kept::Kept;
 use crate::locks::{Abortion, TabLocks};
@@ -11,7 +11,7 @@ use wl_agent::{AbortFault, Agent, Foreign, Token};
 
 impl TabLocks {
     /// Takes a request back that is asked. It takes no memory.
-    pub(crate) fn abort(&mut self, number: u32) -> Abortion
+    pub fn abort(&mut self, number: u32) -> Abortion
         ensures said { result ≡ abortion number self.old }
         ensures new { self.new ≡ (if is_pending self.old number && is_asked (status_of self.old number)
             then aborted number self.old else self.old) }
@@ -37,7 +37,7 @@ impl TabLocks {
     }
 
     /// Lets go of a lock that is held, and gives the number of the command. It takes no memory.
-    pub(crate) fn release(&mut self, number: u32) -> Option<u32>
+    pub fn release(&mut self, number: u32) -> Option<u32>
         ensures next { result ≡ (if is_holding self.old number then Some (length self.old.issued) else None) }
         ensures new { self.new ≡ (if is_holding self.old number then released number self.old else self.old) }
     {
@@ -53,6 +53,18 @@ impl TabLocks {
                 self.kept.push_reserved(Kept { operation, token });
                 None
             }
+        }
+    }
+}
+
+impl TabLocks {
+    /// Whether the number is one of which nothing has come yet: a request, a probe or a query that is asked.
+    pub fn is_open(&self, number: u32) -> bool
+        ensures { result ≡ is_open (status_of self.now number) }
+    {
+        match place_of(&self.kept, number) {
+            Some(place) => !self.kept[place].is_lock(),
+            None => false,
         }
     }
 }

@@ -1,0 +1,4 @@
+pub mod Supervised
+pub mod News
+pub mod Broker
+pub mod Refusals

@@ -1,0 +1,85 @@
+-- The kernel, and whether a broker runs.
+use Rattle.std.specs.Prelude.{◌≡◌, ℕ, List, [], ◌++◌, Bool, true, false, Option, Some, None, if◌then◌else◌}
+use Rattle.wl_grammar.specs.declared.frame.Frame.{Frame}
+use Rattle.wl_grammar.specs.Grammar.{IsWellFormed, spelling}
+use Rattle.wl_kernel.specs.declared.fault.RouteFault.{RouteFault}
+use Rattle.wl_kernel.specs.declared.fault.RouteFault.TheVariants.{StaleLink}
+use Rattle.wl_kernel.specs.Kernel.{KernelState, no_tabs, living_tabs, start_frame, may_stop, stopped}
+use Rattle.wl_kernel.specs.Laws.{Call, reached}
+use Rattle.wl_kernel.specs.declared.routes.Routed.{Routed}
+use Rattle.wl_kernel.specs.declared.routes.Routed.TheVariants.{Broker, Tabs}
+use Rattle.wl_kernel.specs.Routes.{route_up_refusal, routed_up, route_down_refusal}
+use Rattle.wl_process.specs.declared.fault.ProcessFault.{ProcessFault}
+use Rattle.wl_process.specs.declared.fault.ProcessFault.TheVariants.{Device, Memory as OutOfMemory}
+use Rattle.wl_kernel_rules.specs.declared.supervisor.NotStarted.{NotStarted}
+use Rattle.wl_kernel_rules.specs.declared.supervisor.NotStarted.TheVariants.{AlreadyUp, Memory}
+use Rattle.wl_kernel_rules.specs.declared.supervisor.NotStopped.{NotStopped}
+use Rattle.wl_kernel_rules.specs.declared.supervisor.NotStopped.TheVariants.{NotUp, GenerationsUsedUp}
+use Rattle.wl_kernel_rules.specs.declared.supervisor.State.{State}
+use Rattle.wl_kernel_rules.specs.declared.supervisor.State.TheVariants.{Down, Up}
+
+pub record Supervised : Type 0 where
+  pub kernel : KernelState
+  pub is_up : Bool
+
+abbrev pub without_broker : KernelState → Supervised
+without_broker k = record { kernel = k; is_up = false }
+
+abbrev pub with_broker : KernelState → Supervised
+with_broker k = record { kernel = k; is_up = true }
+
+-- some list of calls makes the kernel what it is, so that what its laws say of all such holds of it
+pub record IsReached (k : KernelState) : Type 0 where
+  pub calls : List Call
+  pub made : k ≡ reached calls k.last
+
+-- the generation of the broker that runs
+abbrev pub current : Supervised → Option ℕ
+current s = if s.is_up then Some s.kernel.generation else None
+
+abbrev pub with_kernel : KernelState → Supervised → Supervised
+with_kernel k s = record { kernel = k; is_up = s.is_up }
+
+-- ---- starting and stopping
+
+-- a start lists exactly the living tabs
+abbrev pub start_frame_of : Supervised → Frame
+start_frame_of s = start_frame (living_tabs s.kernel) s.kernel
+
+abbrev pub begun : Supervised → Supervised
+begun s = with_broker s.kernel
+
+abbrev pub of_not_started : NotStarted → ProcessFault
+of_not_started AlreadyUp = Device
+of_not_started Memory = OutOfMemory
+
+abbrev pub stop_refusal : Supervised → Option NotStopped
+stop_refusal s = if s.is_up then (if may_stop s.kernel then None else Some GenerationsUsedUp) else Some NotUp
+
+abbrev pub halted : Supervised → Supervised
+halted s = without_broker (stopped s.kernel)
+
+-- ---- what a broker sends
+
+-- only a broker that runs is heard
+abbrev pub down_refusal : ℕ → Frame → Supervised → Option RouteFault
+down_refusal link f s = if s.is_up then route_down_refusal link f s.kernel else Some StaleLink
+
+-- what is spelled for the broker of a frame that goes there
+abbrev pub to_broker : Routed → List ℕ
+to_broker (Broker f) = spelling f
+to_broker (Tabs heard) = []
+
+-- a tab's frame was passed on as a kernel does it that a list of calls reaches, and what goes to the broker stands behind
+-- what went there before
+pub record IsSentOn (t : ℕ) (f : Frame) (before after : List ℕ) : Type 0 where
+  pub kernel : KernelState
+  pub so : IsReached kernel
+  pub allowed : route_up_refusal t f kernel ≡ None
+  pub spelled : IsWellFormed f → after ≡ before ++ to_broker (routed_up t f kernel)
+
+-- ---- the supervisor as the code has it
+
+abbrev pub seen : State → Supervised
+seen (Down k) = without_broker k
+seen (Up k) = with_broker k

@@ -1,0 +1,325 @@
+//! The kernel's table of tabs, whether a broker runs or none.
+
+ghost use Rattle.std.specs.Prelude.{◌≡◌, ◌≢◌, ◌≤◌, None, Some, Err, IfOk, OnOk, IfErr, OnErr, true, false, is_some, if◌then◌else◌};
+ghost use Rattle.wl_draft.specs.Refusals.{RefusesBy};
+ghost use Rattle.wl_grammar.specs.Grammar.{IsTab, IsWellFormed};
+ghost use Rattle.wl_kernel.specs.Kernel.{no_tabs, partition_number, number_for, open_refusal, opened, kill_refusal, killed};
+ghost use Rattle.wl_kernel.specs.Routes.{route_up_refusal, routed_up, TakesMemory, IsWellRouted, routed_down};
+ghost use Rattle.wl_kernel_rules.specs.Supervised.{IsReached, without_broker, with_broker, current, with_kernel, start_frame_of, begun, stop_refusal, halted, down_refusal, seen};
+
+use std::alloc::{AllocError, Global};
+use std::marker::Model;
+use thiserror::Error;
+use wl_frames::Frame;
+use wl_kernel::laws::law_kernel;
+use wl_kernel::{Down, OpenFault, RouteFault, Routed, StartFault, Tabs, Up};
+use wl_origin::Partition;
+use wl_process::ProcessFault;
+
+/// The kernel without a broker, or with one.
+enum State {
+    Down(Down),
+    Up(Up),
+}
+
+impl Drop for State {
+    fn drop(self) {
+        match self {
+            State::Down(down) => down.end(),
+            State::Up(up) => up.end(),
+        }
+    }
+}
+
+impl State {
+    /// Starts the broker with exactly the living tabs, if none runs.
+    fn start(self, alloc: Global) -> (State, Result<(u32, Frame), NotStarted>)
+        requires { IsReached (seen self).kernel }
+        ensures ok { OnOk result.1 (seen result.0 ≡ begun (seen self)) }
+        ensures generation { IfOk result.1 (λ r. r.0 ≡ (seen self).kernel.generation) }
+        ensures frame { IfOk result.1 (λ r. r.1 ≡ start_frame_of (seen self)) }
+        ensures well_formed { IfOk result.1 (λ r. IsWellFormed r.1) }
+        ensures up { (seen self).is_up ≡ true → result.1 ≡ Err NotStarted.AlreadyUp }
+        ensures down { result.1 ≡ Err NotStarted.AlreadyUp → (seen self).is_up ≡ true }
+        ensures err { OnErr result.1 (seen result.0 ≡ seen self) }
+    {
+        match self {
+            State::Up(up) => (State::Up(up), Err(NotStarted::AlreadyUp)),
+            State::Down(down) => start(alloc, down),
+        }
+    }
+
+    /// Stops the broker, if one runs.
+    #[tactic(auto, using(crate::proofs::Reaching::stops_reached))]
+    fn stop(self) -> (State, Result<u32, NotStopped>)
+        requires { IsReached (seen self).kernel }
+        ensures ok { OnOk result.1 (seen result.0 ≡ halted (seen self)) }
+        ensures generation { IfOk result.1 (λ g. g ≡ (seen self).kernel.generation) }
+        ensures allowed { OnOk result.1 (stop_refusal (seen self) ≡ None) }
+        ensures refused { IfErr result.1 (λ e. stop_refusal (seen self) ≡ Some e) }
+        ensures err { OnErr result.1 (seen result.0 ≡ seen self) }
+        ensures reached { IsReached (seen result.0).kernel }
+    {
+        match self {
+            State::Down(down) => (State::Down(down), Err(NotStopped::NotUp)),
+            State::Up(up) => {
+                let generation = up.tabs().generation();
+                match up.stop() {
+                    Ok(down) => (State::Down(down), Ok(generation)),
+                    Err((up, _used_up)) => (State::Up(up), Err(NotStopped::GenerationsUsedUp)),
+                }
+            }
+        }
+    }
+}
+
+/// Starts the broker of a kernel without one.
+fn start(alloc: Global, down: Down) -> (State, Result<(u32, Frame), NotStarted>)
+    requires { IsReached down }
+    ensures ok { OnOk result.1 (seen result.0 ≡ with_broker down) }
+    ensures generation { IfOk result.1 (λ r. r.0 ≡ down.generation) }
+    ensures frame { IfOk result.1 (λ r. r.1 ≡ start_frame_of (without_broker down)) }
+    ensures well_formed { IfOk result.1 (λ r. IsWellFormed r.1) }
+    ensures memory { IfErr result.1 (λ e. e ≡ NotStarted.Memory) }
+    ensures err { OnErr result.1 (seen result.0 ≡ without_broker down) }
+{
+    let Ok(listed) = down.tabs().living().to_vec(alloc) else {
+        return (State::Down(down), Err(NotStarted::Memory));
+    };
+    law_kernel();
+    match down.start(listed.as_slice()) {
+        Ok((up, frame)) => {
+            let generation = up.tabs().generation();
+            (State::Up(up), Ok((generation, frame)))
+        }
+        Err((down, StartFault::Memory)) => (State::Down(down), Err(NotStarted::Memory)),
+        // A start with all living tabs is never refused.
+        Err((_down, _fault)) => unreachable!(),
+    }
+}
+
+/// The kernel's table of tabs, whether a broker runs or none. Whatever it is told, it is what a list of the kernel's own calls
+/// makes of a kernel without tabs.
+#[derive(Drop)]
+pub struct Supervisor {
+    alloc: Global,
+    state: State,
+}
+
+impl Model for Supervisor {
+    ghost use Rattle.wl_kernel_rules.specs.Supervised.{Supervised, IsReached, seen};
+
+    ghost Value = { Supervised };
+
+    ghost view = { λ s. seen s.state };
+
+    ghost invariant = { λ s. IsReached (seen s.state).kernel };
+}
+
+/// Why no broker was started.
+#[derive(Clone, Copy, Debug, PartialEq, Eq, Error)]
+pub enum NotStarted {
+    /// One runs.
+    #[error("AlreadyUp")]
+    AlreadyUp,
+    /// Memory was refused.
+    #[error("Memory")]
+    Memory,
+}
+
+impl From<NotStarted> for ProcessFault {
+    ghost use Rattle.std.specs.Prelude.{◌≡◌};
+    ghost use Rattle.wl_kernel_rules.specs.Supervised.{of_not_started};
+
+    ghost from_gives = { λ fault e. e ≡ of_not_started fault };
+
+    fn from(fault: NotStarted) -> ProcessFault {
+        match fault {
+            NotStarted::AlreadyUp => ProcessFault::Device,
+            NotStarted::Memory => ProcessFault::Memory,
+        }
+    }
+}
+
+/// Why no broker was stopped.
+#[derive(Clone, Copy, Debug, PartialEq, Eq, Error)]
+pub enum NotStopped {
+    /// None runs.
+    #[error("NotUp")]
+    NotUp,
+    /// It is of the last generation that there may be.
+    #[error("GenerationsUsedUp")]
+    GenerationsUsedUp,
+}
+
+/// Where a tab's frame goes, and who has sent it.
+#[derive(Drop)]
+pub struct Sent {
+    pub routed: Routed,
+    /// The number of the sender's partition.
+    pub partition: u16,
+    /// The generation of the broker that runs.
+    pub current: Option<u32>,
+}
+
+/// What a broker says to a tab.
+#[derive(Drop)]
+pub struct Delivery {
+    pub tab: u16,
+    /// The number of the tab's partition.
+    pub partition: u16,
+    pub frame: Frame,
+}
+
+impl Supervisor {
+    /// No tabs, and no broker; the generations go up to `last`.
+    pub fn new(alloc: Global, last: u32) -> Supervisor
+        requires { 1 ≤ last }
+        ensures { result ≡ without_broker (no_tabs last) }
+    {
+        Supervisor {
+            alloc,
+            state: State::Down(Down::new(alloc, last)),
+        }
+    }
+
+    fn tabs(&self) -> &Tabs
+        ensures table { result.now ≡ self.now.kernel }
+        ensures reached { IsReached self.now.kernel }
+    {
+        match &self.state {
+            State::Down(down) => down.tabs(),
+            State::Up(up) => up.tabs(),
+        }
+    }
+
+    /// The generation of the broker that runs.
+    pub fn current(&self) -> Option<u32>
+        ensures { result ≡ current self.now }
+    {
+        match &self.state {
+            State::Down(_) => None,
+            State::Up(up) => Some(up.tabs().generation()),
+        }
+    }
+
+    /// The generation of the broker that runs, or of the next one.
+    pub fn generation(&self) -> u32
+        ensures value { result ≡ self.now.kernel.generation }
+        ensures from_one { 1 ≤ result }
+    {
+        self.tabs().generation()
+    }
+
+    /// Opens a tab in a partition, whose number is answered.
+    #[tactic(auto, using(crate::proofs::Reaching::opens_reached))]
+    pub fn open(&mut self, tab: u16, partition: Partition) -> Result<u16, OpenFault>
+        ensures ok { OnOk result (self.new ≡ with_kernel (opened tab partition self.old.kernel) self.old) }
+        ensures allowed { OnOk result (open_refusal tab partition self.old.kernel ≡ None) }
+        ensures number { IfOk result (λ n. n ≡ number_for tab partition self.old.kernel) }
+        ensures refused { RefusesBy result (open_refusal tab partition self.old.kernel) OpenFault.Memory }
+        ensures memory { result ≡ Err OpenFault.Memory → open_refusal tab partition self.old.kernel ≡ None }
+        ensures err { OnErr result (self.new ≡ self.old) }
+    {
+        match &mut self.state {
+            State::Down(down) => down.tabs_mut().open(tab, partition),
+            State::Up(up) => up.tabs_mut().open(tab, partition),
+        }
+    }
+
+    /// A tab is dead from now on. Nothing happens where it was never opened, or is dead.
+    #[tactic(auto, using(crate::proofs::Reaching::kills_reached))]
+    pub fn kill(&mut self, tab: u16)
+        ensures { self.new ≡ (if is_some (kill_refusal tab self.old.kernel)
+            then self.old else with_kernel (killed tab self.old.kernel) self.old) }
+    {
+        let _dead_already = match &mut self.state {
+            State::Down(down) => down.tabs_mut().kill(tab).is_err(),
+            State::Up(up) => up.tabs_mut().kill(tab).is_err(),
+        };
+    }
+
+    /// Where a tab's frame goes: what it says to the broker is stamped with its number and its partition's, and what it posts is
+    /// heard by the other living tabs of the partition.
+    pub fn send(&self, tab: u16, frame: Frame) -> Result<Sent, RouteFault>
+        ensures routed { IfOk result (λ s. s.routed ≡ routed_up tab frame self.now.kernel) }
+        ensures partition { IfOk result (λ s. s.partition ≡ partition_number self.now.kernel tab) }
+        ensures current { IfOk result (λ s. s.current ≡ current self.now) }
+        ensures allowed { OnOk result (route_up_refusal tab frame self.now.kernel ≡ None) }
+        ensures refused { RefusesBy result (route_up_refusal tab frame self.now.kernel) RouteFault.Memory }
+        ensures memory { result ≡ Err RouteFault.Memory
+            → route_up_refusal tab frame self.now.kernel ≡ None }
+        ensures growth { result ≡ Err RouteFault.Memory → TakesMemory tab frame self.now.kernel }
+        ensures well_formed { IfOk result (λ s. IsWellFormed frame → IsWellRouted s.routed) }
+        ensures reached { IsReached self.now.kernel }
+    {
+        let routed = self.tabs().route_up(tab, frame)?;
+        Ok(Sent {
+            routed,
+            partition: self.partition_number(tab),
+            current: self.current(),
+        })
+    }
+
+    /// What the broker behind the link of a generation says to a living tab. It takes no memory.
+    pub fn deliver(&self, link: u32, frame: Frame) -> Result<Delivery, RouteFault>
+        ensures routed { IfOk result (λ d. routed_down frame ≡ Some (d.tab, d.frame)) }
+        ensures partition { IfOk result (λ d. d.partition ≡ partition_number self.now.kernel d.tab) }
+        ensures allowed { OnOk result (down_refusal link frame self.now ≡ None) }
+        ensures refused { IfErr result (λ e. down_refusal link frame self.now ≡ Some e) }
+        ensures well_formed { IfOk result (λ d. IsWellFormed frame → IsTab d.tab × IsWellFormed d.frame) }
+    {
+        let (tab, frame) = match &self.state {
+            State::Down(down) => down.route_down(link, frame)?,
+            State::Up(up) => up.route_down(link, frame)?,
+        };
+        Ok(Delivery {
+            tab,
+            partition: self.partition_number(tab),
+            frame,
+        })
+    }
+
+    /// The number of a tab's partition, and 0 where the tab was never opened.
+    fn partition_number(&self, tab: u16) -> u16
+        ensures { result ≡ partition_number self.now.kernel tab }
+    {
+        self.tabs().partition_number(tab).unwrap_or(0)
+    }
+
+    /// Starts the broker of the generation with exactly the living tabs, and gives its Start frame. Only memory can refuse that.
+    pub fn start(&mut self) -> Result<(u32, Frame), NotStarted>
+        ensures ok { OnOk result (self.new ≡ begun self.old) }
+        ensures generation { IfOk result (λ r. r.0 ≡ self.old.kernel.generation) }
+        ensures frame { IfOk result (λ r. r.1 ≡ start_frame_of self.old) }
+        ensures well_formed { IfOk result (λ r. IsWellFormed r.1) }
+        ensures up { self.old.is_up ≡ true → result ≡ Err NotStarted.AlreadyUp }
+        ensures down { result ≡ Err NotStarted.AlreadyUp → self.old.is_up ≡ true }
+        ensures err { OnErr result (self.new ≡ self.old) }
+    {
+        let (state, started) = self.take_state().start(self.alloc);
+        self.state = state;
+        started
+    }
+
+    /// Stops the broker, and gives its generation. It takes no memory.
+    pub fn stop(&mut self) -> Result<u32, NotStopped>
+        ensures ok { OnOk result (self.new ≡ halted self.old) }
+        ensures generation { IfOk result (λ g. g ≡ self.old.kernel.generation) }
+        ensures allowed { OnOk result (stop_refusal self.old ≡ None) }
+        ensures refused { IfErr result (λ e. stop_refusal self.old ≡ Some e) }
+        ensures err { OnErr result (self.new ≡ self.old) }
+    {
+        let (state, stopped) = self.take_state().stop();
+        self.state = state;
+        stopped
+    }
+
+    /// Takes the state out, for a new one.
+    fn take_state(&mut self) -> State
+        ensures state { seen result ≡ self.old }
+        ensures reached { IsReached (seen result).kernel }
+    {
+        std::mem::replace(&mut self.state, State::Down(Down::new(self.alloc, 1)))
+    }
+}
