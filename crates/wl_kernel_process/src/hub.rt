@@ -4,6 +4,7 @@
 ghost use Rattle.std.specs.Prelude.{◌≡◌, ◌++◌, IfOk, OnOk, OnErr};
 ghost use Rattle.wl_grammar.specs.Grammar.{IsTab};
 ghost use Rattle.wl_kernel.specs.Routes.{IsWellRouted};
+ghost use Rattle.wl_kernel_rules.specs.News.{IsDeathOf};
 ghost use Rattle.wl_kernel_rules.specs.Supervised.{IsSentOn, to_broker};
 
 mod orders;
@@ -20,7 +21,9 @@ use std::sync::{Arc, Condvar, Mutex, Wait};
 use wl_board::{Birth, Board};
 use wl_frames::{Frame, Hello};
 use wl_kernel::{RouteFault, Routed};
-use wl_kernel_rules::{Delivery, Orders, Origins, Sent, Supervisor, Unopened, death_of, told_late};
+use wl_kernel_rules::{
+    Delivery, NotStarted, Orders, Origins, Sent, Supervisor, Unopened, death_of, told_late,
+};
 use wl_limits::brokers::LAST_GENERATION;
 use wl_limits::tabs::LAST_TAB;
 use wl_origin::Partition;
@@ -77,6 +80,8 @@ impl Opened {
     /// A tab of the partition of this number, for which nothing is put yet.
     fn new(alloc: Global, tab: u16, partition: u16) -> Result<Opened, AllocError>
         requires { IsTab tab }
+        ensures tab { IfOk result (λ o. o.tab ≡ tab) }
+        ensures death { IfOk result (λ o. IsDeathOf o.tab o.death.items) }
     {
         let death = death_of(alloc, tab)?;
         let (post, taking) = Post::new(alloc, partition, tab)?;
@@ -145,7 +150,10 @@ impl Hub {
         rt: &R,
         partition: Partition,
         is_pair: bool,
-    ) -> Result<Opened, Unopened> {
+    ) -> Result<Opened, Unopened>
+        ensures tab { IfOk result (λ o. IsTab o.tab) }
+        ensures death { IfOk result (λ o. IsDeathOf o.tab o.death.items) }
+    {
         let origins = Origins::new(self.alloc, &partition, is_pair)?;
         let mut supervisor = self.supervisor.lock(rt);
         let (tab, number) = self.enter(rt, &mut supervisor, partition)?;
@@ -163,6 +171,8 @@ impl Hub {
     /// Begins the life of a tab of the partition of this number: it has an outbox, and its end can be waited for.
     fn begin<R: Wait>(&self, rt: &R, tab: u16, partition: u16) -> Result<Opened, AllocError>
         requires { IsTab tab }
+        ensures tab { IfOk result (λ o. o.tab ≡ tab) }
+        ensures death { IfOk result (λ o. IsDeathOf o.tab o.death.items) }
     {
         let opened = Opened::new(self.alloc, tab, partition)?;
         self.ends.lock(rt).begin(tab)?;
@@ -210,8 +220,9 @@ impl Hub {
 
     /// Puts a frame that comes from the partition of this number into a tab's outbox.
     fn put<R: Wait>(&self, rt: &R, tab: u16, partition: u16, frame: Frame) {
-        if let Some(post) = self.post_of(rt, tab) {
-            post.put(rt, partition, frame);
+        match self.post_of(rt, tab) {
+            Some(post) => post.put(rt, partition, frame),
+            None => drop(frame),
         }
     }
 
@@ -286,7 +297,9 @@ impl Hub {
     }
 
     /// A tab is dead: on the board, in the table, and for the broker, which these bytes tell. Its end is noted.
-    pub(crate) fn bury<R: Host>(&self, rt: &R, tab: u16, death: &[u8], status: u8) {
+    pub(crate) fn bury<R: Host>(&self, rt: &R, tab: u16, death: &[u8], status: u8)
+        requires { IsDeathOf tab death.now }
+    {
         if let Ok(seat) = self.seat_of(tab) {
             seat.lock(rt).mark_dead(tab);
         }
@@ -341,9 +354,8 @@ impl Hub {
     /// Starts the next generation over this link. Nothing is sent over it before its Start frame.
     pub(crate) fn install<R: Host>(&self, rt: &R, stream: UnixStream) -> Result<u32, ProcessFault> {
         let mut supervisor = self.supervisor.lock(rt);
-        let (generation, frame) = supervisor.start()?;
         let mut bytes = Vec::new(self.alloc);
-        let appended = append(self.alloc, &mut bytes, &frame);
+        let (generation, appended) = start(self.alloc, &mut supervisor, &mut bytes)?;
         self.set_link(rt, Link { generation, stream }, bytes.as_slice());
         drop(supervisor);
         appended?;
@@ -387,4 +399,16 @@ impl Hub {
             process.stop();
         }
     }
+}
+
+/// Starts the next generation, gives its number, and appends its Start frame, if there is memory for that.
+fn start(
+    alloc: Global,
+    supervisor: &mut Supervisor,
+    bytes: &mut Vec<u8>,
+) -> Result<(u32, Result<(), AllocError>), NotStarted> {
+    let (generation, frame) = supervisor.start()?;
+    let appended = append(alloc, bytes, &frame);
+    drop(frame);
+    Ok((generation, appended))
 }

@@ -1,5 +1,7 @@
 //! The kernel's process: it runs a script that starts and stops the broker and its tabs, and serves their links.
 
+ghost use Rattle.wl_kernel_rules.specs.News.{IsDeathOf};
+
 use crate::hub::{Hub, Opened, Stop};
 use crate::keeper::{BrokerWords, keep};
 use crate::listening::{Started, front_of, start_child};
@@ -225,7 +227,9 @@ impl Kernel {
     }
 
     /// Starts the process of a tab, and the threads of its link.
-    fn start<R: Host>(&mut self, rt: R, opened: Opened, file: &str) -> Result<(), ProcessFault> {
+    fn start<R: Host>(&mut self, rt: R, opened: Opened, file: &str) -> Result<(), ProcessFault>
+        requires { IsDeathOf opened.tab opened.death.items }
+    {
         self.tabs.reserve(1)?;
         let started = self.start_process(&rt, opened.tab, file)?;
         let Opened {

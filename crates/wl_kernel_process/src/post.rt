@@ -23,8 +23,9 @@ impl Putting {
     /// Puts a frame that comes from the partition of this number.
     fn put<R: Wait>(&mut self, rt: &R, partition: u16, frame: Frame) {
         let outbox = &*self.outbox;
-        if let Ok(parcel) = Parcel::new(partition, outbox.partition(), outbox.tab(), frame) {
-            let _full = outbox.put(rt, &mut self.pass, parcel);
+        match Parcel::new(partition, outbox.partition(), outbox.tab(), frame) {
+            Ok(parcel) => drop(outbox.put(rt, &mut self.pass, parcel)),
+            Err(refused) => drop(refused),
         }
     }
 }

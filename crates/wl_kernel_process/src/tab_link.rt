@@ -1,6 +1,7 @@
 //! A tab's link and process in the kernel: the thread that reads, the thread that writes, and the end of both.
 
 ghost use Rattle.std.specs.Io.{ReadsAtMost};
+ghost use Rattle.wl_kernel_rules.specs.News.{IsDeathOf};
 
 use crate::bundle::{Bundle, Flushed, Gathering};
 use crate::hub::Hub;
@@ -41,6 +42,7 @@ pub(crate) struct TabProcess {
     pub(crate) link: Option<UnixStream>,
     /// What tells the broker that the tab is dead.
     pub(crate) death: Vec<u8>,
+    ghost of_tab: { IsDeathOf tab death.items },
 }
 
 impl TabProcess {
@@ -152,6 +154,7 @@ struct KernelLink<'a> {
 impl Uplink for KernelLink<'_> {
     fn up<R: Wait + Clock>(&mut self, rt: &R, tab: u16, frame: Frame) -> Result<(), RouteFault> {
         let Ok(mut gathered) = self.gathered.try_borrow_mut() else {
+            drop(frame);
             return Err(RouteFault::Memory);
         };
         gathered.load.frames = gathered.load.frames.saturating_add(1);

@@ -1,7 +1,8 @@
 -- What the kernel itself tells tabs and the broker.
-use Rattle.std.specs.Prelude.{ℕ, List, Bool, true, false, nat_lt, Option, Some, None, if◌then◌else◌}
+use Rattle.std.specs.Prelude.{◌≡◌, ℕ, List, Bool, true, false, nat_lt, Option, Some, None, if◌then◌else◌}
 use Rattle.wl_origin.specs.Order.{Pair}
 use Rattle.wl_origin.specs.Partition.{origin_text}
+use Rattle.wl_grammar.specs.Grammar.{spelling}
 use Rattle.wl_grammar.specs.declared.frame.Upward.{Upward}
 use Rattle.wl_grammar.specs.declared.frame.Upward.TheVariants as up
 use Rattle.wl_grammar.specs.declared.frame.Downward.{Downward}
@@ -21,6 +22,10 @@ texts_of p is_pair = record { top = if is_pair then Some (origin_text p.0) else 
 abbrev pub welcome : ℕ → Option (List ℕ) → List ℕ → Frame
 welcome tab None own = frame.Welcome (record { tab = tab; origin = own })
 welcome tab (Some top) own = frame.PairWelcome (record { tab = tab; top = top; own = own })
+
+-- what tells the broker that a tab is dead
+abbrev pub IsDeathOf : ℕ → List ℕ → Type 0
+IsDeathOf tab bytes = bytes ≡ spelling (frame.Dead (record { tab = tab }))
 
 -- the generation that a tab has sent something for
 abbrev pub generation_of : Upward → ℕ

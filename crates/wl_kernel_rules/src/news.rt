@@ -1,9 +1,9 @@
 //! What the kernel itself tells tabs and the broker, and what it hears of their frames.
 
 ghost use Rattle.std.specs.Prelude.{◌≡◌, IfOk, option_map};
-ghost use Rattle.wl_grammar.specs.Grammar.{IsTab, spelling};
+ghost use Rattle.wl_grammar.specs.Grammar.{IsTab};
 ghost use Rattle.wl_grammar.specs.declared.frame.Frame.TheVariants as frame_with;
-ghost use Rattle.wl_kernel_rules.specs.News.{texts_of, welcome, sent_for, late_for, is_answer};
+ghost use Rattle.wl_kernel_rules.specs.News.{IsDeathOf, texts_of, welcome, sent_for, late_for, is_answer};
 
 use std::alloc::{AllocError, Global};
 use std::marker::Model;
@@ -61,7 +61,7 @@ fn origin_of(alloc: Global, text: &str) -> Result<Origin, AllocError>
 /// What tells the broker that the tab is dead.
 pub fn death_of(alloc: Global, tab: u16) -> Result<Vec<u8>, AllocError>
     requires { IsTab tab }
-    ensures { IfOk result (λ bytes. bytes.items ≡ spelling (frame_with.Dead (record { tab = tab }))) }
+    ensures { IfOk result (λ bytes. IsDeathOf tab bytes.items) }
 {
     let mut bytes = Vec::new(alloc);
     append(alloc, &mut bytes, &Frame::Dead(Dead { tab }))?;
