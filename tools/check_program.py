@@ -10,9 +10,11 @@ difference; the status is then 1.
 
 import os
 import pathlib
+import signal
 import subprocess
 import sys
 import tempfile
+import time
 
 SECONDS = 60
 TOP = pathlib.Path(__file__).resolve().parent.parent
@@ -193,6 +195,7 @@ def check_processes(program):
     ended, _counter = play(program, "start\nopen https://a.test/ TAB\njoin\n", TAB=query)
     ends("a query", ended, f"up 1\nopened 1 https://a.test\n{held}\nended 1 0\n".encode(), [], 0)
     check_leaver(program)
+    check_stopped(program)
     for example in ["counter", "killed"]:
         words = [sys.executable, TOP / "tools" / "demo_processes.py", TOP / "examples" / "processes" / example, program]
         ran = subprocess.run(words, capture_output=True, text=True, timeout=3 * SECONDS, check=False)
@@ -208,6 +211,28 @@ def check_leaver(program):
         pathlib.Path(folder, "KERNEL").write_text("open https://a.test/ TAB\njoin\n", encoding="utf-8")
         ended = Ended(program, KERNEL, folder=folder, name=str(leaver))
     ends("a tab that leaves a child", ended, b"opened 1 https://a.test\nended 1 7\n", [], 0)
+
+
+def check_stopped(program):
+    """A kernel is stopped and goes on, which interrupts its reads: its tab lives on, and is there to be killed."""
+    with tempfile.TemporaryDirectory() as folder:
+        pathlib.Path(folder, "KERNEL").write_text("start\nopen https://a.test/ TAB\npause 2000\nkill 1\n", encoding="utf-8")
+        pathlib.Path(folder, "TAB").write_text("ask exclusive a\nwait 0\nask exclusive a\nwait 1\n", encoding="utf-8")
+        pipes = {"stdout": subprocess.PIPE, "stderr": subprocess.PIPE}
+        kernel = subprocess.Popen([program, *KERNEL], cwd=folder, **pipes)
+        said = kernel.stdout.readline() + kernel.stdout.readline()
+        for _stop in range(5):
+            time.sleep(0.1)
+            kernel.send_signal(signal.SIGSTOP)
+            time.sleep(0.02)
+            kernel.send_signal(signal.SIGCONT)
+        try:
+            stdout, stderr = kernel.communicate(timeout=SECONDS)
+        except subprocess.TimeoutExpired:
+            kernel.kill()
+            stdout, stderr = kernel.communicate()
+    found = (said + stdout, stderr, kernel.returncode)
+    same("a kernel that was stopped and goes on", "what it says", found, (b"up 1\nopened 1 https://a.test\nkilled 1\n", b"", 0))
 
 
 def main():

@@ -184,7 +184,8 @@ impl<R: Wait + Clock> TabLink<'_, R> {
         }
     }
 
-    /// Reads the link. It counts as ended where nothing comes and the process has ended: a child of the tab may keep it open.
+    /// Reads the link. It counts as ended where nothing comes and the process has ended: a child of the tab may keep it open. A
+    /// read that is interrupted, as where the kernel is stopped and goes on, is made again.
     fn read_link(&self, buffer: &mut [u8]) -> io::Result<usize>
         ensures bound { ReadsAtMost result buffer.new }
     {
@@ -199,6 +200,7 @@ impl<R: Wait + Clock> TabLink<'_, R> {
                     }
                     has_ended = self.process.has_ended(&self.rt);
                 }
+                Err(error) if error.kind() == ErrorKind::Interrupted => {}
                 done => return done,
             }
         }
