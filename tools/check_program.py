@@ -14,6 +14,7 @@ import signal
 import subprocess
 import sys
 import tempfile
+import threading
 import time
 
 SECONDS = 60
@@ -218,20 +219,18 @@ def check_stopped(program):
     with tempfile.TemporaryDirectory() as folder:
         pathlib.Path(folder, "KERNEL").write_text("start\nopen https://a.test/ TAB\npause 2000\nkill 1\n", encoding="utf-8")
         pathlib.Path(folder, "TAB").write_text("ask exclusive a\nwait 0\nask exclusive a\nwait 1\n", encoding="utf-8")
-        pipes = {"stdout": subprocess.PIPE, "stderr": subprocess.PIPE}
-        kernel = subprocess.Popen([program, *KERNEL], cwd=folder, **pipes)
+        kernel = subprocess.Popen([program, *KERNEL], cwd=folder, stdout=subprocess.PIPE, stderr=subprocess.PIPE)
+        guard = threading.Timer(SECONDS, kernel.kill)
+        guard.start()
         said = kernel.stdout.readline() + kernel.stdout.readline()
         for _stop in range(5):
             time.sleep(0.1)
             kernel.send_signal(signal.SIGSTOP)
             time.sleep(0.02)
             kernel.send_signal(signal.SIGCONT)
-        try:
-            stdout, stderr = kernel.communicate(timeout=SECONDS)
-        except subprocess.TimeoutExpired:
-            kernel.kill()
-            stdout, stderr = kernel.communicate()
-    found = (said + stdout, stderr, kernel.returncode)
+        said += kernel.stdout.read()
+        found = (said, kernel.stderr.read(), kernel.wait())
+        guard.cancel()
     same("a kernel that was stopped and goes on", "what it says", found, (b"up 1\nopened 1 https://a.test\nkilled 1\n", b"", 0))
 
 
