@@ -74,11 +74,8 @@ impl Channels {
         ensures memory { result ≡ Err ChannelFault.Memory → open_refusal name.now self.old ≡ None }
         ensures err { OnErr result (self.new ≡ self.old) }
     {
-        if name.len() > NAME_LIMIT {
-            return Err(ChannelFault::NameTooLong);
-        }
-        if self.open_numbers.len() >= CHANNEL_LIMIT {
-            return Err(ChannelFault::TooManyChannels);
+        if let Some(fault) = self.open_refusal(name) {
+            return Err(fault);
         }
         let name = Name::new(String::from_str(self.alloc, name)?);
         let object = ChannelObject::new(self.alloc, name);
@@ -90,6 +87,19 @@ impl Channels {
             tab: self.tab,
             number,
         })
+    }
+
+    /// Why the opening of a channel object of the name is refused, if it is, though memory be had. Never Memory.
+    pub fn open_refusal(&self, name: &str) -> Option<ChannelFault>
+        ensures { result ≡ open_refusal name.now self.now }
+    {
+        if name.len() > NAME_LIMIT {
+            return Some(ChannelFault::NameTooLong);
+        }
+        if self.open_numbers.len() >= CHANNEL_LIMIT {
+            return Some(ChannelFault::TooManyChannels);
+        }
+        None
     }
 
     /// Posts data on a channel: the tab's other open objects of its name get it at once, oldest first.

@@ -1,11 +1,11 @@
 //! What the kernel's threads share. Locks are taken in the order in which they stand here. While a device is called none is held
 //! but the link's and the broker's, and the supervisor's while the Start frame is written, which a fresh socket takes.
 
-ghost use Rattle.std.specs.Prelude.{◌≡◌, ◌++◌, IfOk, OnOk, OnErr};
+ghost use Rattle.std.specs.Prelude.{◌≡◌, ◌++◌, IfOk, OnOk, IfErr, OnErr};
 ghost use Rattle.wl_grammar.specs.Grammar.{IsTab};
 ghost use Rattle.wl_kernel.specs.Routes.{IsWellRouted};
 ghost use Rattle.wl_kernel_rules.specs.News.{IsDeathOf};
-ghost use Rattle.wl_kernel_rules.specs.Supervised.{IsSentOn, to_broker};
+ghost use Rattle.wl_kernel_rules.specs.Supervised.{IsSentOn, IsRefusedBy, to_broker};
 
 mod orders;
 
@@ -236,6 +236,7 @@ impl Hub {
         bytes: &mut Vec<u8>,
     ) -> Result<(), RouteFault>
         ensures sent { OnOk result (IsSentOn tab frame bytes.old.items bytes.new.items) }
+        ensures refused { IfErr result (IsRefusedBy tab frame) }
         ensures err { OnErr result (bytes.new.items ≡ bytes.old.items) }
     {
         let sent = self.supervisor.lock(rt).send(tab, frame)?;

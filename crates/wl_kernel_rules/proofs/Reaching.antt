@@ -29,5 +29,8 @@ opens_reached t p k due so = one_more k (opened t p k) (Opens t p) (allowed (ope
 pub kills_reached : (t : ℕ) (k : KernelState) → kill_refusal t k ≡ None → IsReached k → IsReached (killed t k)
 kills_reached t k due so = one_more k (killed t k) (Kills t) (allowed (kill_refusal t k) k (killed t k) due) refl so
 
+pub starts_reached : (k : KernelState) → StartsWithAll → IsReached k → start_refusal (living_tabs k) k ≡ None
+starts_reached k law so = subst (λ (m : KernelState). start_refusal (living_tabs m) m ≡ None) (sym so.made) (law k.last so.calls)
+
 pub stops_reached : (k : KernelState) → may_stop k ≡ true → IsReached k → IsReached (stopped k)
 stops_reached k may so = one_more k (stopped k) Stops (tested (may_stop k) k (stopped k) may) refl so

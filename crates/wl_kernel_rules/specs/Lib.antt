@@ -2,3 +2,4 @@ pub mod Supervised
 pub mod News
 pub mod Broker
 pub mod Refusals
+pub mod Keeping

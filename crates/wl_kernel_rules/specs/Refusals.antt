@@ -1,6 +1,6 @@
 -- Why a tab was not opened.
 use Rattle.wl_kernel.specs.declared.fault.OpenFault.{OpenFault}
-use Rattle.wl_kernel.specs.declared.fault.OpenFault.TheVariants.{NumberTaken, TooManyLiving, PartitionFull, Memory}
+use Rattle.wl_kernel.specs.declared.fault.OpenFault.TheVariants.{Memory}
 use Rattle.wl_process.specs.declared.fault.ProcessFault.TheVariants as process
 use Rattle.wl_kernel_rules.specs.declared.refusals.Unopened.{Unopened}
 use Rattle.wl_kernel_rules.specs.declared.refusals.Unopened.TheVariants.{Refused, Failed}

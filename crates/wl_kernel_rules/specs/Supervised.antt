@@ -1,10 +1,10 @@
 -- The kernel, and whether a broker runs.
-use Rattle.std.specs.Prelude.{◌≡◌, ℕ, List, [], ◌++◌, Bool, true, false, Option, Some, None, if◌then◌else◌}
+use Rattle.std.specs.Prelude.{◌≡◌, ◌≢◌, ℕ, List, [], ◌++◌, Bool, true, false, Option, Some, None, if◌then◌else◌}
 use Rattle.wl_grammar.specs.declared.frame.Frame.{Frame}
 use Rattle.wl_grammar.specs.Grammar.{IsWellFormed, spelling}
 use Rattle.wl_kernel.specs.declared.fault.RouteFault.{RouteFault}
-use Rattle.wl_kernel.specs.declared.fault.RouteFault.TheVariants.{StaleLink}
-use Rattle.wl_kernel.specs.Kernel.{KernelState, no_tabs, living_tabs, start_frame, may_stop, stopped}
+use Rattle.wl_kernel.specs.declared.fault.RouteFault.TheVariants.{StaleLink, Memory as RouteMemory}
+use Rattle.wl_kernel.specs.Kernel.{KernelState, living_tabs, start_frame, may_stop, stopped}
 use Rattle.wl_kernel.specs.Laws.{Call, reached}
 use Rattle.wl_kernel.specs.declared.routes.Routed.{Routed}
 use Rattle.wl_kernel.specs.declared.routes.Routed.TheVariants.{Broker, Tabs}
@@ -77,6 +77,14 @@ pub record IsSentOn (t : ℕ) (f : Frame) (before after : List ℕ) : Type 0 whe
   pub so : IsReached kernel
   pub allowed : route_up_refusal t f kernel ≡ None
   pub spelled : IsWellFormed f → after ≡ before ++ to_broker (routed_up t f kernel)
+
+-- a tab's frame was refused for the cause that a kernel names which a list of calls reaches, or for want of memory where it
+-- names none
+pub record IsRefusedBy (t : ℕ) (f : Frame) (e : RouteFault) : Type 0 where
+  pub kernel : KernelState
+  pub so : IsReached kernel
+  pub refused : e ≢ RouteMemory → route_up_refusal t f kernel ≡ Some e
+  pub memory : e ≡ RouteMemory → route_up_refusal t f kernel ≡ None
 
 -- ---- the supervisor as the code has it
 

@@ -2,11 +2,13 @@
 //! birth, a death and a start, and what the keeper of the broker is to do next.
 #![tactic(auto)]
 
+pub mod laws;
 pub mod news;
 pub mod orders;
 pub mod refusals;
 pub mod supervisor;
 
+pub use laws::law_orders;
 pub use news::{Origins, death_of, is_answer, told_late};
 pub use orders::{Orders, Phase};
 pub use refusals::{Unopened, unopened_reply, unread_reply};

@@ -2,6 +2,7 @@
 
 ghost use Rattle.std.specs.Prelude.{◌≡◌, Ok, Err};
 ghost use Rattle.wl_kernel_rules.specs.declared.refusals.Unopened.TheVariants.{Failed as failed};
+ghost use Rattle.wl_process.specs.declared.fault.ProcessFault.{ProcessFault};
 ghost use Rattle.wl_process.specs.declared.fault.ProcessFault.TheVariants.{Memory as memory};
 
 use std::alloc::{AllocError, AllocFailed};
@@ -50,7 +51,7 @@ impl From<OpenFault> for Unopened {
     }
 }
 
-/// What is printed for a page that has no partition.
+/// What is printed for a page that has no partition. Where memory was refused nothing is, and the process ends as Memory.
 pub fn unread_reply(fault: OriginFault) -> Result<KernelReply<'static>, ProcessFault>
     ensures bad_url { fault ≡ OriginFault.BadUrl → result ≡ Ok KernelReply.BadUrl }
     ensures security { fault ≡ OriginFault.Security → result ≡ Ok KernelReply.SecurityError }
@@ -63,7 +64,8 @@ pub fn unread_reply(fault: OriginFault) -> Result<KernelReply<'static>, ProcessF
     }
 }
 
-/// What is printed for a tab that was not opened.
+/// What is printed for a tab that was not opened. Where memory was refused nothing is, and the process ends as Memory; where it
+/// can't go on, it ends for that fault.
 pub fn unopened_reply(fault: Unopened) -> Result<KernelReply<'static>, ProcessFault>
     ensures used_up { fault ≡ Unopened.TabsUsedUp → result ≡ Ok KernelReply.TabsUsedUp }
     ensures taken { fault ≡ Unopened.Refused OpenFault.NumberTaken → result ≡ Ok KernelReply.NumberTaken }
@@ -72,7 +74,7 @@ pub fn unopened_reply(fault: Unopened) -> Result<KernelReply<'static>, ProcessFa
     ensures full { fault ≡ Unopened.Refused OpenFault.PartitionFull
         → result ≡ Ok KernelReply.PartitionFull }
     ensures memory { fault ≡ Unopened.Refused OpenFault.Memory → result ≡ Err ProcessFault.Memory }
-    ensures failed { (f : _) → fault ≡ Unopened.Failed f → result ≡ Err f }
+    ensures failed { (f : ProcessFault) → fault ≡ Unopened.Failed f → result ≡ Err f }
 {
     match fault {
         Unopened::TabsUsedUp => Ok(KernelReply::TabsUsedUp),

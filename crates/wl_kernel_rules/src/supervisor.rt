@@ -1,9 +1,9 @@
 //! The kernel's table of tabs, whether a broker runs or none.
 
-ghost use Rattle.std.specs.Prelude.{◌≡◌, ◌≢◌, ◌≤◌, None, Some, Err, IfOk, OnOk, IfErr, OnErr, true, false, is_some, if◌then◌else◌};
+ghost use Rattle.std.specs.Prelude.{◌≡◌, ◌≢◌, ◌≤◌, [], None, Some, Err, IfOk, OnOk, IfErr, OnErr, true, false, is_some, if◌then◌else◌};
 ghost use Rattle.wl_draft.specs.Refusals.{RefusesBy};
 ghost use Rattle.wl_grammar.specs.Grammar.{IsTab, IsWellFormed};
-ghost use Rattle.wl_kernel.specs.Kernel.{no_tabs, partition_number, number_for, open_refusal, opened, kill_refusal, killed};
+ghost use Rattle.wl_kernel.specs.Kernel.{no_tabs, living_tabs, partition_number, number_for, open_refusal, opened, kill_refusal, killed, start_refusal};
 ghost use Rattle.wl_kernel.specs.Routes.{route_up_refusal, routed_up, TakesMemory, IsWellRouted, routed_down};
 ghost use Rattle.wl_kernel_rules.specs.Supervised.{IsReached, without_broker, with_broker, current, with_kernel, start_frame_of, begun, stop_refusal, halted, down_refusal, seen};
 
@@ -33,8 +33,11 @@ impl Drop for State {
 
 impl State {
     /// Starts the broker with exactly the living tabs, if none runs.
+    #[tactic(auto, using(crate::proofs::Reaching::starts_reached))]
     fn start(self, alloc: Global) -> (State, Result<(u32, Frame), NotStarted>)
         requires { IsReached (seen self).kernel }
+        ensures allowed { start_refusal (living_tabs (seen self).kernel) (seen self).kernel ≡ None }
+        ensures growth { result.1 ≡ Err NotStarted.Memory → living_tabs (seen self).kernel ≢ [] }
         ensures ok { OnOk result.1 (seen result.0 ≡ begun (seen self)) }
         ensures generation { IfOk result.1 (λ r. r.0 ≡ (seen self).kernel.generation) }
         ensures frame { IfOk result.1 (λ r. r.1 ≡ start_frame_of (seen self)) }
@@ -43,6 +46,7 @@ impl State {
         ensures down { result.1 ≡ Err NotStarted.AlreadyUp → (seen self).is_up ≡ true }
         ensures err { OnErr result.1 (seen result.0 ≡ seen self) }
     {
+        law_kernel();
         match self {
             State::Up(up) => (State::Up(up), Err(NotStarted::AlreadyUp)),
             State::Down(down) => start(alloc, down),
@@ -73,9 +77,22 @@ impl State {
     }
 }
 
+/// The living tabs, in a list of their own.
+fn living_in(alloc: Global, down: &Down) -> Result<Vec<u16>, AllocError>
+    ensures list { IfOk result (λ v. v.items ≡ living_tabs down.now) }
+    ensures growth { OnErr result (living_tabs down.now ≢ []) }
+{
+    let living = down.tabs().living();
+    if living.is_empty() {
+        return Ok(Vec::new(alloc));
+    }
+    living.to_vec(alloc)
+}
+
 /// Starts the broker of a kernel without one.
 fn start(alloc: Global, down: Down) -> (State, Result<(u32, Frame), NotStarted>)
     requires { IsReached down }
+    ensures growth { OnErr result.1 (living_tabs down ≢ []) }
     ensures ok { OnOk result.1 (seen result.0 ≡ with_broker down) }
     ensures generation { IfOk result.1 (λ r. r.0 ≡ down.generation) }
     ensures frame { IfOk result.1 (λ r. r.1 ≡ start_frame_of (without_broker down)) }
@@ -83,7 +100,7 @@ fn start(alloc: Global, down: Down) -> (State, Result<(u32, Frame), NotStarted>)
     ensures memory { IfErr result.1 (λ e. e ≡ NotStarted.Memory) }
     ensures err { OnErr result.1 (seen result.0 ≡ without_broker down) }
 {
-    let Ok(listed) = down.tabs().living().to_vec(alloc) else {
+    let Ok(listed) = living_in(alloc, &down) else {
         return (State::Down(down), Err(NotStarted::Memory));
     };
     law_kernel();
@@ -287,8 +304,13 @@ impl Supervisor {
         self.tabs().partition_number(tab).unwrap_or(0)
     }
 
-    /// Starts the broker of the generation with exactly the living tabs, and gives its Start frame. Only memory can refuse that.
+    /// Starts the broker of the generation with exactly the living tabs, and gives its Start frame. AlreadyUp where one runs;
+    /// Memory where the list of the tabs could not be made.
     pub fn start(&mut self) -> Result<(u32, Frame), NotStarted>
+        // The kernel never refuses a start with exactly the living tabs,
+        ensures allowed { start_refusal (living_tabs self.old.kernel) self.old.kernel ≡ None }
+        // which takes no memory where none lives.
+        ensures growth { result ≡ Err NotStarted.Memory → living_tabs self.old.kernel ≢ [] }
         ensures ok { OnOk result (self.new ≡ begun self.old) }
         ensures generation { IfOk result (λ r. r.0 ≡ self.old.kernel.generation) }
         ensures frame { IfOk result (λ r. r.1 ≡ start_frame_of self.old) }
@@ -302,7 +324,8 @@ impl Supervisor {
         started
     }
 
-    /// Stops the broker, and gives its generation. It takes no memory.
+    /// Stops the broker, and gives its generation. NotUp where none runs; GenerationsUsedUp where its generation is the last one.
+    /// It takes no memory.
     pub fn stop(&mut self) -> Result<u32, NotStopped>
         ensures ok { OnOk result (self.new ≡ halted self.old) }
         ensures generation { IfOk result (λ g. g ≡ self.old.kernel.generation) }

@@ -204,6 +204,21 @@ posting-refused c k bytes o channel allowed is refused_is =
 pub posting-number : (c : ChannelState) (k : ℕ) (bytes : List ℕ) (e : ChannelRefusal) → number_refusal k c ≡ Some e → posting_refusal k bytes c ≡ Some e
 posting-number c k bytes e refused_is = ap (λ r. refusal_or r (option_map Fault (post_refusal c.tab k bytes c))) refused_is
 
+number_fault_as : (b c : Bool) (f : ChannelFault) → cond b (cond c None (Some Closed)) (Some NoChannel) ≡ Some (Fault f) → ⊥
+number_fault_as true true f e = cc
+number_fault_as true false f e = cc
+number_fault_as false c f e = cc
+
+-- no number is refused for want of memory
+pub number-no-fault : (c : ChannelState) (k : ℕ) (f : ChannelFault) → number_refusal k c ≡ Some (Fault f) → ⊥
+number-no-fault c k f e = number_fault_as (ltb k (length c.objects)) (is_open_at c.objects k) f e
+
+pub refusal-told : {T : Type 0} (e f : ChannelRefusal) (r s : Result T ChannelRefusal) → r ≡ Err e → s ≡ Err f → r ≡ s → e ≡ f
+refusal-told e f r s is was same = cc
+
+pub fault-told : {T : Type 0} (e f : ChannelFault) (r s : Result T ChannelRefusal) → r ≡ Err (Fault e) → s ≡ Err (Fault f) → r ≡ s → e ≡ f
+fault-told e f r s is was same = cc
+
 own_as : (t : ℕ) (b c : Bool) → eqb t t ≡ c → b ≡ true → (c && b) ≡ true
 own_as t b true e is = is
 own_as t b false e is = absurd (eqb-false t t e refl)

@@ -28,6 +28,8 @@ pub fn open_at(
         ≡ None) }
     ensures refused { RefusesBy result
         (open_refusal name.now (channels_in tab (find rows.old.entries tab))) ChannelFault.Memory }
+    ensures memory { result ≡ Err ChannelFault.Memory
+        → open_refusal name.now (channels_in tab (find rows.old.entries tab)) ≡ None }
     ensures err { OnErr result (rows.new.entries ≡ rows.old.entries) }
 {
     let Some(channels) = rows.get_mut(&tab) else {
@@ -75,6 +77,8 @@ pub fn post_at(
     ensures refused { RefusesBy result
         (posting_refusal number bytes.now (channels_in tab (find rows.old.entries tab)))
         (ChannelRefusal.Fault ChannelFault.Memory) }
+    ensures memory { result ≡ Err (ChannelRefusal.Fault ChannelFault.Memory)
+        → posting_refusal number bytes.now (channels_in tab (find rows.old.entries tab)) ≡ None }
     ensures err { OnErr result (rows.new.entries ≡ rows.old.entries) }
 {
     let Some(channels) = rows.get_mut(&tab) else {

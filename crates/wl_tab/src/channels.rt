@@ -72,16 +72,21 @@ impl TabChannels {
         }
     }
 
-    /// Opens a channel, and gives its number. The room for its token is made first.
+    /// Opens a channel, and gives its number. The room for its token is made before it is opened.
     pub(crate) fn open(&mut self, name: &Name) -> Result<usize, ChannelFault>
         ensures ok { OnOk result ((self.new ≡ opened name.now self.old)
             × (open_refusal name.now self.old ≡ None)) }
         ensures number { IfOk result (λ n. n ≡ length self.old.objects) }
         ensures refused { RefusesBy result (open_refusal name.now self.old) ChannelFault.Memory }
+        ensures memory { result ≡ Err ChannelFault.Memory → open_refusal name.now self.old ≡ None }
         ensures err { OnErr result (self.new ≡ self.old) }
     {
+        let text = name.as_str();
+        if let Some(fault) = self.channels.open_refusal(text) {
+            return Err(fault);
+        }
         self.kept.reserve(1)?;
-        let channel = self.channels.open(name.as_str())?;
+        let channel = self.channels.open(text)?;
         let number = channel.number();
         self.latest = Some(number);
         self.kept.push_reserved(channel);
@@ -98,6 +103,8 @@ impl TabChannels {
             × (p.full ≡ full (Some number) (name_at self.old.objects number) self.old.objects)) }
         ensures refused { RefusesBy result (posting_refusal number bytes.now self.old)
             (ChannelRefusal.Fault ChannelFault.Memory) }
+        ensures memory { result ≡ Err (ChannelRefusal.Fault ChannelFault.Memory)
+            → posting_refusal number bytes.now self.old ≡ None }
         ensures err { OnErr result (self.new ≡ self.old) }
     {
         let place = place_of(&self.kept, self.latest, number)?;

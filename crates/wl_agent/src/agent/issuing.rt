@@ -52,7 +52,7 @@ impl Agent {
         ensures memory { result ≡ Err AgentFault.Memory → query_refusal self.old ≡ None }
         ensures err { OnErr result (self.new ≡ self.old) }
     {
-        if let Some(fault) = self.live_refusal(1) {
+        if let Some(fault) = self.query_refusal() {
             return Err(fault);
         }
         let tab = self.tab;
@@ -82,7 +82,8 @@ impl Agent {
         Ok(self.issue(operation, Status::Asked)?)
     }
 
-    fn ask_refusal(&self, name: &str) -> Option<AgentFault>
+    /// Why a request or a probe of the name is refused, if it is, though memory be had. Never Memory.
+    pub fn ask_refusal(&self, name: &str) -> Option<AgentFault>
         ensures { result ≡ ask_refusal self.now name.now }
     {
         if !is_supported(name) {
@@ -92,6 +93,13 @@ impl Agent {
             return Some(AgentFault::NameTooLong);
         }
         self.live_refusal(2)
+    }
+
+    /// Why a query is refused, if it is, though memory be had. Never Memory.
+    pub fn query_refusal(&self) -> Option<AgentFault>
+        ensures { result ≡ query_refusal self.now }
+    {
+        self.live_refusal(1)
     }
 
     /// Why a command that needs so many numbers, used or kept, is refused.

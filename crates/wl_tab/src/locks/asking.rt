@@ -1,28 +1,28 @@
 //! Requests, probes and queries, whose tokens are kept.
 
-ghost use Rattle.std.specs.Prelude.{◌≡◌, true, false, length, None, IfOk, OnOk, OnErr};
+ghost use Rattle.std.specs.Prelude.{◌≡◌, ◌<◌, true, false, length, None, Err, IfOk, OnOk, OnErr, vec_len, vec_capacity};
 ghost use Rattle.wl_draft.specs.Refusals.{RefusesBy};
 ghost use Rattle.wl_grammar.specs.declared.frame.Operation.TheVariants.{Request};
 ghost use Rattle.wl_agent.specs.Tab.{asked, queried, ask_refusal, query_refusal};
 
 use crate::locks::TabLocks;
 use crate::locks::kept::Kept;
-use std::alloc::{AllocError, Global};
-use wl_agent::{AgentFault, Token};
+use std::alloc::Global;
+use wl_agent::{Agent, AgentFault, Token};
 use wl_draft::{Mode, Name};
 use wl_grammar::Operation;
 
 impl TabLocks {
-    /// Asks for a lock, and gives the command's number. The room for its token is made first.
+    /// Asks for a lock, and gives the command's number. The room for its token is made before the agent asks.
     pub fn request(&mut self, name: &Name, mode: Mode) -> Result<u32, AgentFault>
         ensures ok { OnOk result ((self.new ≡ asked mode false name.now self.old)
             × (ask_refusal self.old name.now ≡ None)) }
         ensures number { IfOk result (λ n. n ≡ length self.old.issued) }
         ensures refused { RefusesBy result (ask_refusal self.old name.now) AgentFault.Memory }
+        ensures memory { result ≡ Err AgentFault.Memory → ask_refusal self.old name.now ≡ None }
         ensures err { OnErr result (self.new ≡ self.old) }
     {
-        let operation = asking(self.alloc, name, mode, false)?;
-        self.kept.reserve(1)?;
+        let operation = prepared(self.alloc, &self.agent, &mut self.kept, name, mode, false)?;
         let pending = self.agent.request(name.as_str(), mode)?;
         let number = pending.number();
         self.kept.push_reserved(Kept {
@@ -38,10 +38,10 @@ impl TabLocks {
             × (ask_refusal self.old name.now ≡ None)) }
         ensures number { IfOk result (λ n. n ≡ length self.old.issued) }
         ensures refused { RefusesBy result (ask_refusal self.old name.now) AgentFault.Memory }
+        ensures memory { result ≡ Err AgentFault.Memory → ask_refusal self.old name.now ≡ None }
         ensures err { OnErr result (self.new ≡ self.old) }
     {
-        let operation = asking(self.alloc, name, mode, true)?;
-        self.kept.reserve(1)?;
+        let operation = prepared(self.alloc, &self.agent, &mut self.kept, name, mode, true)?;
         let probe = self.agent.probe(name.as_str(), mode)?;
         let number = probe.number();
         self.kept.push_reserved(Kept {
@@ -56,8 +56,12 @@ impl TabLocks {
         ensures ok { OnOk result ((self.new ≡ queried self.old) × (query_refusal self.old ≡ None)) }
         ensures number { IfOk result (λ n. n ≡ length self.old.issued) }
         ensures refused { RefusesBy result (query_refusal self.old) AgentFault.Memory }
+        ensures memory { result ≡ Err AgentFault.Memory → query_refusal self.old ≡ None }
         ensures err { OnErr result (self.new ≡ self.old) }
     {
+        if let Some(fault) = self.agent.query_refusal() {
+            return Err(fault);
+        }
         self.kept.reserve(1)?;
         let asking = self.agent.query()?;
         let number = asking.number();
@@ -69,15 +73,25 @@ impl TabLocks {
     }
 }
 
-/// The command of a request or a probe.
-fn asking(
+/// The command of a request or a probe that the agent does not refuse, and room for its token.
+fn prepared(
     alloc: Global,
+    agent: &Agent,
+    kept: &mut Vec<Kept>,
     name: &Name,
     mode: Mode,
     if_available: bool,
-) -> Result<Operation, AllocError>
-    ensures { IfOk result (λ operation. operation ≡ Request mode if_available name.now) }
+) -> Result<Operation, AgentFault>
+    ensures operation { IfOk result (λ operation. operation ≡ Request mode if_available name.now) }
+    ensures room { OnOk result (vec_len kept.new < vec_capacity kept.new) }
+    ensures kept { kept.new.items ≡ kept.old.items }
+    ensures refused { RefusesBy result (ask_refusal agent.now name.now) AgentFault.Memory }
+    ensures memory { result ≡ Err AgentFault.Memory → ask_refusal agent.now name.now ≡ None }
 {
+    if let Some(fault) = agent.ask_refusal(name.as_str()) {
+        return Err(fault);
+    }
+    kept.reserve(1)?;
     Ok(Operation::Request {
         mode,
         if_available,

@@ -1,25 +1,9 @@
 use Rattle.std.proofs.Common.{subst, sym, [], ◌∷◌, ◌++◌, ap, ◌∙◌, arith}
 use Rattle.wl_broadcast.specs.Channels.{opened, new_object}
-use Rattle.wl_broadcast.specs.OpenObjects.{open_from, all_seen, AreChannels}
-use Rattle.wl_broadcast.proofs.Numbered.{seen_opened, open-opened, open_is_refused, open_is_allowed}
+use Rattle.wl_broadcast.specs.OpenObjects.{all_seen, AreChannels}
+use Rattle.wl_broadcast.proofs.Numbered.{seen_opened, open-opened, open_is_short}
 use Rattle.wl_broadcast.proofs.ChannelNames.{names_opened}
 use Rattle.wl_broadcast.proofs.channels.Channels.open.Goals as goal
-
-pub returns-then-len-ge-CHANNEL_LIMIT-clause-refused : goal.returns-then-len-ge-CHANNEL_LIMIT-clause-refused
-returns-then-len-ge-CHANNEL_LIMIT-clause-refused c _ =
-    open_is_refused c.args.name.now c.args.self.now c.self.inside.open_numbers.items (c.self.invariant.numbers ∙ ap (λ s. open_from 0 s.objects) c.self.view_is) (omega arith) (omega (arith, c.self.inside.open_numbers.ok.0))
-
-pub returns-in_err-from_str-clause-memory : goal.returns-in_err-from_str-clause-memory
-returns-in_err-from_str-clause-memory c _ =
-    open_is_allowed c.args.name.now c.args.self.now c.self.inside.open_numbers.items (c.self.invariant.numbers ∙ ap (λ s. open_from 0 s.objects) c.self.view_is) (omega arith) (omega (arith, c.self.inside.open_numbers.ok.0))
-
-pub returns-in_err-reserve-clause-memory : goal.returns-in_err-reserve-clause-memory
-returns-in_err-reserve-clause-memory c _ =
-    open_is_allowed c.args.name.now c.args.self.now c.self.inside.open_numbers.items (c.self.invariant.numbers ∙ ap (λ s. open_from 0 s.objects) c.self.view_is) (omega arith) (omega (arith, c.self.inside.open_numbers.ok.0))
-
-pub returns-in_err-push-clause-memory : goal.returns-in_err-push-clause-memory
-returns-in_err-push-clause-memory c _ =
-    open_is_allowed c.args.name.now c.args.self.now c.self.inside.open_numbers.items (c.self.invariant.numbers ∙ ap (λ s. open_from 0 s.objects) c.self.view_is) (omega arith) (omega (arith, c.self.inside.open_numbers.ok.0))
 
 pub invariant_of-self-2 : goal.invariant_of-self-2
 invariant_of-self-2 c =
@@ -27,11 +11,11 @@ invariant_of-self-2 c =
     let objects = seen_opened c.self.inside.objects.items c.push.new.self.items c.new-object.result c.args.name.now c.in_ok-push.ensures.items named in
     record {
       numbers = open-opened c.self.inside.open_numbers.items c.push_reserved.new.self.items c.len-number.result c.self.inside.objects.items c.push.new.self.items c.new-object.result c.args.name.now c.self.invariant.numbers (c.push_reserved.ensures.items ∙ ap (λ ns. ns ++ c.len-number.result ∷ []) c.in_ok-reserve.ensures.items) (omega (arith, c.len-number.ensures, c.self.inside.objects.ok.0)) c.in_ok-push.ensures.items named;
-      names = subst AreChannels (sym objects) (names_opened (all_seen c.self.inside.objects.items) c.args.name.now c.self.invariant.names (omega arith, c.utf8.name));
+      names = subst AreChannels (sym objects) (names_opened (all_seen c.self.inside.objects.items) c.args.name.now c.self.invariant.names (open_is_short c.args.name.now c.args.self.now (sym c.in_default.ensures), c.utf8.name));
     }
 
 pub returns-clause-ok : goal.returns-clause-ok
 returns-clause-ok c =
     let named = c.new-object.ensures ∙ ap new_object (c.new-name.ensures ∙ c.in_ok-from_str.ensures.ok) in
     let objects = seen_opened c.self.inside.objects.items c.push.new.self.items c.new-object.result c.args.name.now c.in_ok-push.ensures.items named in
-    (ap (λ os. record { tab = c.self.inside.tab; objects = os; posts = c.self.inside.posts; last = c.self.inside.last.entries }) objects ∙ ap (opened c.args.name.now) c.self.view_is, open_is_allowed c.args.name.now c.args.self.now c.self.inside.open_numbers.items (c.self.invariant.numbers ∙ ap (λ s. open_from 0 s.objects) c.self.view_is) (omega arith) (omega (arith, c.self.inside.open_numbers.ok.0)))
+    (ap (λ os. record { tab = c.self.inside.tab; objects = os; posts = c.self.inside.posts; last = c.self.inside.last.entries }) objects ∙ ap (opened c.args.name.now) c.self.view_is, sym c.in_default.ensures)

@@ -1,10 +1,11 @@
-use Rattle.std.proofs.Common.{Some, None, ◌∙◌, sym, ap, subst}
+use Rattle.std.proofs.Common.{Some, None, Err, refl, ◌∙◌, sym, ap, subst}
 use Rattle.std.proofs.lemmas.Result.{err_from_is_err_and}
 use Rattle.wl_broadcast.specs.Owned.{Owned}
+use Rattle.wl_broadcast.specs.declared.fault.ChannelFault.TheVariants.{Memory}
 use Rattle.wl_broadcast.specs.Channels.{ChannelState, posted, post_frame, name_at, taking, full, post_refusal}
 use Rattle.wl_tab.specs.declared.channels.ChannelRefusal.TheVariants.{Fault}
 use Rattle.wl_tab.specs.TabChannels.{IsNumbered}
-use Rattle.wl_tab.proofs.OpenChannels.{found_in, refused_in, posting-refused, posting-number, numbered-posted}
+use Rattle.wl_tab.proofs.OpenChannels.{found_in, refused_in, posting-refused, posting-number, number-no-fault, refusal-told, fault-told, numbered-posted}
 use Rattle.wl_tab.proofs.channels.TabChannels.post.Goals as goal
 
 pub returns-in_err-place-clause-refused : goal.returns-in_err-place-clause-refused
@@ -22,6 +23,22 @@ returns-in_err-post-clause-refused c =
     let channel = c.index.ensures ∙ f.channel c.index.result.now in
     let at = ap (λ (s : ChannelState). post_refusal c.index.result.now.tab c.index.result.now.number c.args.bytes.now s) (sym c.self.view_is) in
     rw (p.1, p.2) (λ other. posting-refused c.args.self.now c.args.number c.args.bytes.now (Some c.in_err-post.field-0.0) c.index.result.now f.allowed channel (at ∙ c.in_err-post.ensures.refused (λ same. other (ap Fault same))))
+
+pub returns-in_err-place-clause-memory : goal.returns-in_err-place-clause-memory
+returns-in_err-place-clause-memory c =
+    let p = err_from_is_err_and c.from_residual.result c.from_residual.ensures.1 in
+    let n : IsNumbered c.args.self.now c.self.inside.latest c.self.inside.kept.items = subst (λ (s : ChannelState). IsNumbered s c.self.inside.latest c.self.inside.kept.items) c.self.view_is c.self.invariant in
+    let refused = refused_in c.args.self.now c.self.inside.latest c.self.inside.kept.items c.deref.result.now c.args.number c.in_err-place.field-0.0 c.place_of.result n c.deref.ensures.value c.place_of.ensures c.in_err-place.was in
+    rw (p.1, p.2) (λ same. absurd (number-no-fault c.args.self.now c.args.number Memory (refused ∙ ap Some (refusal-told _ _ _ _ refl refl same))))
+
+pub returns-in_err-post-clause-memory : goal.returns-in_err-post-clause-memory
+returns-in_err-post-clause-memory c =
+    let p = err_from_is_err_and c.from_residual-in_err-post.result c.from_residual-in_err-post.ensures.1 in
+    let n : IsNumbered c.args.self.now c.self.inside.latest c.self.inside.kept.items = subst (λ (s : ChannelState). IsNumbered s c.self.inside.latest c.self.inside.kept.items) c.self.view_is c.self.invariant in
+    let f = found_in c.args.self.now c.self.inside.latest c.self.inside.kept.items c.deref.result.now c.args.number c.in_ok-place.place c.place_of.result n c.deref.ensures.value c.place_of.ensures c.in_ok-place.was in
+    let channel = c.index.ensures ∙ f.channel c.index.result.now in
+    let at = ap (λ (s : ChannelState). post_refusal c.index.result.now.tab c.index.result.now.number c.args.bytes.now s) (sym c.self.view_is) in
+    rw (p.1, p.2) (λ same. posting-refused c.args.self.now c.args.number c.args.bytes.now None c.index.result.now f.allowed channel (at ∙ c.in_err-post.ensures.memory (ap Err (fault-told _ _ _ _ refl refl same))))
 
 pub invariant_of-self-2 : goal.invariant_of-self-2
 invariant_of-self-2 c =
