@@ -42,8 +42,8 @@ test:
 more-edits:
 	python3 tools/more_edits.py $(CRATES)
 
-TESTS ?= edge_tests
-WORD ?= growths
+TESTS ?= book_tests
+WORD ?=
 MOST ?= 0
 
 refuse:

@@ -3,21 +3,15 @@
 #![tactic(auto)]
 
 #[cfg(test)]
-mod command_line;
-#[cfg(test)]
 mod foreign;
 #[cfg(test)]
 mod hostile;
 #[cfg(test)]
 mod links;
 #[cfg(test)]
-mod rules;
-#[cfg(test)]
 mod running;
 #[cfg(test)]
 mod stage;
-#[cfg(test)]
-mod supervising;
 #[cfg(test)]
 mod tests;
 

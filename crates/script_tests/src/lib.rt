@@ -1,4 +1,4 @@
-//! The tests of the world and of the scripts that play it, and of the lines that processes read and print.
+//! The tests of scripts, through what `wl_script` offers.
 #![tactic(auto)]
 
 #[cfg(test)]

@@ -1,5 +1,0 @@
-//! The tests of the crates below the world, one file a crate, through what each offers.
-#![tactic(auto)]
-
-#[cfg(test)]
-mod tests;

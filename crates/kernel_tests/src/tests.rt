@@ -1,0 +1,4 @@
+//! One file a crate.
+
+mod kernel;
+mod origin;

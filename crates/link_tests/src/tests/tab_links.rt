@@ -1,0 +1,405 @@
+//! The kernel's two ends of a tab's link. Where memory is refused, a frame is lost or the link ends; then the same is done
+//! again: so these tests pass whichever allocation is refused.
+
+ghost use Rattle.std.specs.Arc.{arc_value};
+ghost use Rattle.std.specs.Prelude.{◌≡◌, ◌≤◌, true, false, IfOk};
+ghost use Rattle.wl_board.specs.Calls.{IsOf as IsSeatOf};
+ghost use Rattle.wl_outbox.specs.Passes.{IsOf, takes};
+
+use crate::tests::same;
+use std::alloc::{AllocError, Global};
+use std::io::{Read, Write};
+use std::process::Abort;
+use std::rt::Clock;
+use std::sync::{Arc, Mutex, Wait};
+use std::thread;
+use std::thread::{Parker, Threads};
+use wl_board::{Board, Life, Seat};
+use wl_fakes::devices::{SlowReader, SlowWriter};
+use wl_frames::device::{Sink, Source};
+use wl_frames::{Frame, FrameFault, Hello};
+use wl_kernel::RouteFault;
+use wl_outbox::{Outbox, Parcel, Pass};
+use wl_workers::lives::{BoardSeat, Lives, Rung, SharedSeat};
+use wl_workers::tab_reader::{ReadEnd, tab_reader};
+use wl_workers::tab_writer::{WriteEnd, tab_writer};
+use wl_workers::uplink::Uplink;
+
+/// Hellos of the generations 1, 2 and 3.
+static HELLOS: [u8; 30] = [
+    0, 0, 0, 6, 1, 16, 0, 0, 0, 1, 0, 0, 0, 6, 1, 16, 0, 0, 0, 2, 0, 0, 0, 6, 1, 16, 0, 0, 0, 3,
+];
+
+/// The bytes of these hellos.
+fn hellos() -> &'static [u8] {
+    HELLOS.as_slice()
+}
+
+/// A board of three tabs on which tab 2 is dead.
+fn dead_tab(alloc: Global) -> Result<BoardSeat, AllocError> {
+    let Ok((board, mut seats)) = Board::new(alloc, 3, 1) else {
+        return Err(AllocError);
+    };
+    let Some(mut seat) = seats.pop() else {
+        return Err(AllocError);
+    };
+    board.mark_dead(&mut seat, 2);
+    let board = Arc::new(alloc, board)?;
+    Ok(BoardSeat::new(board, seat))
+}
+
+/// The outbox of tab 2 in partition 1, its taking pass and a putting one.
+fn outbox_of_one(alloc: Global) -> Result<(Outbox, Pass, Pass), AllocError>
+    ensures tab { IfOk result (λ r. (r.0.partition ≡ 1) × (r.0.tab ≡ 2)) }
+    ensures taker { IfOk result (λ r. IsOf r.1 r.0 × (takes r.1 ≡ true)) }
+    ensures putter { IfOk result (λ r. IsOf r.2 r.0 × (takes r.2 ≡ false)) }
+{
+    let Ok((outbox, taker, mut putters)) = Outbox::new(alloc, 1, 2, 1) else {
+        return Err(AllocError);
+    };
+    let Some(putter) = putters.pop() else {
+        return Err(AllocError);
+    };
+    Ok((outbox, taker, putter))
+}
+
+/// Puts a hello for tab 2 in partition 1.
+fn put_hello<R: Wait + Abort>(rt: &R, outbox: &Outbox, pass: &mut Pass, generation: u32)
+    requires pass { IsOf pass.old outbox.now × (takes pass.old ≡ false) }
+    requires tab { (outbox.now.partition ≡ 1) × (outbox.now.tab ≡ 2) }
+    ensures { IsOf pass.new outbox.now × (takes pass.new ≡ false) }
+{
+    let hello = Frame::Hello(Hello { generation });
+    let parcel = Parcel::new(1, 1, 2, hello).expect(rt, "of one partition");
+    let put = outbox.put(rt, pass, parcel);
+    assert!(rt; put.is_ok());
+    drop(put);
+}
+
+/// What is written into this sink for a dead tab that three parcels were put for.
+fn write_three<R: Wait + Clock + Abort, W: Write>(
+    rt: &R,
+    alloc: Global,
+    sink: &mut Sink<W>,
+) -> Result<WriteEnd, AllocError>
+    requires { sink.old.has_failed ≡ false }
+{
+    let mut lives = dead_tab(alloc)?;
+    let (outbox, mut taker, mut putter) = outbox_of_one(alloc)?;
+    put_hello(rt, &outbox, &mut putter, 1);
+    put_hello(rt, &outbox, &mut putter, 2);
+    put_hello(rt, &outbox, &mut putter, 3);
+    Ok(tab_writer(rt, alloc, 2, &outbox, &mut taker, &mut lives, sink))
+}
+
+/// Whether the hellos are written, and how it ended.
+fn writes_three<R: Wait + Clock + Abort>(rt: &R, alloc: Global) -> bool {
+    let mut bytes = Vec::new(alloc);
+    let mut sink = Sink::new(&mut bytes);
+    let end = write_three(rt, alloc, &mut sink);
+    end == Ok(WriteEnd::Dead) && bytes.as_slice() == hellos()
+}
+
+#[test]
+fn what_was_put_for_a_dead_tab_is_written(rt: HostRuntime) {
+    let alloc = rt.alloc();
+    assert!(&rt; writes_three(&rt, alloc) || writes_three(&rt, alloc));
+}
+
+/// Whether a writer that fails after so many bytes takes so many, and then no more.
+fn writes_front<R: Wait + Clock + Abort>(rt: &R, alloc: Global, bytes: usize) -> bool {
+    let mut writer = SlowWriter::new(bytes);
+    let mut sink = Sink::new(&mut writer);
+    let end = write_three(rt, alloc, &mut sink);
+    end == Ok(WriteEnd::Write)
+        && hellos().starts_with(writer.taken())
+        && writer.taken().len() == bytes
+}
+
+#[test]
+fn a_failing_writer_ends_the_link(rt: HostRuntime) {
+    let alloc = rt.alloc();
+    for bytes in 0..hellos().len() {
+        assert!(&rt;
+            writes_front(&rt, alloc, bytes) || writes_front(&rt, alloc, bytes),
+            "after {bytes} bytes"
+        );
+    }
+}
+
+/// A tab for which one more parcel is put as it is found dead.
+#[derive(Drop)]
+struct LastWord<'a> {
+    outbox: &'a Outbox,
+    pass: Pass,
+    ghost of_outbox: { IsOf pass outbox.now },
+    ghost puts: { takes pass ≡ false },
+    ghost tab: { (outbox.now.partition ≡ 1) × (outbox.now.tab ≡ 2) },
+}
+
+impl Lives for LastWord<'_> {
+    fn look<R: Wait + Clock>(&mut self, rt: &R, _tab: u16) -> Life {
+        if let Ok(parcel) = Parcel::new(1, 1, 2, Frame::Hello(Hello { generation: 3 })) {
+            drop(self.outbox.put(rt, &mut self.pass, parcel));
+        }
+        Life::Dead
+    }
+}
+
+/// Writes what is left for a tab that is found dead, and gives the bytes.
+fn write_until_dead<R: Wait + Clock, L: Lives>(
+    rt: &R,
+    alloc: Global,
+    outbox: &Outbox,
+    taker: &mut Pass,
+    lives: &mut L,
+) -> Result<Vec<u8>, AllocError>
+    requires { IsOf taker.old outbox.now × (takes taker.old ≡ true) }
+{
+    let mut bytes = Vec::new(alloc);
+    let mut sink = Sink::new(&mut bytes);
+    match tab_writer(rt, alloc, 2, outbox, taker, lives, &mut sink) {
+        WriteEnd::Dead => Ok(bytes),
+        WriteEnd::Write => Err(AllocError),
+    }
+}
+
+/// What is written for a tab for which the last parcel is put as it dies.
+fn last_words<R: Wait + Clock + Abort>(rt: &R, alloc: Global) -> Result<Vec<u8>, AllocError> {
+    let (outbox, mut taker, mut putter) = outbox_of_one(alloc)?;
+    put_hello(rt, &outbox, &mut putter, 1);
+    put_hello(rt, &outbox, &mut putter, 2);
+    let mut lives = LastWord {
+        outbox: &outbox,
+        pass: putter,
+    };
+    write_until_dead(rt, alloc, &outbox, &mut taker, &mut lives)
+}
+
+/// Whether these are the three hellos.
+fn is_whole(written: Result<Vec<u8>, AllocError>) -> bool {
+    match written {
+        Ok(bytes) => bytes.as_slice() == hellos(),
+        Err(_) => false,
+    }
+}
+
+#[test]
+fn what_was_put_before_the_death_was_seen_is_written(rt: HostRuntime) {
+    let alloc = rt.alloc();
+    assert!(&rt; is_whole(last_words(&rt, alloc)) || is_whole(last_words(&rt, alloc)));
+}
+
+/// Puts three hellos and ends the tab, and rings the bell after each.
+fn ring_for_all<R: Wait + Clock + Abort>(
+    rt: &R,
+    outbox: &Outbox,
+    mut pass: Pass,
+    bell: &Parker,
+    board: &Board,
+    mut seat: Seat,
+)
+    requires pass { IsOf pass outbox.now × (takes pass ≡ false) }
+    requires tab { (outbox.now.partition ≡ 1) × (outbox.now.tab ≡ 2) }
+    requires seat { IsSeatOf seat board.now × (2 ≤ board.now.tabs) }
+{
+    for generation in 1..4 {
+        put_hello(rt, outbox, &mut pass, generation);
+        bell.unpark();
+    }
+    board.mark_dead(&mut seat, 2);
+    bell.unpark();
+}
+
+/// What is written by a thread that sleeps where it has nothing to write.
+fn write_rung<R: Wait + Clock>(
+    rt: &R,
+    alloc: Global,
+    outbox: &Outbox,
+    mut taker: Pass,
+    mut lives: Rung<SharedSeat>,
+) -> Result<Vec<u8>, AllocError>
+    requires { IsOf taker outbox.now × (takes taker ≡ true) }
+{
+    write_until_dead(rt, alloc, outbox, &mut taker, &mut lives)
+}
+
+/// A board of three tabs, and two seats of it.
+fn board_of_two(alloc: Global) -> Result<(Board, Seat, Seat), AllocError>
+    ensures tabs { IfOk result (λ r. r.0.tabs ≡ 3) }
+    ensures first { IfOk result (λ r. IsSeatOf r.1 r.0) }
+    ensures second { IfOk result (λ r. IsSeatOf r.2 r.0) }
+{
+    let Ok((board, mut seats)) = Board::new(alloc, 3, 2) else {
+        return Err(AllocError);
+    };
+    let Some(first) = seats.pop() else {
+        return Err(AllocError);
+    };
+    let Some(second) = seats.pop() else {
+        return Err(AllocError);
+    };
+    Ok((board, first, second))
+}
+
+/// What one thread writes while another one rings its bell.
+fn write_and_ring<R: Wait + Clock + Abort + Threads + Sync>(
+    rt: &R,
+    alloc: Global,
+    outbox: &Outbox,
+    taker: Pass,
+    putter: Pass,
+    lives: Rung<SharedSeat>,
+    bell: &Parker,
+    board: &Board,
+    seat: Seat,
+) -> Result<Vec<u8>, AllocError>
+    requires taker { IsOf taker outbox.now × (takes taker ≡ true) }
+    requires putter { IsOf putter outbox.now × (takes putter ≡ false) }
+    requires tab { (outbox.now.partition ≡ 1) × (outbox.now.tab ≡ 2) }
+    requires seat { IsSeatOf seat board.now × (2 ≤ board.now.tabs) }
+{
+    let (written, ()) = thread::join(
+        rt,
+        move ||
+            requires { IsOf taker outbox.now × (takes taker ≡ true) }
+        { write_rung(rt, alloc, outbox, taker, lives) },
+        move ||
+            requires putter { IsOf putter outbox.now × (takes putter ≡ false) }
+            requires tab { (outbox.now.partition ≡ 1) × (outbox.now.tab ≡ 2) }
+            requires seat { IsSeatOf seat board.now × (2 ≤ board.now.tabs) }
+        { ring_for_all(rt, outbox, putter, bell, board, seat) },
+    );
+    written
+}
+
+/// A bell, and looks at a board that sleep until it is rung.
+fn bell_and_lives(
+    alloc: Global,
+    board: &Arc<Board>,
+    seat: Seat,
+) -> Result<(Arc<Parker>, Rung<SharedSeat>), AllocError>
+    requires { IsSeatOf seat (arc_value board.now) }
+{
+    let seat = BoardSeat::new(Arc::try_clone(board)?, seat);
+    let seat = SharedSeat::new(Arc::new(alloc, Mutex::new(seat))?);
+    let bell = Arc::new(alloc, Parker::new())?;
+    Ok((Arc::try_clone(&bell)?, Rung::new(bell, seat)))
+}
+
+/// What is written where a bell is rung.
+fn rung<R: Wait + Clock + Abort + Threads + Sync>(
+    rt: &R,
+    alloc: Global,
+) -> Result<Vec<u8>, AllocError> {
+    let (board, watching, marking) = board_of_two(alloc)?;
+    let board = Arc::new(alloc, board)?;
+    let (bell, lives) = bell_and_lives(alloc, &board, watching)?;
+    let (outbox, taker, putter) = outbox_of_one(alloc)?;
+    write_and_ring(
+        rt, alloc, &outbox, taker, putter, lives, &bell, &board, marking,
+    )
+}
+
+#[test]
+fn a_writer_sleeps_until_its_bell_rings(rt: HostRuntime) {
+    let alloc = rt.alloc();
+    assert!(&rt; is_whole(rung(&rt, alloc)) || is_whole(rung(&rt, alloc)));
+}
+
+/// A tab that is found living so often, and then dead.
+#[derive(Drop)]
+struct Dying {
+    looks_left: u32,
+}
+
+impl Lives for Dying {
+    fn look<R: Wait + Clock>(&mut self, _rt: &R, _tab: u16) -> Life {
+        if self.looks_left == 0 {
+            return Life::Dead;
+        }
+        self.looks_left -= 1;
+        Life::Living
+    }
+}
+
+/// Counts the hellos that it is handed, and refuses each.
+#[derive(Drop)]
+struct Counter {
+    hellos: u32,
+}
+
+impl Uplink for Counter {
+    fn up<R: Wait + Clock>(&mut self, _rt: &R, _tab: u16, frame: Frame) -> Result<(), RouteFault> {
+        if let Frame::Hello(_) = &frame {
+            self.hellos = self.hellos.wrapping_add(1);
+        }
+        drop(frame);
+        Err(RouteFault::WrongKind)
+    }
+}
+
+/// How the reading ends, and how many hellos are handed up, where the tab is found living so often.
+fn read<R: Wait + Clock, S: Read + Drop>(
+    rt: &R,
+    alloc: Global,
+    reader: S,
+    looks: u32,
+) -> (ReadEnd, u32) {
+    let mut source = Source::new(reader);
+    let mut lives = Dying { looks_left: looks };
+    let mut uplink = Counter { hellos: 0 };
+    let end = tab_reader(rt, alloc, 2, &mut source, &mut lives, &mut uplink);
+    (end, uplink.hellos)
+}
+
+/// The same; where memory was refused, once more.
+fn reads<R: Wait + Clock, S: Read + Copy + Drop>(
+    rt: &R,
+    alloc: Global,
+    reader: S,
+    looks: u32,
+) -> (ReadEnd, u32) {
+    match read(rt, alloc, reader, looks) {
+        (ReadEnd::Frame(FrameFault::Memory), _) => read(rt, alloc, reader, looks),
+        done => done,
+    }
+}
+
+/// How the reading of the first bytes of the hellos ends, where the tab is found living so often.
+fn reads_first<R: Wait + Clock + Abort>(
+    rt: &R,
+    alloc: Global,
+    bytes: usize,
+    looks: u32,
+    want: (ReadEnd, u32),
+) {
+    let all = hellos();
+    assert!(rt; bytes <= all.len());
+    same(rt, reads(rt, alloc, &all[..bytes], looks), want);
+}
+
+#[test]
+fn frames_of_a_living_tab_are_handed_up(rt: HostRuntime) {
+    let alloc = rt.alloc();
+    reads_first(&rt, alloc, 30, 9, (ReadEnd::End, 3));
+    reads_first(&rt, alloc, 30, 1, (ReadEnd::Dead, 1));
+    let cut = ReadEnd::Frame(FrameFault::Truncated);
+    reads_first(&rt, alloc, 25, 9, (cut, 2));
+}
+
+/// Compares how the reading ends, and how many hellos are handed up, where the reader fails after so many reads.
+fn fails_after<R: Wait + Clock + Abort>(rt: &R, alloc: Global, bytes: u32, want: (ReadEnd, u32)) {
+    let reader = SlowReader::new(hellos(), bytes as usize);
+    let found = reads(rt, alloc, reader, 9);
+    same(rt, (bytes, found), (bytes, want));
+}
+
+#[test]
+fn a_failing_reader_ends_the_link(rt: HostRuntime) {
+    let alloc = rt.alloc();
+    for bytes in 0..31u32 {
+        fails_after(&rt, alloc, bytes, (ReadEnd::Read, bytes / 10));
+    }
+    fails_after(&rt, alloc, 31, (ReadEnd::End, 3));
+}

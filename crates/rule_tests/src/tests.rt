@@ -1,0 +1,5 @@
+//! One file a part.
+
+mod command_line;
+mod rules;
+mod supervising;

@@ -1,0 +1,5 @@
+//! The manager alone, and the tables beside each other.
+
+mod again;
+mod draft;
+mod table;

@@ -1,0 +1,4 @@
+//! One file a part.
+
+mod random;
+mod world;
