@@ -1,7 +1,7 @@
 # `make demo` builds the program and shows it at work, `make demo-processes` as processes, and `make try` with nothing proved;
 # `make bench` times it, `make soak` and `make fuzz` run it hard, `make refuse` runs tests with each allocation refused in turn;
-# `make test` is the gate, and `make more-edits` tries the must-fail edits that the gate leaves out.
-.PHONY: bench demo demo-processes fuzz more-edits refuse soak test try
+# `make test` is the gate, and `make try-edits` tries all must-fail edits, those that the gate leaves out too.
+.PHONY: bench demo demo-processes fuzz refuse soak test try try-edits
 
 EXAMPLE ?= examples/handover.sim
 
@@ -35,12 +35,13 @@ crates/locked_speed/out/locked_speed: crates.txt $(wildcard crates/wl_*/src/*.rt
 	cd crates/locked_speed && rt run > /dev/null
 
 test:
-	@python3 tools/more_edits.py --fit
+	@python3 tools/try_edits.py --fit
 	rt ci
+	@python3 tools/try_edits.py --gate
 	@python3 tools/check_program.py crates/wlb/out/wlb
 
-more-edits:
-	python3 tools/more_edits.py $(CRATES)
+try-edits:
+	python3 tools/try_edits.py $(CRATES)
 
 TESTS ?= book_tests
 WORD ?=

@@ -1,9 +1,10 @@
-"""Makes of the gate's output the list of its must-fail edits, docs/EDITS.md: what each one changes, and what refuses it.
+"""Makes the list of the must-fail edits, docs/EDITS.md: what each one changes, and what refuses it.
 
 usage: edits.py LOG .. > docs/EDITS.md
 
-LOG is what `rt ci`, or `rt must-fail`, printed. Beside each edit in crates/*/must-fail stands the first goal that the prover told
-as unproved, with its function. An edit that no LOG tells of has none. It needs the repository's folder to be the current one.
+LOG is what `make test`, `rt must-fail` or `make try-edits` printed. Beside each edit in edits/* and crates/*/must-fail stands the
+first goal that the prover told as unproved, with its function. An edit that no LOG tells of has none. It needs the repository's
+folder to be the current one.
 """
 
 import glob
@@ -12,13 +13,14 @@ import re
 import sys
 
 TOLD = re.compile(r"^(?:rt: )?must-fail (\w+)/(\w+)\.edit: refused, as it must be(.*)$")
+TRIED = re.compile(r"^edit (\w+)/(\w+): refused by (.*)$")
 AT = re.compile(r"(?:note: )?(?:\./)?(\S+?):(\d+):\d+: (.*)$")
-HEAD = """# The must-fail edits of the gate
+HEAD = """# The must-fail edits
 
 Each edit changes a line or a few of the code, or of a definition, so that it means something else, and the prover has to refuse
 it. Beside it stands the first goal that was told as unproved, in the last run that is recorded here: the function, and which of
-its goals; a function with `+` in front is one of several that call each other. Where a lemma is named the edit shows less, since
-all that is seen is that this lemma does not fit any more. `tools/edits.py` makes this page of the gate's output.
+its goals; a function with `+` in front is one that calls itself. Where a lemma is named the edit shows less, since all that is
+seen is that this lemma does not fit any more. `tools/edits.py` makes this page of what the gate and `make try-edits` print.
 """
 
 
@@ -27,14 +29,16 @@ def goals_of(logs):
     for log in logs:
         with open(log, encoding="utf-8", errors="replace") as it:
             for line in it:
-                told = TOLD.match(line)
+                told, tried = TOLD.match(line), TRIED.match(line)
                 if told:
-                    goals[told[1], told[2]] = told[3].removeprefix(": ").strip()
+                    goals[told[1], told[2]] = goal_text(told[1], told[3].removeprefix(": ").strip())
+                elif tried:
+                    goals[tried[1], tried[2]] = tried[3]
     return goals
 
 
 def function_at(crate, path, number):
-    """The name of the function whose code or clause stands at a line of the edited file, which has as many lines as the file here."""
+    """The name of the function whose code or clause stands at a line of the edited file, which has as many as the file here."""
     with open(f"crates/{crate}/{path}", encoding="utf-8") as it:
         lines = it.read().splitlines()
     start = min(number, len(lines)) - 1
@@ -75,14 +79,15 @@ def main():
         sys.exit(__doc__)
     goals = goals_of(sys.argv[1:])
     print(HEAD)
-    for folder in sorted(glob.glob("crates/*/must-fail")):
-        crate = folder.split("/")[1]
+    edits = glob.glob("edits/*/*.edit") + glob.glob("crates/*/must-fail/*.edit")
+    crates = {}
+    for edit in sorted(edits, key=os.path.basename):
+        crates.setdefault(edit.removeprefix("edits/").removeprefix("crates/").split("/")[0], []).append(edit)
+    for crate in sorted(crates):
         print(f"\n## {crate}\n\n| Edit | In | Refused by |\n|---|---|---|")
-        for edit in sorted(glob.glob(f"{folder}/*.edit")):
+        for edit in crates[crate]:
             name = os.path.basename(edit).removesuffix(".edit")
-            goal = goals.get((crate, name))
-            told = "" if goal is None else goal_text(crate, goal)
-            print(f"| {name} | `{', '.join(pairs_of(edit))}` | {told} |")
+            print(f"| {name} | `{', '.join(pairs_of(edit))}` | {goals.get((crate, name), '')} |")
 
 
 if __name__ == "__main__":

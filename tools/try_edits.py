@@ -1,0 +1,413 @@
+"""Tries the must-fail edits, those of different functions of a crate at once.
+
+usage: try_edits.py [--gate] [CRATE ..]
+       try_edits.py --fit
+
+An edit stands in `edits/CRATE`, in the form that `rt` has for edits in `crates/CRATE/must-fail`, of which it tries one after
+another; a line `after: TEXT` before an old text says that the first one behind TEXT is meant. What `rt` tries takes as long as a
+check of the crate at least. But the proof of a function knows of the others what their contracts say, and nothing of their code.
+So edits of the code of different functions are tried together here: a copy of the crate gets one for each function, and the
+prover has to refuse each of these functions, and no other one. Further edits of the same functions are tried in the same way
+after these, and an edit of anything else, as of a definition, is tried alone. Beside each edit stands the first goal that is not
+proved with it.
+
+Without CRATE the edits of all crates are tried, as many crates at a time as there are processors and memory. The libraries that a
+crate stands on are built first, by `rt lib`. The status is 0 where the prover refuses every edit.
+With `--gate` it takes the libraries as `rt ci` has just left them, where it has, and tries one edit for each function, those of
+some crates left out.
+With `--fit` none is tried: the status is 0, and nothing is printed, where each edit still fits its file.
+"""
+
+import concurrent.futures
+import contextlib
+import dataclasses
+import os
+import re
+import shutil
+import subprocess
+import sys
+import tempfile
+
+ROOT = os.path.dirname(os.path.dirname(os.path.abspath(__file__)))
+EDITS = os.path.join(ROOT, "edits")
+# What the gate leaves out: these take more than six processor minutes each, or two for the few edits that they have.
+LEFT_OUT = {"wl_bag", "wl_command_line", "wl_encoding", "wl_kernel_process", "wl_script", "wl_world"}
+
+# What a check of a large crate may take of memory, in bytes.
+MEMORY = 4 << 30
+
+FUNCTION = re.compile(r"(?:pub(?:\(\w+\))? )?(?:const )?(?:unsafe )?fn (\w+)")
+# A goal of code, with its name; one of a function's proof files, or of a file of lemmas, with what the prover says of it.
+IN_CODE = re.compile(r"note: (?:\./)?(src/\S+?):(\d+):\d+: it is not proved .*?\(`([^`]+)`\)")
+IN_PROOF = re.compile(r"(?:\./)?proofs/(\S+)/(?:Answers|Invariants|Proof)\.antt:\d+:\d+: error: (.*)")
+IN_LEMMA = re.compile(r"(?:\./)?(proofs/\S+\.antt):\d+:\d+: error: (.*)")
+# A text that cannot be read or typed any more: no contract was tried then.
+UNREAD = re.compile(r"(?:\./)?(?:src|specs)/\S+?:\d+:\d+: error: ")
+# What a proof file says where an edit took a name away that it cites. That shows little.
+NAME_LOST = re.compile(r"has no field|is not in scope|has no `|was not admitted")
+VERDICT = re.compile(r"^logic=(proved|not-proved)", re.M)
+
+
+@dataclasses.dataclass(frozen=True)
+class Function:
+    """A function with a body, by the lines of its file, counted from 1. The first is that of its comment or first attribute."""
+
+    path: str
+    owner: str
+    name: str
+    first: int
+    body: int
+    last: int
+
+    def fits(self, folder):
+        """How well its proof fits in this folder below proofs/, as 0 for not at all: a method's stands with its type."""
+        module = re.sub(r"^src/|/?(?:lib|main|mod)?\.rt$", "", self.path)
+        above, _, last = f"/{folder}".rpartition("/")
+        owner = above.rpartition("/")[2]
+        # (a function that calls itself has a `+` in front, and an impl of a trait the trait's name behind the type's)
+        if last.removeprefix("+") != self.name or not (owner.startswith(self.owner) if self.owner else above.strip("/") == module):
+            return 0
+        return 2 if owner == self.owner else 1
+
+
+def proved_in(folder, functions):
+    """The function whose proof stands in this folder below proofs/, if it is one of these."""
+    best = max(functions, key=lambda it: it.fits(folder), default=None)
+    return best if best and best.fits(folder) else None
+
+
+@dataclasses.dataclass(frozen=True)
+class Goal:
+    """One that is not proved: its function, by file and first line, if it is one's; whose it is, in words; and its name."""
+
+    function: tuple
+    home: str
+    clause: str
+    # Whether the proof names what is no longer there.
+    is_lost: bool
+
+
+@dataclasses.dataclass(frozen=True)
+class Change:
+    """Another text in the place of one that stands in a file once, or is the first behind a text that does."""
+
+    path: str
+    after: str
+    old: str
+    new: str
+
+    def place_in(self, text, edit):
+        if text.count(self.after or self.old) != 1:
+            raise ValueError(f"{edit} does not fit any more")
+        place = text.find(self.old, text.index(self.after))
+        if place < 0:
+            raise ValueError(f"{edit} does not fit any more")
+        return place
+
+    def made_in(self, text, edit):
+        place = self.place_in(text, edit)
+        return text[:place] + self.new + text[place + len(self.old) :]
+
+
+@dataclasses.dataclass
+class Edit:
+    crate: str
+    name: str
+    changes: list
+    # The functions whose code it changes, or none where it changes something else too.
+    functions: list = dataclasses.field(default_factory=list)
+
+    def __str__(self):
+        return f"edit {self.crate}/{self.name}"
+
+
+def text_of(path):
+    with open(path, encoding="utf-8") as file:
+        return file.read()
+
+
+def functions_of(path, text):
+    """The functions of a file that `rt fmt` has laid out: each ends at the next brace that is as far in as it begins."""
+    lines, found, owner = text.split("\n"), [], ""
+    for at, line in enumerate(lines):
+        indent = line[: len(line) - len(line.lstrip())]
+        if re.match(r"(?:unsafe )?impl\b", line):
+            target = re.sub(r"^(?:unsafe )?impl(?:<[^{]*?>(?= ))? ", "", line)
+            owner = re.match(r"\w*", target.rpartition(" for ")[2])[0]
+        elif line == "}":
+            owner = ""
+        named = FUNCTION.match(line.lstrip())
+        if not named:
+            continue
+        ends = (n for n in range(at, len(lines)) if n > at and lines[n] == f"{indent}}}")
+        opens = (n for n in range(at, len(lines)) if re.match(rf"{indent}\S", lines[n]) and lines[n].endswith("{"))
+        last, body, first = next(ends, at), next(opens, at), at
+        while re.match(r"\s*(?:///|#\[)", lines[first - 1]):
+            first -= 1
+        if body < last:
+            found.append(Function(path, owner if indent else "", named[1], first + 1, body + 1, last + 1))
+    return found
+
+
+def read_edit(crate, name):
+    """An edit, with the functions whose code it changes. It fails where a change does not fit its file."""
+    edit, texts, inside = Edit(crate, name, []), {}, []
+    after = ""
+    for line in text_of(os.path.join(EDITS, crate, f"{name}.edit")).split("\n"):
+        word, _, text = line.partition(": ")
+        if word == "file":
+            path = text
+            if path not in texts:
+                texts[path] = text_of(os.path.join(ROOT, "crates", crate, path))
+        elif word == "after":
+            after = text
+        elif word == "old":
+            old = text
+        elif word == "new":
+            change = Change(path, after, old, text)
+            line_of = texts[path][: change.place_in(texts[path], edit)].count("\n") + 1
+            found = [it for it in functions_of(path, texts[path]) if it.body < line_of < it.last] if path.endswith(".rt") else []
+            # (a function in another one is that one's code)
+            inside.append(min(found, key=lambda it: it.first) if found else None)
+            texts[path] = change.made_in(texts[path], edit)
+            edit.changes.append(change)
+            after = ""
+    if not edit.changes:
+        raise ValueError(f"{edit} changes nothing")
+    if None not in inside:
+        edit.functions = list(dict.fromkeys((it.path, it.first) for it in inside))
+    return edit
+
+
+def edits_of(crate):
+    names = sorted(it.removesuffix(".edit") for it in os.listdir(os.path.join(EDITS, crate)))
+    return [read_edit(crate, it) for it in names]
+
+
+def together(edits):
+    """The edits in groups. In each no function is changed twice, and each text still stands in its file once."""
+    groups = []
+    for edit in edits:
+        home = next((it for it in groups if edit.functions and fits_in(edit, it)), None)
+        if home is None:
+            groups.append([edit])
+        else:
+            home.append(edit)
+    return groups
+
+
+def fits_in(edit, group):
+    taken = {it for other in group for it in other.functions}
+    if any(not it.functions for it in group) or taken & {*edit.functions}:
+        return False
+    with contextlib.suppress(ValueError):
+        changed([*group, edit])
+        return True
+    return False
+
+
+def changed(edits):
+    """The texts of the files that these edits change, once all of them have."""
+    texts = {}
+    for edit in edits:
+        for change in edit.changes:
+            if change.path not in texts:
+                texts[change.path] = text_of(os.path.join(ROOT, "crates", edit.crate, change.path))
+            texts[change.path] = change.made_in(texts[change.path], edit)
+    return texts
+
+
+def libraries():
+    """For each crate of the repository the libraries that it names."""
+    found = {}
+    for line in text_of(os.path.join(ROOT, "crates.txt")).split("\n"):
+        words, colon, names = line.partition("#")[0].partition(":")
+        if colon:
+            found[words.split()[0]] = names.split()
+    return found
+
+
+def below(crate, named):
+    """The crates of the repository that a crate stands on."""
+    own = [it for it in named[crate] if it in named]
+    return {*own, *(it for dep in own for it in below(dep, named))}
+
+
+def rlib(crate):
+    return os.path.join(ROOT, "crates", crate, "out", "rlib", f"{crate}.rlib")
+
+
+def is_of_gate(crate):
+    """Whether the library is one that `rt ci` has built from nothing. What it puts back, as it stood there before, has a stamp."""
+    return os.path.isdir(rlib(crate)) and not os.path.isfile(os.path.join(os.path.dirname(rlib(crate)), "stamp"))
+
+
+def command_of(crate, named):
+    """How the prover is called in a copy of the crate's folder."""
+    kit = os.path.dirname(subprocess.run(["rt", "doc"], capture_output=True, text=True, check=True).stdout.strip())
+    words = [f"{kit}/bin/rattle", "check", "--crate-name", crate, "src/lib.rt", "--jobs", "1"]
+    words += ["--antt-project", f"{kit}/rattle/logic/antt-project.json", "--logic-built", f"{kit}/logic_built"]
+    for name in ["std", *named[crate]]:
+        words += ["--extern", f"{name}={rlib(name) if name in named else f'{kit}/rlibs/{name}.rlib'}"]
+    for folder in [f"{kit}/rlibs", *sorted(os.path.dirname(rlib(it)) for it in below(crate, named))]:
+        words += ["-L", f"dependency={folder}"]
+    return words
+
+
+class Trial:
+    """The edits of one crate, each tried over what the ones before have left proved."""
+
+    def __init__(self, crate, named, groups):
+        self.crate, self.groups = crate, groups
+        self.command = command_of(crate, named)
+        self.refused, self.failed = [], []
+
+    def run(self):
+        with tempfile.TemporaryDirectory(prefix="try-edits-") as room:
+            self.room = room
+            for part in filter(os.path.isdir, folders_of(self.crate)):
+                shutil.copytree(part, os.path.join(room, "crate", os.path.basename(part)))
+            for group in self.groups:
+                self.judge(group)
+        return self
+
+    def said_of(self, edits):
+        """What the prover says of the crate with these edits."""
+        texts = changed(edits)
+        folder = os.path.join(self.room, "crate")
+        for path, text in texts.items():
+            with open(os.path.join(folder, path), "w", encoding="utf-8") as file:
+                file.write(text)
+        words = [*self.command, "--incremental", os.path.join(self.room, "kept")]
+        how = {"cwd": folder, "stdin": subprocess.DEVNULL, "stdout": subprocess.PIPE, "stderr": subprocess.STDOUT, "errors": "replace"}
+        ran = subprocess.run(words, check=False, **how)
+        for path in texts:
+            shutil.copy(os.path.join(ROOT, "crates", self.crate, path), os.path.join(folder, path))
+        return ran.stdout, texts
+
+    def judge(self, group):
+        said, texts = self.said_of(group)
+        unread = next((it for it in said.split("\n") if UNREAD.match(it)), None)
+        goals = self.goals_of(said, texts)
+        taken = {it for edit in group for it in edit.functions}
+        if unread or not VERDICT.search(said) or taken and any(it.function not in taken for it in goals):
+            # One cannot be read, the prover gave up, or it refuses a function that none changes: which one does it, is seen alone.
+            if len(group) > 1:
+                for edit in group:
+                    self.judge([edit])
+                return
+            if unread or not VERDICT.search(said):
+                self.failed.append(f"{group[0]}: BAD EDIT: it did not reach the prover: {unread or said[-300:]}")
+                return
+        told = {edit.name: [it for it in goals if it.function in edit.functions or not taken] for edit in group}
+        # What waits for a function that it calls, and that another edit has spoilt, is tried again without that one.
+        proved = self.proved_by(said, texts)
+        waiting = [it for it in group if not told[it.name] and not proved & {*it.functions}]
+        for edit in group:
+            if edit not in waiting or len(waiting) == len(group):
+                self.tell(edit, told[edit.name])
+        if 0 < len(waiting) < len(group):
+            self.judge(waiting)
+
+    def tell(self, edit, goals):
+        if not goals:
+            self.failed.append(f"{edit}: NOT REFUSED: what it changes is still proved")
+            return
+        goal = min(goals, key=lambda it: it.is_lost)
+        least = ", which only names what the edit took away, so this says little of the contract" if goal.is_lost else ""
+        self.refused.append(f"{edit}: refused by `{goal.home}`, `{goal.clause}`{least}")
+
+    def functions(self, texts):
+        """The functions of the crate, where some of its files have these texts."""
+        home = os.path.join(ROOT, "crates", self.crate)
+        files = [os.path.join(at, it) for at, _, names in os.walk(os.path.join(home, "src")) for it in names]
+        paths = {os.path.relpath(it, home): it for it in files}
+        return [it for path, file in paths.items() for it in functions_of(path, texts.get(path) or text_of(file))]
+
+    def proved_by(self, said, texts):
+        """The functions that the prover tells as proved, by file and first line."""
+        functions = self.functions(texts)
+        names = re.findall(rf"^fn {self.crate}::(\S+): proved", said, re.M)
+        found = [proved_in(it.replace("::", "/"), functions) for it in names]
+        return {(it.path, it.first) for it in found if it}
+
+    def goals_of(self, said, texts):
+        """The goals that are not proved, in the order in which the prover tells them."""
+        functions, goals = self.functions(texts), []
+        for line in said.split("\n"):
+            in_code, in_proof, in_lemma = IN_CODE.match(line), IN_PROOF.match(line), IN_LEMMA.match(line)
+            if in_code:
+                at = int(in_code[2])
+                of = next((it for it in functions if it.path == in_code[1] and it.first <= at <= it.last), None)
+                goals.append(Goal(of and (of.path, of.first), of.name if of else in_code[1], in_code[3], False))
+            elif in_proof:
+                of = proved_in(in_proof[1], functions)
+                clause = re.match(r"`([^`]+)`", in_proof[2])
+                name = in_proof[1].rpartition("/")[2]
+                goals.append(Goal(of and (of.path, of.first), name, clause[1] if clause else "", bool(NAME_LOST.search(line))))
+            elif in_lemma:
+                clause = re.match(r"`([^`]+)`", in_lemma[2])
+                goals.append(Goal(None, in_lemma[1], clause[1] if clause else "", bool(NAME_LOST.search(line))))
+        return goals
+
+
+def unfit():
+    """What is to be said of the edits that no longer fit their files."""
+    said = []
+    for crate in sorted(os.listdir(EDITS)):
+        for name in sorted(os.listdir(os.path.join(EDITS, crate))):
+            try:
+                read_edit(crate, name.removesuffix(".edit"))
+            except ValueError as why:
+                said.append(str(why))
+    return said
+
+
+def lanes():
+    """How many crates are tried at a time."""
+    free = re.search(r"MemAvailable:\s+(\d+)", text_of("/proc/meminfo"))
+    return max(1, min(len(os.sched_getaffinity(0)), int(free[1]) * 1024 // MEMORY))
+
+
+def folders_of(crate):
+    """What a check of a crate reads."""
+    return [os.path.join(ROOT, "crates", crate, part) for part in ("src", "specs", "proofs")]
+
+
+def size(crate):
+    """The crates with most to prove are begun first."""
+    files = (os.path.join(at, it) for folder in folders_of(crate) for at, _, names in os.walk(folder) for it in names)
+    return sum(os.path.getsize(it) for it in files)
+
+
+def main():
+    words = sys.argv[1:]
+    if words == ["--fit"]:
+        said = unfit()
+        print("\n".join(said), end="\n" if said else "")
+        return 1 if said else 0
+    is_gate = "--gate" in words
+    named = libraries()
+    crates = [it for it in words if it != "--gate"] or sorted({*os.listdir(EDITS)} - (LEFT_OUT if is_gate else set()))
+    needed = {dep for crate in crates for dep in below(crate, named)}
+    if not is_gate or not all(is_of_gate(it) for it in needed):
+        for dep in sorted(needed, key=lambda it: len(below(it, named))):
+            subprocess.run(["rt", "lib"], cwd=os.path.join(ROOT, "crates", dep), stdout=subprocess.DEVNULL, check=True)
+    trials = []
+    for crate in sorted(crates, key=size, reverse=True):
+        groups = together(edits_of(crate))
+        # (an edit of no function's code stands alone in its group)
+        first = next((it for it in groups if it[0].functions), groups[0])
+        trials.append(Trial(crate, named, [first] if is_gate else groups))
+    refused = failed = 0
+    with concurrent.futures.ThreadPoolExecutor(lanes()) as pool:
+        for trial in concurrent.futures.as_completed([pool.submit(it.run) for it in trials]):
+            ended = trial.result()
+            print("\n".join([*ended.refused, *ended.failed]), flush=True)
+            refused, failed = refused + len(ended.refused), failed + len(ended.failed)
+    print(f"edits: {refused} refused, {failed} not")
+    return 1 if failed else 0
+
+
+if __name__ == "__main__":
+    sys.exit(main())
