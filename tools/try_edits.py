@@ -12,7 +12,8 @@ after these, and an edit of anything else, as of a definition, is tried alone. B
 proved with it.
 
 Without CRATE the edits of all crates are tried, as many crates at a time as there are processors and memory. The libraries that a
-crate stands on are built first, by `rt lib`. The status is 0 where the prover refuses every edit.
+crate stands on are built first, by `rt lib`. The status is 0 where the prover refuses every edit, and the last line counts an edit
+that it refuses as passed, as `rt ci` does.
 With `--gate` it takes the libraries as `rt ci` has just left them, where it has, and tries one edit for each function, those of
 some crates left out.
 With `--fit` none is tried: the status is 0, and nothing is printed, where each edit still fits its file.
@@ -290,24 +291,24 @@ class Trial:
         unread = next((it for it in said.split("\n") if UNREAD.match(it)), None)
         goals = self.goals_of(said, texts)
         taken = {it for edit in group for it in edit.functions}
-        if unread or not VERDICT.search(said) or taken and any(it.function not in taken for it in goals):
-            # One cannot be read, the prover gave up, or it refuses a function that none changes: which one does it, is seen alone.
-            if len(group) > 1:
-                for edit in group:
-                    self.judge([edit])
-                return
-            if unread or not VERDICT.search(said):
-                self.failed.append(f"{group[0]}: BAD EDIT: it did not reach the prover: {unread or said[-300:]}")
-                return
-        told = {edit.name: [it for it in goals if it.function in edit.functions or not taken] for edit in group}
+        is_lost = unread or not VERDICT.search(said)
+        told = {edit.name: [it for it in goals if it.function in edit.functions or len(group) == 1] for edit in group}
         # What waits for a function that it calls, and that another edit has spoilt, is tried again without that one.
         proved = self.proved_by(said, texts)
-        waiting = [it for it in group if not told[it.name] and not proved & {*it.functions}]
-        for edit in group:
-            if edit not in waiting or len(waiting) == len(group):
-                self.tell(edit, told[edit.name])
-        if 0 < len(waiting) < len(group):
-            self.judge(waiting)
+        waiting = [it for it in group if taken and not told[it.name] and not proved & {*it.functions}]
+        if len(group) > 1 and (is_lost or waiting == group or any(it.function not in taken for it in goals)):
+            # One cannot be read, the prover gave up, or it refuses a function that none changes: which one does it, is seen alone.
+            for edit in group:
+                self.judge([edit])
+        elif is_lost or waiting == group:
+            why = unread or ("its function has no goal that was tried" if waiting else said[-300:])
+            self.failed.append(f"{group[0]}: BAD EDIT: it did not reach the prover: {why}")
+        else:
+            for edit in group:
+                if edit not in waiting:
+                    self.tell(edit, told[edit.name])
+            if waiting:
+                self.judge(waiting)
 
     def tell(self, edit, goals):
         if not goals:
@@ -405,7 +406,7 @@ def main():
             ended = trial.result()
             print("\n".join([*ended.refused, *ended.failed]), flush=True)
             refused, failed = refused + len(ended.refused), failed + len(ended.failed)
-    print(f"edits: {refused} refused, {failed} not")
+    print(f"edits: {refused} passed, {failed} failed")
     return 1 if failed else 0
 
 
