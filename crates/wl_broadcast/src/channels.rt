@@ -254,7 +254,10 @@ impl Channels {
     /// Delivers a post to the open objects, all or none.
     fn deliver(&mut self, delivery: &Delivery) -> Result<Takers, AllocError>
         ensures ok { OnOk result (self.new
-            ≡ record self.old { objects = delivered delivery.now.sender delivery.now.name.now delivery.now.letter.now self.old.objects }) }
+            ≡ record self.old {
+              objects = delivered delivery.now.sender delivery.now.name.now
+                  delivery.now.letter.now self.old.objects;
+            }) }
         ensures took { IfOk result (λ takers.
             takers.took.items ≡ taking delivery.now.sender delivery.now.name.now self.old.objects) }
         ensures full { IfOk result (λ takers.

@@ -247,7 +247,8 @@ pub fn keep(
     requires below { all_below heading.base entries.now ≡ true }
     requires fits { fits (told heading entries.now) (find kept.old.entries tab) ≡ true }
     ensures ok { OnOk result (kept.new.entries
-        ≡ put tab (with_told partition (told heading entries.now) (find kept.old.entries tab)) kept.old.entries) }
+        ≡ put tab (with_told partition (told heading entries.now) (find kept.old.entries tab))
+        kept.old.entries) }
     ensures err { OnErr result (kept.new.entries ≡ kept.old.entries) }
 {
     match kept.get_mut(&tab) {

@@ -180,7 +180,8 @@ fn found(
     ensures place { IfOk result (λ place. place ≡ length list.old.items) }
     ensures places { OnOk result
         (HasOneMore partition (length list.old.items) places.old.entries places.new.entries) }
-    ensures err { OnErr result ((list.new.items ≡ list.old.items) × (places.new.entries ≡ places.old.entries)) }
+    ensures err { OnErr result
+        ((list.new.items ≡ list.old.items) × (places.new.entries ≡ places.old.entries)) }
 {
     // The last growth is the first change, so a refused one changes nothing.
     let home = match first_home(alloc, list, tab) {

@@ -61,7 +61,8 @@ impl<
             × (0 < self.old.third.parts) × (0 < self.old.fourth.parts) }
         requires amounts { (self.old.first.amount ≡ 0) × (self.old.second.amount ≡ 0)
             × (self.old.third.amount ≡ 0) × (self.old.fourth.amount ≡ 0) }
-        ensures lanes { (result.first ≡ []) × (result.second ≡ []) × (result.third ≡ []) × (result.fourth ≡ []) }
+        ensures lanes { (result.first ≡ []) × (result.second ≡ [])
+            × (result.third ≡ []) × (result.fourth ≡ []) }
         ensures parts { (self.new.first.parts + 1 ≡ self.old.first.parts)
             × (self.new.second.parts + 1 ≡ self.old.second.parts)
             × (self.new.third.parts + 1 ≡ self.old.third.parts)

@@ -305,7 +305,8 @@ fn spell_all(outs: Outs, bytes: &mut Vec<u8>) -> Result<(), AllocError>
 /// Appends the encoding of one of the broker's frames. Where memory is refused, the bytes are as they were.
 fn spell_one(addressed: Addressed, bytes: &mut Vec<u8>) -> Result<(), AllocError>
     requires { IsAddressed addressed }
-    ensures spelled { OnOk result (bytes.new.items ≡ bytes.old.items ++ spelling (Frame.Addressed addressed)) }
+    ensures spelled { OnOk result
+        (bytes.new.items ≡ bytes.old.items ++ spelling (Frame.Addressed addressed)) }
     ensures refused { OnErr result (bytes.new.items ≡ bytes.old.items) }
 {
     let frame = Frame::Addressed(addressed);

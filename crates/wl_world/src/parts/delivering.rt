@@ -23,11 +23,13 @@ impl Parts {
     /// A message that was sent once comes.
     pub fn deliver(&mut self, message: &Message) -> Result<Done, AllocError>
         ensures world { OnOk result (self.new
-            ≡ (where_allowed (is_sent message.now self.old.bag) self.old (comes self.old message.now)).world) }
+            ≡ (where_allowed (is_sent message.now self.old.bag)
+            self.old (comes self.old message.now)).world) }
         ensures said { IfOk result (λ done. done.said ≡ (if is_sent message.now self.old.bag
             then delivering self.old message.now else said.Refused NoMessage)) }
         ensures sends { IfOk result (λ done. done.sends.items
-            ≡ (where_allowed (is_sent message.now self.old.bag) self.old (comes self.old message.now)).sends) }
+            ≡ (where_allowed (is_sent message.now self.old.bag)
+            self.old (comes self.old message.now)).sends) }
     {
         if !self.was_sent(message) {
             return Ok(refused(self.alloc, Refusal::NoMessage));
