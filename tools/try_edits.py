@@ -11,9 +11,9 @@ prover has to refuse each of these functions, and no other one. Further edits of
 after these, and an edit of anything else, as of a definition, is tried alone. Beside each edit stands the first goal that is not
 proved with it.
 
-Without CRATE the edits of all crates are tried, as many crates at a time as there are processors and memory. The libraries that a
-crate stands on are built first, by `rt lib`. The status is 0 where the prover refuses every edit, and the last line counts an edit
-that it refuses as passed, as `rt ci` does.
+Without CRATE the edits of all crates are tried, as many crates at a time as there are processors and memory. The libraries that
+a crate stands on are built first, by `rt lib`. The status is 0 where the prover refuses every edit, and the last line counts an
+edit that it refuses as passed, as `rt ci` does.
 With `--gate` it takes the libraries as `rt ci` has just left them, where it has, and tries one edit for each function, those of
 some crates left out.
 With `--fit` none is tried: the status is 0, and nothing is printed, where each edit still fits its file.
@@ -66,7 +66,8 @@ class Function:
         above, _, last = f"/{folder}".rpartition("/")
         owner = above.rpartition("/")[2]
         # (a function that calls itself has a `+` in front, and an impl of a trait the trait's name behind the type's)
-        if last.removeprefix("+") != self.name or not (owner.startswith(self.owner) if self.owner else above.strip("/") == module):
+        is_home = owner.startswith(self.owner) if self.owner else above.strip("/") == module
+        if last.removeprefix("+") != self.name or not is_home:
             return 0
         return 2 if owner == self.owner else 1
 
@@ -239,7 +240,7 @@ def rlib(crate):
 
 
 def is_of_gate(crate):
-    """Whether the library is one that `rt ci` has built from nothing. What it puts back, as it stood there before, has a stamp."""
+    """Whether the library is one that `rt ci` has built from nothing. What it puts back, as it stood before, has a stamp."""
     return os.path.isdir(rlib(crate)) and not os.path.isfile(os.path.join(os.path.dirname(rlib(crate)), "stamp"))
 
 
@@ -280,8 +281,8 @@ class Trial:
             with open(os.path.join(folder, path), "w", encoding="utf-8") as file:
                 file.write(text)
         words = [*self.command, "--incremental", os.path.join(self.room, "kept")]
-        how = {"cwd": folder, "stdin": subprocess.DEVNULL, "stdout": subprocess.PIPE, "stderr": subprocess.STDOUT, "errors": "replace"}
-        ran = subprocess.run(words, check=False, **how)
+        how = {"stdin": subprocess.DEVNULL, "stdout": subprocess.PIPE, "stderr": subprocess.STDOUT, "errors": "replace"}
+        ran = subprocess.run(words, cwd=folder, check=False, **how)
         for path in texts:
             shutil.copy(os.path.join(ROOT, "crates", self.crate, path), os.path.join(folder, path))
         return ran.stdout, texts
@@ -297,7 +298,7 @@ class Trial:
         proved = self.proved_by(said, texts)
         waiting = [it for it in group if taken and not told[it.name] and not proved & {*it.functions}]
         if len(group) > 1 and (is_lost or waiting == group or any(it.function not in taken for it in goals)):
-            # One cannot be read, the prover gave up, or it refuses a function that none changes: which one does it, is seen alone.
+            # One cannot be read, the prover gave up, or it refuses a function that none changes: which it is, is seen alone.
             for edit in group:
                 self.judge([edit])
         elif is_lost or waiting == group:
