@@ -14,8 +14,7 @@ proved with it.
 Without CRATE the edits of all crates are tried, as many crates at a time as there are processors and memory. The libraries that
 a crate stands on are built first, by `rt lib`. The status is 0 where the prover refuses every edit, and the last line counts an
 edit that it refuses as passed, as `rt ci` does.
-With `--gate` it takes the libraries as `rt ci` has just left them, where it has, and tries one edit for each function, those of
-some crates left out.
+With `--gate` it takes the libraries as `rt ci` has just left them, where it has, and leaves three crates out.
 With `--fit` none is tried: the status is 0, and nothing is printed, where each edit still fits its file.
 """
 
@@ -31,8 +30,8 @@ import tempfile
 
 ROOT = os.path.dirname(os.path.dirname(os.path.abspath(__file__)))
 EDITS = os.path.join(ROOT, "edits")
-# What the gate leaves out: these take more than six processor minutes each, or two for the few edits that they have.
-LEFT_OUT = {"wl_bag", "wl_command_line", "wl_encoding", "wl_kernel_process", "wl_script", "wl_world"}
+# What the gate leaves out: a check of these takes longest, and it had none of their edits when `rt ci` tried them.
+LEFT_OUT = {"wl_kernel_process", "wl_script", "wl_world"}
 
 # What a check of a large crate may take of memory, in bytes.
 MEMORY = 4 << 30
@@ -397,10 +396,7 @@ def main():
             subprocess.run(["rt", "lib"], cwd=os.path.join(ROOT, "crates", dep), stdout=subprocess.DEVNULL, check=True)
     trials = []
     for crate in sorted(crates, key=size, reverse=True):
-        groups = together(edits_of(crate))
-        # (an edit of no function's code stands alone in its group)
-        first = next((it for it in groups if it[0].functions), groups[0])
-        trials.append(Trial(crate, named, [first] if is_gate else groups))
+        trials.append(Trial(crate, named, together(edits_of(crate))))
     refused = failed = 0
     with concurrent.futures.ThreadPoolExecutor(lanes()) as pool:
         for trial in concurrent.futures.as_completed([pool.submit(it.run) for it in trials]):
