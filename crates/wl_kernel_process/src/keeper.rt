@@ -1,7 +1,6 @@
 //! The keeper of the broker: one thread that starts each generation's process, and reads its link to its end.
 
 use crate::hub::{BrokerProcess, Hub};
-use crate::listening::{Started, end, front_of, start_child};
 use std::alloc::Global;
 use std::net::Shutdown;
 use std::os::unix::net::UnixStream;
@@ -9,6 +8,7 @@ use std::process::Child;
 use std::time::{Duration, Instant};
 use wl_frames::device::READ_LIMIT;
 use wl_kernel_rules::is_answer;
+use wl_process::children::{Started, end, front_of, start_child};
 use wl_process::{Host, Incoming, ProcessFault};
 use wl_process_rules::Restarts;
 

@@ -4,7 +4,6 @@ ghost use Rattle.wl_kernel_rules.specs.News.{IsDeathOf};
 
 use crate::hub::{Hub, Opened, Stop};
 use crate::keeper::{BrokerWords, keep};
-use crate::listening::{Started, front_of, start_child};
 use crate::tab_link::{TabHandle, TabProcess};
 use std::alloc::{AllocError, Global};
 use std::io::Write;
@@ -14,6 +13,7 @@ use std::time::Duration;
 use std::{io, thread};
 use wl_kernel_rules::{unopened_reply, unread_reply};
 use wl_origin::{OriginFault, Partition, partition, partition_pair};
+use wl_process::children::{Started, front_of, start_child};
 use wl_process::{Host, ProcessFault, line_number, read_script};
 use wl_process_script::{KernelLine, KernelReply, read_kernel_line};
 use wl_words::Unread;

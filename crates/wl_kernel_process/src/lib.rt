@@ -2,12 +2,11 @@
 //! does is tested.
 #![tactic(auto)]
 
-mod bundle;
+mod flushed;
 mod hub;
 mod keeper;
 pub mod kernel;
 pub mod link_end;
-mod listening;
 mod post;
 mod tab_link;
 

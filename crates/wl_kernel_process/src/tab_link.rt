@@ -3,7 +3,7 @@
 ghost use Rattle.std.specs.Io.{ReadsAtMost};
 ghost use Rattle.wl_kernel_rules.specs.News.{IsDeathOf};
 
-use crate::bundle::{Bundle, Flushed, Gathering};
+use crate::flushed::Flushed;
 use crate::hub::Hub;
 use crate::link_end::{Mercy, mercy_at};
 use crate::post::{Post, Taking};
@@ -22,6 +22,7 @@ use std::{io, thread};
 use wl_frames::Frame;
 use wl_frames::device::{Sink, Source};
 use wl_kernel::RouteFault;
+use wl_process::bundle::{Bundle, Gathering};
 use wl_process::{Host, ProcessFault};
 use wl_process_rules::{Load, Pace, status_of};
 use wl_workers::tab_reader::tab_reader;

@@ -1,3 +1,4 @@
 pub mod Status
 pub mod Faults
 pub mod Links
+pub mod Paths

@@ -1,6 +1,8 @@
 //! What the processes share: the system as they use it, their faults, the frames of a link as they come, and scripts as files.
 #![tactic(auto)]
 
+pub mod bundle;
+pub mod children;
 pub mod fault;
 pub mod host;
 pub mod incoming;

@@ -1,30 +1,36 @@
 //! Children that connect to a socket of their own.
 
+ghost use Rattle.std.specs.Prelude.{◌≡◌, [], codes, if◌then◌else◌};
+ghost use Rattle.wl_process.specs.Paths.{is_like_an_option};
+
+use crate::fault::ProcessFault;
+use crate::host::Host;
 use std::io::ErrorKind;
 use std::os::unix::net::{UnixListener, UnixStream};
 use std::process::{Child, Command};
 use std::time::Duration;
 use std::{io, thread};
-use wl_process::{Host, ProcessFault};
 
 /// How many turns of a millisecond a child has to connect.
 const TURNS: u32 = 10_000;
 
 /// A child that was started, and its link, if it connected.
 #[derive(Drop)]
-pub(crate) struct Started {
-    pub(crate) child: Child,
-    pub(crate) link: Option<UnixStream>,
+pub struct Started {
+    pub child: Child,
+    pub link: Option<UnixStream>,
 }
 
 /// What is spelled before a path that begins like an option, so that it is read as a path.
-pub(crate) fn front_of(path: &str) -> &'static str {
+pub fn front_of(path: &str) -> &'static str
+    ensures { result.now ≡ (if is_like_an_option path.now then codes "./" else []) }
+{
     if path.starts_with('-') { "./" } else { "" }
 }
 
 /// Starts the program with these words and a socket that it is to connect to, and accepts its link. The socket's file is
 /// removed then.
-pub(crate) fn start_child<R: Host>(
+pub fn start_child<R: Host>(
     rt: &R,
     program: &str,
     path: &str,
@@ -80,7 +86,7 @@ fn start_program<R: Host>(rt: &R, program: &str, words: &[&str]) -> io::Result<C
 }
 
 /// Kills a process, unless it has ended, and waits for it.
-pub(crate) fn end(child: &mut Child) {
+pub fn end(child: &mut Child) {
     let _ = child.kill();
     let _ = child.wait();
 }

@@ -5,11 +5,7 @@ use std::cell::RefCell;
 use std::io;
 use std::io::{ErrorKind, Write};
 use std::os::unix::net::UnixStream;
-use std::rt::Clock;
-use std::sync::Wait;
-use wl_board::Life;
 use wl_frames::device::BUNDLE_LEN;
-use wl_workers::Lives;
 
 #[derive(Drop)]
 struct Gathered {
@@ -19,13 +15,14 @@ struct Gathered {
 
 /// What is gathered for a link.
 #[derive(Drop)]
-pub(crate) struct Bundle<'a> {
+pub struct Bundle<'a> {
     link: &'a UnixStream,
     gathered: RefCell<Gathered>,
 }
 
 impl<'a> Bundle<'a> {
-    pub(crate) fn new(alloc: Global, link: &'a UnixStream) -> Bundle<'a> {
+    /// Nothing is gathered yet.
+    pub fn new(alloc: Global, link: &'a UnixStream) -> Bundle<'a> {
         Bundle {
             link,
             gathered: RefCell::new(Gathered {
@@ -61,7 +58,7 @@ impl<'a> Bundle<'a> {
     }
 
     /// Writes what is gathered.
-    pub(crate) fn flush(&self) {
+    pub fn flush(&self) {
         if let Ok(mut gathered) = self.gathered.try_borrow_mut() {
             self.empty(&mut gathered);
         }
@@ -70,8 +67,8 @@ impl<'a> Bundle<'a> {
 
 /// The writer that gathers.
 #[derive(Drop)]
-pub(crate) struct Gathering<'a> {
-    pub(crate) bundle: &'a Bundle<'a>,
+pub struct Gathering<'a> {
+    pub bundle: &'a Bundle<'a>,
 }
 
 impl Write for Gathering<'_> {
@@ -83,21 +80,5 @@ impl Write for Gathering<'_> {
     fn flush(&mut self) -> io::Result<()> {
         self.bundle.flush();
         Ok(())
-    }
-}
-
-/// Looks before which what is gathered is written.
-#[derive(Drop)]
-pub(crate) struct Flushed<'a, L> {
-    pub(crate) bundle: &'a Bundle<'a>,
-    pub(crate) lives: L,
-}
-
-impl<L: Lives> Lives for Flushed<'_, L> {
-    ghost answered = { λ f. L.answered f.lives };
-
-    fn look<R: Wait + Clock>(&mut self, rt: &R, tab: u16) -> Life {
-        self.bundle.flush();
-        self.lives.look(rt, tab)
     }
 }
