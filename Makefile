@@ -25,7 +25,7 @@ bench: crates/wlb/out/wlb $(SPEEDS)
 crates/wlb/out/wlb: crates.txt $(wildcard crates/*/src/*.rt crates/*/src/*/*.rt crates/*/specs/*.antt)
 	cd crates/wlb && rt run < stdin > /dev/null
 
-crates/table_speed/out/table_speed: crates.txt $(wildcard crates/table_speed/src/*.rt crates/wl_table/src/*.rt crates/wl_index/src/*.rt crates/wl_draft/src/*.rt)
+crates/table_speed/out/table_speed: crates.txt $(wildcard crates/table_speed/src/*.rt crates/wl_table/src/*.rt crates/wl_index/src/*.rt crates/wl_ordered/src/*.rt crates/wl_draft/src/*.rt)
 	cd crates/table_speed && rt run > /dev/null
 
 crates/board_speed/out/board_speed: crates.txt $(wildcard crates/wl_*/src/*.rt crates/wl_*/specs/*.antt crates/board_speed/src/*.rt)

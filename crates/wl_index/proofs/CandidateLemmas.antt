@@ -10,12 +10,12 @@ use Rattle.wl_draft.specs.declared.mode.Mode.{Mode}
 use Rattle.wl_draft.specs.declared.row.Row.{Row}
 use Rattle.wl_draft.specs.Tables.{Table, find}
 use Rattle.wl_draft.specs.Locks.{is_free, is_grantable, is_pair, grantable_behind}
-use Rattle.wl_index.specs.Orders.{values_in, is_rising, without_order}
-use Rattle.wl_index.specs.Places.{first_place}
+use Rattle.wl_ordered.specs.Orders.{values_in, is_rising, without_order}
+use Rattle.wl_ordered.specs.Places.{first_place}
 use Rattle.wl_index.specs.Index.{places_in}
 use Rattle.wl_index.specs.Nexts.{first_named, if_free, next_in, is_number, is_next, is_among, AreCandidates, AreOthers}
 use Rattle.wl_index.proofs.Stuck.{AreStuck}
-use Rattle.wl_index.proofs.WithoutLemmas.{count-one}
+use Rattle.wl_ordered.proofs.WithoutLemmas.{count-one}
 use Rattle.wl_index.proofs.NextLemmas.{IsGrant, next-split, next-row, next-at, stuck-nexts, stuck-rows, grantable-next, append-cons, rising-apart, find-split, not-true, next-stuck_step, text-same, text-self}
 use Rattle.wl_index.proofs.RemovalLemmas.{if-without, first-without}
 

@@ -8,13 +8,13 @@ use Rattle.wl_draft.specs.declared.mode.Mode.{Mode}
 use Rattle.wl_draft.specs.declared.mode.Mode.TheVariants.{Shared, Exclusive}
 use Rattle.wl_draft.specs.declared.row.Row.{Row}
 use Rattle.wl_draft.specs.Tables.{Table, find}
-use Rattle.wl_index.specs.Orders.{orders_in, is_above, is_rising, without_order, without_number}
+use Rattle.wl_ordered.specs.Orders.{orders_in, is_below, is_above, is_rising, without_order, without_number}
 use Rattle.wl_index.specs.Lines.{nobody, line_seen, line_room, without_holder, without_waiter}
 use Rattle.wl_index.specs.Clients.{Places, with_held, with_waiting, without_held, without_waiting}
 use Rattle.wl_index.specs.declared.line.Line.{Line}
 use Rattle.wl_index.specs.Index.{line_of, places_in, places_of, is_shared, is_exclusive}
 use Rattle.std.proofs.lemmas.Slice.Eq.{bytes_eq-Decides}
-use Rattle.wl_index.proofs.WithoutLemmas.{without-above, count-without, filter-without, orders-without}
+use Rattle.wl_ordered.proofs.WithoutLemmas.{without-above, count-without, filter-without, orders-without}
 
 -- ---- room
 
@@ -143,3 +143,12 @@ no_room l = omega (arith, l)
 pub room-line : (o : Option Line) → 0 < option_map_or line_room o 0 → IsSome o
 room-line (Some x) l = search rules
 room-line None l = absurd (no_room l)
+
+-- ---- a client's places are below the next order number
+
+below-places_step : (client k : ℕ) (p : ℕ × Row) (ps : Table Row) → (is_below ps k ≡ true → is_below (places_in client ps) k ≡ true) → is_below (p ∷ ps) k ≡ true → is_below (places_in client (p ∷ ps)) k ≡ true
+below-places_step client k p ps below b = grind (arith, nat_tests)
+
+pub below-places : (client k : ℕ) (ps : Table Row) → is_below ps k ≡ true → is_below (places_in client ps) k ≡ true
+below-places client k [] b = refl
+below-places client k (p ∷ ps) b = below-places_step client k p ps (below-places client k ps) b

@@ -1,7 +1,7 @@
 -- What the index of a table says of its two lists.
 use Rattle.std.proofs.Common.{append-nil, ◌≡◌, ℕ, ◌+◌, ◌≤◌, Bool, true, false, ◌&&◌, not, cond, List, [], ◌∷◌, ◌++◌, length, refl, sym, ap, ◌∙◌, arith}
 use Rattle.std.specs.Prelude.{◌==◌, bytes_eq, filter, map, count_by}
-use Rattle.wl_index.specs.Places.{has_number}
+use Rattle.wl_ordered.specs.Places.{has_number}
 use Rattle.std.proofs.lemmas.Bool.Decides.{nat_tests}
 use Rattle.std.proofs.lemmas.List.{length-map, map-append}
 use Rattle.std.proofs.lemmas.List.Elements.{filter-append}
@@ -12,7 +12,7 @@ use Rattle.wl_draft.specs.declared.row.Row.{Row}
 use Rattle.wl_draft.specs.declared.row.Standing.TheVariants.{Held, Waiting, Absent}
 use Rattle.wl_draft.specs.Tables.{Table}
 use Rattle.wl_draft.specs.Locks.{probed, queued, is_named, is_free, is_grantable, has_pair, count_of, standing, live}
-use Rattle.wl_index.specs.Orders.{values_in, orders_in, is_below}
+use Rattle.wl_ordered.specs.Orders.{values_in, orders_in, is_below}
 use Rattle.wl_index.specs.Lines.{LineState, lets_in, with_holder, with_waiter}
 use Rattle.wl_index.specs.Clients.{Places, with_held, with_waiting}
 use Rattle.wl_index.specs.Index.{line_of, places_in, places_of, locks_in, is_shared, is_exclusive}

@@ -7,14 +7,14 @@ use Rattle.std.proofs.lemmas.Slice.Eq.{bytes_eq-Decides}
 use Rattle.wl_draft.specs.declared.row.Row.{Row}
 use Rattle.wl_draft.specs.Tables.{Table, find}
 use Rattle.wl_draft.specs.Locks.{is_named, is_free, is_grantable, newly, settle}
-use Rattle.wl_index.specs.Orders.{values_in, orders_in, is_above, is_rising, without_order}
+use Rattle.wl_ordered.specs.Orders.{values_in, orders_in, is_above, is_rising, without_order}
 use Rattle.wl_index.specs.Lines.{lets_in}
 use Rattle.wl_index.proofs.Stuck.{AreStuck}
 use Rattle.wl_index.specs.Index.{line_of, locks_in}
 use Rattle.wl_index.specs.Nexts.{first_named, if_free, next_in, is_number}
-use Rattle.wl_index.proofs.OrderLemmas.{find-above}
+use Rattle.wl_ordered.proofs.OrderLemmas.{find-above}
 use Rattle.wl_index.proofs.SettleLemmas.{newly-first, settle-first}
-use Rattle.wl_index.proofs.WithoutLemmas.{without-above}
+use Rattle.wl_ordered.proofs.WithoutLemmas.{without-above}
 use Rattle.wl_index.proofs.IndexLemmas.{free-line}
 
 -- ---- what the index finds

@@ -6,12 +6,12 @@ use Rattle.wl_draft.specs.declared.mode.Mode.{Mode}
 use Rattle.wl_draft.specs.declared.row.Row.{Row}
 use Rattle.wl_draft.specs.Tables.{Table, find}
 use Rattle.wl_draft.specs.Locks.{is_free, without, without_client, released, aborted, ended}
-use Rattle.wl_index.specs.Orders.{values_in, is_above, is_rising, without_order}
-use Rattle.wl_index.specs.Places.{first_place, meets, IsPlace}
+use Rattle.wl_ordered.specs.Orders.{values_in, is_above, is_rising, without_order}
+use Rattle.wl_ordered.specs.Places.{first_place, meets, IsPlace}
 use Rattle.wl_index.specs.Index.{places_in, locks_in}
 use Rattle.wl_index.specs.Nexts.{first_named, if_free, is_meant, without_meant}
-use Rattle.wl_index.proofs.OrderLemmas.{find-above}
-use Rattle.wl_index.proofs.WithoutLemmas.{without-above, filter-without}
+use Rattle.wl_ordered.proofs.OrderLemmas.{find-above}
+use Rattle.wl_ordered.proofs.WithoutLemmas.{without-above, filter-without}
 
 -- a row that is meant, in the list that its place was read off
 pub record IsMeant (client : ℕ) (which : Option ℕ) (rows : Table Row) (order : ℕ) : Type 0 where

@@ -6,7 +6,7 @@ use Rattle.wl_draft.specs.declared.row.Row.{Row}
 use Rattle.wl_draft.specs.declared.row.Entry.{Entry}
 use Rattle.wl_draft.specs.Tables.{Table}
 use Rattle.wl_draft.specs.Locks.{rows_of, held_of, waiting_of, restored}
-use Rattle.wl_index.specs.Orders.{values_in}
+use Rattle.wl_ordered.specs.Orders.{values_in}
 use Rattle.wl_index.specs.Index.{locks_in, are_of}
 
 mine-step : (client : ℕ) (b : Bool) → b ≡ true → (client == client && b) ≡ true

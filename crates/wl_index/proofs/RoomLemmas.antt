@@ -12,7 +12,7 @@ use Rattle.wl_index.specs.Lines.{room_at, count_named}
 use Rattle.wl_index.specs.Clients.{places_at}
 use Rattle.wl_index.specs.Index.{IsIndexed, IsReady, HasRoom, TakesRoom, places_in, are_of}
 use Rattle.wl_index.specs.declared.index.Index.{Index}
-use Rattle.wl_index.proofs.WithoutLemmas.{count-one}
+use Rattle.wl_ordered.proofs.WithoutLemmas.{count-one}
 use Rattle.wl_index.proofs.NextLemmas.{text-same, text-self}
 use Rattle.wl_index.proofs.EntryLemmas.{room-line}
 

@@ -10,9 +10,9 @@ use Rattle.std.proofs.lemmas.Bool.Decides.{nat_tests}
 use Rattle.std.proofs.lemmas.Map.Keys.{IsDistinct-IsPermutation, IsStrictlyIncreasing-from_distinct, sorted_from_strictly_increasing}
 use Rattle.wl_draft.specs.Tables.{Table, find}
 use Rattle.wl_draft.specs.declared.row.Row.{Row}
-use Rattle.wl_index.specs.Orders.{ordered, orders_in, values_in, is_above, is_rising}
+use Rattle.wl_ordered.specs.Orders.{ordered, orders_in, values_in, is_above, is_rising}
 use Rattle.wl_index.specs.Nexts.{is_among}
-use Rattle.wl_index.proofs.OrderLemmas.{table_ext, find-ordered, rising-ordered}
+use Rattle.wl_ordered.proofs.OrderLemmas.{table_ext, find-ordered, rising-ordered}
 use Rattle.wl_index.proofs.RemovalLemmas.{find-later}
 use Rattle.wl_index.proofs.CandidateLemmas.{among-permutation}
 

@@ -5,8 +5,8 @@ use Rattle.std.specs.HashMap.{get}
 use Rattle.wl_draft.specs.declared.row.Standing.{Standing}
 use Rattle.wl_draft.specs.declared.row.Standing.TheVariants.{Held, Waiting, Absent}
 use Rattle.wl_draft.specs.Tables.{Table}
-use Rattle.wl_index.specs.Orders.{without_order}
-use Rattle.wl_index.specs.Places.{has_number}
+use Rattle.wl_ordered.specs.Orders.{without_order}
+use Rattle.wl_ordered.specs.Places.{has_number}
 use Rattle.wl_index.specs.declared.holdings.Holdings.{Holdings}
 use Rattle.wl_index.specs.declared.clients.Clients.{Clients}
 

@@ -5,7 +5,7 @@ use Rattle.wl_draft.specs.declared.mode.Mode.TheVariants.{Shared, Exclusive}
 use Rattle.wl_draft.specs.declared.row.Row.{Row}
 use Rattle.wl_draft.specs.Locks.{Locks, is_named}
 use Rattle.wl_draft.specs.Tables.{Table}
-use Rattle.wl_index.specs.Orders.{values_in, orders_in, is_below, is_rising}
+use Rattle.wl_ordered.specs.Orders.{values_in, orders_in, is_below, is_rising}
 use Rattle.wl_index.specs.Lines.{LineState, line_at, room_at, HasLine, count_named}
 use Rattle.wl_index.specs.Clients.{Places, places_at, held_room_at, waiting_room_at}
 use Rattle.std.specs.List.{list_all}

@@ -1,9 +1,5 @@
 pub use Rattle.wl_draft.specs.Tables
 pub use Rattle.wl_draft.specs.Locks
-pub mod Orders
-pub mod Places
-pub mod Found
-pub mod Queue
 pub mod Lines
 pub mod Clients
 pub mod Index

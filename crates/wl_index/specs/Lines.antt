@@ -5,7 +5,7 @@ use Rattle.std.specs.HashMap.{get_by_text}
 use Rattle.wl_draft.specs.declared.mode.Mode.{Mode}
 use Rattle.wl_draft.specs.declared.mode.Mode.TheVariants.{Shared, Exclusive}
 use Rattle.wl_draft.specs.declared.row.Row.{Row}
-use Rattle.wl_index.specs.Orders.{without_number}
+use Rattle.wl_ordered.specs.Orders.{without_number}
 use Rattle.wl_index.specs.declared.line.Line.{Line}
 use Rattle.wl_index.specs.declared.lines.Lines.{Lines}
 

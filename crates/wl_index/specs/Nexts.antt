@@ -5,8 +5,8 @@ use Rattle.std.specs.Option.{option_map_or}
 use Rattle.wl_draft.specs.declared.row.Row.{Row}
 use Rattle.wl_draft.specs.Locks.{is_free}
 use Rattle.wl_draft.specs.Tables.{Table, find}
-use Rattle.wl_index.specs.Orders.{values_in}
-use Rattle.wl_index.specs.Places.{meets}
+use Rattle.wl_ordered.specs.Orders.{values_in}
+use Rattle.wl_ordered.specs.Places.{meets}
 
 -- the first row of a name
 abbrev pub first_named : List ℕ → Table Row → Option (ℕ × Row)

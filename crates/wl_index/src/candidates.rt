@@ -15,7 +15,7 @@ pub struct Candidates {
 }
 
 impl Model for Candidates {
-    ghost use Rattle.wl_index.specs.Orders.{Numbers};
+    ghost use Rattle.wl_ordered.specs.Orders.{Numbers};
 
     ghost Value = { Numbers };
 

@@ -1,8 +1,8 @@
 //! The entries of all clients.
 
 ghost use Rattle.std.specs.Prelude.{true, ◌≡◌, ◌+◌, ◌<◌, ◌≤◌, ◌==◌, ℕ, length, OnOk, IfSome, IfNone, Some, None, if◌then◌else◌};
-ghost use Rattle.wl_index.specs.Orders.{is_below};
-ghost use Rattle.wl_index.specs.Places.{first_place, IsPlace};
+ghost use Rattle.wl_ordered.specs.Orders.{is_below};
+ghost use Rattle.wl_ordered.specs.Places.{first_place, IsPlace};
 ghost use Rattle.wl_index.specs.Clients.{no_places, places_at, standing_in, held_room_at, with_held, waiting_room_at, with_waiting, without_held, without_waiting};
 
 use crate::holdings::Holdings;

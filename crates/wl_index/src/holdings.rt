@@ -3,9 +3,9 @@
 ghost use Rattle.std.specs.Prelude.{◌≡◌, true, ◌+◌, ◌<◌, ◌≤◌, OnOk, length};
 ghost use Rattle.wl_index.specs.Clients.{no_places, places_seen, standing_in, held_room, waiting_room};
 
-use crate::place_index::PlaceIndex;
 use std::alloc::{AllocError, Global};
 use wl_draft::Standing;
+use wl_ordered::place_index::PlaceIndex;
 
 /// What a client holds and waits for, each in the table's order. `held` always has room for what waits.
 #[derive(Drop)]

@@ -3,7 +3,7 @@
 ghost use Rattle.std.specs.Prelude.{◌≡◌, ◌+◌, ◌-◌, ◌<◌, ◌≤◌, ◌^◌, [], ◌∷◌, ◌++◌, ℕ, List, OnOk, IfOk};
 ghost use Rattle.wl_draft.specs.Tables.{find};
 ghost use Rattle.wl_draft.specs.Locks.{row_of};
-ghost use Rattle.wl_index.specs.Orders.{without_order};
+ghost use Rattle.wl_ordered.specs.Orders.{without_order};
 ghost use Rattle.wl_index.specs.Lines.{HasLine};
 ghost use Rattle.wl_index.specs.Clients.{held_room_at};
 ghost use Rattle.wl_index.specs.Index.{IsIndexed, IsHoldable, IsReady, TakesRoom};

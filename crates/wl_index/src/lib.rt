@@ -7,8 +7,6 @@ pub mod holdings;
 pub mod index;
 pub mod line;
 pub mod lines;
-pub mod place_index;
-pub mod queue;
 mod removal;
 pub mod restoring;
 pub mod rows;

@@ -3,11 +3,11 @@
 ghost use Rattle.std.specs.Prelude.{◌≡◌, true, ◌+◌, ◌<◌, ◌≤◌, ◌^◌, OnOk, length, ◌==◌, slice_get};
 ghost use Rattle.wl_draft.specs.declared.mode.Mode.TheVariants.{Shared, Exclusive};
 ghost use Rattle.wl_index.specs.Lines.{nobody, line_seen, lets_in, with_holder, with_waiter, without_holder, without_waiter, line_room};
-ghost use Rattle.wl_index.specs.Orders.{do_rise};
+ghost use Rattle.wl_ordered.specs.Orders.{do_rise};
 
-use crate::queue::Queue;
 use std::alloc::{AllocError, Global};
 use wl_draft::Mode;
+use wl_ordered::queue::Queue;
 
 /// How many hold a name in each mode, and the numbers of the requests that wait for it, rising.
 #[derive(Drop)]

@@ -2,7 +2,7 @@
 
 ghost use Rattle.std.specs.Prelude.{◌≡◌, true, ◌+◌, ◌<◌, ◌≤◌, ◌^◌, ℕ, List, OnOk, ◌==◌, ◌&&◌, length, slice_get, bytes_eq, if◌then◌else◌};
 ghost use Rattle.wl_draft.specs.Locks.{is_named};
-ghost use Rattle.wl_index.specs.Orders.{do_rise};
+ghost use Rattle.wl_ordered.specs.Orders.{do_rise};
 ghost use Rattle.wl_index.specs.Lines.{nobody, lets_in, with_holder, with_waiter, without_holder, without_waiter, line_at, room_at, HasLine, count_named};
 
 use crate::line::Line;

@@ -2,7 +2,7 @@
 
 ghost use Rattle.std.specs.Prelude.{◌≡◌, ◌+◌, ◌<◌, ◌≤◌, ◌^◌, ◌++◌, true, IfOk, OnOk, length};
 ghost use Rattle.wl_draft.specs.Locks.{held_of, waiting_of};
-ghost use Rattle.wl_index.specs.Orders.{values_in};
+ghost use Rattle.wl_ordered.specs.Orders.{values_in};
 ghost use Rattle.wl_index.specs.Index.{IsIndexed, HasRoom, are_of};
 ghost use Rattle.wl_index.specs.Nexts.{AreCandidates};
 

@@ -3,7 +3,7 @@
 
 ghost use Rattle.std.specs.Prelude.{◌≡◌, ◌+◌, ◌≤◌, ◌<◌, ◌^◌, [], ◌∷◌, ◌++◌, true, length, OnOk, IfOk, option_copied};
 ghost use Rattle.wl_draft.specs.Tables.{find};
-ghost use Rattle.wl_index.specs.Orders.{is_below, is_rising, without_order, orders_in, values_in};
+ghost use Rattle.wl_ordered.specs.Orders.{is_below, is_rising, without_order, orders_in, values_in};
 
 use indexmap::IndexMap;
 use std::alloc::{AllocError, Global};
@@ -17,11 +17,11 @@ pub struct Rows {
 }
 
 impl Model for Rows {
-    ghost use Rattle.wl_index.specs.Orders.{Ordered};
+    ghost use Rattle.wl_ordered.specs.Orders.{Ordered};
 
     ghost Value = { Ordered };
 
-    ghost use Rattle.wl_index.specs.Orders.{ordered};
+    ghost use Rattle.wl_ordered.specs.Orders.{ordered};
     ghost use Rattle.indexmap.specs.IndexMap.{spare};
 
     ghost view = { λ r. record { items = ordered r.rows.entries; room = spare r.rows } };

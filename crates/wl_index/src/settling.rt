@@ -4,7 +4,7 @@ ghost use Rattle.std.specs.Prelude.{◌≡◌, ◌+◌, ◌<◌, ◌≤◌, ◌^
 ghost use Rattle.wl_draft.specs.declared.row.Row.{Row};
 ghost use Rattle.wl_draft.specs.Tables.{find};
 ghost use Rattle.wl_draft.specs.Locks.{grants, newly, settle};
-ghost use Rattle.wl_index.specs.Orders.{without_order};
+ghost use Rattle.wl_ordered.specs.Orders.{without_order};
 ghost use Rattle.wl_index.specs.Index.{IsIndexed, locks_in};
 ghost use Rattle.wl_index.specs.Nexts.{next_in, is_next, is_among, AreCandidates, AreOthers};
 

@@ -1,6 +1,6 @@
 use Rattle.std.proofs.Common.{sym, arith}
 use Rattle.std.proofs.lemmas.List.Sorted.{IsPermutation-map}
-use Rattle.wl_index.proofs.OrderLemmas.{on_ok}
+use Rattle.wl_ordered.proofs.OrderLemmas.{on_ok}
 use Rattle.wl_index.proofs.CandidateLemmas.{among-permutation}
 use Rattle.wl_index.proofs.candidates.Candidates.push.Goals as goal
 

@@ -1,9 +1,9 @@
 use Rattle.std.proofs.Common.{◌≡◌, true, ◌∙◌, ℕ, Some, length, sym, ap, arith}
 use Rattle.wl_draft.specs.Tables.{find}
-use Rattle.wl_index.specs.Orders.{without_order}
+use Rattle.wl_ordered.specs.Orders.{without_order}
 use Rattle.wl_index.specs.Index.{places_in}
 use Rattle.wl_index.specs.Clients.{places_at}
-use Rattle.wl_index.proofs.WithoutLemmas.{length-without}
+use Rattle.wl_ordered.proofs.WithoutLemmas.{length-without}
 use Rattle.wl_index.proofs.EntryLemmas.{has-line, line-named, places-fewer}
 use Rattle.wl_index.specs.Nexts.{next_in, is_among}
 use Rattle.wl_index.proofs.CandidateLemmas.{candidates-taken, candidates-held}

@@ -3,10 +3,9 @@ use Rattle.std.specs.Prelude.{◌==◌, bytes_eq}
 use Rattle.wl_index.specs.Index.{line_of, places_of}
 use Rattle.wl_index.specs.Lines.{with_holder}
 use Rattle.wl_index.specs.Clients.{places_at, held_room_at, with_held}
-use Rattle.wl_index.proofs.OrderLemmas.{rising-last}
+use Rattle.wl_ordered.proofs.OrderLemmas.{rising-last}
 use Rattle.wl_index.proofs.IndexLemmas.{below-last, below-next, line-held, client-held, counts-length}
-use Rattle.wl_index.proofs.EntryLemmas.{room-step, length-held}
-use Rattle.wl_index.proofs.PlaceLemmas.{below-places}
+use Rattle.wl_index.proofs.EntryLemmas.{below-places, room-step, length-held}
 use Rattle.wl_index.proofs.index.Index.hold.Goals as goal
 
 pub hold-requires-2-clause-last : goal.hold-requires-2-clause-last

@@ -2,7 +2,7 @@ use Rattle.std.proofs.Common.{◌≡◌, ◌∙◌, ◌++◌, [], ◌∷◌, ℕ
 use Rattle.std.specs.Vec.Iter.{into_iter_items}
 use Rattle.wl_draft.specs.declared.row.Row.{Row}
 use Rattle.wl_draft.specs.Tables.{Table}
-use Rattle.wl_index.specs.Orders.{values_in}
+use Rattle.wl_ordered.specs.Orders.{values_in}
 use Rattle.wl_index.specs.Index.{HasRoom, are_of}
 use Rattle.wl_index.proofs.NextLemmas.{values-append}
 use Rattle.wl_index.proofs.RoomLemmas.{client-first, room-held, room-queued, ready-first}

@@ -1,6 +1,6 @@
 use Rattle.std.proofs.Common.{◌≡◌, ◌≤◌, ◌+◌, ◌++◌, [], true, length}
 use Rattle.std.specs.Vec.Iter.{into_iter_items}
-use Rattle.wl_index.specs.Orders.{values_in}
+use Rattle.wl_ordered.specs.Orders.{values_in}
 use Rattle.wl_index.specs.Index.{IsIndexed, HasRoom, are_of}
 use Rattle.wl_index.specs.Nexts.{AreCandidates}
 use Rattle.wl_index.proofs.index.Index.put_all.Given as goal

@@ -3,10 +3,9 @@ use Rattle.std.specs.Prelude.{◌==◌, bytes_eq}
 use Rattle.wl_index.specs.Index.{line_of, places_of}
 use Rattle.wl_index.specs.Lines.{with_waiter}
 use Rattle.wl_index.specs.Clients.{places_at, held_room_at, with_waiting}
-use Rattle.wl_index.proofs.OrderLemmas.{rising-last}
+use Rattle.wl_ordered.proofs.OrderLemmas.{rising-last}
 use Rattle.wl_index.proofs.IndexLemmas.{below-last, below-next, line-queued, client-queued, length-queued}
-use Rattle.wl_index.proofs.EntryLemmas.{room-waiting, length-waiting}
-use Rattle.wl_index.proofs.PlaceLemmas.{below-places}
+use Rattle.wl_index.proofs.EntryLemmas.{below-places, room-waiting, length-waiting}
 use Rattle.wl_index.proofs.index.Index.queue.Goals as goal
 
 pub wait-requires-clause-last : goal.wait-requires-clause-last

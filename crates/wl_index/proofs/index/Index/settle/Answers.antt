@@ -1,10 +1,10 @@
 use Rattle.std.proofs.Common.{◌≡◌, ◌∙◌, ◌++◌, [], ◌∷◌, sym, ap, arith, append_assoc, append-nil}
 use Rattle.wl_draft.specs.Locks.{grants, newly}
-use Rattle.wl_index.specs.Orders.{without_order}
+use Rattle.wl_ordered.specs.Orders.{without_order}
 use Rattle.wl_index.specs.Index.{locks_in}
 use Rattle.wl_index.specs.Nexts.{AreCandidates}
 use Rattle.wl_index.proofs.SettleLemmas.{newly-stuck, settle-stuck}
-use Rattle.wl_index.proofs.WithoutLemmas.{length-without}
+use Rattle.wl_ordered.proofs.WithoutLemmas.{length-without}
 use Rattle.wl_index.proofs.NextLemmas.{grant-find, grant-newly, grant-settle}
 use Rattle.wl_index.proofs.CandidateLemmas.{next-grant, no-candidates, others-popped, least-popped, candidates-passed}
 use Rattle.wl_index.proofs.index.Index.settle.Goals as goal

@@ -1,10 +1,10 @@
 use Rattle.std.proofs.Common.{◌≡◌, ◌∙◌, ℕ, true, Some, None, length, suc, sym, ap, arith}
 use Rattle.wl_draft.specs.Tables.{find}
-use Rattle.wl_index.specs.Orders.{without_order}
+use Rattle.wl_ordered.specs.Orders.{without_order}
 use Rattle.wl_index.specs.Index.{places_in}
-use Rattle.wl_index.specs.Places.{first_place}
+use Rattle.wl_ordered.specs.Places.{first_place}
 use Rattle.wl_index.specs.Nexts.{next_in, is_among}
-use Rattle.wl_index.proofs.WithoutLemmas.{length-without}
+use Rattle.wl_ordered.proofs.WithoutLemmas.{length-without}
 use Rattle.wl_index.proofs.EntryLemmas.{places-fewer}
 use Rattle.wl_index.proofs.RemovalLemmas.{place-meant, none-meant, one-meant, meant-client, none-found}
 use Rattle.wl_index.proofs.CandidateLemmas.{candidates-let_go}

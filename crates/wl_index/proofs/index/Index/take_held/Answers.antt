@@ -4,8 +4,8 @@ use Rattle.wl_draft.specs.Tables.{find}
 use Rattle.wl_index.specs.Index.{line_of, places_of}
 use Rattle.wl_index.specs.Lines.{without_holder}
 use Rattle.wl_index.specs.Clients.{places_at, without_held}
-use Rattle.wl_index.proofs.OrderLemmas.{rising-without}
-use Rattle.wl_index.proofs.WithoutLemmas.{below-without, without-absent}
+use Rattle.wl_ordered.proofs.OrderLemmas.{rising-without}
+use Rattle.wl_ordered.proofs.WithoutLemmas.{below-without, without-absent}
 use Rattle.wl_index.proofs.EntryLemmas.{line-let_go, client-let_go, length-dropped_held}
 use Rattle.wl_index.proofs.index.Index.take_held.Goals as goal
 

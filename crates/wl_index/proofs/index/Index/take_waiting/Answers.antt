@@ -5,8 +5,8 @@ use Rattle.wl_draft.specs.declared.row.Row.{Row}
 use Rattle.wl_index.specs.Index.{line_of, places_of}
 use Rattle.wl_index.specs.Lines.{without_waiter}
 use Rattle.wl_index.specs.Clients.{places_at, without_waiting}
-use Rattle.wl_index.proofs.OrderLemmas.{rising-without}
-use Rattle.wl_index.proofs.WithoutLemmas.{below-without, length-without, without-absent, orders-rise}
+use Rattle.wl_ordered.proofs.OrderLemmas.{rising-without}
+use Rattle.wl_ordered.proofs.WithoutLemmas.{below-without, length-without, without-absent, orders-rise}
 use Rattle.wl_index.proofs.EntryLemmas.{line-take_out, client-take_out, length-dropped}
 use Rattle.wl_index.proofs.index.Index.take_waiting.Goals as goal
 

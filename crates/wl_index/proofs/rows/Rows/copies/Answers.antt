@@ -1,7 +1,7 @@
 use Rattle.std.proofs.Common.{◌≡◌, ◌∙◌, ◌++◌, ◌∷◌, [], Some, None, length, take, get_or, sym, ap, arith}
 use Rattle.wl_draft.specs.declared.row.Row.{Row}
 use Rattle.wl_draft.specs.Tables.{find}
-use Rattle.wl_index.specs.Orders.{values_in}
+use Rattle.wl_ordered.specs.Orders.{values_in}
 use Rattle.wl_index.proofs.SortLemmas.{at-index}
 use Rattle.wl_index.proofs.rows.Rows.copies.Goals.{in-Some+in_ok-copy+in_ok-push, in_default}
 use Rattle.wl_index.proofs.rows.Rows.copies.Goals as goal

@@ -1,5 +1,5 @@
 use Rattle.std.proofs.Common.{◌≡◌, take}
-use Rattle.wl_index.specs.Orders.{values_in}
+use Rattle.wl_ordered.specs.Orders.{values_in}
 use Rattle.wl_index.proofs.rows.Rows.copies.Given as goal
 
 abbrev pub invariant-loop-order : goal.invariant-loop-order

@@ -1,5 +1,5 @@
 use Rattle.std.proofs.Common.{◌∙◌, sym}
-use Rattle.wl_index.proofs.OrderLemmas.{find-ordered}
+use Rattle.wl_ordered.proofs.OrderLemmas.{find-ordered}
 use Rattle.wl_index.proofs.rows.Rows.get.Goals as goal
 
 pub returns : goal.returns

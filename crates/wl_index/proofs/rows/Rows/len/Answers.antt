@@ -1,5 +1,5 @@
 use Rattle.std.proofs.Common.{◌∙◌, sym}
-use Rattle.wl_index.proofs.OrderLemmas.{length-ordered}
+use Rattle.wl_ordered.proofs.OrderLemmas.{length-ordered}
 use Rattle.wl_index.proofs.rows.Rows.len.Goals as goal
 
 pub returns-clause-len : goal.returns-clause-len

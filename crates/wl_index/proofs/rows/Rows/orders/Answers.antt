@@ -4,7 +4,7 @@ use Rattle.std.specs.Map.{keys_of}
 use Rattle.std.specs.Map.Iter.{deref}
 use Rattle.std.proofs.lemmas.Map.Iter.{iter_end}
 use Rattle.std.proofs.lemmas.List.Sorted.{IsNonDecreasingBy-from_sort}
-use Rattle.wl_index.proofs.OrderLemmas.{rising-ordered}
+use Rattle.wl_ordered.proofs.OrderLemmas.{rising-ordered}
 use Rattle.wl_index.proofs.SortLemmas.{sorted-orders}
 use Rattle.wl_index.proofs.rows.Rows.orders.Goals as goal
 

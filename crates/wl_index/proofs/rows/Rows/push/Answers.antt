@@ -1,4 +1,4 @@
-use Rattle.wl_index.proofs.OrderLemmas.{ordered-push, on_ok}
+use Rattle.wl_ordered.proofs.OrderLemmas.{ordered-push, on_ok}
 use Rattle.wl_index.proofs.rows.Rows.push.Goals as goal
 
 pub returns-clause-items : goal.returns-clause-items

@@ -1,5 +1,5 @@
 use Rattle.std.proofs.Common.{◌∙◌, sym}
-use Rattle.wl_index.proofs.OrderLemmas.{ordered-remove, find-ordered}
+use Rattle.wl_ordered.proofs.OrderLemmas.{ordered-remove, find-ordered}
 use Rattle.wl_index.proofs.rows.Rows.remove.Goals as goal
 
 pub returns-clause-value : goal.returns-clause-value

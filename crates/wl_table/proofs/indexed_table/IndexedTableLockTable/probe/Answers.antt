@@ -1,6 +1,6 @@
 use Rattle.std.proofs.Common.{◌≡◌, true, false}
 use Rattle.wl_draft.specs.Locks.{is_grantable, row_of}
-use Rattle.wl_index.specs.Orders.{values_in}
+use Rattle.wl_ordered.specs.Orders.{values_in}
 use Rattle.wl_index.specs.Lines.{line_at}
 use Rattle.wl_index.proofs.IndexLemmas.{grantable-known, probed-stuck}
 use Rattle.wl_table.proofs.indexed_table.IndexedTableLockTable.probe.Goals as goal

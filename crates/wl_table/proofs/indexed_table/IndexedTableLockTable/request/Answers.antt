@@ -1,6 +1,6 @@
 use Rattle.std.proofs.Common.{◌≡◌, ◌∙◌, ◌++◌, [], ◌∷◌, true, ap, refl}
 use Rattle.wl_draft.specs.Locks.{is_grantable, grants, newly, settle, queued, row_of}
-use Rattle.wl_index.specs.Orders.{values_in}
+use Rattle.wl_ordered.specs.Orders.{values_in}
 use Rattle.wl_index.specs.Index.{locks_in}
 use Rattle.wl_index.specs.Lines.{line_at}
 use Rattle.wl_index.specs.Nexts.{is_among, AreCandidates}

@@ -1,6 +1,6 @@
 use Rattle.std.proofs.Common.{◌≡◌, ◌∙◌, ◌++◌, true, length, ap, arith}
 use Rattle.wl_draft.specs.Locks.{grants, newly, newly_if, settle, settle_if, restored}
-use Rattle.wl_index.specs.Orders.{values_in}
+use Rattle.wl_ordered.specs.Orders.{values_in}
 use Rattle.wl_index.specs.Index.{locks_in}
 use Rattle.wl_index.proofs.ReportLemmas.{restored-in, held-mine, waiting-mine, entries-length, values-length}
 use Rattle.wl_table.proofs.indexed_table.IndexedTableLockTable.restore.Goals as goal

@@ -1,0 +1,4 @@
+pub mod OrderLemmas
+pub mod WithoutLemmas
+mod QueueLemmas
+mod PlaceLemmas
