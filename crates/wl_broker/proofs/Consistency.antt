@@ -10,9 +10,10 @@ use Rattle.wl_draft.proofs.RisingTables.{Rises-put}
 use Rattle.wl_grammar.specs.Grammar.{TabsRiseFrom}
 use Rattle.wl_grammar.specs.declared.frame.Operation.{Operation}
 use Rattle.wl_grammar.specs.declared.frame.Operation.TheVariants.{Query}
+use Rattle.wl_parts.specs.Parts.{Partial, all_below}
 use Rattle.wl_broker.specs.declared.seat.Seat.{Seat}
 use Rattle.wl_broker.specs.declared.seat.Seat.TheVariants.{Joined, Dead}
-use Rattle.wl_broker.specs.Broker.{Partial, has_come, listed_at, elsewhere, drafted, all_below}
+use Rattle.wl_broker.specs.Broker.{has_come, listed_at, elsewhere, drafted}
 use Rattle.wl_broker.specs.Kept.{PartitionState, state_of, no_partition, all_come, taken_in, was_taken, AllRows, IsPartition, IsConsistent, Had, broker_of}
 use Rattle.wl_broker.proofs.PartitionRows.{at-find, at_none, find_there, put_same}
 use Rattle.wl_broker.proofs.SettledLocks.{settle_same}

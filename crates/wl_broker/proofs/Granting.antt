@@ -12,8 +12,9 @@ use Rattle.wl_grammar.specs.declared.frame.SnapshotEntry.{SnapshotEntry}
 use Rattle.wl_grammar.specs.declared.frame.Addressed.{Addressed}
 use Rattle.wl_grammar.specs.declared.frame.Upward.{Upward}
 use Rattle.wl_grammar.specs.declared.frame.Upward.TheVariants as up
+use Rattle.wl_parts.specs.Parts.{Told, told_of, with_told, whole_of}
 use Rattle.wl_broker.specs.declared.seat.Seat.TheVariants.{Joined, Dead}
-use Rattle.wl_broker.specs.Broker.{BrokerState, started, seat_of, manager_of, partial_of, limit_of, is_active, is_dead, place_of, burial, Told, told_of, with_told, whole_of, with_seat, settled_at, newly_at, keeping, drafted, first_answer, later_answer, snapshot_to, snapshot_part, snapshot_entries, parts_of, grants_to}
+use Rattle.wl_broker.specs.Broker.{BrokerState, started, seat_of, manager_of, partial_of, limit_of, is_active, is_dead, place_of, burial, with_seat, settled_at, newly_at, keeping, drafted, first_answer, later_answer, snapshot_to, snapshot_part, snapshot_entries, parts_of, grants_to}
 use Rattle.wl_broker.specs.Laws.{IsListedOnce, LeavesAlone}
 use Rattle.wl_broker.specs.Grants.{AreSettled, TakesOut, Grants, IsTo, IsOwnAnswer, to_tell, TellsGrants, TellsOfDeath}
 use Rattle.wl_broker.proofs.Activity.{manager_of-settled_at, is_active-settled_at, is_active-keeping, is_active-with_seat, Takes-LeavesAlone, Buries-LeavesAlone}

@@ -1,6 +1,5 @@
 pub mod Activity
 pub mod Arrivals
-pub mod Bounds
 pub mod BrokerSteps
 pub mod Compatible
 pub mod Consistency

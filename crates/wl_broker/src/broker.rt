@@ -5,9 +5,11 @@ ghost use Rattle.wl_limits.specs.declared.tabs.TheConstants.{LAST_NUMBER};
 ghost use Rattle.wl_grammar.specs.declared.frame.Addressed.{Addressed};
 ghost use Rattle.wl_grammar.specs.declared.frame.Operation.TheVariants.{Query};
 ghost use Rattle.wl_grammar.specs.Grammar.{TabsRiseFrom};
+ghost use Rattle.wl_parts.specs.Parts.{fits, is_there, with_told, all_below};
+ghost use Rattle.wl_parts.specs.Kept.{told, joining};
 ghost use Rattle.wl_broker.specs.declared.seat.Seat.TheVariants.{Joined, Dead};
-ghost use Rattle.wl_broker.specs.Broker.{started, hellos, taking, burial, Does, Drops, copied, repeated, IsTaken, is_active, is_dead, is_joined, seat_of, listed_at, elsewhere, is_misplaced, take_told, take_command, partial_of, fits, is_there, with_told, join_if, keeping, join, perform, later_answer, next_of, buried_at, with_seat, all_below, manager_of};
-ghost use Rattle.wl_broker.specs.Kept.{Had, told, joining};
+ghost use Rattle.wl_broker.specs.Broker.{started, hellos, taking, burial, Does, Drops, copied, repeated, IsTaken, is_active, is_dead, is_joined, seat_of, listed_at, elsewhere, is_misplaced, take_told, take_command, partial_of, join_if, keeping, join, perform, later_answer, next_of, buried_at, with_seat, manager_of};
+ghost use Rattle.wl_broker.specs.Kept.{Had};
 
 use crate::answers::{Reply, hellos};
 use crate::changes::{
@@ -15,11 +17,9 @@ use crate::changes::{
     waiting_in,
 };
 use crate::dropped::Dropped;
-use crate::heading::Heading;
 use crate::judging::{
     generation_of, is_bad_report, is_held_by_newcomer, is_misplaced, is_out_of_turn,
 };
-use crate::kept::{Kept, give_up, is_last, is_there, keep, kept_of};
 use crate::listed::{awaited_at, count_arrival, listed_at, missing_at, missing_without, read_list};
 use crate::partition::Partition;
 use crate::rooms::Rooms;
@@ -29,6 +29,8 @@ use std::alloc::{AllocError, Global};
 use std::collections::BTreeMap;
 use std::marker::Model;
 use wl_grammar::{Addressed, Entry, Operation, Sequence, Stamped, Upward};
+use wl_parts::Heading;
+use wl_parts::kept::{Kept, give_up, is_last, is_there, keep, kept_of};
 use wl_table::LockTable;
 
 /// What the broker sends, each frame with the tab that it is for.

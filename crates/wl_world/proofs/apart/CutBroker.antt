@@ -18,10 +18,11 @@ use Rattle.wl_grammar.specs.declared.frame.Stamped.{Stamped}
 use Rattle.wl_grammar.specs.declared.frame.Upward.{Upward}
 use Rattle.wl_grammar.specs.declared.frame.Upward.TheVariants as up
 use Rattle.wl_grammar.specs.declared.frame.Downward.TheVariants as down
+use Rattle.wl_parts.specs.Parts.{has_held, all_below, Partial, Told, Whole, kept_at, at_once, in_part, fits, is_there, with_told, is_whole, whole_of}
 use Rattle.wl_broker.specs.declared.seat.Seat.{Seat}
 use Rattle.wl_broker.specs.declared.seat.Seat.TheVariants.{Joined, Dead}
 use Rattle.wl_broker.specs.declared.dropped.Dropped.TheVariants.{OldGeneration, LaterGeneration, NotJoined, Recovering, OutOfTurn, DeadTab, AlreadyJoined, HeldByNewcomer, BadReport, Misplaced, TooMany, PartTwice}
-use Rattle.wl_broker.specs.Broker.{BrokerState, seat_of, manager_of, is_joined, is_dead, has_come, next_in, next_of, is_active, with_seat, settled_at, newly_at, answer_to, grants_to, outcome_of, snapshot_entries, parts_of, snapshot_part, snapshot_to, first_answer, later_answer, listed_at, is_listed, elsewhere, seated_at, or_else, has_held, all_below, is_lock, limit_in, limit_of, is_misplaced, place_of, generation_of, drafted, Taking, Drops, Does, join, perform, Partial, Told, Whole, partial_of, kept_at, at_once, in_part, fits, is_there, with_told, is_whole, whole_of, keeping, join_if, take_told, take_command, take_inner, taking, buried_at, burial}
+use Rattle.wl_broker.specs.Broker.{BrokerState, seat_of, manager_of, is_joined, is_dead, has_come, next_in, next_of, is_active, with_seat, settled_at, newly_at, answer_to, grants_to, outcome_of, snapshot_entries, parts_of, snapshot_part, snapshot_to, first_answer, later_answer, listed_at, is_listed, elsewhere, seated_at, or_else, is_lock, limit_in, limit_of, is_misplaced, place_of, generation_of, drafted, Taking, Drops, Does, join, perform, partial_of, keeping, join_if, take_told, take_command, take_inner, taking, buried_at, burial}
 use Rattle.wl_draft.specs.Membership.{In, Here, Later}
 use Rattle.wl_draft.proofs.Membership.{apart, either, by_test, along, filter-swap, map-same}
 use Rattle.wl_world.specs.Apart.{only, broker_for}

@@ -11,10 +11,11 @@ use Rattle.wl_grammar.specs.declared.frame.Command.{Command}
 use Rattle.wl_grammar.specs.declared.frame.Upward.{Upward}
 use Rattle.wl_grammar.specs.declared.frame.Upward.TheVariants as up
 use Rattle.wl_grammar.specs.declared.frame.Stamped.{Stamped}
+use Rattle.wl_parts.specs.Parts.{without_partial, at_once, in_part}
 use Rattle.wl_broker.specs.declared.seat.Seat.{Seat}
 use Rattle.wl_broker.specs.declared.seat.Seat.TheVariants.{Joined, Dead}
 use Rattle.wl_broker.specs.declared.dropped.Dropped.TheVariants.{OldGeneration, LaterGeneration, NotJoined, Recovering, OutOfTurn, DeadTab, Misplaced, TooMany}
-use Rattle.wl_broker.specs.Broker.{BrokerState, seat_of, manager_of, is_joined, is_dead, has_come, next_of, limit_of, without_partial, at_once, in_part, is_active, is_misplaced, is_lock, with_seat, settled_at, newly_at, Drops, Does, drafted, first_answer, later_answer, perform, take_command, take_inner, generation_of, taking}
+use Rattle.wl_broker.specs.Broker.{BrokerState, seat_of, manager_of, is_joined, is_dead, has_come, next_of, limit_of, is_active, is_misplaced, is_lock, with_seat, settled_at, newly_at, Drops, Does, drafted, first_answer, later_answer, perform, take_command, take_inner, generation_of, taking}
 use Rattle.wl_agent.specs.Tab.{operation_of}
 use Rattle.wl_draft.specs.Membership.{In}
 use Rattle.wl_draft.proofs.Membership.{apart, either, In-append_left, In-append_cases, In-one, In-get_or}

@@ -6,10 +6,11 @@ use Rattle.wl_draft.specs.declared.row.Entry.{Entry}
 use Rattle.wl_draft.specs.Locks.{Locks, row_of, rows_of, held_of, waiting_of, restored}
 use Rattle.wl_draft.specs.Tables.{Table, find, put}
 use Rattle.wl_grammar.specs.declared.frame.Upward.{Upward}
+use Rattle.wl_parts.specs.Parts.{has_held, all_below, Partial, Told, Whole, told_of, fits, is_there, with_told, is_whole, whole_of}
 use Rattle.wl_broker.specs.declared.seat.Seat.{Seat}
 use Rattle.wl_broker.specs.declared.seat.Seat.TheVariants.{Joined}
 use Rattle.wl_broker.specs.declared.dropped.Dropped.TheVariants.{AlreadyJoined, HeldByNewcomer, BadReport, PartTwice}
-use Rattle.wl_broker.specs.Broker.{BrokerState, seat_of, manager_of, is_joined, is_dead, has_come, listed_at, is_listed, has_held, all_below, with_seat, newly_at, Drops, Does, Partial, Told, Whole, partial_of, told_of, fits, is_there, with_told, is_whole, whole_of, join, keeping, join_if, take_told, generation_of}
+use Rattle.wl_broker.specs.Broker.{BrokerState, seat_of, manager_of, is_joined, is_dead, has_come, listed_at, is_listed, with_seat, newly_at, Drops, Does, partial_of, join, keeping, join_if, take_told, generation_of}
 use Rattle.wl_draft.specs.Membership.{In}
 use Rattle.wl_draft.proofs.Membership.{apart, either, In-nil, In-append_left, In-append_right, In-append_cases, In-map_cases}
 use Rattle.wl_world.specs.World.{WorldState, tab_of, lives, partition_of, with_broker}

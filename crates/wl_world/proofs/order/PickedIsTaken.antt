@@ -13,11 +13,12 @@ use Rattle.wl_grammar.specs.declared.frame.Outcome.TheVariants.{Granted}
 use Rattle.wl_grammar.specs.declared.frame.Addressed.{Addressed}
 use Rattle.wl_grammar.specs.declared.frame.Upward.{Upward}
 use Rattle.wl_grammar.specs.declared.frame.Upward.TheVariants as up
+use Rattle.wl_parts.specs.Parts.{Partial, kept_at, Told, at_once, in_part, fits, is_there, with_told, is_whole, whole_of, has_held, all_below}
 use Rattle.wl_broker.specs.declared.seat.Seat.{Seat}
 use Rattle.wl_broker.specs.declared.seat.Seat.TheVariants.{Joined, Dead}
 use Rattle.wl_broker.specs.declared.dropped.Dropped.{Dropped}
 use Rattle.wl_broker.specs.declared.dropped.Dropped.TheVariants.{OldGeneration, LaterGeneration, NotJoined, Recovering, OutOfTurn, DeadTab, AlreadyJoined, HeldByNewcomer, BadReport, Misplaced, TooMany, PartTwice}
-use Rattle.wl_broker.specs.Broker.{BrokerState, seat_of, manager_of, is_joined, is_dead, has_come, next_in, next_of as broker_next, limit_in, limit_of as broker_limit, Partial, partial_of, kept_at, Told, at_once, in_part, fits, is_there, with_told, is_whole, whole_of, keeping, join_if, is_active, with_seat, settled_at, newly_at, answer_to, listed_at, is_listed, elsewhere, seated_at, or_else, place_of, is_misplaced, has_held, all_below, generation_of, later_answer, Taking, Drops, Does, join, perform, take_told, take_command, take_inner, taking, buried_at, burial}
+use Rattle.wl_broker.specs.Broker.{BrokerState, seat_of, manager_of, is_joined, is_dead, has_come, next_in, next_of as broker_next, limit_in, limit_of as broker_limit, partial_of, keeping, join_if, is_active, with_seat, settled_at, newly_at, answer_to, listed_at, is_listed, elsewhere, seated_at, or_else, place_of, is_misplaced, generation_of, later_answer, Taking, Drops, Does, join, perform, take_told, take_command, take_inner, taking, buried_at, burial}
 use Rattle.wl_bag.specs.declared.message.Message.{Message}
 use Rattle.wl_bag.specs.declared.message.Message.TheVariants.{Up}
 use Rattle.wl_bag.specs.Messages.{sent_all}

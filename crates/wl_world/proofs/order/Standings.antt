@@ -10,8 +10,9 @@ use Rattle.wl_draft.specs.Locks.{Locks, is_grantable, has_pair, is_pair, row_of,
 use Rattle.wl_grammar.specs.declared.frame.Operation.{Operation}
 use Rattle.wl_grammar.specs.declared.frame.Operation.TheVariants.{Request, Release, Abort, Query}
 use Rattle.wl_grammar.specs.declared.frame.Outcome.TheVariants.{Granted}
+use Rattle.wl_parts.specs.Parts.{Whole, all_below}
 use Rattle.wl_broker.specs.declared.seat.Seat.TheVariants.{Joined, Dead}
-use Rattle.wl_broker.specs.Broker.{BrokerState, Whole, manager_of, is_joined, is_dead, all_below, is_lock, drafted, outcome_of, answer_to, first_answer}
+use Rattle.wl_broker.specs.Broker.{BrokerState, manager_of, is_joined, is_dead, is_lock, drafted, outcome_of, answer_to, first_answer}
 use Rattle.wl_draft.specs.Membership.{In, Here, Later}
 use Rattle.wl_draft.proofs.Membership.{apart, either, In-nil, In-cons_cases, In-head, In-append_right, In-append_cases, In-one, In-map_cases, In-filter_cases, list_all-In}
 use Rattle.wl_world.specs.Orders.{Dies, Reports, Commands, Item, has_death, has_report, commands_of, next_of, limit_of, granted_if, probe_grants}

@@ -4,8 +4,9 @@ use Rattle.std.proofs.lemmas.Result.{IfOk-weaker, on_err_weaker}
 use Rattle.wl_draft.specs.Tables.{put}
 use Rattle.wl_draft.specs.Locks.{grants, newly_if, settle_if, restored}
 use Rattle.wl_draft.proofs.RisingTables.{written_same}
+use Rattle.wl_parts.proofs.WrittenRows.{inserted, written}
 use Rattle.wl_broker.specs.Kept.{PartitionState, state_of, no_partition}
-use Rattle.wl_broker.proofs.PartitionRows.{at-lookup, at-lookup_none, inserted, written}
+use Rattle.wl_broker.proofs.PartitionRows.{at-lookup, at-lookup_none}
 use Rattle.wl_broker.proofs.changes.restore_at.Goals as goal
 
 pub returns-in-Some-clause-grants : goal.returns-in-Some-clause-grants

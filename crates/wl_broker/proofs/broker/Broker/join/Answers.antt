@@ -1,10 +1,11 @@
 use Rattle.std.proofs.Common.{◌≡◌, ◌+◌, ◌≤◌, List, Option, None, eqb, length, refl, sym, ap, ◌∙◌, arith}
 use Rattle.wl_draft.specs.Tables.{Table, at}
 use Rattle.wl_draft.specs.declared.row.Grant.{Grant}
+use Rattle.wl_parts.specs.Kept.{joining}
 use Rattle.wl_broker.specs.declared.seat.Seat.{Seat}
 use Rattle.wl_broker.specs.declared.seat.Seat.TheVariants.{Joined}
 use Rattle.wl_broker.specs.Broker.{BrokerState, seat_of, listed_at, elsewhere}
-use Rattle.wl_broker.specs.Kept.{PartitionState, no_partition, all_come, joining, awaited_at}
+use Rattle.wl_broker.specs.Kept.{PartitionState, no_partition, all_come, awaited_at}
 use Rattle.wl_broker.proofs.Consistency.{IsConsistent-join}
 use Rattle.wl_broker.proofs.BrokerSteps.{join_does}
 use Rattle.wl_broker.proofs.Fields.{consistent_as, same_fields, seat_put, seat_there, given_back}

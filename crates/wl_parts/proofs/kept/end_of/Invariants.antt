@@ -1,6 +1,6 @@
 use Rattle.std.proofs.Common.{◌≡◌, drop, max}
-use Rattle.wl_broker.specs.Kept.{end_of}
-use Rattle.wl_broker.proofs.kept.end_of.Given as goal
+use Rattle.wl_parts.specs.Kept.{end_of}
+use Rattle.wl_parts.proofs.kept.end_of.Given as goal
 
 -- what is left to try goes on from the end so far
 abbrev pub invariant-loop-entry : goal.invariant-loop-entry

@@ -4,11 +4,11 @@ use Rattle.std.proofs.lemmas.Result.{IfOk-weaker, on_err_weaker}
 use Rattle.wl_draft.specs.Tables.{put}
 use Rattle.wl_draft.proofs.TableLemmas.{lookup-find}
 use Rattle.wl_draft.proofs.RisingTables.{written_same}
-use Rattle.wl_broker.specs.Broker.{Partial, all_below, fits, with_told}
-use Rattle.wl_broker.specs.Kept.{told}
-use Rattle.wl_broker.proofs.PartitionRows.{inserted, written}
-use Rattle.wl_broker.proofs.KeptParts.{with_told-more, with_told-first, same_base}
-use Rattle.wl_broker.proofs.kept.keep.Goals as goal
+use Rattle.wl_parts.specs.Parts.{Partial, all_below, fits, with_told}
+use Rattle.wl_parts.specs.Kept.{told}
+use Rattle.wl_parts.proofs.WrittenRows.{inserted, written}
+use Rattle.wl_parts.proofs.KeptParts.{with_told-more, with_told-first, same_base}
+use Rattle.wl_parts.proofs.kept.keep.Goals as goal
 
 pub insert-requires : goal.insert-requires
 insert-requires c =

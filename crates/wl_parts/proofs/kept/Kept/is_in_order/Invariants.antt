@@ -1,8 +1,8 @@
 use Rattle.std.proofs.Common.{◌≡◌}
 use Rattle.std.specs.List.{list_all}
-use Rattle.wl_broker.specs.Broker.{is_in_order}
-use Rattle.wl_broker.specs.Kept.{told}
-use Rattle.wl_broker.proofs.kept.Kept.is_in_order.Given as goal
+use Rattle.wl_parts.specs.Parts.{is_in_order}
+use Rattle.wl_parts.specs.Kept.{told}
+use Rattle.wl_parts.proofs.kept.Kept.is_in_order.Given as goal
 
 -- what is left to try decides
 abbrev pub invariant-loop-part : goal.invariant-loop-part

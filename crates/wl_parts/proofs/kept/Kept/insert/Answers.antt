@@ -2,10 +2,10 @@ use Rattle.std.proofs.Common.{◌≡◌, List, ◌++◌, true, ap, ◌∙◌}
 use Rattle.wl_draft.specs.declared.row.Entry.{Entry}
 use Rattle.wl_draft.specs.Tables.{Table, put}
 use Rattle.wl_draft.proofs.TableLemmas.{insert_entry-put}
-use Rattle.wl_broker.specs.Broker.{Partial, all_below}
-use Rattle.wl_broker.specs.Kept.{all_in_below}
-use Rattle.wl_broker.proofs.KeptParts.{all_in_below-put}
-use Rattle.wl_broker.proofs.kept.Kept.insert.Goals as goal
+use Rattle.wl_parts.specs.Parts.{Partial, all_below}
+use Rattle.wl_parts.specs.Kept.{all_in_below}
+use Rattle.wl_parts.proofs.KeptParts.{all_in_below-put}
+use Rattle.wl_parts.proofs.kept.Kept.insert.Goals as goal
 
 pub invariant_of-self-2 : goal.invariant_of-self-2
 invariant_of-self-2 c =

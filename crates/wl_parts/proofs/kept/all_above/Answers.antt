@@ -1,8 +1,8 @@
 use Rattle.std.proofs.Common.{ℕ, nat_le, ap, ◌∙◌}
 use Rattle.std.specs.List.{list_all}
 use Rattle.wl_draft.specs.declared.row.Entry.{Entry}
-use Rattle.wl_broker.proofs.Bounds.{above_end}
-use Rattle.wl_broker.proofs.kept.all_above.Goals as goal
+use Rattle.wl_parts.proofs.Bounds.{above_end}
+use Rattle.wl_parts.proofs.kept.all_above.Goals as goal
 
 pub returns : goal.returns
 returns c =

@@ -1,8 +1,8 @@
 //! What stands above the entries of a report.
 
 ghost use Rattle.std.specs.Prelude.{◌≡◌};
-ghost use Rattle.wl_broker.specs.Broker.{at_once, in_part};
-ghost use Rattle.wl_broker.specs.Kept.{told};
+ghost use Rattle.wl_parts.specs.Parts.{at_once, in_part};
+ghost use Rattle.wl_parts.specs.Kept.{told};
 
 use wl_grammar::{Report, ReportPart};
 use wl_limits::tabs::{LIVE_LIMIT, LIVE_LIMIT_IN_PARTS};

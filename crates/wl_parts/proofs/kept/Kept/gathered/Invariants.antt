@@ -1,7 +1,7 @@
 use Rattle.std.proofs.Common.{◌≡◌, ◌++◌, cond, false}
 use Rattle.std.specs.List.{flat_map}
 use Rattle.wl_draft.specs.Tables.{has_row, put}
-use Rattle.wl_broker.proofs.kept.Kept.gathered.Given as goal
+use Rattle.wl_parts.proofs.kept.Kept.gathered.Given as goal
 
 -- what is gathered, and what is to come, are the entries of all parts
 abbrev pub invariant-loop-number : goal.invariant-loop-number
