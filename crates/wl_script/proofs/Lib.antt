@@ -1,5 +1,4 @@
 pub mod BodyLemmas
-pub mod Json
 pub mod PlayLemmas
 pub mod RunLemmas
 pub mod SimLemmas

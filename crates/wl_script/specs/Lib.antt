@@ -1,8 +1,6 @@
 pub use Rattle.wl_grammar.specs.Grammar
 pub mod Forgeries
 pub mod Lines
-pub mod Texts
-pub mod ReplyTexts
 pub mod Played
 pub mod Sim
 pub mod SimSteps

@@ -15,8 +15,8 @@ use Rattle.wl_world.specs.Replies.{reply_of}
 use Rattle.wl_world.specs.Machine.{held_by_living}
 use Rattle.wl_script.specs.declared.line.Line.{Line}
 use Rattle.wl_script.specs.declared.line.Line.TheVariants as line
-use Rattle.wl_script.specs.Texts.{lock_text}
-use Rattle.wl_script.specs.ReplyTexts.{reply_text}
+use Rattle.wl_replies.specs.Texts.{lock_text}
+use Rattle.wl_replies.specs.ReplyTexts.{reply_text}
 use Rattle.wl_words.specs.Printing.{line as text_line}
 
 pub record Played : Type 0 where

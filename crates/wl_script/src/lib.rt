@@ -1,16 +1,12 @@
-//! The script of the sim: its lines, and the text of messages and replies.
+//! The script of the sim: how its lines are read and played, over a reader and a writer.
 #![tactic(auto)]
 
 mod forgery;
 pub mod laws;
 pub mod line;
-pub mod messages;
 mod play;
 pub mod reading;
-mod refusals;
-pub mod replies;
 pub mod sim;
-mod snapshots;
 pub mod verb;
 
 pub use line::Line;

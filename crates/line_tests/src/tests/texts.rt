@@ -10,9 +10,9 @@ use wl_frames::{
     Addressed, Answer, Boxed, Command, Downward, Entry, Heard, Hello, Mode, Operation, Outcome,
     Report, Sequence, Snapshot, SnapshotEntry, Stamped, Upward,
 };
+use wl_replies::replies::put_message;
 use wl_script::line::Line;
 use wl_script::reading::read_line;
-use wl_script::replies::put_message;
 use wl_words::{Unread, put_word, unescape};
 use wl_world::message::{Message, Sender};
 

@@ -4,7 +4,7 @@ ghost use Rattle.std.specs.Prelude.{◌≡◌, codes, IfOk};
 ghost use Rattle.std.specs.String.{string_bytes};
 ghost use Rattle.serde_json.specs.Data.{array, object, member, no_members};
 ghost use Rattle.serde_json.specs.View.{view};
-ghost use Rattle.wl_script.specs.ReplyTexts.{info_data, infos_data, snapshot_data, json_text};
+ghost use Rattle.wl_replies.specs.ReplyTexts.{info_data, infos_data, snapshot_data, json_text};
 
 use crate::messages::mode_word;
 use serde_json::{Value, json};
@@ -45,7 +45,7 @@ fn snapshot_value(alloc: Global, snapshot: &Snapshot) -> Result<Value, AllocErro
 }
 
 /// The text of the two lists, with no space.
-pub(crate) fn snapshot_json(alloc: Global, snapshot: &Snapshot) -> Result<String, AllocError>
+pub fn snapshot_json(alloc: Global, snapshot: &Snapshot) -> Result<String, AllocError>
     ensures { IfOk result (λ text. string_bytes text ≡ json_text snapshot.now) }
 {
     let value = snapshot_value(alloc, snapshot)?;

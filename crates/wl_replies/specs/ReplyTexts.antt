@@ -38,7 +38,7 @@ use Rattle.wl_bag.specs.declared.sent.Sent.{Sent}
 use Rattle.wl_world.specs.declared.reply.Reply.{Reply}
 use Rattle.wl_words.specs.Words.{word_of}
 use Rattle.wl_words.specs.Printing.{line, numbered}
-use Rattle.wl_script.specs.Texts.{mode_text, upward_text, downward_text, post_text, part_text}
+use Rattle.wl_replies.specs.Texts.{mode_text, upward_text, downward_text, post_text, part_text}
 
 -- ---- messages
 

@@ -2,7 +2,7 @@
 //! `law_answers`.
 
 ghost use Rattle.std.specs.Prelude.{◌≡◌, ◌++◌, OnOk};
-ghost use Rattle.wl_script.specs.ReplyTexts.{open_fault_text, start_fault_text, agent_fault_text, channel_fault_text, refusal_text, unheard_text, dropped_text, reason_text};
+ghost use Rattle.wl_replies.specs.ReplyTexts.{open_fault_text, start_fault_text, agent_fault_text, channel_fault_text, refusal_text, unheard_text, dropped_text, reason_text};
 
 use std::alloc::AllocError;
 use wl_agent::{AgentFault, Unheard};

@@ -2,7 +2,7 @@
 
 ghost use Rattle.std.specs.Prelude.{◌≡◌, ◌++◌, OnOk};
 ghost use Rattle.std.specs.List.{flat_map};
-ghost use Rattle.wl_script.specs.Texts.{mode_text, held_text, outcome_text, lock_text, command_number, operation_text, command_text, entry_text, report_text, report_part_text, upward_text, hello_text, answer_text, row_text, part_text, snapshot_text, downward_text, post_text};
+ghost use Rattle.wl_replies.specs.Texts.{mode_text, held_text, outcome_text, lock_text, command_number, operation_text, command_text, entry_text, report_text, report_part_text, upward_text, hello_text, answer_text, row_text, part_text, snapshot_text, downward_text, post_text};
 
 use std::alloc::AllocError;
 use wl_frames::{
@@ -15,7 +15,7 @@ use wl_words::put_word;
 // ---- parts
 
 #[tactic(auto, unfolding(crate::specs::Texts::mode_text))]
-pub(crate) fn mode_word(mode: Mode) -> &'static str
+pub fn mode_word(mode: Mode) -> &'static str
     ensures { result.now ≡ mode_text mode }
 {
     match mode {
@@ -45,7 +45,7 @@ fn outcome_word(outcome: Outcome) -> &'static str
 
 /// A lock's mode and name.
 #[tactic(auto, unfolding(crate::specs::Texts::lock_text))]
-pub(crate) fn put_lock(out: &mut Vec<u8>, mode: Mode, name: &Name) -> Result<(), AllocError>
+pub fn put_lock(out: &mut Vec<u8>, mode: Mode, name: &Name) -> Result<(), AllocError>
     ensures { OnOk result (out.new.items ≡ out.old.items ++ lock_text mode name.now) }
 {
     put(out, mode_word(mode))?;
@@ -65,7 +65,7 @@ fn put_command_number(out: &mut Vec<u8>, generation: u32, number: u32) -> Result
 
 /// Which part of how many.
 #[tactic(auto, unfolding(crate::specs::Texts::part_text))]
-pub(crate) fn put_part(out: &mut Vec<u8>, part: u16, parts: u16) -> Result<(), AllocError>
+pub fn put_part(out: &mut Vec<u8>, part: u16, parts: u16) -> Result<(), AllocError>
     ensures { OnOk result (out.new.items ≡ out.old.items ++ part_text part parts) }
 {
     put(out, "part ")?;
@@ -160,7 +160,7 @@ fn put_report_part(out: &mut Vec<u8>, report: &ReportPart) -> Result<(), AllocEr
 
 /// What a tab sends to the broker.
 #[tactic(auto, unfolding(crate::specs::Texts::upward_text))]
-pub(crate) fn put_upward(out: &mut Vec<u8>, upward: &Upward) -> Result<(), AllocError>
+pub fn put_upward(out: &mut Vec<u8>, upward: &Upward) -> Result<(), AllocError>
     ensures { OnOk result (out.new.items ≡ out.old.items ++ upward_text upward.now) }
 {
     match upward {
@@ -224,7 +224,7 @@ fn put_snapshot(out: &mut Vec<u8>, snapshot: &Snapshot) -> Result<(), AllocError
 
 /// What the broker sends to a tab.
 #[tactic(auto, unfolding(crate::specs::Texts::downward_text))]
-pub(crate) fn put_downward(out: &mut Vec<u8>, downward: &Downward) -> Result<(), AllocError>
+pub fn put_downward(out: &mut Vec<u8>, downward: &Downward) -> Result<(), AllocError>
     ensures { OnOk result (out.new.items ≡ out.old.items ++ downward_text downward.now) }
 {
     match downward {
@@ -238,7 +238,7 @@ pub(crate) fn put_downward(out: &mut Vec<u8>, downward: &Downward) -> Result<(),
 
 /// A post on its way to a tab.
 #[tactic(auto, unfolding(crate::specs::Texts::post_text))]
-pub(crate) fn put_post(out: &mut Vec<u8>, post: &Heard) -> Result<(), AllocError>
+pub fn put_post(out: &mut Vec<u8>, post: &Heard) -> Result<(), AllocError>
     ensures { OnOk result (out.new.items ≡ out.old.items ++ post_text post.now) }
 {
     put(out, "post ")?;

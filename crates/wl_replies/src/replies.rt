@@ -2,7 +2,7 @@
 
 ghost use Rattle.std.specs.Prelude.{◌≡◌, ◌++◌, OnOk, IfOk};
 ghost use Rattle.std.specs.List.{flat_map};
-ghost use Rattle.wl_script.specs.ReplyTexts.{sender_text, message_text, name_text, sent_text, ended_text, letter_text, reached_text, heard_text, said_text, reply_text};
+ghost use Rattle.wl_replies.specs.ReplyTexts.{sender_text, message_text, name_text, sent_text, ended_text, letter_text, reached_text, heard_text, said_text, reply_text};
 
 use crate::messages::{put_downward, put_part, put_post, put_upward};
 use crate::refusals::{put_refusal, reason_words};

@@ -1,0 +1,7 @@
+//! What the sim prints: the texts of messages, of replies and refusals, and of snapshots.
+#![tactic(auto)]
+
+pub mod messages;
+pub mod refusals;
+pub mod replies;
+pub mod snapshots;
