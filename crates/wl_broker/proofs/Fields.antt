@@ -18,8 +18,8 @@ use Rattle.wl_grammar.specs.declared.frame.Addressed.{Addressed}
 use Rattle.wl_parts.specs.Parts.{Partial, kept_at, has_held}
 use Rattle.wl_broker.specs.declared.seat.Seat.{Seat}
 use Rattle.wl_broker.specs.declared.seat.Seat.TheVariants.{Joined, Dead}
-use Rattle.wl_broker.specs.Broker.{BrokerState, seat_of, limit_in, limit_of, is_joined, is_dead, is_active, is_misplaced, listed_at, elsewhere, seated_at, next_of, is_lock, is_listed, manager_of, later_answer, next_in}
-use Rattle.wl_broker.specs.Kept.{PartitionState, no_partition, all_come, answer_of, outcome_at, broker_of, IsConsistent}
+use Rattle.wl_broker.specs.Broker.{BrokerState, seat_of, limit_in, limit_of, is_joined, is_dead, is_active, is_misplaced, listed_at, elsewhere, seated_at, next_of, is_lock, is_listed, manager_of, later_answer, next_in, answer_of, outcome_at}
+use Rattle.wl_broker.specs.Kept.{PartitionState, no_partition, all_come, broker_of, IsConsistent}
 use Rattle.wl_broker.proofs.Consistency.{IsConsistent-active}
 use Rattle.wl_broker.proofs.PartitionRows.{put_itself, put_put}
 use Rattle.wl_broker.proofs.BrokerSteps.{is_active-fields, manager_of-fields, later_is}

@@ -6,8 +6,7 @@ use Rattle.std.specs.List.{range_with_len}
 use Rattle.wl_grammar.specs.declared.frame.SnapshotEntry.{SnapshotEntry}
 use Rattle.wl_grammar.specs.declared.frame.Addressed.{Addressed}
 use Rattle.wl_grammar.specs.declared.frame.Downward.TheVariants as down
-use Rattle.wl_broker.specs.Broker.{parts_of}
-use Rattle.wl_broker.specs.Kept.{part_of}
+use Rattle.wl_broker.specs.Broker.{parts_of, part_of}
 
 -- a whole part was taken
 pub whole_part : {X : Type 0} (n : ℕ) (part rest all : List X) → part ++ rest ≡ all → length part ≡ n → (part ≡ take n all) × (rest ≡ drop n all)

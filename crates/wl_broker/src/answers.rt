@@ -3,8 +3,8 @@
 ghost use Rattle.std.specs.Prelude.{◌≡◌, ◌+◌, ◌≤◌, ◌++◌, IfOk, OnOk, length, map, take, drop, true, false};
 ghost use Rattle.std.specs.Vec.{vec_len, vec_capacity};
 ghost use Rattle.std.specs.Vec.Iter.{into_iter_items};
-ghost use Rattle.wl_broker.specs.Broker.{hello_to, hellos, outcome_of, parts_of};
-ghost use Rattle.wl_broker.specs.Kept.{answer_of, grant_of, snapshot_entry_of, snapshot_of};
+ghost use Rattle.wl_broker.specs.Broker.{hello_to, hellos, outcome_of, parts_of, answer_of, snapshot_entry_of, snapshot_of};
+ghost use Rattle.wl_broker.specs.Kept.{grant_of};
 ghost use Rattle.wl_limits.specs.declared.frames.TheConstants.{ENTRY_LIMIT};
 
 use crate::seat::Seat;

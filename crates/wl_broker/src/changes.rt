@@ -5,8 +5,8 @@ ghost use Rattle.std.specs.Option.{option_copied};
 ghost use Rattle.wl_draft.specs.declared.row.Standing.TheVariants.{Absent};
 ghost use Rattle.wl_draft.specs.Tables.{at, put};
 ghost use Rattle.wl_draft.specs.Locks.{settle, newly, settle_if, newly_if, standing, live, grants, without, ended, restored};
-ghost use Rattle.wl_broker.specs.Broker.{drafted, is_lock};
-ghost use Rattle.wl_broker.specs.Kept.{no_partition, state_of, row_or, outcome_at, snapshot_of, entries_of};
+ghost use Rattle.wl_broker.specs.Broker.{drafted, is_lock, outcome_at, snapshot_of, snapshot_entries};
+ghost use Rattle.wl_broker.specs.Kept.{no_partition, state_of, row_or};
 
 use crate::answers::outcome;
 use crate::broker::Outs;
@@ -103,7 +103,7 @@ pub fn snapshots_at<T: LockTable>(
     requires { IsTrue (at no_partition partitions.now.entries partition).is_active }
     ensures copies { let m = (at no_partition partitions.now.entries partition).locks in
         IfOk result (λ all. all.items
-        ≡ replicate copies (snapshot_of generation upto tab number (entries_of m))) }
+        ≡ replicate copies (snapshot_of generation upto tab number (snapshot_entries m))) }
     ensures settled { OnOk result (newly (at no_partition partitions.now.entries partition).locks ≡ []) }
 {
     match row_at(partitions, partition) {

@@ -4,8 +4,8 @@ ghost use Rattle.std.specs.Prelude.{◌≡◌, length, replicate, IfOk, OnOk, On
 ghost use Rattle.std.specs.List.{filter};
 ghost use Rattle.wl_draft.specs.declared.row.Standing.TheVariants.{Absent};
 ghost use Rattle.wl_draft.specs.Locks.{settle, newly, settle_if, newly_if, standing, live, grants, without, ended, restored};
-ghost use Rattle.wl_broker.specs.Broker.{drafted};
-ghost use Rattle.wl_broker.specs.Kept.{no_partition, is_grant_of, snapshot_of, entries_of};
+ghost use Rattle.wl_broker.specs.Broker.{drafted, snapshot_of, snapshot_entries};
+ghost use Rattle.wl_broker.specs.Kept.{no_partition, is_grant_of};
 
 use crate::answers::snapshot;
 use crate::broker::Outs;
@@ -81,7 +81,7 @@ impl<T: LockTable> Partition<T> {
         number: u32,
     ) -> Result<Vec<Outs>, AllocError>
         ensures copies { IfOk result (λ all. all.items
-            ≡ replicate copies (snapshot_of generation upto tab number (entries_of self.now.locks))) }
+            ≡ replicate copies (snapshot_of generation upto tab number (snapshot_entries self.now.locks))) }
         ensures settled { OnOk result (IsTrue self.now.is_active → newly self.now.locks ≡ []) }
     {
         let mut all = Vec::with_capacity(alloc, copies)?;

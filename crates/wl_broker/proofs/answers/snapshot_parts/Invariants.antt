@@ -1,8 +1,7 @@
 use Rattle.std.proofs.Common.{◌≡◌, ◌*◌, map, drop}
 use Rattle.std.specs.List.{range_with_len}
 use Rattle.std.specs.Vec.Iter.{into_iter_items}
-use Rattle.wl_broker.specs.Broker.{parts_of}
-use Rattle.wl_broker.specs.Kept.{part_of}
+use Rattle.wl_broker.specs.Broker.{parts_of, part_of}
 use Rattle.wl_broker.proofs.answers.snapshot_parts.Given as goal
 
 abbrev pub invariant-loop-part : goal.invariant-loop-part

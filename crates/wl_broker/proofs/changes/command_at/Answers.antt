@@ -4,8 +4,8 @@ use Rattle.wl_draft.specs.Tables.{put}
 use Rattle.wl_draft.specs.Locks.{standing, settle}
 use Rattle.wl_draft.proofs.RisingTables.{written_same}
 use Rattle.wl_parts.proofs.WrittenRows.{written}
-use Rattle.wl_broker.specs.Broker.{drafted}
-use Rattle.wl_broker.specs.Kept.{PartitionState, state_of, no_partition, outcome_at}
+use Rattle.wl_broker.specs.Broker.{drafted, outcome_at}
+use Rattle.wl_broker.specs.Kept.{PartitionState, state_of, no_partition}
 use Rattle.wl_broker.proofs.Fields.{if_err_always}
 use Rattle.wl_broker.proofs.PartitionRows.{at-lookup, at-lookup_none}
 use Rattle.wl_broker.proofs.changes.command_at.Goals as goal

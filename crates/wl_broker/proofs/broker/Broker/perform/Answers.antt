@@ -5,8 +5,8 @@ use Rattle.wl_draft.specs.Locks.{Locks}
 use Rattle.wl_draft.specs.declared.row.Grant.{Grant}
 use Rattle.wl_grammar.specs.declared.frame.Addressed.{Addressed}
 use Rattle.wl_grammar.specs.declared.frame.Outcome.{Outcome}
-use Rattle.wl_broker.specs.Broker.{BrokerState, seat_of, manager_of}
-use Rattle.wl_broker.specs.Kept.{PartitionState, no_partition, outcome_at, answer_of, grant_of}
+use Rattle.wl_broker.specs.Broker.{BrokerState, seat_of, manager_of, outcome_at, answer_of}
+use Rattle.wl_broker.specs.Kept.{PartitionState, no_partition, grant_of}
 use Rattle.wl_broker.proofs.BrokerSteps.{change_does, manager_of-fields}
 use Rattle.wl_broker.proofs.Consistency.{IsConsistent-active, IsConsistent-new, IsConsistent-command}
 use Rattle.wl_broker.specs.declared.seat.Seat.TheVariants.{Joined}
