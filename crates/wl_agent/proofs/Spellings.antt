@@ -16,7 +16,7 @@ use Rattle.wl_grammar.specs.Grammar.{IsU32, IsGeneration, IsLockName, HasNoDash,
 use Rattle.wl_agent.specs.declared.fault.AgentFault.TheVariants.{NotSupported, NameTooLong}
 use Rattle.wl_agent.specs.declared.status.Status.{Status}
 use Rattle.wl_agent.specs.declared.status.Status.TheVariants.{Asked, Held, Querying, Whole, Lost}
-use Rattle.wl_agent.specs.Tab.{TabState, enter, enter_first, enter_later, report_of, upward_frame, report_bodies, part_count, command_frame, ask_refusal, live_refusal, is_supported}
+use Rattle.wl_agent.specs.Tab.{TabState, enter, enter_first, enter_later, report_of, upward_frame, report_bodies, part_count, ask_refusal, live_refusal, is_supported}
 use Rattle.wl_agent.specs.Kept.{IsTidy, IsTellable, IsSpoken, RowsFit, can_become, reports, entry_at, entries_of}
 use Rattle.wl_agent.proofs.Outcomes.{passed}
 use Rattle.wl_agent.proofs.ToldReports.{part_frame, told_in_parts, length-entries_of}
@@ -45,10 +45,6 @@ name-spoken a name e text =
     let dash = passed (not (is_supported name)) NotSupported (cond (ltb NAME_LIMIT (length name)) (Some NameTooLong) (live_refusal a 2)) e in
     let short = passed (ltb NAME_LIMIT (length name)) NameTooLong (live_refusal a 2) dash.1 in
     ((ltb-false NAME_LIMIT (length name) short.0, text), no_dash name (not-false (is_supported name) dash.0))
-
-pub message-spoken : (a : TabState) (k : ℕ) → IsGeneration a.entered → IsU32 k → AllByRecursion IsOperation a.issued → IsWellFormed (command_frame a k)
-message-spoken a k entered number commands =
-    record { generation = entered; number = number; operation = spoken-at a.issued k commands }
 
 -- ---- the entries of a report
 

@@ -44,11 +44,6 @@ pub total_most : (f : View → ℕ) (views : List View) → EachSeat (λ v. f v 
 total_most f [] h = omega arith
 total_most f (x ∷ xs) h = let a = h 0 x refl in let r = total_most f xs (λ i u e. h (suc i) u e) in omega arith
 
-pub at_lt : (views : List View) (i : ℕ) (v : View) → get_elem? views i ≡ some v → i < length views
-at_lt [] i v e = absurd (some-ne-none v (sym e))
-at_lt (x ∷ xs) zero v e = omega arith
-at_lt (x ∷ xs) (suc i) v e = let r = at_lt xs i v e in omega arith
-
 pub at_here : (views : List View) (i : ℕ) (v w : View) → get_elem? views i ≡ some v → get_elem? (set views i w) i ≡ some w
 at_here [] i v w e = absurd (some-ne-none v (sym e))
 at_here (x ∷ xs) zero v w e = refl

@@ -183,11 +183,6 @@ IsConsistent-unknown {listed} {seats} t k e unlisted =
     })
     (λ q n l same. cc)
 
--- ---- the start
-
-pub IsConsistent-start : (listed : List (ℕ × ℕ)) → TabsRiseFrom 1 listed → IsConsistent listed [] []
-IsConsistent-start listed r = record { listed_once = r; rise = tt; each = λ p s e. cc; seated = λ t p n l e. cc }
-
 -- ---- a query
 
 row_itself : (s : PartitionState) → s.is_active ≡ true → newly s.locks ≡ [] → state_of (settle s.locks) true ≡ s

@@ -45,9 +45,6 @@ AwaitsParts-kept {seats} {partial} t x k new =
           (cases_eq u t);
     }
 
-pub AwaitsParts-start : AwaitsParts [] []
-AwaitsParts-start = record { rise = tt; not_come = λ t s e. refl }
-
 pub awaits_as : {seats seats' : Table Seat} {partial partial' : Table Partial} → seats' ≡ seats → partial' ≡ partial → AwaitsParts seats partial → AwaitsParts seats' partial'
 awaits_as {seats} {seats'} {partial} {partial'} s p k =
     subst (λ ss. AwaitsParts ss partial') (sym s) (subst (λ ks. AwaitsParts seats ks) (sym p) k)

@@ -1,5 +1,5 @@
 -- A snapshot cut into parts.
-use Rattle.std.proofs.Common.{◌≡◌, ℕ, ◌+◌, ◌*◌, ◌/◌, ◌%◌, ◌≤◌, min, List, [], ◌∷◌, ◌++◌, length, map, take, drop, refl, sym, ap, ◌∙◌, append-nil, arith}
+use Rattle.std.proofs.Common.{◌≡◌, ℕ, ◌+◌, ◌*◌, ◌≤◌, List, [], ◌∷◌, ◌++◌, length, map, take, drop, refl, sym, ap, ◌∙◌, append-nil, arith}
 use Rattle.std.proofs.lemmas.List.{take_at, drop_at, take_all, drop_all, drop-drop}
 use Rattle.std.proofs.lemmas.List.FromFn.{map-range_with_len_more}
 use Rattle.std.specs.List.{range_with_len}
@@ -23,10 +23,6 @@ last_part n part rest all e none h =
     let nil = nil_from_length rest none in
     let same : all ≡ part = sym e ∙ ap (λ ys. part ++ ys) nil ∙ append-nil part in
     (sym (ap (take n) same ∙ take_all n part h), nil ∙ sym (ap (drop n) same ∙ drop_all n part h))
-
--- the number of parts
-pub div_ceil_64 : (n : ℕ) → n / 64 + min 1 (n % 64) ≡ (n + 63) / 64
-div_ceil_64 n = omega arith
 
 -- one more part is made
 pub part_more : (g t n : ℕ) (entries : List SnapshotEntry) (k parts : ℕ) (outs : List Addressed) (part rest : List SnapshotEntry) → outs ≡ map (part_of g t n entries) (range_with_len 0 k) → part ≡ take 64 rest → rest ≡ drop (64 * k) entries → parts ≡ parts_of entries → outs ++ record { tab = t; inner = down.Snapshot (record { generation = g; number = n; part = k; parts = parts; entries = part }) } ∷ [] ≡ map (part_of g t n entries) (range_with_len 0 (k + 1))

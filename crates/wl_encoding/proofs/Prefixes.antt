@@ -1,5 +1,5 @@
 -- Lemmas on prefixes of bytes.
-use Rattle.std.proofs.Common.{ℕ, List, ◌++◌, refl, sym, ap, ◌∙◌, append_assoc}
+use Rattle.std.proofs.Common.{ℕ, List, ◌++◌, sym, ap, ◌∙◌, append_assoc}
 use Rattle.wl_encoding.specs.Prefixes.{IsPrefixOf}
 
 -- a prefix stays one when more comes after the bytes
@@ -9,10 +9,6 @@ IsPrefixOf-append part bytes more h = (h.0 ++ more, ap (λ l. l ++ more) h.1 ∙
 -- and when the same comes before both
 pub append-IsPrefixOf : (before part bytes : List ℕ) → IsPrefixOf part bytes → IsPrefixOf (before ++ part) (before ++ bytes)
 append-IsPrefixOf before part bytes h = (h.0, ap (λ l. before ++ l) h.1 ∙ sym (append_assoc before part h.0))
-
--- all of the bytes are a prefix of them and more
-pub IsPrefixOf-same : (bytes more : List ℕ) → IsPrefixOf bytes (bytes ++ more)
-IsPrefixOf-same bytes more = (more, refl)
 
 -- a prefix of a prefix
 pub IsPrefixOf-trans : (a b c : List ℕ) → IsPrefixOf a b → IsPrefixOf b c → IsPrefixOf a c

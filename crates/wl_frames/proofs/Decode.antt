@@ -1,7 +1,7 @@
 -- What decoding answers, from what was read of the bytes.
 use Rattle.std.proofs.Common.{◌≡◌, ℕ, ◌+◌, ◌-◌, ◌<◌, ◌≤◌, List, [], ◌∷◌, ◌++◌, length, get_or, take, drop, Option, Some, None, refl, sym, ap, subst, ◌∙◌, arith, inl, inr}
 use Rattle.std.proofs.lemmas.List.{append-nil, take_rest, nil_from_length, get_or-drop}
-use Rattle.wl_frames.specs.declared.fault.FrameFault.TheVariants.{BadVersion, BadKind, LeftOver}
+use Rattle.wl_frames.specs.declared.fault.FrameFault.TheVariants.{BadKind, LeftOver}
 use Rattle.wl_grammar.specs.declared.frame.Frame.{Frame}
 use Rattle.wl_frames.specs.declared.reading.fault.ReadFault.{ReadFault}
 use Rattle.wl_frames.specs.declared.reading.fault.ReadFault.TheVariants as read_fault
@@ -28,9 +28,6 @@ IsBytes-rest_of bytes h i = subst (λ (w : List ℕ). get_or w i 0 < 256) (sym (
 -- the kind that the first two bytes name
 abbrev pub kind_in : List ℕ → Option Kind
 kind_in bytes = kind_at (get_or bytes 0 0) (get_or bytes 1 0)
-
-pub bad_version : (bytes : List ℕ) → 2 ≤ length bytes → (IsVersion (get_or bytes 0 0) → ⊥) → IsFaultOf bytes BadVersion
-bad_version bytes h other = inr (get_or bytes 0 0, get_or bytes 1 0 ∷ rest_of bytes, parts_of bytes h, other)
 
 pub bad_kind : (bytes : List ℕ) → 2 ≤ length bytes → IsVersion (get_or bytes 0 0) → kind_in bytes ≡ None → IsFaultOf bytes BadKind
 bad_kind bytes h known none =

@@ -1,14 +1,13 @@
 -- What is passed on has a spelling where what came has one.
-use Rattle.std.proofs.Common.{◌≡◌, ◌≢◌, ℕ, Bool, List, [], ◌∷◌, length, map, filter, count_by, Some, refl, sym, ap, ◌∙◌, subst, arith}
+use Rattle.std.proofs.Common.{◌≡◌, ◌≢◌, ℕ, Bool, List, [], ◌∷◌, length, map, filter, count_by, refl, sym, ap, ◌∙◌, arith}
 use Rattle.std.proofs.lemmas.List.Sums.{length-filter}
 use Rattle.std.specs.List.{AllByRecursion}
 use Rattle.wl_grammar.specs.declared.frame.Post.{Post}
 use Rattle.wl_grammar.specs.declared.frame.Downward.{Downward}
 use Rattle.wl_grammar.specs.declared.frame.Downward.TheVariants as down
 use Rattle.wl_grammar.specs.declared.frame.Frame.{Frame}
-use Rattle.wl_grammar.specs.declared.frame.Frame.TheVariants as frame
 use Rattle.wl_grammar.specs.Grammar.{IsTab, IsPost, IsDownward, IsWellFormed}
-use Rattle.wl_kernel.specs.Routes.{heard_of, frame_of, routed_down}
+use Rattle.wl_kernel.specs.Routes.{heard_of, frame_of}
 
 -- a post of a tab is heard as it was sent
 pub all_heard : (t : ℕ) (p : Post) (xs : List ℕ) → IsTab t → IsPost p → AllByRecursion (λ (h : ℕ × Frame). IsWellFormed h.1) (map (λ n. (n, heard_of t p)) xs)
@@ -20,12 +19,6 @@ framed : (d : Downward) → IsDownward d → IsWellFormed (frame_of d)
 framed (down.Hello h) w = w
 framed (down.Answer a) w = w
 framed (down.Snapshot s) w = w
-
-pub sent_down : (f : Frame) (r : ℕ × Frame) → routed_down f ≡ Some r → IsWellFormed f → IsTab r.0 × IsWellFormed r.1
-sent_down (frame.Addressed a) r e w =
-    let same : (a.tab, frame_of a.inner) ≡ r = cc in
-    subst (λ (p : ℕ × Frame). IsTab p.0 × IsWellFormed p.1) same (w.tab, framed a.inner w.inner)
-sent_down _ r e w = cc
 
 -- ---- whether anybody hears
 

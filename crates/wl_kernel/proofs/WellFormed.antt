@@ -1,5 +1,5 @@
 -- The frames that the kernel makes are well formed.
-use Rattle.std.proofs.Common.{◌≡◌, ℕ, ◌+◌, ◌≤◌, Bool, true, false, List, [], ◌∷◌, ◌++◌, length, nat_lt, Option, Some, None, if◌then◌else◌, refl, sym, ap, subst, arith}
+use Rattle.std.proofs.Common.{◌≡◌, ℕ, ◌+◌, ◌≤◌, Bool, true, false, List, [], ◌∷◌, length, nat_lt, Option, Some, None, if◌then◌else◌, refl, sym, ap, subst, arith}
 use Rattle.std.proofs.lemmas.Bool.Decides.{nat_tests}
 use Rattle.std.proofs.lemmas.List.{length-map}
 use Rattle.std.specs.List.{AllByRecursion}
@@ -84,7 +84,3 @@ list_is_well_formed k listed tabs e below =
       places = places k listed tabs a.known below;
       rise = listed_rise k listed tabs a.known a.up;
     }
-
-pub below-push : (xs : List (ℕ × ℕ)) (x : ℕ × ℕ) → AllByRecursion Below xs → Below x → AllByRecursion Below (xs ++ x ∷ [])
-below-push [] x all one = (one, tt)
-below-push (y ∷ ys) x all one = (all.0, below-push ys x all.1 one)

@@ -92,10 +92,6 @@ pub refused-later : (steps : List Step) (ms mid : List Bool) (rs : List Receipt)
 refused-later steps ms mid rs lanes p first h =
     ⊎_elim (λ (o : Among (HasFault steps p) lanes). inl (inr o)) (λ (t : 1 < bit mid p + times_in p lanes). inr (omega (arith, t, first.bits p))) h
 
-pub refused-now : (steps : List Step) (ms : List Bool) (rs : List Receipt) (lanes : List (List Receipt)) (p : ℕ) → IsRefused steps 0 rs ms p → AreRefused steps (rs ∷ lanes) ms p
-refused-now steps ms rs lanes p h =
-    ⊎_elim (λ (o : Among (IsOther steps p) rs). inl (inl (inl o))) (⊎_elim (λ (f : Falls p 0 rs). inl (inl (inr f))) (λ (t : 1 < bit ms p + times p rs). inr (omega (arith, t)))) h
-
 -- at first no place is marked
 pub bit-none : (n p : ℕ) → bit (replicate n false) p ≡ 0
 bit-none zero p = refl

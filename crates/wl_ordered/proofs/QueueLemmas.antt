@@ -1,5 +1,5 @@
 -- The numbers of those that wait, where one is put last, marked, or leaves.
-use Rattle.std.proofs.Common.{◌≡◌, ℕ, ◌<◌, suc, zero, true, false, not, ◌==◌, List, [], ◌∷◌, ◌++◌, length, drop, refl, subst, ◌∙◌, arith, slice_index_or, slice_set}
+use Rattle.std.proofs.Common.{◌≡◌, ℕ, ◌<◌, suc, zero, true, false, not, ◌==◌, List, [], ◌∷◌, ◌++◌, length, refl, subst, ◌∙◌, arith, slice_index_or, slice_set}
 use Rattle.std.specs.Prelude.{filter}
 use Rattle.std.proofs.lemmas.Bool.Decides.{nat_tests}
 use Rattle.wl_ordered.specs.declared.queue.Waiter.{Waiter}
@@ -16,10 +16,6 @@ numbers-pushed w (v ∷ ws) e = pushed_step w v ws (numbers-pushed w ws e)
 
 numbers-gone : (w : Waiter) (ws : List Waiter) → w.is_gone ≡ true → numbers_in (w ∷ ws) ≡ numbers_in ws
 numbers-gone w ws e = grind arith
-
-pub numbers-left : (ws : List Waiter) → is_front_gone ws ≡ true → numbers_in (drop 1 ws) ≡ numbers_in ws
-numbers-left [] e = refl
-numbers-left (w ∷ ws) e = grind arith
 
 without_step : (k : ℕ) (v : Waiter) (ws : List Waiter) → numbers_in (filter (λ w. not (w.order == k)) ws) ≡ without_number k (numbers_in ws) → numbers_in (filter (λ w. not (w.order == k)) (v ∷ ws)) ≡ without_number k (numbers_in (v ∷ ws))
 without_step k v ws h = grind (arith, nat_tests)

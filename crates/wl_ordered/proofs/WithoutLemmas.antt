@@ -1,8 +1,6 @@
 -- What taking a row out by its number leaves of each reading of a list.
-use Rattle.std.proofs.Common.{◌≡◌, ℕ, ◌+◌, ◌<◌, suc, zero, Bool, true, false, cond, List, [], ◌∷◌, Some, None, length, drop, get_or, refl, ap, ◌∙◌, arith}
-use Rattle.std.specs.Prelude.{filter, count_by, slice_get, remove}
-use Rattle.std.specs.Ordering.{nat_cmp}
-use Rattle.std.specs.declared.cmp.Ordering.TheVariants.{Equal}
+use Rattle.std.proofs.Common.{◌≡◌, ℕ, ◌+◌, ◌<◌, suc, Bool, true, false, cond, List, [], ◌∷◌, Some, None, length, refl, ap, ◌∙◌, arith}
+use Rattle.std.specs.Prelude.{filter, count_by}
 use Rattle.std.proofs.lemmas.Bool.Decides.{nat_tests}
 use Rattle.std.proofs.lemmas.List.Sums.{sum_by-cons}
 use Rattle.wl_draft.specs.Tables.{Table, find}
@@ -20,53 +18,11 @@ pub numbers-above : (k : ℕ) (js : List ℕ) → are_above k js ≡ true → wi
 numbers-above k [] a = refl
 numbers-above k (j ∷ js) a = numbers-above_step k j js (numbers-above k js) a
 
-without-first_step : (k j : ℕ) (js : List ℕ) → (are_above k js ≡ true → without_number k js ≡ js) → do_rise (j ∷ js) ≡ true → j ≡ k → js ≡ without_number k (j ∷ js)
-without-first_step k j js same r e = grind (arith, nat_tests)
-
-some-number : (j k : ℕ) → Some j ≡ Some k → j ≡ k
-some-number j k e = cc
-
-pub without-first : (k : ℕ) (js : List ℕ) → do_rise js ≡ true → slice_get js 0 ≡ Some k → drop 1 js ≡ without_number k js
-without-first k [] r e = refl
-without-first k (j ∷ js) r e = without-first_step k j js (numbers-above k js) r (some-number j k e)
-
-get-above_step : (k j i : ℕ) (js : List ℕ) → (i < length js → are_above k js ≡ true → k < get_or js i 0) → suc i < length (j ∷ js) → are_above k (j ∷ js) ≡ true → k < get_or (j ∷ js) (suc i) 0
-get-above_step k j i js below l a = grind (arith, nat_tests)
-
-get-above_first : (k j : ℕ) (js : List ℕ) → are_above k (j ∷ js) ≡ true → k < get_or (j ∷ js) 0 0
-get-above_first k j js a = grind (arith, nat_tests)
-
-get-above : (k i : ℕ) (js : List ℕ) → i < length js → are_above k js ≡ true → k < get_or js i 0
-get-above k i [] l a = omega (arith, l)
-get-above k zero (j ∷ js) l a = get-above_first k j js a
-get-above k (suc i) (j ∷ js) l a = get-above_step k j i js (get-above k i js) l a
-
-rise-head : (j : ℕ) (js : List ℕ) → do_rise (j ∷ js) ≡ true → are_above j js ≡ true
-rise-head j js r = grind (arith, nat_tests)
-
 rise-tail : (j : ℕ) (js : List ℕ) → do_rise (j ∷ js) ≡ true → do_rise js ≡ true
 rise-tail j js r = grind (arith, nat_tests)
 
-at-later : (k j : ℕ) (js rest : List ℕ) → j < k → rest ≡ without_number k js → j ∷ rest ≡ without_number k (j ∷ js)
-at-later k j js rest l e = grind (arith, nat_tests)
-
 pub no_index : (i : ℕ) → i < 0 → ⊥
 no_index i l = omega (arith, l)
-
-pub remove-at : (k i : ℕ) (js : List ℕ) → do_rise js ≡ true → i < length js → get_or js i 0 ≡ k → remove js i ≡ without_number k js
-remove-at k i [] r l e = absurd (no_index i l)
-remove-at k zero (j ∷ js) r l e = without-first_step k j js (numbers-above k js) r e
-remove-at k (suc i) (j ∷ js) r l e =
-    let l' : i < length js = omega (arith, l) in
-    let above : j < get_or js i 0 = get-above j i js l' (rise-head j js r) in
-    let above' : j < k = rw e at above in
-    at-later k j js (remove js i) above' (remove-at k i js (rise-tail j js r) l' e)
-
-equal-number : (j k : ℕ) → nat_cmp j k ≡ Equal → j ≡ k
-equal-number j k e = grind (arith, nat_tests)
-
-pub without-at : (k i : ℕ) (js : List ℕ) → do_rise js ≡ true → i < length js → ((d : ℕ) → nat_cmp (get_or js i d) k ≡ Equal) → remove js i ≡ without_number k js
-without-at k i js r l e = remove-at k i js r l (equal-number (get_or js i 0) k (e 0))
 
 -- ---- a number that is not there
 

@@ -2,6 +2,6 @@
 #![tactic(auto)]
 
 pub mod messages;
-pub mod refusals;
+mod refusals;
 pub mod replies;
-pub mod snapshots;
+mod snapshots;

@@ -15,7 +15,7 @@ use wl_words::put_word;
 // ---- parts
 
 #[tactic(auto, unfolding(crate::specs::Texts::mode_text))]
-pub fn mode_word(mode: Mode) -> &'static str
+pub(crate) fn mode_word(mode: Mode) -> &'static str
     ensures { result.now ≡ mode_text mode }
 {
     match mode {
@@ -65,7 +65,7 @@ fn put_command_number(out: &mut Vec<u8>, generation: u32, number: u32) -> Result
 
 /// Which part of how many.
 #[tactic(auto, unfolding(crate::specs::Texts::part_text))]
-pub fn put_part(out: &mut Vec<u8>, part: u16, parts: u16) -> Result<(), AllocError>
+pub(crate) fn put_part(out: &mut Vec<u8>, part: u16, parts: u16) -> Result<(), AllocError>
     ensures { OnOk result (out.new.items ≡ out.old.items ++ part_text part parts) }
 {
     put(out, "part ")?;
@@ -160,7 +160,7 @@ fn put_report_part(out: &mut Vec<u8>, report: &ReportPart) -> Result<(), AllocEr
 
 /// What a tab sends to the broker.
 #[tactic(auto, unfolding(crate::specs::Texts::upward_text))]
-pub fn put_upward(out: &mut Vec<u8>, upward: &Upward) -> Result<(), AllocError>
+pub(crate) fn put_upward(out: &mut Vec<u8>, upward: &Upward) -> Result<(), AllocError>
     ensures { OnOk result (out.new.items ≡ out.old.items ++ upward_text upward.now) }
 {
     match upward {
@@ -224,7 +224,7 @@ fn put_snapshot(out: &mut Vec<u8>, snapshot: &Snapshot) -> Result<(), AllocError
 
 /// What the broker sends to a tab.
 #[tactic(auto, unfolding(crate::specs::Texts::downward_text))]
-pub fn put_downward(out: &mut Vec<u8>, downward: &Downward) -> Result<(), AllocError>
+pub(crate) fn put_downward(out: &mut Vec<u8>, downward: &Downward) -> Result<(), AllocError>
     ensures { OnOk result (out.new.items ≡ out.old.items ++ downward_text downward.now) }
 {
     match downward {
@@ -238,7 +238,7 @@ pub fn put_downward(out: &mut Vec<u8>, downward: &Downward) -> Result<(), AllocE
 
 /// A post on its way to a tab.
 #[tactic(auto, unfolding(crate::specs::Texts::post_text))]
-pub fn put_post(out: &mut Vec<u8>, post: &Heard) -> Result<(), AllocError>
+pub(crate) fn put_post(out: &mut Vec<u8>, post: &Heard) -> Result<(), AllocError>
     ensures { OnOk result (out.new.items ≡ out.old.items ++ post_text post.now) }
 {
     put(out, "post ")?;

@@ -59,12 +59,6 @@ runs-go n w after texts more output e =
 
 -- ---- one line
 
-pub runs-line : (n : ℕ) (w : WorldState) (text : List ℕ) (l : Line) → line_at text ≡ Some l
-    → runs n w (text ∷ []) ≡ record { world = (played w l).world; written = (played w l).written; refused = None }
-runs-line n w text l e =
-    ap (λ o. goes n w o (λ after. runs (n + 1) after [])) e
-    ∙ ap (λ x. record { world = (played w l).world; written = x; refused = None }) (append-nil (played w l).written)
-
 pub runs-refused : (n : ℕ) (w : WorldState) (text : List ℕ) (texts : List (List ℕ)) → line_at text ≡ None
     → runs n w (text ∷ texts) ≡ record { world = w; written = []; refused = Some n }
 runs-refused n w text texts e = ap (λ o. goes n w o (λ after. runs (n + 1) after texts)) e

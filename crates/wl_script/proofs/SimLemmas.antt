@@ -1,7 +1,7 @@
 -- Lemmas on whole runs: what was read and written so far, how a run ends, and whose fault it is.
 use Rattle.std.proofs.Common.{◌≡◌, inl, inr, ℕ, List, [], ◌∷◌, ◌++◌, Bool, true, false, Option, None, Result, Ok, Err, refl, sym, ap, subst, ◌∙◌, append_assoc, append-nil}
 use Rattle.std.specs.Io.KnownBytes.{Consumes, Appends, Keeps, IsAtEnd}
-use Rattle.std.proofs.KnownBytes.{Consumes-nil, Appends-nil, Consumes-trans, Appends-trans, Consumes-kept, Keeps-refl}
+use Rattle.std.proofs.KnownBytes.{Consumes-trans, Appends-trans, Consumes-kept, Keeps-refl}
 use Rattle.wl_world.specs.World.{empty_world}
 use Rattle.wl_frames.specs.declared.device.ReadFault.{ReadFault}
 use Rattle.wl_frames.specs.declared.device.ReadFault.TheVariants as read
@@ -10,7 +10,7 @@ use Rattle.wl_script.specs.declared.sim.SimFault.TheVariants as sim
 use Rattle.wl_script.specs.Sim.{Ran, runs, whole_lines, run_of, whole_run_of, Answered, NeedsEnd, Runs}
 use Rattle.wl_script.specs.SimSteps.{SimState, at_first, of_read, lines_after, EndsBy, Plays, Closes}
 use Rattle.wl_script.proofs.Splits.{lines_after-nil, lines_none, whole_but_last}
-use Rattle.wl_script.proofs.RunLemmas.{before, EndsBy-before, runs-after, Plays-start, Plays-more, Ends-after}
+use Rattle.wl_script.proofs.RunLemmas.{before, EndsBy-before, runs-after, Plays-more, Ends-after}
 
 -- all that was read so far was played, but for the line that is not whole
 pub record Stands (reader_before reader_now writer_before writer_now : Option (List ℕ)) (s : SimState) : Type 0 where
@@ -19,15 +19,6 @@ pub record Stands (reader_before reader_now writer_before writer_now : Option (L
   pub consumed : Consumes reader_before reader_now input
   pub appended : Appends writer_before writer_now output
   pub plays : Plays at_first input s output
-
-pub Stands-start : (reader writer : Option (List ℕ)) (s : SimState) → s ≡ at_first → Stands reader reader writer writer s
-Stands-start reader writer s is = subst (Stands reader reader writer writer) (sym is) (record {
-  input = [];
-  output = [];
-  consumed = Consumes-nil reader;
-  appended = Appends-nil writer;
-  plays = Plays-start at_first;
-})
 
 pub Stands-more : (a b b' c d d' : Option (List ℕ)) (old new : SimState) (piece output : List ℕ) → Stands a b c d old → Consumes b b' piece → Appends d d' output
     → Plays old piece new output → Stands a b' c d' new

@@ -1,42 +1,11 @@
 -- What becomes of a token that is told, by what its agent answers.
-use Rattle.std.proofs.Common.{◌≡◌, true, false, cond, List, [], ◌∷◌, ◌++◌, fold, Option, sym, ap, ◌∙◌}
+use Rattle.std.proofs.Common.{◌≡◌, List, [], ◌∷◌, ◌++◌, fold, Option, sym, ap, ◌∙◌}
 use Rattle.std.proofs.lemmas.List.Sums.{fold-append}
 use Rattle.wl_agent.specs.declared.snapshot.Snapshot.{Snapshot}
-use Rattle.wl_agent.specs.declared.token.Token.TheVariants as token
-use Rattle.wl_agent.specs.Issued.{Issued}
-use Rattle.wl_agent.specs.declared.token.Settled.{Settled}
-use Rattle.wl_agent.specs.declared.token.ProbeSettled.{ProbeSettled}
-use Rattle.wl_agent.specs.declared.token.QuerySettled.{QuerySettled}
 use Rattle.wl_agent.specs.Tab.{TabState}
-use Rattle.wl_agent.specs.Tokens.{is_own, is_pending, is_probing, is_asking, told_pending, told_probe, told_query, after_query}
 use Rattle.wl_tab.specs.declared.locks.kept.Kept.{Kept}
 use Rattle.wl_tab.specs.declared.locks.settling.Fate.{Fate}
-use Rattle.wl_tab.specs.declared.locks.settling.Fate.TheVariants as fate
-use Rattle.wl_tab.specs.Settling.{fate_of, fate_by_settled, fate_by_probe, fate_by_query, settled, Run, with_fate, settle_next, settle_run, run_from}
-
-pub fate-pending : (a : TabState) (p : Issued) (t : Settled) → is_own is_pending a p.tab p.number ≡ true → t ≡ told_pending a p → fate_by_settled t ≡ fate_of a (token.Pending p)
-fate-pending a p t own told = ap fate_by_settled told ∙ sym (ap (λ b. cond b (fate_by_settled (told_pending a p)) (fate.Stays (token.Pending p))) own)
-
-pub fate-pending_foreign : (a : TabState) (p : Issued) → is_own is_pending a p.tab p.number ≡ false → fate.Stays (token.Pending p) ≡ fate_of a (token.Pending p)
-fate-pending_foreign a p own = sym (ap (λ b. cond b (fate_by_settled (told_pending a p)) (fate.Stays (token.Pending p))) own)
-
-pub fate-probe : (a : TabState) (p : Issued) (t : ProbeSettled) → is_own is_probing a p.tab p.number ≡ true → t ≡ told_probe a p → fate_by_probe t ≡ fate_of a (token.Probe p)
-fate-probe a p t own told = ap fate_by_probe told ∙ sym (ap (λ b. cond b (fate_by_probe (told_probe a p)) (fate.Stays (token.Probe p))) own)
-
-pub fate-probe_foreign : (a : TabState) (p : Issued) → is_own is_probing a p.tab p.number ≡ false → fate.Stays (token.Probe p) ≡ fate_of a (token.Probe p)
-fate-probe_foreign a p own = sym (ap (λ b. cond b (fate_by_probe (told_probe a p)) (fate.Stays (token.Probe p))) own)
-
-pub fate-query : (a : TabState) (q : Issued) (t : QuerySettled) → is_own is_asking a q.tab q.number ≡ true → t ≡ told_query a q → fate_by_query t ≡ fate_of a (token.Asking q)
-fate-query a q t own told = ap fate_by_query told ∙ sym (ap (λ b. cond b (fate_by_query (told_query a q)) (fate.Stays (token.Asking q))) own)
-
-pub fate-query_foreign : (a : TabState) (q : Issued) → is_own is_asking a q.tab q.number ≡ false → fate.Stays (token.Asking q) ≡ fate_of a (token.Asking q)
-fate-query_foreign a q own = sym (ap (λ b. cond b (fate_by_query (told_query a q)) (fate.Stays (token.Asking q))) own)
-
-pub settled-query : (a b : TabState) (q : Issued) → is_own is_asking a q.tab q.number ≡ true → b ≡ after_query q.number a → b ≡ settled (token.Asking q) a
-settled-query a b q own is = is ∙ sym (ap (λ o. cond o (after_query q.number a) a) own)
-
-pub settled-foreign : (a b : TabState) (q : Issued) → is_own is_asking a q.tab q.number ≡ false → b ≡ a → b ≡ settled (token.Asking q) a
-settled-foreign a b q own is = is ∙ sym (ap (λ o. cond o (after_query q.number a) a) own)
+use Rattle.wl_tab.specs.Settling.{fate_of, Run, with_fate, settle_next, settle_run, run_from}
 
 -- the last of the tokens is told after the others
 pub run-last : (a : TabState) (xs ys : List Kept) (x : Kept) → ys ≡ xs ++ x ∷ [] → settle_run a ys ≡ settle_next (settle_run a xs) x

@@ -217,10 +217,6 @@ holds-kept a tab entered kept is =
 
 -- ---- requests, probes and queries that were issued
 
-pub kept-same : (a b : TabState) (tab entered : ℕ) (kept xs : List Kept) → IsKept a tab entered kept → b ≡ a → xs ≡ kept → IsKept b tab entered xs
-kept-same a b tab entered kept xs is b_is xs_is =
-    subst (λ (ks : List Kept). IsKept b tab entered ks) (sym xs_is) (subst (λ (c : TabState). IsKept c tab entered kept) (sym b_is) is)
-
 pub kept-requested : (a b : TabState) (tab entered : ℕ) (kept xs : List Kept) (o : Operation) (p : Issued) (mode : Mode) (name bytes : List ℕ) → IsKept a tab entered kept → xs ≡ kept ++ kept_as o (token.Pending p) ∷ [] → o ≡ Request mode false name → bytes ≡ name → p.tab ≡ a.tab → p.number ≡ length a.issued → b ≡ asked mode false bytes a → IsKept b tab entered xs
 kept-requested a b tab entered kept xs o p mode name bytes is xs_are o_is bytes_are owner number_is b_is =
     let whole : Operation = Request mode false bytes in

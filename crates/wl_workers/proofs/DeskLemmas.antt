@@ -1,5 +1,5 @@
 -- Lemmas on what a desk does with one frame, with one list of frames after another, and with one piece after another.
-use Rattle.std.proofs.Common.{◌≡◌, ◌≢◌, ◌↔◌, ℕ, ◌+◌, ◌<◌, nat_eq, length, get_or, drop, List, [], ◌∷◌, ◌++◌, Bool, true, false, Option, Some, None, Result, Ok, Err, IfOk, OnErr, MatchResult, refl, sym, ap, subst, ◌∙◌, append_assoc, append-nil, arith}
+use Rattle.std.proofs.Common.{◌≡◌, ◌≢◌, ℕ, ◌+◌, ◌<◌, nat_eq, length, get_or, drop, List, [], ◌∷◌, ◌++◌, Bool, true, false, Option, Some, None, Result, Ok, Err, IfOk, OnErr, MatchResult, refl, sym, ap, subst, ◌∙◌, append_assoc, append-nil, arith}
 use Rattle.std.specs.Option.{is_some}
 use Rattle.std.specs.List.{AllByRecursion}
 use Rattle.std.proofs.lemmas.List.{drop_more}
@@ -194,21 +194,6 @@ pub outs_more : (all rest more : List Addressed) (a : Addressed) (done piece : L
 outs_more all rest more a done piece e h p =
     append_assoc done piece (spelled more) ∙ ap (λ l. done ++ (l ++ spelled more)) p ∙ ap (λ l. done ++ spelled l) (sym e) ∙ h
 
--- a frame that was not answered leaves the bytes as they were
-pub unanswered_begins : (old new : DeskState) (f : Frame) (bytes : List ℕ) (e : DeskFault) → Steps old f new (Err e) → Spells old f new bytes bytes (Err e)
-unanswered_begins old new f bytes (desk.Frame x) step = step
-unanswered_begins old new f bytes desk.Unexpected step = (step, refl)
-unanswered_begins old new f bytes desk.Read step = step
-unanswered_begins old new f bytes desk.Write step = step
-unanswered_begins old new f bytes desk.TooManyReads step = step
-unanswered_begins old new f bytes desk.Memory step = ([], sym (append-nil bytes), (due old (f ∷ []), refl))
-
--- nor is one whose answer could not be spelled
-pub unspelled_begins : (old new : DeskState) (f : Frame) (outs : List Addressed) (before after : List ℕ) → Steps old f new (Ok outs) → IsBegun before (spelled outs) after
-    → Spells old f new before after (Err desk.Memory)
-unspelled_begins old new f outs before after step (piece, p, q) =
-    (piece, p, subst (IsPrefixOf piece) (sym (due-cons old new f [] outs step.0)) (IsPrefixOf-append piece (spelled outs) (due new []) q))
-
 -- ---- frames, answered one after another
 
 not_refused : (d : DeskState) → IsServing d → IsRefused d → ⊥
@@ -347,11 +332,3 @@ IsWriteFault r = r ≡ Err desk.Write
 pub sound_at_ok : (b : Bool) → (b ≡ true → IsWriteFault (Ok tt)) → b ≡ false
 sound_at_ok true h = let e = h refl in cc
 sound_at_ok false h = refl
-
-pub step_is_no_write : (now new : DeskState) (f : Frame) (e : DeskFault) (b : Bool) → Steps now f new (Err e) → b ≡ false → (IsWriteFault (Err e)) ↔ (b ≡ true)
-step_is_no_write now new f (desk.Frame x) b step sound = absurd step
-step_is_no_write now new f desk.Unexpected b step sound = (λ h. cc, λ h. cc)
-step_is_no_write now new f desk.Read b step sound = absurd step
-step_is_no_write now new f desk.Write b step sound = absurd step
-step_is_no_write now new f desk.TooManyReads b step sound = absurd step
-step_is_no_write now new f desk.Memory b step sound = (λ h. cc, λ h. cc)

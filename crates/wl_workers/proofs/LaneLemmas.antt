@@ -1,5 +1,5 @@
 -- Lemmas on lanes: one event more, and how a lane ends.
-use Rattle.std.proofs.Common.{◌≡◌, ◌+◌, ◌≤◌, ℕ, List, [], ◌∷◌, ◌++◌, length, map, Option, None, Some, Result, Ok, Err, refl, sym, ap, ◌∙◌, subst, append_assoc, append-nil, inl, inr, arith}
+use Rattle.std.proofs.Common.{◌≡◌, ◌+◌, ◌≤◌, ℕ, List, [], ◌∷◌, ◌++◌, length, map, Option, Some, Result, Ok, Err, refl, sym, ap, ◌∙◌, subst, append_assoc, append-nil, inl, inr, arith}
 use Rattle.std.specs.List.{AllByRecursion, flat_map}
 use Rattle.std.proofs.lemmas.List.{length_push}
 use Rattle.wl_grammar.specs.declared.frame.Addressed.{Addressed}
@@ -77,20 +77,6 @@ lane_goes_on {g0} {g1} {g2} {d0} {d1} {d2} {k0} {k1} {k2} {o0} {o1} {o2} {seen} 
       put_out = subst (Grows o0 o2) (sym (ap all_put (sent-push h.answers a) ∙ map-append _ (flat_map sent_by h.answers) (sent_by a))) (Grows-trans o0 o1 o2 _ _ h.put_out put);
       counts = ap (λ n. n + step_of a) h.counts ∙ sym (steps-push h.answers a);
       length_is = length_push h.answers a ∙ ap (λ n. n + 1) h.length_is;
-    }
-
--- the intake has no more
-pub lane_ended : {g0 g1 g2 : Option (List (Option Work))} {d0 d1 : Option (List Answered)} {k0 k1 : ℕ → Option (List Receipt)} {o0 o1 : Option (List PutOut)} {seen steps : ℕ} → GoesOn g0 g1 d0 d1 k0 k1 o0 o1 seen steps → Grows g1 g2 (None ∷ []) → RunsLane g0 g2 d0 d1 k0 k1 o0 o1 (record { steps = steps; why = cause.Ended })
-lane_ended {g0} {g1} {g2} {d0} {d1} {k0} {k1} {o0} {o1} {seen} {steps} h given =
-    record {
-      answers = h.answers;
-      put = all_put (flat_map sent_by h.answers);
-      given = Grows-trans g0 g1 g2 _ _ h.given given;
-      answered = h.answered;
-      kept = h.kept;
-      put_out = h.put_out;
-      steps = h.counts;
-      ends = (h.unspent, refl);
     }
 
 -- the lane had as many events as it may

@@ -1,7 +1,7 @@
 -- Lemmas on handing up, and on how the reading of a tab's link goes on and ends.
 use Rattle.std.proofs.Common.{◌≡◌, ◌≢◌, ◌↔◌, ◌⊎◌, ◌≤◌, ℕ, List, [], ◌∷◌, ◌++◌, Bool, true, false, length, map, Option, Result, Ok, Err, inl, inr, refl, sym, ap, subst, ◌∙◌, ⊎_elim, append_assoc, append-nil, length-append, arith, lit<}
-use Rattle.std.specs.Io.KnownBytes.{Consumes, Keeps, IsAtEnd}
-use Rattle.std.proofs.KnownBytes.{Consumes-nil, Consumes-trans, Consumes-kept}
+use Rattle.std.specs.Io.KnownBytes.{Consumes, IsAtEnd}
+use Rattle.std.proofs.KnownBytes.{Consumes-nil, Consumes-trans}
 use Rattle.std.proofs.lemmas.List.{map-append}
 use Rattle.wl_broker.proofs.SpeechLists.{AllByRecursion-append}
 use Rattle.wl_board.specs.declared.tab.Life.{Life}
@@ -9,14 +9,12 @@ use Rattle.wl_board.specs.declared.tab.Life.TheVariants as life
 use Rattle.wl_grammar.specs.declared.frame.Frame.{Frame}
 use Rattle.wl_frames.specs.declared.fault.FrameFault.{FrameFault}
 use Rattle.wl_frames.specs.declared.fault.FrameFault.TheVariants as fault
-use Rattle.wl_frames.specs.declared.device.ReadFault.{ReadFault}
-use Rattle.wl_frames.specs.declared.device.ReadFault.TheVariants as read
 use Rattle.wl_frames.specs.Stream.{Rest, Fault, Reads, IsPartial, Feeding, Refuses, at_start}
 use Rattle.wl_workers.specs.declared.tab_reader.ReadEnd.{ReadEnd}
 use Rattle.wl_workers.specs.declared.tab_reader.ReadEnd.TheVariants as end
 use Rattle.wl_workers.specs.Told.{Grows}
 use Rattle.wl_workers.specs.Looks.{IsNotDead, at_tab, FindsDead}
-use Rattle.wl_workers.specs.TabReader.{of_read, ended, dead_look, HandsUp, IsProperPrefix, IsButLastPiece, EndsAfter, NeedsEnd, ReadsTab, Passes, Closes, IsPieceEnd}
+use Rattle.wl_workers.specs.TabReader.{ended, dead_look, HandsUp, IsButLastPiece, EndsAfter, NeedsEnd, ReadsTab, Passes, Closes, IsPieceEnd}
 use Rattle.wl_workers.proofs.ToldLemmas.{Grows-nil, Grows-trans}
 use Rattle.wl_workers.proofs.PieceLemmas.{Reads-join, Reads-none, no_cut}
 
@@ -69,17 +67,6 @@ refused_by old new piece before fault.LeftOver sound h = inr (h.stops (λ x. cc)
 refused_by old new piece before fault.Truncated sound h = inr (h.stops (λ x. cc) (λ x. cc)).0
 refused_by old new piece before fault.Memory sound h = inl (refl, (h.memory refl).0)
 refused_by old new piece before fault.Failed sound h = let failed = h.failed_before.0 refl in absurd (let e : true ≡ false = sym failed ∙ sound in cc)
-
-no_front : (front frames : List Frame) → IsProperPrefix front frames → frames ≢ []
-no_front front frames h none = absurd (let e = ap length (sym h.2 ∙ none) in let a = length-append front (h.0 ∷ h.1) in omega arith)
-
--- the tab was found dead before a frame that stood before the fault
-pub dead_before : (old new : Feeding) (piece : List ℕ) (before front : List Frame) (f : FrameFault) → old.has_failed ≡ false → Refuses old new piece before f → IsProperPrefix front before
-    → EndsAfter old.rest piece front end.Dead
-dead_before old new piece before front f sound h proper = ⊎_elim
-    (λ (m : (f ≡ fault.Memory) × (before ≡ [])). absurd (no_front front before proper m.1))
-    (λ (r : Reads (old.rest ++ piece) before (Fault f)). (before, Fault f, r, proper))
-    (refused_by old new piece before f sound h)
 
 -- all frames before the fault were handed up
 pub fault_after : (old new : Feeding) (piece : List ℕ) (before : List Frame) (f : FrameFault) → old.has_failed ≡ false → IsPartial old.rest → length piece ≤ 4096 → Refuses old new piece before f
@@ -152,26 +139,6 @@ ends_in_piece tab r s t a b c x y z rest piece more e h consumed ends hands = re
   hands = HandsUp-more tab a b c x y z h.frames more (dead_look e) h.hands hands;
 }
 
--- nothing more was read
-ends_there : (tab : ℕ) (r s t : Option (List ℕ)) (a b : Option (List (ℕ × Life))) (x y : Option (List (ℕ × Frame))) (rest : List ℕ) (e : ReadEnd) (h : Handing tab r s a b x y rest) → Consumes r t h.input
-    → EndsAfter [] h.input h.frames e → dead_look e ≡ [] → ReadsTab tab r t a b x y e
-ends_there tab r s t a b x y rest e h consumed ends none = record {
-  input = h.input;
-  frames = h.frames;
-  consumed = consumed;
-  ends = ends;
-  hands = subst (HandsUp tab a b x y h.frames) (sym none) h.hands;
-}
-
-pub ends_unread : (tab : ℕ) (r s t : Option (List ℕ)) (a b : Option (List (ℕ × Life))) (x y : Option (List (ℕ × Frame))) (rest : List ℕ) (e : ReadFault) → Handing tab r s a b x y rest
-    → (e ≡ read.Failed → Keeps s t) → (e ≡ read.TooManyReads → t ≡ s) → ReadsTab tab r t a b x y (of_read e)
-ends_unread tab r s t a b x y rest read.Failed h failed limit = ends_there tab r s t a b x y rest end.Read h (Consumes-kept r s t h.input h.consumed (failed refl)) (rest, h.reads) refl
-ends_unread tab r s t a b x y rest read.TooManyReads h failed limit =
-    ends_there tab r s t a b x y rest end.TooManyReads h (subst (λ u. Consumes r u h.input) (sym (limit refl)) h.consumed) (rest, h.reads) refl
-
-pub ends_at_limit : (tab : ℕ) (r s : Option (List ℕ)) (a b : Option (List (ℕ × Life))) (x y : Option (List (ℕ × Frame))) (rest : List ℕ) → Handing tab r s a b x y rest → ReadsTab tab r s a b x y end.TooManyReads
-ends_at_limit tab r s a b x y rest h = ends_there tab r s s a b x y rest end.TooManyReads h h.consumed (rest, h.reads) refl
-
 -- the input is at its end, between two frames or within one
 closed : (input : List ℕ) (frames : List Frame) (rest : List ℕ) (e : Result (Unit {0}) ReadEnd) → Reads input frames (Rest rest) → Closes rest e → EndsAfter [] input frames (ended e)
 closed input frames rest (Ok done) reads h = subst (λ r. Reads input frames (Rest r)) h reads
@@ -180,20 +147,6 @@ closed input frames rest (Err end.End) reads h = absurd h
 closed input frames rest (Err end.Read) reads h = absurd h
 closed input frames rest (Err end.TooManyReads) reads h = absurd h
 closed input frames rest (Err end.Dead) reads h = absurd h
-
-no_dead_look : (rest : List ℕ) (e : Result (Unit {0}) ReadEnd) → Closes rest e → dead_look (ended e) ≡ []
-no_dead_look rest (Ok done) h = refl
-no_dead_look rest (Err (end.Frame f)) h = refl
-no_dead_look rest (Err end.End) h = absurd h
-no_dead_look rest (Err end.Read) h = absurd h
-no_dead_look rest (Err end.TooManyReads) h = absurd h
-no_dead_look rest (Err end.Dead) h = absurd h
-
-pub ends_at_end : (tab : ℕ) (r s t : Option (List ℕ)) (a b : Option (List (ℕ × Life))) (x y : Option (List (ℕ × Frame))) (rest none : List ℕ) (e : Result (Unit {0}) ReadEnd) → Handing tab r s a b x y rest
-    → Consumes s t none → none ≡ [] → Closes rest e → ReadsTab tab r t a b x y (ended e)
-ends_at_end tab r s t a b x y rest none e h consumed empty closes =
-    ends_there tab r s t a b x y rest (ended e) h (subst (Consumes r t) (ap (λ l. h.input ++ l) empty ∙ append-nil h.input) (Consumes-trans r s t h.input none h.consumed consumed))
-    (closed h.input h.frames rest e h.reads closes) (no_dead_look rest e closes)
 
 -- ---- ends that a piece brings
 
@@ -225,10 +178,6 @@ no_limit end.TooManyReads n h is = absurd h
 no_limit end.Dead n h is = cc
 
 -- ---- ends for want of more input
-
-pub unread_needs_no_end : (e : ReadFault) (reader : Option (List ℕ)) → NeedsEnd (of_read e) reader
-unread_needs_no_end read.Failed reader = tt
-unread_needs_no_end read.TooManyReads reader = tt
 
 pub piece_needs_no_end : (e : ReadEnd) (reader : Option (List ℕ)) → IsPieceEnd e → NeedsEnd e reader
 piece_needs_no_end end.End reader h = absurd h

@@ -15,7 +15,7 @@ use Rattle.wl_frames.specs.Device.{WritesPrefix}
 use Rattle.wl_encoding.proofs.Prefixes.{append-IsPrefixOf}
 use Rattle.wl_outbox.specs.Parcels.{Packed}
 use Rattle.wl_outbox.specs.MergeLaws.{IsPickedFrom, nothing, picks, leaves}
-use Rattle.wl_outbox.specs.Passes.{Handed, Shared, IsOf, IsSamePass, is_taking, takes}
+use Rattle.wl_outbox.specs.Passes.{Handed, IsSamePass}
 use Rattle.wl_workers.specs.Told.{Grows}
 use Rattle.wl_workers.specs.Looks.{at_tab, FindsDead, LooksOnly, FoundDead}
 use Rattle.wl_workers.specs.TabWriter.{IsWritten, WritesFrames, WritesTab}
@@ -124,22 +124,8 @@ Looked-more tab a b c true found is h f = absurd cc
 Looked-more tab a b c false true is h f = (h.0, looks_more tab a b c h.0 life.Dead h.1 f)
 Looked-more tab a b c false false is h f = (h.0 ++ f.0 ∷ [], looks_more tab a b c h.0 f.0 h.1 f.2)
 
-pub found_dead : (tab : ℕ) (a b : Option (List (ℕ × Life))) (was : Bool) → was ≡ true → Looked tab was a b → FoundDead tab a b
-found_dead tab a b true is h = h
-found_dead tab a b false is h = absurd cc
-
-pub looked_only : (tab : ℕ) (a b : Option (List (ℕ × Life))) (was : Bool) → Looked tab was a b → LooksOnly tab a b
-looked_only tab a b true h = (h.0 ++ life.Dead ∷ [], h.1)
-looked_only tab a b false h = h
-
 pub same_pass : (p : Handed) → IsSamePass p p
 same_pass p = record { queue = refl; pass = refl; role = refl; partition = refl; tab = refl }
 
 pub same_then : (p q r : Handed) → IsSamePass p q → IsSamePass q r → IsSamePass p r
 same_then p q r h k = record { queue = k.queue ∙ h.queue; pass = k.pass ∙ h.pass; role = k.role ∙ h.role; partition = k.partition ∙ h.partition; tab = k.tab ∙ h.tab }
-
-pub still_of : (p q : Handed) (o : Shared) → IsOf p o → IsSamePass p q → IsOf q o
-still_of p q o h k = record { queue = k.queue ∙ h.queue; partition = k.partition ∙ h.partition; tab = k.tab ∙ h.tab }
-
-pub still_takes : (p q : Handed) → takes p ≡ true → IsSamePass p q → takes q ≡ true
-still_takes p q h k = ap is_taking k.role ∙ h

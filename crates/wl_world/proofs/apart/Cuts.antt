@@ -1,5 +1,5 @@
 -- What a cut of a list or a table keeps.
-use Rattle.std.proofs.Common.{◌≡◌, ℕ, ◌+◌, ◌<◌, Bool, true, false, cond, not, ◌||◌, List, [], ◌∷◌, map, filter, Some, None, unwrap_or, refl, sym, ap, ap₂, ◌∙◌, arith}
+use Rattle.std.proofs.Common.{◌≡◌, ℕ, ◌+◌, ◌<◌, Bool, true, false, cond, not, ◌||◌, List, [], ◌∷◌, map, filter, Some, unwrap_or, refl, sym, ap, ap₂, ◌∙◌, arith}
 use Rattle.std.specs.Prelude.{◌==◌, nat_lt}
 use Rattle.std.specs.List.{list_any}
 use Rattle.std.proofs.lemmas.Bool.{cond-true, cond-false, eqb-true, ltb-true}
@@ -64,13 +64,6 @@ find-only f k (p ∷ ps) e =
     either (λ zs. find zs k ≡ cond (p.0 == k) (Some p.1) (find ps k)) (f p.0) (p ∷ only f ps) (only f ps)
     (λ _. ap (λ z. cond (p.0 == k) (Some p.1) z) (find-only f k ps e))
     (λ n. find-only f k ps e ∙ by_test (λ v. find ps k ≡ cond v (Some p.1) (find ps k)) (p.0 == k) (λ s. apart (ap f (eqb-true p.0 k s) ∙ e) n) (λ _. refl))
-
-pub find-only_out : {X : Type 0} (f : ℕ → Bool) (k : ℕ) (ps : Table X) → f k ≡ false → find (only f ps) k ≡ None
-find-only_out f k [] e = refl
-find-only_out f k (p ∷ ps) e =
-    either (λ zs. find zs k ≡ None) (f p.0) (p ∷ only f ps) (only f ps)
-    (λ y. either (λ z. z ≡ None) (p.0 == k) (Some p.1) (find (only f ps) k) (λ s. apart y (ap f (eqb-true p.0 k s) ∙ e)) (λ _. find-only_out f k ps e))
-    (λ _. find-only_out f k ps e)
 
 pub at-only : {X : Type 0} (f : ℕ → Bool) (d : X) (k : ℕ) (ps : Table X) → f k ≡ true → at d (only f ps) k ≡ at d ps k
 at-only f d k ps e = at-find d (only f ps) k ∙ ap (λ z. unwrap_or z d) (find-only f k ps e) ∙ sym (at-find d ps k)

@@ -33,9 +33,6 @@ pub record Mates (g f : ℕ → Bool) (k q : ℕ) : Type 0 where
   pub right : g q ≡ true
   pub alike : f k ≡ f q
 
-pub mates-left : {g f : ℕ → Bool} {k q : ℕ} → Mates g f k q → Mates g f k k
-mates-left m = record { left = m.left; right = m.left; alike = refl }
-
 pub mates-right : {g f : ℕ → Bool} {k q : ℕ} → Mates g f k q → Mates g f q q
 mates-right m = record { left = m.right; right = m.right; alike = refl }
 

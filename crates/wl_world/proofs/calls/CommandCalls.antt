@@ -4,11 +4,8 @@ use Rattle.wl_draft.specs.declared.mode.Mode.{Mode}
 use Rattle.wl_draft.specs.Tables.{Table, find, put}
 use Rattle.wl_draft.proofs.TableLemmas.{find-put_same}
 use Rattle.wl_broadcast.specs.Channels.{ChannelState}
-use Rattle.wl_agent.specs.declared.fault.AgentFault.{AgentFault}
 use Rattle.wl_agent.specs.Tab.{TabState, asked, queried, aborted, released, ask_refusal, query_refusal, status_of, is_asked}
 use Rattle.wl_agent.specs.Tokens.{is_pending, is_holding}
-use Rattle.wl_said.specs.declared.said.Refusal.TheVariants as refusal
-use Rattle.wl_said.specs.Refused.{refused}
 use Rattle.wl_bag.specs.declared.message.Message.{Message}
 use Rattle.wl_tab.specs.declared.locks.Abortion.TheVariants as a
 use Rattle.wl_tab.specs.Tabs.{tab_in}
@@ -16,14 +13,10 @@ use Rattle.wl_tab.specs.TabTokens.{abortion}
 use Rattle.wl_supervisor.specs.declared.supervisor.Supervisor.{Supervisor}
 use Rattle.wl_supervisor.specs.Supervised.{kernel_of}
 use Rattle.wl_world.specs.World.{WorldState, Deed, tab_of, lives, acts, issues, asks, queries, aborts, releases, resends, resent, nothing, where_allowed}
-use Rattle.wl_world.specs.Replies.{asking, querying, aborting, releasing, resending, issued_next, some_resent}
+use Rattle.wl_world.specs.Replies.{resending, some_resent}
 use Rattle.wl_world.specs.Parts.{world_of, issued_in}
 
 -- ---- a new command
-
-pub issue-world : (ts : Table TabState) (cs : Table ChannelState) (s : Supervisor) (bag : List Message) (corrupt : List ℕ) (t : ℕ) (x : TabState) (us : Table TabState) → us ≡ put t x ts → world_of us cs s bag corrupt ≡ (issues (world_of ts cs s bag corrupt) t x).world
-unfolding acts
-issue-world ts cs s bag corrupt t x us e = ap (λ z. world_of z cs s bag corrupt) e
 
 pub issue-sends : (ts : Table TabState) (cs : Table ChannelState) (s : Supervisor) (bag : List Message) (corrupt : List ℕ) (t : ℕ) (x : TabState) (us : Table TabState) (n : ℕ) → us ≡ put t x ts → n ≡ length (tab_in t (find ts t)).issued → issued_in (kernel_of s) t (tab_in t (find us t)) n ≡ (issues (world_of ts cs s bag corrupt) t x).sends
 unfolding acts
@@ -34,43 +27,13 @@ issue-sends ts cs s bag corrupt t x us n e l =
 
 -- ---- requests and probes
 
-pub asks-dead : (w : WorldState) (t : ℕ) (m : Mode) (f : Bool) (name : List ℕ) → lives w t ≡ false → asks w t m f name ≡ nothing w
-asks-dead w t m f name dead = rw dead refl
-
-pub asks-refused : (w : WorldState) (t : ℕ) (m : Mode) (f : Bool) (name : List ℕ) (e : AgentFault) → lives w t ≡ true → ask_refusal (tab_of w t) name ≡ Some e → asks w t m f name ≡ nothing w
-asks-refused w t m f name e live r = rw (live, r) refl
-
 pub asks-done : (w : WorldState) (t : ℕ) (m : Mode) (f : Bool) (name : List ℕ) → lives w t ≡ true → ask_refusal (tab_of w t) name ≡ None → asks w t m f name ≡ issues w t (asked m f name (tab_of w t))
 asks-done w t m f name live r = rw (live, r) refl
 
-pub asking-dead : (w : WorldState) (t : ℕ) (name : List ℕ) → lives w t ≡ false → asking w t name ≡ refused refusal.NoTab
-asking-dead w t name dead = rw dead refl
-
-pub asking-refused : (w : WorldState) (t : ℕ) (name : List ℕ) (e : AgentFault) → lives w t ≡ true → ask_refusal (tab_of w t) name ≡ Some e → asking w t name ≡ refused (refusal.Ask e)
-asking-refused w t name e live r = rw (live, r) refl
-
-pub asking-done : (w : WorldState) (t : ℕ) (name : List ℕ) → lives w t ≡ true → ask_refusal (tab_of w t) name ≡ None → asking w t name ≡ issued_next w t
-asking-done w t name live r = rw (live, r) refl
-
 -- ---- queries
-
-pub queries-dead : (w : WorldState) (t : ℕ) → lives w t ≡ false → queries w t ≡ nothing w
-queries-dead w t dead = rw dead refl
-
-pub queries-refused : (w : WorldState) (t : ℕ) (e : AgentFault) → lives w t ≡ true → query_refusal (tab_of w t) ≡ Some e → queries w t ≡ nothing w
-queries-refused w t e live r = rw (live, r) refl
 
 pub queries-done : (w : WorldState) (t : ℕ) → lives w t ≡ true → query_refusal (tab_of w t) ≡ None → queries w t ≡ issues w t (queried (tab_of w t))
 queries-done w t live r = rw (live, r) refl
-
-pub querying-dead : (w : WorldState) (t : ℕ) → lives w t ≡ false → querying w t ≡ refused refusal.NoTab
-querying-dead w t dead = rw dead refl
-
-pub querying-refused : (w : WorldState) (t : ℕ) (e : AgentFault) → lives w t ≡ true → query_refusal (tab_of w t) ≡ Some e → querying w t ≡ refused (refusal.Ask e)
-querying-refused w t e live r = rw (live, r) refl
-
-pub querying-done : (w : WorldState) (t : ℕ) → lives w t ≡ true → query_refusal (tab_of w t) ≡ None → querying w t ≡ issued_next w t
-querying-done w t live r = rw (live, r) refl
 
 -- ---- aborts
 
@@ -85,22 +48,11 @@ held_by true true l e = cc
 held_by true false l e = (refl, refl)
 held_by false q l e = cc
 
-nothing_by : (p q : Bool) (l : ℕ) → cond p (cond q (a.Issued l) a.Held) a.Nothing ≡ a.Nothing → p ≡ false
-nothing_by true true l e = cc
-nothing_by true false l e = cc
-nothing_by false q l e = refl
-
 pub abort-issued : (k n : ℕ) (x : TabState) → abortion k x ≡ a.Issued n → (is_pending x k ≡ true) × (is_asked (status_of x k) ≡ true) × (length x.issued ≡ n)
 abort-issued k n x e = issued_by (is_pending x k) (is_asked (status_of x k)) (length x.issued) n e
 
 pub abort-held : (k : ℕ) (x : TabState) → abortion k x ≡ a.Held → (is_pending x k ≡ true) × (is_asked (status_of x k) ≡ false)
 abort-held k x e = held_by (is_pending x k) (is_asked (status_of x k)) (length x.issued) e
-
-pub abort-nothing : (k : ℕ) (x : TabState) → abortion k x ≡ a.Nothing → is_pending x k ≡ false
-abort-nothing k x e = nothing_by (is_pending x k) (is_asked (status_of x k)) (length x.issued) e
-
-pub aborts-dead : (w : WorldState) (t k : ℕ) → lives w t ≡ false → aborts w t k ≡ nothing w
-aborts-dead w t k dead = rw dead refl
 
 pub aborts-done : (w : WorldState) (t k : ℕ) → lives w t ≡ true → is_pending (tab_of w t) k ≡ true → is_asked (status_of (tab_of w t) k) ≡ true → aborts w t k ≡ issues w t (aborted k (tab_of w t))
 aborts-done w t k live p q = rw (live, p, q) refl
@@ -111,22 +63,7 @@ aborts-held w t k live p q = rw (live, p, q) refl
 pub aborts-nothing : (w : WorldState) (t k : ℕ) → lives w t ≡ true → is_pending (tab_of w t) k ≡ false → aborts w t k ≡ nothing w
 aborts-nothing w t k live p = rw (live, p) refl
 
-pub aborting-dead : (w : WorldState) (t k : ℕ) → lives w t ≡ false → aborting w t k ≡ refused refusal.NoTab
-aborting-dead w t k dead = rw dead refl
-
-pub aborting-done : (w : WorldState) (t k : ℕ) → lives w t ≡ true → is_pending (tab_of w t) k ≡ true → is_asked (status_of (tab_of w t) k) ≡ true → aborting w t k ≡ issued_next w t
-aborting-done w t k live p q = rw (live, p, q) refl
-
-pub aborting-held : (w : WorldState) (t k : ℕ) → lives w t ≡ true → is_pending (tab_of w t) k ≡ true → is_asked (status_of (tab_of w t) k) ≡ false → aborting w t k ≡ refused refusal.Held
-aborting-held w t k live p q = rw (live, p, q) refl
-
-pub aborting-nothing : (w : WorldState) (t k : ℕ) → lives w t ≡ true → is_pending (tab_of w t) k ≡ false → aborting w t k ≡ refused refusal.Nothing
-aborting-nothing w t k live p = rw (live, p) refl
-
 -- ---- releases
-
-pub releases-dead : (w : WorldState) (t k : ℕ) → lives w t ≡ false → releases w t k ≡ nothing w
-releases-dead w t k dead = rw dead refl
 
 pub releases-done : (w : WorldState) (t k : ℕ) → lives w t ≡ true → is_holding (tab_of w t) k ≡ true → releases w t k ≡ issues w t (released k (tab_of w t))
 releases-done w t k live p = rw (live, p) refl
@@ -134,42 +71,20 @@ releases-done w t k live p = rw (live, p) refl
 pub releases-nothing : (w : WorldState) (t k : ℕ) → lives w t ≡ true → is_holding (tab_of w t) k ≡ false → releases w t k ≡ nothing w
 releases-nothing w t k live p = rw (live, p) refl
 
-pub releasing-dead : (w : WorldState) (t k : ℕ) → lives w t ≡ false → releasing w t k ≡ refused refusal.NoTab
-releasing-dead w t k dead = rw dead refl
-
-pub releasing-done : (w : WorldState) (t k : ℕ) → lives w t ≡ true → is_holding (tab_of w t) k ≡ true → releasing w t k ≡ issued_next w t
-releasing-done w t k live p = rw (live, p) refl
-
-pub releasing-nothing : (w : WorldState) (t k : ℕ) → lives w t ≡ true → is_holding (tab_of w t) k ≡ false → releasing w t k ≡ refused refusal.Nothing
-releasing-nothing w t k live p = rw (live, p) refl
-
 release_by : (p : Bool) (l n : ℕ) → Some n ≡ cond p (Some l) None → (p ≡ true) × (l ≡ n)
 release_by true l n e = (refl, cc)
 release_by false l n e = cc
 
-release_none : (p : Bool) (l : ℕ) → None ≡ cond p (Some l) None → p ≡ false
-release_none true l e = cc
-release_none false l e = refl
-
 pub release-issued : (k n : ℕ) (x : TabState) → Some n ≡ cond (is_holding x k) (Some (length x.issued)) None → (is_holding x k ≡ true) × (length x.issued ≡ n)
 release-issued k n x e = release_by (is_holding x k) (length x.issued) n e
 
-pub release-nothing : (k : ℕ) (x : TabState) → None ≡ cond (is_holding x k) (Some (length x.issued)) None → is_holding x k ≡ false
-release-nothing k x e = release_none (is_holding x k) (length x.issued) e
-
 -- ---- resending
-
-pub resends-dead : (w : WorldState) (t : ℕ) → lives w t ≡ false → resends w t ≡ nothing w
-resends-dead w t dead = rw dead refl
 
 pub resends-sends : (w : WorldState) (t : ℕ) → lives w t ≡ true → (resends w t).sends ≡ resent w t (tab_of w t)
 resends-sends w t live = rw live refl
 
 pub resends-same : (w : WorldState) (t : ℕ) → (resends w t).world ≡ w
 resends-same w t = elim (lives w t) as (λ b. (where_allowed b w (record { world = w; sends = resent w t (tab_of w t) })).world ≡ w) [ true ↦ refl | false ↦ refl ]
-
-pub resending-dead : (w : WorldState) (t : ℕ) → lives w t ≡ false → resending w t ≡ refused refusal.NoTab
-resending-dead w t dead = rw dead refl
 
 pub resending-done : (w : WorldState) (t : ℕ) → lives w t ≡ true → resending w t ≡ some_resent (resent w t (tab_of w t))
 resending-done w t live = rw live refl

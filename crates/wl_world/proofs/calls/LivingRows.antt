@@ -7,10 +7,10 @@ use Rattle.wl_draft.proofs.TableLemmas.{find-put_same}
 use Rattle.wl_broker.specs.Broker.{started}
 use Rattle.wl_broadcast.specs.Channels.{ChannelState, no_channels}
 use Rattle.wl_agent.specs.Tab.{TabState}
-use Rattle.wl_kernel.specs.Kernel.{KernelState, lives as lives_in, is_living, open_refusal, opened, killed, may_stop, stopped, placed}
+use Rattle.wl_kernel.specs.Kernel.{KernelState, lives as lives_in, is_living, open_refusal, opened, killed, placed}
 use Rattle.wl_supervisor.specs.declared.supervisor.Supervisor.{Supervisor}
 use Rattle.wl_supervisor.specs.declared.supervisor.Supervisor.TheVariants.{Down, Up}
-use Rattle.wl_supervisor.specs.Supervised.{kernel_of, with_kernel, begins, begun, halted}
+use Rattle.wl_supervisor.specs.Supervised.{kernel_of, with_kernel, begins, begun}
 use Rattle.wl_bag.specs.declared.message.Message.{Message}
 use Rattle.wl_world.specs.World.{WorldState, lives}
 use Rattle.wl_world.specs.Parts.{OwnRows, HasRows, IsRowed, world_of}
@@ -102,15 +102,8 @@ begun-living : (ts : List ℕ) (s : Supervisor) (u : ℕ) → is_living (kernel_
 begun-living ts (Up k b) u = refl
 begun-living ts (Down k) u = elim (begins ts k) as (λ b. is_living (kernel_of (cond b (Up k (started k.generation (placed ts k))) (Down k))) u ≡ is_living k u) [ true ↦ refl | false ↦ refl ]
 
-halted-living : (s : Supervisor) (u : ℕ) → is_living (kernel_of (halted s)) u ≡ is_living (kernel_of s) u
-halted-living (Down k) u = refl
-halted-living (Up k b) u = elim (may_stop k) as (λ m. is_living (kernel_of (cond m (Down (stopped k)) (Up k b))) u ≡ is_living k u) [ true ↦ refl | false ↦ refl ]
-
 pub starts-rowed : (ts : List ℕ) (s n : Supervisor) (tabs : Table TabState) (cs : Table ChannelState) → n ≡ begun ts s → IsRowed (kernel_of s) tabs cs → IsRowed (kernel_of n) tabs cs
 starts-rowed ts s n tabs cs is r = fewer-rowed (kernel_of s) (kernel_of n) tabs cs (λ u l. sym (begun-living ts s u) ∙ subst (λ z. is_living (kernel_of z) u ≡ true) is l) r
-
-pub stops-rowed : (s n : Supervisor) (tabs : Table TabState) (cs : Table ChannelState) → n ≡ halted s → IsRowed (kernel_of s) tabs cs → IsRowed (kernel_of n) tabs cs
-stops-rowed s n tabs cs is r = fewer-rowed (kernel_of s) (kernel_of n) tabs cs (λ u l. sym (halted-living s u) ∙ subst (λ z. is_living (kernel_of z) u ≡ true) is l) r
 
 -- ---- the rows of a tab that lives
 

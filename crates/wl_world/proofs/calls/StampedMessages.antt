@@ -4,25 +4,14 @@ use Rattle.std.specs.List.{flat_map}
 use Rattle.wl_grammar.specs.declared.frame.Stamped.{Stamped}
 use Rattle.wl_grammar.specs.declared.frame.Upward.{Upward}
 use Rattle.wl_grammar.specs.declared.frame.Upward.TheVariants as up
-use Rattle.wl_grammar.specs.declared.frame.Frame.{Frame}
-use Rattle.wl_grammar.specs.declared.frame.Frame.TheVariants as frame
 use Rattle.wl_agent.specs.Tab.{upward_frame}
-use Rattle.wl_kernel.specs.declared.routes.Routed.TheVariants.{Broker}
 use Rattle.wl_kernel.specs.Kernel.{KernelState}
-use Rattle.wl_kernel.specs.Routes.{routed_up}
 use Rattle.wl_bag.specs.declared.message.Message.{Message}
 use Rattle.wl_bag.specs.declared.message.Message.TheVariants as message
 use Rattle.wl_world.specs.Parts.{passed_on, stamped_in}
 
 abbrev up_message : Stamped → List Message
 up_message s = message.Up s ∷ []
-
--- what the kernel hands to the broker
-pub routed-stamped : (k : KernelState) (t : ℕ) (f : Frame) (s : Stamped) → Broker (frame.Stamped s) ≡ routed_up t f k → up_message s ≡ stamped_in k t f
-routed-stamped k t (frame.Command c) s e = cc
-routed-stamped k t (frame.Report r) s e = cc
-routed-stamped k t (frame.ReportPart r) s e = cc
-routed-stamped k t f s e = absurd cc
 
 pub upward-stamped : (k : KernelState) (t : ℕ) (u : Upward) → stamped_in k t (upward_frame u) ≡ passed_on k t u ∷ []
 upward-stamped k t (up.Command c) = refl

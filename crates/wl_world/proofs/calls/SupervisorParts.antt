@@ -1,19 +1,16 @@
 -- What the supervisor becomes is what the world's kernel and broker become.
 use Rattle.std.proofs.Common.{◌≡◌, ℕ, List, [], Bool, not, is_some, true, false, cond, map, Option, Some, None, Result, Ok, Err, OnOk, refl}
 use Rattle.wl_origin.specs.Order.{Pair}
-use Rattle.wl_draft.specs.Tables.{Table, put}
-use Rattle.wl_grammar.specs.declared.frame.Stamped.{Stamped}
-use Rattle.wl_broadcast.specs.Channels.{ChannelState, no_channels}
-use Rattle.wl_agent.specs.Tab.{TabState, born}
-use Rattle.wl_broker.specs.Broker.{BrokerState, started, hellos, Drops, Does, taking, burial}
-use Rattle.wl_kernel.specs.declared.fault.OpenFault.{OpenFault}
-use Rattle.wl_kernel.specs.Kernel.{open_refusal, opened, is_living, killed, may_stop, stopped, placed}
+use Rattle.wl_draft.specs.Tables.{Table}
+use Rattle.wl_broadcast.specs.Channels.{ChannelState}
+use Rattle.wl_agent.specs.Tab.{TabState}
+use Rattle.wl_broker.specs.Broker.{BrokerState, started, hellos, burial}
+use Rattle.wl_kernel.specs.Kernel.{open_refusal, opened, may_stop, stopped, placed}
 use Rattle.wl_bag.specs.declared.message.Message.{Message}
-use Rattle.wl_limits.specs.declared.tabs.TheConstants.{COMMAND_LIMIT}
 use Rattle.wl_supervisor.specs.declared.supervisor.Supervisor.{Supervisor}
 use Rattle.wl_supervisor.specs.declared.supervisor.Supervisor.TheVariants.{Down, Up}
-use Rattle.wl_supervisor.specs.Supervised.{kernel_of, broker_of, with_kernel, begins as may_begin, begun, greeted, halted, after_taking, outs_by_taking, broker_after, outs_of, is_dead, after_burial, outs_by_burial}
-use Rattle.wl_world.specs.World.{with_kernel as kernel_deed, WorldState, from_broker, nothing, where_allowed, with_rows, opens_as, kills, tells, buries, stops, starts, begins, follows, comes_up}
+use Rattle.wl_supervisor.specs.Supervised.{broker_of, begins as may_begin, begun, greeted, halted, is_dead, after_burial, outs_by_burial}
+use Rattle.wl_world.specs.World.{with_kernel as kernel_deed, WorldState, from_broker, nothing, where_allowed, with_rows, opens_as, tells, buries, stops, starts, begins}
 use Rattle.wl_world.specs.Parts.{world_of}
 
 -- what holds anyway holds after a success
@@ -23,25 +20,8 @@ always (Err e) p = tt
 
 -- ---- opening and killing
 
--- a tab has its rows from its opening on
-pub opens-ok : (i : Bool) (ts us : Table TabState) (cs ds : Table ChannelState) (s : Supervisor) (bag : List Message) (corrupt : List ℕ) (t : ℕ) (p : Pair) → open_refusal t p (kernel_of s) ≡ None → us ≡ put t (born i t COMMAND_LIMIT) ts → ds ≡ put t (no_channels t) cs → world_of us ds (with_kernel (opened t p (kernel_of s)) s) bag corrupt ≡ (opens_as i (world_of ts cs s bag corrupt) t p).world
-opens-ok i ts us cs ds (Down k) bag corrupt t p e row channels = rw (e, row, channels) refl
-opens-ok i ts us cs ds (Up k b) bag corrupt t p e row channels = rw (e, row, channels) refl
-
 pub opens-silent : (i : Bool) (w : WorldState) (t : ℕ) (p : Pair) → (opens_as i w t p).sends ≡ []
 opens-silent i w t p = elim (open_refusal t p w.kernel) as (λ o. (where_allowed (not (is_some o)) w (kernel_deed (opened t p w.kernel) (with_rows i t w))).sends ≡ []) [ None ↦ refl | Some f ↦ refl ]
-
-pub opens-refused : (i : Bool) (w : WorldState) (t : ℕ) (p : Pair) (f : OpenFault) → open_refusal t p w.kernel ≡ Some f → (opens_as i w t p).world ≡ w
-opens-refused i w t p f e = rw e refl
-
-pub kills-after : (ts : Table TabState) (cs : Table ChannelState) (s : Supervisor) (bag : List Message) (corrupt : List ℕ) (t : ℕ) → world_of ts cs (with_kernel (cond (is_living (kernel_of s) t) (killed t (kernel_of s)) (kernel_of s)) s) bag corrupt ≡ (kills (world_of ts cs s bag corrupt) t).world
-kills-after ts cs (Down k) bag corrupt t =
-    elim (is_living k t) as (λ b. world_of ts cs (Down (cond b (killed t k) k)) bag corrupt ≡ (where_allowed b (world_of ts cs (Down k) bag corrupt) (kernel_deed (killed t k) (world_of ts cs (Down k) bag corrupt))).world) [ true ↦ refl | false ↦ refl ]
-kills-after ts cs (Up k c) bag corrupt t =
-    elim (is_living k t) as (λ b. world_of ts cs (Up (cond b (killed t k) k) c) bag corrupt ≡ (where_allowed b (world_of ts cs (Up k c) bag corrupt) (kernel_deed (killed t k) (world_of ts cs (Up k c) bag corrupt))).world) [ true ↦ refl | false ↦ refl ]
-
-pub kills-silent : (w : WorldState) (t : ℕ) → (kills w t).sends ≡ []
-kills-silent w t = elim (is_living w.kernel t) as (λ b. (where_allowed b w (kernel_deed (killed t w.kernel) w)).sends ≡ []) [ true ↦ refl | false ↦ refl ]
 
 -- ---- starting and stopping
 
@@ -67,18 +47,6 @@ starts-sends ts cs (Down k) bag corrupt listed =
     elim (may_begin listed k) as (λ m. map from_broker (cond m (hellos k.generation (placed listed k)) []) ≡ (where_allowed m w (begins w listed)).sends) [ true ↦ refl | false ↦ refl ]
 
 -- ---- what comes to the broker
-
-pub comes-after : (ts : Table TabState) (cs : Table ChannelState) (s : Supervisor) (bag : List Message) (corrupt : List ℕ) (x : Stamped) → world_of ts cs (after_taking x s) bag corrupt ≡ (comes_up (world_of ts cs s bag corrupt) x (broker_of s)).world
-comes-after ts cs (Down k) bag corrupt x = refl
-comes-after ts cs (Up k b) bag corrupt x =
-    let w = world_of ts cs (Up k b) bag corrupt in
-    elim (taking b x) as (λ t. world_of ts cs (Up k (broker_after b t)) bag corrupt ≡ (follows w t).world) [ Drops r ↦ refl | Does c outs ↦ refl ]
-
-pub comes-sends : (ts : Table TabState) (cs : Table ChannelState) (s : Supervisor) (bag : List Message) (corrupt : List ℕ) (x : Stamped) → map from_broker (outs_by_taking x s) ≡ (comes_up (world_of ts cs s bag corrupt) x (broker_of s)).sends
-comes-sends ts cs (Down k) bag corrupt x = refl
-comes-sends ts cs (Up k b) bag corrupt x =
-    let w = world_of ts cs (Up k b) bag corrupt in
-    elim (taking b x) as (λ t. map from_broker (outs_of t) ≡ (follows w t).sends) [ Drops r ↦ refl | Does c outs ↦ refl ]
 
 pub tells-after : (ts : Table TabState) (cs : Table ChannelState) (s : Supervisor) (bag : List Message) (corrupt : List ℕ) (t : ℕ) → world_of ts cs (after_burial t s) bag corrupt ≡ (tells (world_of ts cs s bag corrupt) t (broker_of s)).world
 tells-after ts cs (Down k) bag corrupt t = refl

@@ -1,9 +1,9 @@
 -- Taken lists: what one more item changes.
-use Rattle.std.proofs.Common.{◌≡◌, ◌≢◌, ◌⊎◌, inl, inr, ⊎_elim, ℕ, Bool, true, false, cond, not, ◌&&◌, ◌||◌, List, [], ◌∷◌, ◌++◌, filter, refl, sym, ap, ◌∙◌, append_assoc, append-nil}
+use Rattle.std.proofs.Common.{◌≡◌, ◌≢◌, ◌⊎◌, inl, inr, ℕ, Bool, true, false, cond, not, ◌&&◌, ◌||◌, List, [], ◌∷◌, ◌++◌, filter, refl, sym, ap, ◌∙◌, append_assoc, append-nil}
 use Rattle.std.specs.Prelude.{◌==◌}
 use Rattle.std.specs.List.{list_any}
 use Rattle.std.proofs.Math.Bool.{or-false, or_assoc}
-use Rattle.std.proofs.lemmas.Bool.{or_cases, or_parts, eqb-true, eqb-false, eq-eqb, ne_eqb, cond-true, cond-false}
+use Rattle.std.proofs.lemmas.Bool.{or_parts, eqb-true, eqb-false, eq-eqb, ne_eqb, cond-true, cond-false}
 use Rattle.std.proofs.lemmas.List.{same_from_push}
 use Rattle.wl_draft.specs.Locks.{Locks, no_locks}
 use Rattle.wl_draft.specs.Membership.{In, Here, Later}
@@ -53,21 +53,9 @@ pub commands_of-push : (xs : List Item) (x : Item) → commands_of (xs ++ x ∷ 
 commands_of-push [] x = append-nil (command_of x.act)
 commands_of-push (y ∷ xs) x = ap (λ zs. command_of y.act ++ zs) (commands_of-push xs x) ∙ sym (append_assoc (command_of y.act) (commands_of xs) (command_of x.act))
 
--- with a report among them the base stays
-base_or-report : (a : Act) (m n : ℕ) → is_report a ≡ true → base_or a m ≡ base_or a n
-base_or-report (Reports r) m n e = refl
-base_or-report a m n e = apart e refl
-
 base_or-none : (a : Act) (n : ℕ) → is_report a ≡ false → base_or a n ≡ n
 base_or-none (Reports r) n e = apart refl e
 base_or-none a n e = refl
-
-pub base_of-push_more : (xs : List Item) (x : Item) → has_report xs ≡ true → base_of (xs ++ x ∷ []) ≡ base_of xs
-base_of-push_more [] x h = apart h refl
-base_of-push_more (y ∷ xs) x h = ⊎_elim
-    (λ e. base_or-report y.act (base_of (xs ++ x ∷ [])) (base_of xs) e)
-    (λ e. ap (base_or y.act) (base_of-push_more xs x e))
-    (or_cases _ _ h)
 
 pub base_of-push_first : (xs : List Item) (x : Item) → has_report xs ≡ false → base_of (xs ++ x ∷ []) ≡ base_or x.act 0
 base_of-push_first [] x h = refl
