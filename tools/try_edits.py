@@ -7,9 +7,11 @@ An edit stands in `edits/CRATE`, in the form that `rt` has for edits in `crates/
 another; a line `after: TEXT` before an old text says that the first one behind TEXT is meant. What `rt` tries takes as long as a
 check of the crate at least. But the proof of a function knows of the others what their contracts say, and nothing of their code.
 So edits of the code of different functions are tried together here: a copy of the crate gets one for each function, and the
-prover has to refuse each of these functions, and no other one. Further edits of the same functions are tried in the same way
-after these, and an edit of anything else, as of a definition, is tried alone. Beside each edit stands the first goal that is not
-proved with it.
+prover has to refuse each of these functions, and no other one that they call. A further edit of one of them is made in a twin:
+the same function under another name, with its clauses and its proof. The prover is asked for these functions alone (`--only`),
+which proves what they call too. An edit of anything else, as of a definition, is tried alone, and a line `refused: PATH` in it
+names the function whose proof has to refuse it, as the prover names it. A second one of a trait's function, which has no twin,
+comes after the others. Beside each edit stands the first goal that is not proved with it.
 
 Without CRATE the edits of all crates are tried, as many crates at a time as there are processors and memory. The libraries that
 a crate stands on are built first, by `rt lib`. The status is 0 where the prover refuses every edit, and the last line counts an
@@ -45,7 +47,7 @@ IN_LEMMA = re.compile(r"(?:\./)?(proofs/\S+\.antt):\d+:\d+: error: (.*)")
 UNREAD = re.compile(r"(?:\./)?(?:src|specs)/\S+?:\d+:\d+: error: ")
 # What a proof file says where an edit took a name away that it cites. That shows little.
 NAME_LOST = re.compile(r"has no field|is not in scope|has no `|was not admitted")
-VERDICT = re.compile(r"^logic=(proved|not-proved)", re.M)
+VERDICT = re.compile(r"^(logic=(proved|not-proved)|only=\d+ proved=\d+)", re.M)
 
 
 @dataclasses.dataclass(frozen=True)
@@ -54,6 +56,8 @@ class Function:
 
     path: str
     owner: str
+    # The trait with its arguments, as one word, where the function is of a trait's impl.
+    trait: str
     name: str
     first: int
     body: int
@@ -61,14 +65,27 @@ class Function:
 
     def fits(self, folder):
         """How well its proof fits in this folder below proofs/, as 0 for not at all: a method's stands with its type."""
-        module = re.sub(r"^src/|/?(?:lib|main|mod)?\.rt$", "", self.path)
         above, _, last = f"/{folder}".rpartition("/")
         owner = above.rpartition("/")[2]
         # (a function that calls itself has a `+` in front, and an impl of a trait the trait's name behind the type's)
-        is_home = owner.startswith(self.owner) if self.owner else above.strip("/") == module
+        is_home = owner.startswith(self.owner) if self.owner else above.strip("/") == self.module
         if last.removeprefix("+") != self.name or not is_home:
             return 0
         return 2 if owner == self.owner else 1
+
+    @property
+    def module(self):
+        return re.sub(r"^src/|/?(?:lib|main|mod)?\.rt$", "", self.path)
+
+    @property
+    def key(self):
+        return self.path, self.named
+
+    @property
+    def named(self):
+        """How the prover names it, or the end of that: a method stands with its type, wherever the impl is."""
+        home = [self.owner + self.trait] if self.owner else self.module.split("/")
+        return "::".join(filter(None, [*home, self.name]))
 
 
 def proved_in(folder, functions):
@@ -79,7 +96,7 @@ def proved_in(folder, functions):
 
 @dataclasses.dataclass(frozen=True)
 class Goal:
-    """One that is not proved: its function, by file and first line, if it is one's; whose it is, in words; and its name."""
+    """One that is not proved: its function, by file and name, if it is one's; whose it is, in words; and its name."""
 
     function: tuple
     home: str
@@ -110,6 +127,19 @@ class Change:
         return text[:place] + self.new + text[place + len(self.old) :]
 
 
+@dataclasses.dataclass(frozen=True)
+class Twin:
+    """A function once more, under another name, with an edit made in its code, and what that adds to the end of its file."""
+
+    of: Function
+    function: Function
+    text: str
+
+
+# What the name of a twin ends with, before a number.
+TWIN = "_with_edit_"
+
+
 @dataclasses.dataclass
 class Edit:
     crate: str
@@ -117,6 +147,10 @@ class Edit:
     changes: list
     # The functions whose code it changes, or none where it changes something else too.
     functions: list = dataclasses.field(default_factory=list)
+    # What the prover is asked for: the functions that have to refuse it, by the prover's names.
+    asked: list = dataclasses.field(default_factory=list)
+    # Where it is made in a twin, and not in the function itself.
+    twin: Twin | None = None
 
     def __str__(self):
         return f"edit {self.crate}/{self.name}"
@@ -129,14 +163,15 @@ def text_of(path):
 
 def functions_of(path, text):
     """The functions of a file that `rt fmt` has laid out: each ends at the next brace that is as far in as it begins."""
-    lines, found, owner = text.split("\n"), [], ""
+    lines, found, owner, trait = text.split("\n"), [], "", ""
     for at, line in enumerate(lines):
         indent = line[: len(line) - len(line.lstrip())]
         if re.match(r"(?:unsafe )?impl\b", line):
             target = re.sub(r"^(?:unsafe )?impl(?:<[^{]*?>(?= ))? ", "", line)
-            owner = re.match(r"\w*", target.rpartition(" for ")[2])[0]
+            trait, _, owner = target.rpartition(" for ")
+            trait, owner = "".join(re.findall(r"\w+", trait.replace("&", "Ref "))), re.match(r"\w*", owner)[0]
         elif line == "}":
-            owner = ""
+            owner = trait = ""
         named = FUNCTION.match(line.lstrip())
         if not named:
             continue
@@ -146,7 +181,8 @@ def functions_of(path, text):
         while re.match(r"\s*(?:///|#\[)", lines[first - 1]):
             first -= 1
         if body < last:
-            found.append(Function(path, owner if indent else "", named[1], first + 1, body + 1, last + 1))
+            home = (owner, trait) if indent else ("", "")
+            found.append(Function(path, *home, named[1], first + 1, body + 1, last + 1))
     return found
 
 
@@ -160,6 +196,8 @@ def read_edit(crate, name):
             path = text
             if path not in texts:
                 texts[path] = text_of(os.path.join(ROOT, "crates", crate, path))
+        elif word == "refused":
+            edit.asked.append(text)
         elif word == "after":
             after = text
         elif word == "old":
@@ -176,7 +214,8 @@ def read_edit(crate, name):
     if not edit.changes:
         raise ValueError(f"{edit} changes nothing")
     if None not in inside:
-        edit.functions = list(dict.fromkeys((it.path, it.first) for it in inside))
+        edit.functions = list(dict.fromkeys(it.key for it in inside))
+        edit.asked = edit.asked or list(dict.fromkeys(it.named for it in inside))
     return edit
 
 
@@ -188,13 +227,42 @@ def edits_of(crate):
 def together(edits):
     """The edits in groups. In each no function is changed twice, and each text still stands in its file once."""
     groups = []
-    for edit in edits:
+    for number, edit in enumerate(edits):
         home = next((it for it in groups if edit.functions and fits_in(edit, it)), None)
+        if home is None and groups and (twin := twin_of(edit, number)):
+            edit.twin, edit.functions, edit.asked = twin, [twin.function.key], [twin.function.named]
+            home = next((it for it in groups if fits_in(edit, it)), None)
         if home is None:
             groups.append([edit])
         else:
             home.append(edit)
     return groups
+
+
+def twin_of(edit, number):
+    """A twin of the function that an edit changes, if it is one alone, and neither of a trait nor one that calls itself."""
+    if len(edit.functions) != 1:
+        return None
+    path, named = edit.functions[0]
+    text = edited = text_of(os.path.join(ROOT, "crates", edit.crate, path))
+    of = next(it for it in functions_of(path, text) if it.named == named)
+    lines = text.split("\n")
+    begins = sum(len(it) + 1 for it in lines[: of.first - 1])
+    behind = sum(len(it) + 1 for it in lines[of.last :])
+    for change in edit.changes:
+        edited = change.made_in(edited, edit)
+    body = edited[begins : len(edited) - behind]
+    name = f"{of.name}{TWIN}{number}"
+    body = re.sub(rf"\bfn {of.name}\b", f"fn {name}", body, count=1)
+    is_inside = lines[of.body - 1].startswith(" ")
+    calls_itself = re.search(rf"(?:\bself\.|\bSelf::){of.name}\(" if of.owner else rf"(?<![\w.:]){of.name}\(", body)
+    if of.trait or calls_itself or is_inside and not of.owner:
+        return None
+    if is_inside:
+        begin = max(n for n in range(of.first) if re.match(r"(?:unsafe )?impl\b", lines[n]))
+        end = next(n for n in range(begin, of.first) if lines[n].endswith("{"))
+        body = "\n".join([*lines[begin : end + 1], body, "}"])
+    return Twin(of, dataclasses.replace(of, name=name), f"\n{body}\n")
 
 
 def fits_in(edit, group):
@@ -214,7 +282,10 @@ def changed(edits):
         for change in edit.changes:
             if change.path not in texts:
                 texts[change.path] = text_of(os.path.join(ROOT, "crates", edit.crate, change.path))
-            texts[change.path] = change.made_in(texts[change.path], edit)
+            if not edit.twin:
+                texts[change.path] = change.made_in(texts[change.path], edit)
+    for twin in filter(None, (it.twin for it in edits)):
+        texts[twin.of.path] += twin.text
     return texts
 
 
@@ -273,18 +344,40 @@ class Trial:
         return self
 
     def said_of(self, edits):
-        """What the prover says of the crate with these edits."""
+        """What the prover says of the functions that have to refuse these edits, or of the whole crate where one names none."""
         texts = changed(edits)
         folder = os.path.join(self.room, "crate")
         for path, text in texts.items():
             with open(os.path.join(folder, path), "w", encoding="utf-8") as file:
                 file.write(text)
+        proofs = [it for edit in edits if edit.twin for it in self.twin_proofs(edit.twin)]
         words = [*self.command, "--incremental", os.path.join(self.room, "kept")]
+        paths = [it for edit in edits for it in edit.asked] if all(it.asked for it in edits) else []
+        asked = [word for it in paths for word in ("--only", it)]
         how = {"stdin": subprocess.DEVNULL, "stdout": subprocess.PIPE, "stderr": subprocess.STDOUT, "errors": "replace"}
-        ran = subprocess.run(words, cwd=folder, check=False, **how)
+        ran = subprocess.run([*words, *asked], cwd=folder, check=False, **how)
+        if asked and not VERDICT.search(ran.stdout):
+            # (a name that fits nothing, say)
+            ran = subprocess.run(words, cwd=folder, check=False, **how)
         for path in texts:
             shutil.copy(os.path.join(ROOT, "crates", self.crate, path), os.path.join(folder, path))
+        for made in proofs:
+            shutil.rmtree(made)
         return ran.stdout, texts
+
+    def twin_proofs(self, twin):
+        """Copies what is written of the proof of a function for its twin, and returns where."""
+        top = os.path.join(self.room, "crate", "proofs")
+        found = [os.path.join(at, it) for at, names, _ in os.walk(top) for it in names if it == twin.of.name]
+        for folder in [it for it in found if twin.of.fits(os.path.relpath(it, top)) == (2 if twin.of.owner else 1)]:
+            made = os.path.join(os.path.dirname(folder), twin.function.name)
+            shutil.copytree(folder, made)
+            old, new = (os.path.relpath(it, top).replace(os.sep, ".") for it in (folder, made))
+            for name in os.listdir(made):
+                text = text_of(os.path.join(made, name))
+                with open(os.path.join(made, name), "w", encoding="utf-8") as file:
+                    file.write(text.replace(f".proofs.{old}.", f".proofs.{new}."))
+            yield made
 
     def judge(self, group):
         said, texts = self.said_of(group)
@@ -316,7 +409,7 @@ class Trial:
             return
         goal = min(goals, key=lambda it: it.is_lost)
         least = ", which only names what the edit took away, so this says little of the contract" if goal.is_lost else ""
-        self.refused.append(f"{edit}: refused by `{goal.home}`, `{goal.clause}`{least}")
+        self.refused.append(f"{edit}: refused by `{goal.home.partition(TWIN)[0]}`, `{goal.clause}`{least}")
 
     def functions(self, texts):
         """The functions of the crate, where some of its files have these texts."""
@@ -326,11 +419,11 @@ class Trial:
         return [it for path, file in paths.items() for it in functions_of(path, texts.get(path) or text_of(file))]
 
     def proved_by(self, said, texts):
-        """The functions that the prover tells as proved, by file and first line."""
+        """The functions that the prover tells as proved, by file and name."""
         functions = self.functions(texts)
         names = re.findall(rf"^fn {self.crate}::(\S+): proved", said, re.M)
         found = [proved_in(it.replace("::", "/"), functions) for it in names]
-        return {(it.path, it.first) for it in found if it}
+        return {it.key for it in found if it}
 
     def goals_of(self, said, texts):
         """The goals that are not proved, in the order in which the prover tells them."""
@@ -340,12 +433,12 @@ class Trial:
             if in_code:
                 at = int(in_code[2])
                 of = next((it for it in functions if it.path == in_code[1] and it.first <= at <= it.last), None)
-                goals.append(Goal(of and (of.path, of.first), of.name if of else in_code[1], in_code[3], False))
+                goals.append(Goal(of and of.key, of.name if of else in_code[1], in_code[3], False))
             elif in_proof:
                 of = proved_in(in_proof[1], functions)
                 clause = re.match(r"`([^`]+)`", in_proof[2])
                 name = in_proof[1].rpartition("/")[2]
-                goals.append(Goal(of and (of.path, of.first), name, clause[1] if clause else "", bool(NAME_LOST.search(line))))
+                goals.append(Goal(of and of.key, name, clause[1] if clause else "", bool(NAME_LOST.search(line))))
             elif in_lemma:
                 clause = re.match(r"`([^`]+)`", in_lemma[2])
                 goals.append(Goal(None, in_lemma[1], clause[1] if clause else "", bool(NAME_LOST.search(line))))
