@@ -1,17 +1,16 @@
 -- What each call owes the table.
-use Rattle.std.proofs.Common.{◌≡◌, ℕ, zero, suc, ◌+◌, ◌-◌, ◌%◌, ◌^◌, ◌<◌, ◌≤◌, max, eqb, List, [], ◌∷◌, ◌++◌, length, set, inl, inr, sym, refl, ap, ◌∙◌, subst, ⊎_elim, arith, length-set, le_refl, eq-eqb, ne_eqb, replicate}
+use Rattle.std.proofs.Common.{◌≡◌, ℕ, ◌+◌, ◌-◌, ◌%◌, ◌^◌, ◌<◌, ◌≤◌, max, eqb, List, [], ◌∷◌, ◌++◌, length, inl, inr, sym, refl, ap, subst, ⊎_elim, arith, le_refl, eq-eqb, ne_eqb}
 use Rattle.std.specs.Prelude.{slice_index}
 use Rattle.std.proofs.lemmas.Bool.{cases_lt}
-use Rattle.std.proofs.lemmas.List.{length-replicate, get_or-replicate, get_or_past}
 use mathlib.Core.Logic.{dite}
-use mathlib.Core.Option.{none, some-injective, some-ne-none}
+use mathlib.Core.Option.{none}
 use native.Mathlib.Decide.{ℕ_discrete}
 use prog.Atomic.{either}
-use Rattle.atomic_table.specs.Table.{Me, step, keeps, stepped, opening, Allows, Splits}
+use Rattle.atomic_table.specs.Table.{Me, step, keeps, stepped, Allows, Splits}
 use Rattle.wl_board.specs.declared.rule.View.{View}
-use Rattle.wl_board.specs.Rule.{times, Has, EachSeat, IsOrderly, first_seat}
+use Rattle.wl_board.specs.Rule.{times, Has, IsOrderly}
 use Rattle.wl_board.specs.Steps.{sees, marks as marks_tab, draws_number, draws_none, bears, bumps_to, looked, read, marked, born_or_dead, drew, bumped, stays, splits_off}
-use Rattle.wl_board.proofs.Views.{at_word, at_other, total_one, times-push, times-push_same}
+use Rattle.wl_board.proofs.Views.{total_one, times-push, times-push_same}
 use Rattle.wl_board.proofs.Keeps.{sees_kept, counter_small, generation_small, not_drawn, draw_kept, miss_kept, bump_kept, not_living, birth_kept, split_kept}
 
 abbrev Sat : Type 0
@@ -134,51 +133,3 @@ module _ (tabs slots id : ℕ) (me : Sat) (long : length me.0.seen ≡ tabs + 2)
 
 pub deals : (tabs id : ℕ) (v : View) → 0 < v.to_give → Splits (IsOrderly tabs) id v (stays v) (splits_off v)
 deals tabs id v some_left s h at = split_kept tabs s h id v at some_left
-
-abbrev zeros : ℕ → List ℕ
-zeros tabs = replicate (tabs + 2) 0
-
-abbrev first_words : ℕ → List ℕ
-first_words tabs = set (set (zeros tabs) 0 1) 1 1
-
-long_zeros : (tabs : ℕ) → length (zeros tabs) ≡ tabs + 2
-long_zeros tabs = length-replicate {A = ℕ} (tabs + 2) 0
-
-zero_at : (tabs j : ℕ) → slice_index (zeros tabs) j ≡ 0
-zero_at tabs j = let e = long_zeros tabs in ⊎_elim (λ (is : j < tabs + 2). get_or-replicate {A = ℕ} (tabs + 2) j 0 0 is) (λ (not : tabs + 2 ≤ j). get_or_past (zeros tabs) j 0 (omega arith)) (cases_lt j (tabs + 2))
-
-long_words : (tabs : ℕ) → length (first_words tabs) ≡ tabs + 2
-long_words tabs = length-set (set (zeros tabs) 0 1) 1 1 ∙ length-set (zeros tabs) 0 1 ∙ long_zeros tabs
-
-first_counter : (tabs : ℕ) → slice_index (first_words tabs) 1 ≡ 1
-first_counter tabs = let e = length-set (zeros tabs) 0 1 in let d = long_zeros tabs in at_word (set (zeros tabs) 0 1) 1 1 (omega arith)
-
-first_generation : (tabs : ℕ) → slice_index (first_words tabs) 0 ≡ 1
-first_generation tabs = let d = long_zeros tabs in at_other (set (zeros tabs) 0 1) 1 0 1 (λ e. absurd (omega arith)) ∙ at_word (zeros tabs) 0 1 (omega arith)
-
-first_tab : (tabs tab : ℕ) → 0 < tab → slice_index (first_words tabs) (tab + 1) ≡ 0
-first_tab tabs tab pos = at_other (set (zeros tabs) 0 1) 1 (tab + 1) 1 (λ e. absurd (omega arith)) ∙ at_other (zeros tabs) 0 (tab + 1) 1 (λ e. absurd (omega arith)) ∙ zero_at tabs (tab + 1)
-
-each_one : (P : View → Type 0) (w : View) → P w → EachSeat P (w ∷ [])
-each_one P w p zero v e = subst P (some-injective w v e) p
-each_one P w p (suc i) v e = absurd (some-ne-none v (sym e))
-
-opened : (tabs : ℕ) → IsOrderly tabs (opening (first_words tabs) [] (first_seat tabs))
-opened tabs = record {
-  wide = long_words tabs;
-  few = omega arith;
-  limits = each_one (λ u. (u.draws ≤ 65535) × (u.bumps ≤ 65535)) (first_seat tabs) (omega arith, omega arith);
-  seen = each_one (λ u. (j : ℕ) → slice_index u.seen j ≤ slice_index (first_words tabs) j) (first_seat tabs) (λ j. let z = zero_at tabs j in omega arith);
-  once = λ n. omega arith;
-  below = λ n le. omega arith;
-  born = each_one (λ u. (n : ℕ) → times n u.born ≤ times n u.drawn) (first_seat tabs) (λ n. omega arith);
-  counter = let e = first_counter tabs in omega arith;
-  generation = let e = first_generation tabs in omega arith;
-  states = λ tab pos. let e = first_tab tabs tab pos in omega arith;
-  living = λ tab pos is_one. absurd (let e = first_tab tabs tab pos in omega arith);
-  dead = λ tab pos two. absurd (let e = first_tab tabs tab pos in omega arith);
-  known = λ tab pos high. absurd (let e = first_tab tabs tab pos in omega arith);
-}
-
-pub opens : (tabs : ℕ) (ws : List ℕ) → ws ≡ set (set (replicate (tabs + 2) 0) 0 1) 1 1 → IsOrderly tabs (opening ws [] (first_seat tabs))
-opens tabs ws is = subst (λ l. IsOrderly tabs (opening l [] (first_seat tabs))) (sym is) (opened tabs)

@@ -15,12 +15,9 @@ use Rattle.wl_broker.specs.declared.seat.Seat.{Seat}
 use Rattle.wl_broker.specs.declared.seat.Seat.TheVariants.{Joined, Dead}
 use Rattle.wl_broker.specs.Broker.{BrokerState, seat_of, limit_of, limit_in, is_dead, listed_at, place_of, burial, Does, is_active, settled_at, newly_at, join, perform, drafted, first_answer, later_answer, answer_to, grants_to, has_come, next_in, buried_at, with_seat, manager_of, snapshot_to, snapshot_entries, answer_of, outcome_at, snapshot_of, snapshot_entry_of}
 use Rattle.wl_broker.specs.Kept.{PartitionState, state_of, no_partition, all_come, grant_of, broker_of}
-use Rattle.wl_broker.proofs.PartitionRows.{map_values, put-map_values, at-map_values, find_there, put_same}
+use Rattle.wl_broker.proofs.PartitionRows.{put-map_values, at-map_values, find_there, put_same}
 use Rattle.wl_broker.proofs.Arrivals.{all_come-again}
 use Rattle.wl_broker.proofs.SettledLocks.{settle_same}
-
-abbrev locks_of : Table PartitionState → Table Locks
-locks_of partitions = map_values (λ (s : PartitionState). s.locks) partitions
 
 pub is_active-fields : (g : ℕ) (listed : List (ℕ × ℕ)) (seats : Table Seat) (partitions : Table PartitionState) (partial : Table Partial) (p : ℕ) → is_active (broker_of g listed seats partitions partial) p ≡ all_come listed seats p
 unfolding is_active

@@ -6,10 +6,7 @@ use Rattle.wl_grammar.specs.declared.frame.Frame.{Frame}
 use Rattle.wl_grammar.specs.Grammar.{IsWellFormed, body}
 use Rattle.wl_frames.specs.Stream.{Begins, is_envelope}
 use Rattle.wl_frames.proofs.Forms.{some_is}
-use Rattle.wl_frames.proofs.Frames.{version_of, code_of, kind_of, fields, body_is, kind_at-code, begun, one_frame as one_frame_of}
-
-pub one_frame : (f g : Frame) → IsWellFormed f → IsWellFormed g → body f ≡ body g → f ≡ g
-one_frame f g p q e = one_frame_of (body f) f g (record { well_formed = p; spelled = refl }) (record { well_formed = q; spelled = e })
+use Rattle.wl_frames.proofs.Frames.{version_of, code_of, kind_of, fields, body_is, kind_at-code, begun}
 
 pub no_body_begins_another : (f g : Frame) (more : List ℕ) → IsWellFormed f → IsWellFormed g → is_envelope f ≡ false → body g ≡ body f ++ more → more ≡ []
 no_body_begins_another f g more p q open_ended e =

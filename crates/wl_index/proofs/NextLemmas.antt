@@ -214,9 +214,6 @@ pub stuck-nexts : (held waiting : Table Row) → ((name : List ℕ) → next_in 
 stuck-nexts held waiting f =
     stuck-rows held [] waiting (λ front back p e. not-true (is_grantable (values_in held) (values_in front) p.1) (λ g. some-none p.0 (sym (ap (λ w. next_in p.1.name held w) e ∙ grantable-next held front back p g) ∙ f p.1.name)))
 
-false-true : (b : Bool) → b ≡ false → b ≡ true → ⊥
-false-true b e f = cc
-
 pub next-stuck_step : (held waiting : Table Row) (o : Option ℕ) → ((k : ℕ) → o ≡ Some k → ⊥) → o ≡ None
 next-stuck_step held waiting None f = refl
 next-stuck_step held waiting (Some k) f = absurd (f k refl)

@@ -3,22 +3,15 @@ use Rattle.std.proofs.Common.{◌≡◌, ◌≢◌, ℕ, Bool, List, [], ◌∷�
 use Rattle.std.proofs.lemmas.List.Sums.{length-filter}
 use Rattle.std.specs.List.{AllByRecursion}
 use Rattle.wl_grammar.specs.declared.frame.Post.{Post}
-use Rattle.wl_grammar.specs.declared.frame.Downward.{Downward}
-use Rattle.wl_grammar.specs.declared.frame.Downward.TheVariants as down
 use Rattle.wl_grammar.specs.declared.frame.Frame.{Frame}
-use Rattle.wl_grammar.specs.Grammar.{IsTab, IsPost, IsDownward, IsWellFormed}
-use Rattle.wl_kernel.specs.Routes.{heard_of, frame_of}
+use Rattle.wl_grammar.specs.Grammar.{IsTab, IsPost, IsWellFormed}
+use Rattle.wl_kernel.specs.Routes.{heard_of}
 
 -- a post of a tab is heard as it was sent
 pub all_heard : (t : ℕ) (p : Post) (xs : List ℕ) → IsTab t → IsPost p → AllByRecursion (λ (h : ℕ × Frame). IsWellFormed h.1) (map (λ n. (n, heard_of t p)) xs)
 all_heard t p [] tab post = tt
 all_heard t p (x ∷ xs) tab post =
     (record { source = tab; number = post.number; channel = post.channel; bytes = post.bytes }, all_heard t p xs tab post)
-
-framed : (d : Downward) → IsDownward d → IsWellFormed (frame_of d)
-framed (down.Hello h) w = w
-framed (down.Answer a) w = w
-framed (down.Snapshot s) w = w
 
 -- ---- whether anybody hears
 

@@ -18,9 +18,6 @@ pub numbers-above : (k : ℕ) (js : List ℕ) → are_above k js ≡ true → wi
 numbers-above k [] a = refl
 numbers-above k (j ∷ js) a = numbers-above_step k j js (numbers-above k js) a
 
-rise-tail : (j : ℕ) (js : List ℕ) → do_rise (j ∷ js) ≡ true → do_rise js ≡ true
-rise-tail j js r = grind (arith, nat_tests)
-
 pub no_index : (i : ℕ) → i < 0 → ⊥
 no_index i l = omega (arith, l)
 

@@ -1,5 +1,5 @@
 -- Each step keeps the rule.
-use Rattle.std.proofs.Common.{◌≡◌, ◌≢◌, ℕ, zero, suc, List, [], ◌∷◌, ◌++◌, set, All, Bool, true, false, inl, inr, sym, refl, ap, ◌∙◌, subst, ⊎_elim, arith, append_assoc}
+use Rattle.std.proofs.Common.{◌≡◌, ◌≢◌, ℕ, zero, suc, List, [], ◌∷◌, ◌++◌, set, All, Bool, true, false, inr, sym, refl, ap, ◌∙◌, subst, ⊎_elim, arith, append_assoc}
 use Rattle.std.proofs.lemmas.List.Elements.{All-push}
 use mathlib.Core.Option.{some-injective, some-ne-none}
 use lib.ListN.{get_elem?}
@@ -56,9 +56,6 @@ pub taking_role : (role : Role) → is_taking role ≡ true → role ≡ Taking
 taking_role Opening e = cc
 taking_role Taking e = refl
 taking_role Putting e = cc
-
-pub begins : IsOrderly [] (opening ∷ [])
-begins = inl (refl, refl)
 
 module _ (partition tab : ℕ) where
   abbrev t : View

@@ -252,11 +252,3 @@ closed_as false c is = let bad : ⊥ = cc in absurd bad
 
 pub closed_already : (c : ChannelState) (k : ℕ) → number_refusal k c ≡ Some Closed → (ltb k (length c.objects) ≡ true) × (is_open_at c.objects k ≡ false)
 closed_already c k is = closed_as (ltb k (length c.objects)) (is_open_at c.objects k) is
-
-no_fault_as : {A : Type 0} (e : ChannelFault) (b c : Bool) → cond b (cond c None (Some Closed)) (Some NoChannel) ≡ Some (Fault e) → A
-no_fault_as e true true is = absurd (never None (Fault e) refl is)
-no_fault_as e true false is = let bad : ⊥ = cc in absurd bad
-no_fault_as e false c is = let bad : ⊥ = cc in absurd bad
-
-pub no_fault : {A : Type 0} (c : ChannelState) (k : ℕ) (e : ChannelFault) → number_refusal k c ≡ Some (Fault e) → A
-no_fault c k e is = no_fault_as e (ltb k (length c.objects)) (is_open_at c.objects k) is

@@ -1,5 +1,5 @@
 -- Lemmas on readings of one piece of the input after another.
-use Rattle.std.proofs.Common.{◌≡◌, ℕ, List, [], ◌++◌, true, false, Result, Ok, Err, inl, inr, refl, sym, ap, subst, ◌∙◌, append_assoc, append-nil}
+use Rattle.std.proofs.Common.{◌≡◌, ℕ, List, [], ◌++◌, true, false, Ok, Err, inl, inr, refl, sym, ap, subst, ◌∙◌, append_assoc, append-nil}
 use Rattle.std.specs.List.{flat_map}
 use Rattle.std.proofs.lemmas.List.Concat.{flat_map-append}
 use Rattle.wl_broker.proofs.SpeechLists.{AllByRecursion-append}
@@ -7,12 +7,12 @@ use Rattle.wl_frames.specs.declared.fault.FrameFault.{FrameFault}
 use Rattle.wl_frames.specs.declared.fault.FrameFault.TheVariants as fault
 use Rattle.wl_grammar.specs.declared.frame.Frame.{Frame}
 use Rattle.wl_grammar.specs.Grammar.{IsWellFormed, spelling}
-use Rattle.wl_frames.specs.Stream.{Stop, Rest, Fault, HasFault, HasFaultNext, Reads, IsPartial, Feeding, Takes, Refuses}
+use Rattle.wl_frames.specs.Stream.{Stop, Rest, Fault, HasFault, HasFaultNext, Reads, IsPartial, Feeding, Refuses}
 use Rattle.wl_workers.specs.declared.desk.DeskFault.{DeskFault}
 use Rattle.wl_workers.specs.declared.desk.DeskFault.TheVariants as desk
 use Rattle.wl_encoding.specs.Prefixes.{IsPrefixOf}
 use Rattle.wl_workers.specs.Desk.{DeskState, desk_after, IsRefused, IsReadPart}
-use Rattle.wl_workers.specs.DeskSteps.{of_frame, due, Deals, EndsBy, Breaks, Treats}
+use Rattle.wl_workers.specs.DeskSteps.{of_frame, due, Deals, EndsBy, Breaks}
 
 -- a reading up to a rest, and one of the rest and more, are one reading
 pub Reads-join : (stream piece rest : List ℕ) (fs gs : List Frame) (stop : Stop) → Reads stream fs (Rest rest) → Reads (rest ++ piece) gs stop → Reads (stream ++ piece) (fs ++ gs) stop
@@ -61,19 +61,6 @@ breaks_by_deals old new rest piece frames stop e output reads h = record {
   reads = reads;
   ends = ends_by_deals old new frames stop e output h;
 }
-
--- a piece whose frames are all whole, or end in a rest
-pub treats_taken : (old new : DeskState) (before after : Feeding) (piece : List ℕ) (frames : List Frame) (r : Result (Unit {0}) DeskFault) (output : List ℕ) → Takes before after piece frames
-    → Deals old frames new r output → Treats old new before.rest piece after r output
-treats_taken old new before after piece frames (Ok done) output takes h = record {
-  frames = frames;
-  sound = takes.is_sound;
-  reads = takes.reads;
-  desk_is = h.0;
-  is_open = h.1;
-  output_is = h.2;
-}
-treats_taken old new before after piece frames (Err e) output takes h = breaks_by_deals old new before.rest piece frames (Rest after.rest) e output takes.reads h
 
 -- a piece that memory refused
 breaks_by_memory : (old : DeskState) (rest piece : List ℕ) (output : List ℕ) → IsPartial rest → output ≡ [] → Breaks old rest piece desk.Memory output

@@ -14,7 +14,7 @@ use Rattle.wl_workers.specs.declared.tab_reader.ReadEnd.{ReadEnd}
 use Rattle.wl_workers.specs.declared.tab_reader.ReadEnd.TheVariants as end
 use Rattle.wl_workers.specs.Told.{Grows}
 use Rattle.wl_workers.specs.Looks.{IsNotDead, at_tab, FindsDead}
-use Rattle.wl_workers.specs.TabReader.{ended, dead_look, HandsUp, IsButLastPiece, EndsAfter, NeedsEnd, ReadsTab, Passes, Closes, IsPieceEnd}
+use Rattle.wl_workers.specs.TabReader.{ended, dead_look, HandsUp, IsButLastPiece, EndsAfter, NeedsEnd, ReadsTab, Passes, IsPieceEnd}
 use Rattle.wl_workers.proofs.ToldLemmas.{Grows-nil, Grows-trans}
 use Rattle.wl_workers.proofs.PieceLemmas.{Reads-join, Reads-none, no_cut}
 
@@ -138,15 +138,6 @@ ends_in_piece tab r s t a b c x y z rest piece more e h consumed ends hands = re
   ends = ends_join h.input piece rest h.frames more e h.reads ends;
   hands = HandsUp-more tab a b c x y z h.frames more (dead_look e) h.hands hands;
 }
-
--- the input is at its end, between two frames or within one
-closed : (input : List ℕ) (frames : List Frame) (rest : List ℕ) (e : Result (Unit {0}) ReadEnd) → Reads input frames (Rest rest) → Closes rest e → EndsAfter [] input frames (ended e)
-closed input frames rest (Ok done) reads h = subst (λ r. Reads input frames (Rest r)) h reads
-closed input frames rest (Err (end.Frame f)) reads h = inr (inr (h.1, (rest, h.0, reads)))
-closed input frames rest (Err end.End) reads h = absurd h
-closed input frames rest (Err end.Read) reads h = absurd h
-closed input frames rest (Err end.TooManyReads) reads h = absurd h
-closed input frames rest (Err end.Dead) reads h = absurd h
 
 -- ---- ends that a piece brings
 

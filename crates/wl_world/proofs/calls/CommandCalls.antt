@@ -12,7 +12,7 @@ use Rattle.wl_tab.specs.Tabs.{tab_in}
 use Rattle.wl_tab.specs.TabTokens.{abortion}
 use Rattle.wl_supervisor.specs.declared.supervisor.Supervisor.{Supervisor}
 use Rattle.wl_supervisor.specs.Supervised.{kernel_of}
-use Rattle.wl_world.specs.World.{WorldState, Deed, tab_of, lives, acts, issues, asks, queries, aborts, releases, resends, resent, nothing, where_allowed}
+use Rattle.wl_world.specs.World.{WorldState, Deed, tab_of, lives, acts, issues, asks, queries, aborts, releases, resends, resent, where_allowed}
 use Rattle.wl_world.specs.Replies.{resending, some_resent}
 use Rattle.wl_world.specs.Parts.{world_of, issued_in}
 
@@ -43,33 +43,16 @@ issued_by true true l n e = (refl, refl, cc)
 issued_by true false l n e = cc
 issued_by false q l n e = cc
 
-held_by : (p q : Bool) (l : ℕ) → cond p (cond q (a.Issued l) a.Held) a.Nothing ≡ a.Held → (p ≡ true) × (q ≡ false)
-held_by true true l e = cc
-held_by true false l e = (refl, refl)
-held_by false q l e = cc
-
 pub abort-issued : (k n : ℕ) (x : TabState) → abortion k x ≡ a.Issued n → (is_pending x k ≡ true) × (is_asked (status_of x k) ≡ true) × (length x.issued ≡ n)
 abort-issued k n x e = issued_by (is_pending x k) (is_asked (status_of x k)) (length x.issued) n e
 
-pub abort-held : (k : ℕ) (x : TabState) → abortion k x ≡ a.Held → (is_pending x k ≡ true) × (is_asked (status_of x k) ≡ false)
-abort-held k x e = held_by (is_pending x k) (is_asked (status_of x k)) (length x.issued) e
-
 pub aborts-done : (w : WorldState) (t k : ℕ) → lives w t ≡ true → is_pending (tab_of w t) k ≡ true → is_asked (status_of (tab_of w t) k) ≡ true → aborts w t k ≡ issues w t (aborted k (tab_of w t))
 aborts-done w t k live p q = rw (live, p, q) refl
-
-pub aborts-held : (w : WorldState) (t k : ℕ) → lives w t ≡ true → is_pending (tab_of w t) k ≡ true → is_asked (status_of (tab_of w t) k) ≡ false → aborts w t k ≡ nothing w
-aborts-held w t k live p q = rw (live, p, q) refl
-
-pub aborts-nothing : (w : WorldState) (t k : ℕ) → lives w t ≡ true → is_pending (tab_of w t) k ≡ false → aborts w t k ≡ nothing w
-aborts-nothing w t k live p = rw (live, p) refl
 
 -- ---- releases
 
 pub releases-done : (w : WorldState) (t k : ℕ) → lives w t ≡ true → is_holding (tab_of w t) k ≡ true → releases w t k ≡ issues w t (released k (tab_of w t))
 releases-done w t k live p = rw (live, p) refl
-
-pub releases-nothing : (w : WorldState) (t k : ℕ) → lives w t ≡ true → is_holding (tab_of w t) k ≡ false → releases w t k ≡ nothing w
-releases-nothing w t k live p = rw (live, p) refl
 
 release_by : (p : Bool) (l n : ℕ) → Some n ≡ cond p (Some l) None → (p ≡ true) × (l ≡ n)
 release_by true l n e = (refl, cc)

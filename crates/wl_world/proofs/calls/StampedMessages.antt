@@ -1,17 +1,12 @@
 -- What a tab says to the broker, as the kernel passes it on.
 use Rattle.std.proofs.Common.{◌≡◌, ℕ, List, [], ◌∷◌, ◌++◌, map, refl, ap, ◌∙◌}
 use Rattle.std.specs.List.{flat_map}
-use Rattle.wl_grammar.specs.declared.frame.Stamped.{Stamped}
 use Rattle.wl_grammar.specs.declared.frame.Upward.{Upward}
 use Rattle.wl_grammar.specs.declared.frame.Upward.TheVariants as up
 use Rattle.wl_agent.specs.Tab.{upward_frame}
 use Rattle.wl_kernel.specs.Kernel.{KernelState}
 use Rattle.wl_bag.specs.declared.message.Message.{Message}
-use Rattle.wl_bag.specs.declared.message.Message.TheVariants as message
 use Rattle.wl_world.specs.Parts.{passed_on, stamped_in}
-
-abbrev up_message : Stamped → List Message
-up_message s = message.Up s ∷ []
 
 pub upward-stamped : (k : KernelState) (t : ℕ) (u : Upward) → stamped_in k t (upward_frame u) ≡ passed_on k t u ∷ []
 upward-stamped k t (up.Command c) = refl
