@@ -1,4 +1,4 @@
-"""Tries the must-fail edits, those of different functions of a crate at once.
+"""Tries the must-fail edits, those of a crate at once.
 
 usage: try_edits.py [--gate] [CRATE ..]
        try_edits.py --fit
@@ -10,13 +10,14 @@ So edits of the code of different functions are tried together here: a copy of t
 prover has to refuse each of these functions, and no other one that they call. A further edit of one of them is made in a twin:
 the same function under another name, with its clauses and its proof. The prover is asked for these functions alone (`--only`),
 which proves what they call too. An edit of anything else, as of a definition, is tried alone, and a line `refused: PATH` in it
-names the function whose proof has to refuse it, as the prover names it. A second one of a trait's function, which has no twin,
-comes after the others. Beside each edit stands the first goal that is not proved with it.
+names the function that has to refuse it, as the prover names it, by a goal of its own or by a lemma. A second edit of a trait's
+function, which has no twin, comes after the others. Beside each edit stands the first goal that is not proved with it.
 
 Without CRATE the edits of all crates are tried, as many crates at a time as there are processors and memory. The libraries that
 a crate stands on are built first, by `rt lib`. The status is 0 where the prover refuses every edit, and the last line counts an
 edit that it refuses as passed, as `rt ci` does.
-With `--gate` it takes the libraries as `rt ci` has just left them, where it has, and leaves five crates out.
+With `--gate` it takes the libraries as `rt ci` has just left them, where it has, and leaves seven crates out, and of the
+others each edit with a line `gate: no`.
 With `--fit` none is tried: the status is 0, and nothing is printed, where each edit still fits its file.
 """
 
@@ -33,7 +34,7 @@ import tempfile
 ROOT = os.path.dirname(os.path.dirname(os.path.abspath(__file__)))
 EDITS = os.path.join(ROOT, "edits")
 # What the gate leaves out: a check of these takes longest, or very long for the few edits that they have.
-LEFT_OUT = {"wl_command_line", "wl_kernel_process", "wl_replies", "wl_script", "wl_world"}
+LEFT_OUT = {"wl_bag", "wl_command_line", "wl_encoding", "wl_kernel_process", "wl_replies", "wl_script", "wl_world"}
 
 # What a check of a large crate may take of memory, in bytes.
 MEMORY = 4 << 30
@@ -96,7 +97,7 @@ def proved_in(folder, functions):
 
 @dataclasses.dataclass(frozen=True)
 class Goal:
-    """One that is not proved: its function, by file and name, if it is one's; whose it is, in words; and its name."""
+    """One that is not proved: the key of its function, if it is one's; whose it is, in words; and its name."""
 
     function: tuple
     home: str
@@ -151,9 +152,17 @@ class Edit:
     asked: list = dataclasses.field(default_factory=list)
     # Where it is made in a twin, and not in the function itself.
     twin: Twin | None = None
+    # Whether the gate tries it.
+    is_of_gate: bool = True
 
     def __str__(self):
         return f"edit {self.crate}/{self.name}"
+
+    def is_refused_by(self, goal, is_alone):
+        """Whether this goal is of what has to refuse it. A lemma's, of no function, tells of an edit that is tried alone."""
+        if goal.function is None or not self.asked:
+            return is_alone
+        return goal.function[1] in self.asked
 
 
 def text_of(path):
@@ -175,12 +184,14 @@ def functions_of(path, text):
         named = FUNCTION.match(line.lstrip())
         if not named:
             continue
-        ends = (n for n in range(at, len(lines)) if n > at and lines[n] == f"{indent}}}")
-        opens = (n for n in range(at, len(lines)) if re.match(rf"{indent}\S", lines[n]) and lines[n].endswith("{"))
+        # (the body of a law is empty)
+        empty = re.compile(rf"{indent}(\S.*)?{{}}")
+        ends = (n for n in range(at, len(lines)) if n > at and lines[n] == f"{indent}}}" or empty.fullmatch(lines[n]))
+        opens = (n for n in range(at, len(lines)) if re.match(rf"{indent}\S", lines[n]) and lines[n].endswith(("{", "{}")))
         last, body, first = next(ends, at), next(opens, at), at
         while re.match(r"\s*(?:///|#\[)", lines[first - 1]):
             first -= 1
-        if body < last:
+        if body < last or lines[last].endswith("{}"):
             home = (owner, trait) if indent else ("", "")
             found.append(Function(path, *home, named[1], first + 1, body + 1, last + 1))
     return found
@@ -198,6 +209,8 @@ def read_edit(crate, name):
                 texts[path] = text_of(os.path.join(ROOT, "crates", crate, path))
         elif word == "refused":
             edit.asked.append(text)
+        elif word == "gate":
+            edit.is_of_gate = text != "no"
         elif word == "after":
             after = text
         elif word == "old":
@@ -213,10 +226,22 @@ def read_edit(crate, name):
             after = ""
     if not edit.changes:
         raise ValueError(f"{edit} changes nothing")
+    known = {it.named for it in functions_in(crate)} if edit.asked else set()
+    for path in edit.asked:
+        if path not in known:
+            raise ValueError(f"{edit} names no function: {path}")
     if None not in inside:
         edit.functions = list(dict.fromkeys(it.key for it in inside))
         edit.asked = edit.asked or list(dict.fromkeys(it.named for it in inside))
     return edit
+
+
+def functions_in(crate, texts=None):
+    """The functions of a crate, where some of its files have these texts."""
+    home = os.path.join(ROOT, "crates", crate)
+    files = [os.path.join(at, it) for at, _, names in os.walk(os.path.join(home, "src")) for it in names]
+    paths = {os.path.relpath(it, home): it for it in files}
+    return [it for path, file in paths.items() for it in functions_of(path, (texts or {}).get(path) or text_of(file))]
 
 
 def edits_of(crate):
@@ -385,7 +410,7 @@ class Trial:
         goals = self.goals_of(said, texts)
         taken = {it for edit in group for it in edit.functions}
         is_lost = unread or not VERDICT.search(said)
-        told = {edit.name: [it for it in goals if it.function in edit.functions or len(group) == 1] for edit in group}
+        told = {edit.name: [it for it in goals if edit.is_refused_by(it, len(group) == 1)] for edit in group}
         # What waits for a function that it calls, and that another edit has spoilt, is tried again without that one.
         proved = self.proved_by(said, texts)
         waiting = [it for it in group if taken and not told[it.name] and not proved & {*it.functions}]
@@ -411,23 +436,16 @@ class Trial:
         least = ", which only names what the edit took away, so this says little of the contract" if goal.is_lost else ""
         self.refused.append(f"{edit}: refused by `{goal.home.partition(TWIN)[0]}`, `{goal.clause}`{least}")
 
-    def functions(self, texts):
-        """The functions of the crate, where some of its files have these texts."""
-        home = os.path.join(ROOT, "crates", self.crate)
-        files = [os.path.join(at, it) for at, _, names in os.walk(os.path.join(home, "src")) for it in names]
-        paths = {os.path.relpath(it, home): it for it in files}
-        return [it for path, file in paths.items() for it in functions_of(path, texts.get(path) or text_of(file))]
-
     def proved_by(self, said, texts):
         """The functions that the prover tells as proved, by file and name."""
-        functions = self.functions(texts)
+        functions = functions_in(self.crate, texts)
         names = re.findall(rf"^fn {self.crate}::(\S+): proved", said, re.M)
         found = [proved_in(it.replace("::", "/"), functions) for it in names]
         return {it.key for it in found if it}
 
     def goals_of(self, said, texts):
         """The goals that are not proved, in the order in which the prover tells them."""
-        functions, goals = self.functions(texts), []
+        functions, goals = functions_in(self.crate, texts), []
         for line in said.split("\n"):
             in_code, in_proof, in_lemma = IN_CODE.match(line), IN_PROOF.match(line), IN_LEMMA.match(line)
             if in_code:
@@ -489,7 +507,7 @@ def main():
             subprocess.run(["rt", "lib"], cwd=os.path.join(ROOT, "crates", dep), stdout=subprocess.DEVNULL, check=True)
     trials = []
     for crate in sorted(crates, key=size, reverse=True):
-        trials.append(Trial(crate, named, together(edits_of(crate))))
+        trials.append(Trial(crate, named, together([it for it in edits_of(crate) if it.is_of_gate or not is_gate])))
     refused = failed = 0
     with concurrent.futures.ThreadPoolExecutor(lanes()) as pool:
         for trial in concurrent.futures.as_completed([pool.submit(it.run) for it in trials]):
