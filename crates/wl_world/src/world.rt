@@ -9,7 +9,7 @@ ghost use Rattle.wl_world.specs.World.{empty_world, happens, run};
 ghost use Rattle.wl_world.specs.Replies.{reply_of};
 
 use crate::event::Event;
-use crate::parts::{Done, Parts};
+use crate::parts::Parts;
 use crate::reply::Reply;
 use std::alloc::{AllocError, Global};
 use std::marker::Model;
@@ -57,14 +57,8 @@ impl World {
         ensures moves { IfOk result (λ r. MovesOwnAloneBetween self.world event r.0.world) }
     {
         let World { mut events, parts } = self;
-        let (mut parts, done) = parts.act(&event)?;
-        let Done { said, sends } = done;
-        let sent = parts.send(sends)?;
+        let (parts, reply) = parts.happen(&event)?;
         events.push(event)?;
-        let reply = Reply {
-            said,
-            sent: Sequence::new(sent),
-        };
         Ok((World { events, parts }, reply))
     }
 

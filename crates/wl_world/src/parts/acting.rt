@@ -2,19 +2,36 @@
 
 ghost use Rattle.std.specs.Prelude.{◌≡◌, true, IfOk, OnOk};
 ghost use Rattle.wl_bag.specs.Messages.{sent_all};
-ghost use Rattle.wl_world.specs.World.{deed};
-ghost use Rattle.wl_world.specs.Replies.{said_of, sendings};
+ghost use Rattle.wl_world.specs.World.{deed, happens};
+ghost use Rattle.wl_world.specs.Replies.{said_of, sendings, reply_of};
 ghost use Rattle.wl_world.specs.Parts.{is_in_place};
 
 use crate::event::Event;
 use crate::parts::{Done, Parts};
+use crate::reply::Reply;
 use std::alloc::{AllocError, Global};
 use wl_bag::{Bag, Message, Sent};
+use wl_grammar::Sequence;
 
 impl Parts {
+    /// An event happens, and is answered. What it sends is in the bag then.
+    pub fn happen(self, event: &Event) -> Result<(Parts, Reply), AllocError>
+        ensures world { IfOk result (λ r. r.0 ≡ happens self event.now) }
+        ensures reply { IfOk result (λ r. r.1 ≡ reply_of self event.now) }
+    {
+        let (mut parts, done) = self.act(event)?;
+        let Done { said, sends } = done;
+        let sent = parts.send(sends)?;
+        let reply = Reply {
+            said,
+            sent: Sequence::new(sent),
+        };
+        Ok((parts, reply))
+    }
+
     /// An event happens. What it sends is not in the bag yet.
     #[tactic(auto, unfolding(crate::specs::World::deed, crate::specs::Replies::said_of))]
-    pub fn act(self, event: &Event) -> Result<(Parts, Done), AllocError>
+    fn act(self, event: &Event) -> Result<(Parts, Done), AllocError>
         ensures world { IfOk result (λ r. r.0 ≡ (deed self event.now).world) }
         ensures said { IfOk result (λ r. r.1.said ≡ said_of self event.now) }
         ensures sends { IfOk result (λ r. r.1.sends.items ≡ (deed self event.now).sends) }
@@ -68,7 +85,7 @@ impl Parts {
     }
 
     /// These messages are sent.
-    pub fn send(&mut self, messages: Vec<Message>) -> Result<Vec<Sent>, AllocError>
+    fn send(&mut self, messages: Vec<Message>) -> Result<Vec<Sent>, AllocError>
         ensures bag { OnOk result (self.new
             ≡ record self.old { bag = sent_all messages.items self.old.bag }) }
         ensures sent { IfOk result (λ sent. sent.items ≡ sendings messages.items self.old.bag) }

@@ -1,10 +1,13 @@
 //! Messages come.
 
-ghost use Rattle.std.specs.Prelude.{◌≡◌, IfOk, OnOk, true, if◌then◌else◌};
+ghost use Rattle.std.specs.Prelude.{◌≡◌, ℕ, IfOk, OnOk, true, is_some, if◌then◌else◌};
+ghost use Rattle.wl_draft.specs.Tables.{find, put};
 ghost use Rattle.wl_kernel.specs.Routes.{frame_of};
 ghost use Rattle.wl_said.specs.declared.said.Said.TheVariants as said;
 ghost use Rattle.wl_said.specs.declared.said.Refusal.TheVariants.{NoMessage};
 ghost use Rattle.wl_bag.specs.Messages.{is_sent};
+ghost use Rattle.wl_agent.specs.Delivery.{delivery};
+ghost use Rattle.wl_tab.specs.Tabs.{tab_in, told};
 ghost use Rattle.wl_tab.specs.Arrivals.{arrival};
 ghost use Rattle.wl_supervisor.specs.Supervising.{brought};
 ghost use Rattle.wl_world.specs.World.{lives, hears, comes, comes_up, where_allowed, tab_of};
@@ -14,10 +17,11 @@ ghost use Rattle.wl_world.specs.Parts.{reported_in};
 use crate::parts::{Done, Parts, of_broker, refused, silent};
 use crate::sending;
 use std::alloc::{AllocError, Global};
+use std::collections::BTreeMap;
 use wl_bag::Message;
 use wl_grammar::{Addressed, Answer, Downward, Frame, Hello, Stamped};
 use wl_said::{Reason, Refusal, Said};
-use wl_tab::tables;
+use wl_tab::{TabLocks, tables};
 
 impl Parts {
     /// A message that was sent once comes.
@@ -73,8 +77,7 @@ impl Parts {
         if !self.lives(tab) {
             return Ok(silent(self.alloc, Said::Dropped(Reason::DeadTab)));
         }
-        let frame = frame_of(self.alloc, &addressed.inner)?;
-        let said = tables::deliver_at(&mut self.tabs, tab, &frame)?;
+        let said = delivered(self.alloc, &mut self.tabs, tab, &addressed.inner)?;
         let sends = self.reported(tab, &said)?;
         Ok(Done { said, sends })
     }
@@ -92,6 +95,24 @@ impl Parts {
         sending::add_report(self.supervisor.tabs(), tab, self.locks(tab), &mut sends)?;
         Ok(sends)
     }
+}
+
+/// What the broker or the kernel says comes to a tab.
+fn delivered(
+    alloc: Global,
+    tabs: &mut BTreeMap<u16, TabLocks>,
+    tab: u16,
+    inner: &Downward,
+) -> Result<Said, AllocError>
+    requires there { is_some (find tabs.old.entries tab) ≡ true }
+    ensures tabs { let a = tab_in tab (find tabs.old.entries tab) in
+        OnOk result (tabs.new.entries ≡ put tab (told (delivery (frame_of inner.now) a).0) tabs.old.entries) }
+    ensures said { IfOk result (λ said.
+        said ≡ arrival (frame_of inner.now) (tab_in tab (find tabs.old.entries tab))) }
+    ensures rows { (t : ℕ) → is_some (find tabs.new.entries t) ≡ is_some (find tabs.old.entries t) }
+{
+    let frame = frame_of(alloc, inner)?;
+    tables::deliver_at(tabs, tab, &frame)
 }
 
 /// What the broker or the kernel says to a tab, as the tab gets it.

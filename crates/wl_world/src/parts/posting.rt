@@ -1,9 +1,11 @@
 //! Tabs open channels, post on them, read and close them.
 
-ghost use Rattle.std.specs.Prelude.{◌≡◌, ◌≢◌, ◌≤◌, [], ◌++◌, length, map, IfOk, OnOk, None};
+ghost use Rattle.std.specs.Prelude.{◌≡◌, ◌≢◌, ◌≤◌, [], ◌++◌, length, map, true, is_some, IfOk, OnOk, OnErr, None};
 ghost use Rattle.std.specs.List.{filter_map};
+ghost use Rattle.wl_draft.specs.Tables.{find, put};
 ghost use Rattle.wl_grammar.specs.declared.frame.Frame.TheVariants as frame;
-ghost use Rattle.wl_broadcast.specs.Channels.{after_hearing};
+ghost use Rattle.wl_broadcast.specs.Channels.{after_hearing, hearing_of};
+ghost use Rattle.wl_tab.specs.Tabs.{channels_in};
 ghost use Rattle.wl_said.specs.declared.said.Reached.TheVariants.{Took};
 ghost use Rattle.wl_world.specs.World.{opens_channel, posts, reads, closes, becomes, channels_of, where_allowed, lives};
 ghost use Rattle.wl_world.specs.Replies.{opening_channel, posting, reading, closing, hearing, alive_or};
@@ -13,13 +15,14 @@ ghost use Rattle.wl_world.specs.Parts.{crossed, of_posting};
 use crate::parts::{Done, Parts, refused, silent};
 use bytes::Bytes;
 use std::alloc::{AllocError, Global};
+use std::collections::BTreeMap;
 use wl_bag::Message;
 use wl_broadcast::{ChannelFault, Hearing, Letter, Posted};
 use wl_draft::Name;
 use wl_grammar::{Frame, Heard, Sequence};
 use wl_kernel::{Routed, Tabs};
 use wl_said::{Reached, Reason, Refusal, Said};
-use wl_tab::{ChannelRefusal, channel_tables};
+use wl_tab::{ChannelRefusal, TabChannels, channel_tables};
 
 impl Parts {
     /// A tab opens a channel object.
@@ -101,8 +104,7 @@ impl Parts {
         if !self.lives(tab) {
             return Ok(silent(self.alloc, Said::Dropped(Reason::DeadTab)));
         }
-        let frame = Frame::Heard(heard.copy(self.alloc)?);
-        let hearing = channel_tables::hear_at(&mut self.channels, tab, &frame)?;
+        let hearing = heard_at(self.alloc, &mut self.channels, tab, heard)?;
         let said = hearing_said(self.alloc, tab, heard, hearing)?;
         Ok(silent(self.alloc, said))
     }
@@ -139,6 +141,25 @@ fn number_in(frame: &Frame) -> u32
         Frame::Post(post) => post.number,
         _ => 0,
     }
+}
+
+/// A post of another tab comes to a tab.
+fn heard_at(
+    alloc: Global,
+    channels: &mut BTreeMap<u16, TabChannels>,
+    tab: u16,
+    heard: &Heard,
+) -> Result<Hearing, AllocError>
+    requires there { is_some (find channels.old.entries tab) ≡ true }
+    ensures ok { let c = channels_in tab (find channels.old.entries tab) in
+        OnOk result (channels.new.entries
+        ≡ put tab (after_hearing (frame.Heard heard.now) c) channels.old.entries) }
+    ensures hearing { IfOk result (λ h.
+        h ≡ hearing_of (frame.Heard heard.now) (channels_in tab (find channels.old.entries tab))) }
+    ensures err { OnErr result (channels.new.entries ≡ channels.old.entries) }
+{
+    let frame = Frame::Heard(heard.copy(alloc)?);
+    channel_tables::hear_at(channels, tab, &frame)
 }
 
 /// What came of a post of another tab.

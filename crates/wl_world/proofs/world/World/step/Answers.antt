@@ -1,33 +1,27 @@
 use Rattle.std.proofs.Common.{List, sym, ap, subst, ◌∙◌}
-use Rattle.wl_bag.specs.declared.sent.Sent.{Sent}
 use Rattle.wl_world.specs.declared.event.Event.{Event}
 use Rattle.wl_world.specs.Machine.{Machine}
 use Rattle.wl_world.specs.World.{WorldState, empty_world, happens, run}
 use Rattle.wl_world.specs.Replies.{reply_of}
 use Rattle.wl_world.specs.Hostile.{MovesOwnAloneBetween}
 use Rattle.wl_world.proofs.order.OwnLocksMove.{event-moves_own_alone}
-use Rattle.wl_world.proofs.calls.StepsAndSends.{happened, replied, run-push}
+use Rattle.wl_world.proofs.calls.StepsAndSends.{run-push}
 use Rattle.wl_world.proofs.world.World.step.Goals as goal
 
 pub invariant_of-result : goal.invariant_of-result
 invariant_of-result c =
-    c.in_ok-sent.ensures.bag
-    ∙ happened c.self.inside.parts c.in_ok-parts.parts c.args.event c.in_ok-parts.done.sends.items c.in_ok-parts.ensures.world c.in_ok-parts.ensures.sends
+    c.in_ok-parts.ensures.world
     ∙ ap (λ (w : WorldState). happens w c.args.event) c.self.invariant
     ∙ sym (run-push c.self.inside.events.items c.args.event empty_world)
     ∙ ap (λ (es : List Event). run es empty_world) (sym c.in_ok-push.ensures.items)
 
 pub returns-clause-world : goal.returns-clause-world
 returns-clause-world c =
-    c.in_ok-sent.ensures.bag
-    ∙ happened c.self.inside.parts c.in_ok-parts.parts c.args.event c.in_ok-parts.done.sends.items c.in_ok-parts.ensures.world c.in_ok-parts.ensures.sends
-    ∙ ap (λ (m : Machine). happens m.world c.args.event) c.self.view_is
+    c.in_ok-parts.ensures.world ∙ ap (λ (m : Machine). happens m.world c.args.event) c.self.view_is
 
 pub returns-clause-reply : goal.returns-clause-reply
 returns-clause-reply c =
-    ap (λ (sent : List Sent). record { said = c.in_ok-parts.done.said; sent = sent }) (c.new.ensures ∙ c.in_ok-sent.ensures.sent)
-    ∙ replied c.self.inside.parts c.in_ok-parts.parts c.args.event c.in_ok-parts.done.sends.items c.in_ok-parts.done.said c.in_ok-parts.ensures.world c.in_ok-parts.ensures.sends c.in_ok-parts.ensures.said
-    ∙ ap (λ (m : Machine). reply_of m.world c.args.event) c.self.view_is
+    c.in_ok-parts.ensures.reply ∙ ap (λ (m : Machine). reply_of m.world c.args.event) c.self.view_is
 
 pub returns-clause-moves : goal.returns-clause-moves
 returns-clause-moves c =
