@@ -1,6 +1,6 @@
 # `make demo` builds the program and shows it at work, `make demo-processes` as processes, and `make try` with nothing proved;
 # `make bench` times it, `make soak` and `make fuzz` run it hard, `make refuse` runs tests with each allocation refused in turn;
-# `make test` is the gate, and `make try-edits` tries all must-fail edits, those that the gate leaves out too.
+# `make test` is the gate, and `make try-edits` tries all must-fail edits in `edits/`, those that the gate leaves out too.
 .PHONY: bench demo demo-processes fuzz refuse soak test try try-edits
 
 EXAMPLE ?= examples/handover.sim

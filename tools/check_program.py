@@ -3,9 +3,9 @@
 usage: check_program.py PROGRAM
 
 The last part of the gate: `main`, the exit statuses and what stands on standard error are what no test of a crate can call. It
-plays the desk with whole, cut and refused input, each example in `examples/` with the output beside it, refused scripts, devices
-that fail, wrong command lines, and kernels with real children. It prints nothing where all is as it has to be, and else each
-difference; the status is then 1.
+plays the desk with whole, cut and refused input, each example in `examples/` with the output beside it, refused scripts and
+what `explain.py` finds wrong with them, devices that fail, wrong command lines, and kernels with real children. It prints
+nothing where all is as it has to be, and else each difference; the status is then 1.
 """
 
 import os
@@ -16,6 +16,8 @@ import sys
 import tempfile
 import threading
 import time
+
+from explain import FORMS, wrong_line
 
 SECONDS = 60
 TOP = pathlib.Path(__file__).resolve().parent.parent
@@ -136,6 +138,21 @@ def check_sim(program):
     ends("a script that can't be read", read_nothing(program, "sim"), b"", ["wlb: Read"], 3)
 
 
+def check_explained(program):
+    """`explain.py` finds nothing wrong with the lines of the examples, and something with lines that the program refuses. (Of a
+    frame that is forged it does not read the fields: it is asked for refused lines alone.)"""
+    for script in sorted((TOP / "examples").glob("*.sim")):
+        for line in script.read_bytes().split(b"\n"):
+            if line.startswith(b"forge "):
+                continue
+            same(script.name, f"what is wrong with {line}", wrong_line(line), None)
+    longer = [" ".join([verb, *words, "more"]) for verb, words in FORMS.items()]
+    digits = "9" * 5_000
+    for line in [*longer, "start 0", "start 1 -", "stop ", "Stop", "other", f"hello {digits}", f"abort 1 0{digits}", "deliver 1"]:
+        ends(f"the line {line[:40]}", Ended(program, ["sim"], f"{line}\n".encode()), b"", ["wlb: line 1"], 1)
+        same(f"the line {line[:40]}", "whether something is found wrong with it", wrong_line(line.encode()) is not None, True)
+
+
 def check_words(program):
     for words in [
         ["other"],
@@ -238,6 +255,7 @@ def main():
     program = sys.argv[1]
     check_desk(program)
     check_sim(program)
+    check_explained(program)
     check_words(program)
     check_processes(program)
     for difference in differences:

@@ -12,9 +12,11 @@ import subprocess
 import sys
 
 LINE_LIMIT = 65_536
-TAB_LIMIT = 65_535
+LAST_TAB = 65_535
 # How much of a line is printed.
 SHOWN = 100
+# A number of as many digits is greater than any that is expected.
+DIGITS = 1_000
 
 # Each verb with the words after it, as `docs/SCRIPTS.md` has them. `start` has its own rule.
 FORMS = {
@@ -53,8 +55,8 @@ def shown(data):
 
 
 def number_of(word):
-    """The number whose decimal a word is, or None."""
-    return int(word) if re.fullmatch(rb"0|[1-9][0-9]*", word) else None
+    """The number whose decimal a word is, or None. A very long word is cut, since Python reads only some thousand digits."""
+    return int(word[:DIGITS]) if re.fullmatch(rb"0|[1-9][0-9]*", word) else None
 
 
 def wrong_number(word):
@@ -67,7 +69,7 @@ def wrong_tab(word):
     number = number_of(word)
     if number is None:
         return wrong_number(word)
-    return None if 1 <= number <= TAB_LIMIT else f"is no tab: a number from 1 to {TAB_LIMIT:,} is expected"
+    return None if 1 <= number <= LAST_TAB else f"is no tab: a number from 1 to {LAST_TAB:,} is expected"
 
 
 def wrong_message(word):
