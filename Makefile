@@ -34,10 +34,9 @@ crates/board_speed/out/board_speed: crates.txt $(wildcard crates/wl_*/src/*.rt c
 crates/locked_speed/out/locked_speed: crates.txt $(wildcard crates/wl_*/src/*.rt crates/wl_*/specs/*.antt crates/locked_speed/src/*.rt)
 	cd crates/locked_speed && rt run > /dev/null
 
-# (a check on one processor costs less than one that is spread over several: each gets one, as many at a time as there is room for)
 test:
 	@python3 tools/try_edits.py --fit
-	RT_JOBS=$$(python3 tools/try_edits.py --lanes) rt ci
+	rt ci
 	@python3 tools/try_edits.py --gate
 	@python3 tools/check_program.py crates/wlb/out/wlb
 

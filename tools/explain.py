@@ -15,8 +15,6 @@ LINE_LIMIT = 65_536
 LAST_TAB = 65_535
 # How much of a line is printed.
 SHOWN = 100
-# A number of as many digits is greater than any that is expected.
-DIGITS = 1_000
 
 # Each verb with the words after it, as `docs/SCRIPTS.md` has them. `start` has its own rule.
 FORMS = {
@@ -54,28 +52,29 @@ def shown(data):
     return text + (" .." if len(data) > SHOWN else "")
 
 
-def number_of(word):
-    """The number whose decimal a word is, or None. A very long word is cut, since Python reads only some thousand digits."""
-    return int(word[:DIGITS]) if re.fullmatch(rb"0|[1-9][0-9]*", word) else None
+def is_number(word):
+    """Whether a word is the decimal of a number."""
+    return re.fullmatch(rb"0|[1-9][0-9]*", word) is not None
 
 
 def wrong_number(word):
     if not word.isdigit():
         return "is no number: decimal digits alone are expected"
-    return "has a zero in front: a number is expected without one" if number_of(word) is None else None
+    return None if is_number(word) else "has a zero in front: a number is expected without one"
 
 
 def wrong_tab(word):
-    number = number_of(word)
-    if number is None:
+    if not is_number(word):
         return wrong_number(word)
-    return None if 1 <= number <= LAST_TAB else f"is no tab: a number from 1 to {LAST_TAB:,} is expected"
+    # (Python reads no number of thousands of digits)
+    is_tab = len(word) <= len(str(LAST_TAB)) and 1 <= int(word) <= LAST_TAB
+    return None if is_tab else f"is no tab: a number from 1 to {LAST_TAB:,} is expected"
 
 
 def wrong_message(word):
     if word[:1] != b"m":
         return "is no message: `m` and its number is expected, as m1"
-    if number_of(word[1:]) is None:
+    if not is_number(word[1:]):
         return "is no message: behind `m` its number is expected, without a zero in front, as m1"
     return None
 

@@ -2,7 +2,6 @@
 
 usage: try_edits.py [--gate] [CRATE ..]
        try_edits.py --fit
-       try_edits.py --lanes
 
 An edit stands in `edits/CRATE`, in the form that `rt` has for edits in `crates/CRATE/must-fail`, of which it tries one after
 another; a line `after: TEXT` before an old text says that the first one behind TEXT is meant. What `rt` tries takes as long as a
@@ -20,7 +19,6 @@ edit that it refuses as passed, as `rt ci` does.
 With `--gate` it takes the libraries as `rt ci` has just left them, where it has, and leaves seven crates out, and of the
 others each edit with a line `gate: no`.
 With `--fit` none is tried: the status is 0, and nothing is printed, where each edit still fits its file.
-With `--lanes` it prints how many checks this machine has the processors and the memory for at a time.
 """
 
 import concurrent.futures
@@ -478,7 +476,7 @@ def unfit():
 
 
 def lanes():
-    """How many checks run at a time, each on one processor."""
+    """How many crates are tried at a time."""
     free = re.search(r"MemAvailable:\s+(\d+)", text_of("/proc/meminfo"))
     return max(1, min(len(os.sched_getaffinity(0)), int(free[1]) * 1024 // MEMORY))
 
@@ -500,9 +498,6 @@ def main():
         said = unfit()
         print("\n".join(said), end="\n" if said else "")
         return 1 if said else 0
-    if words == ["--lanes"]:
-        print(lanes())
-        return 0
     is_gate = "--gate" in words
     named = libraries()
     crates = [it for it in words if it != "--gate"] or sorted({*os.listdir(EDITS)} - (LEFT_OUT if is_gate else set()))
