@@ -1,12 +1,16 @@
 """Makes a copy of the repository with what stood before its crates were split, to be timed: python3 tools/stood_before.py FOLDER
 
-The folder must not be there yet. What is counted, and why, stands in docs/GATE.md ("What stood before the crates were split", the
-wider count). First `rt ci wl_kernel_process wl_broker_process wl_tab_process`, here, proves what is not counted; then what is kept
-of the crates that are counted, which this prints, has to go from the folder where `rt` keeps proofs, and in the copy
+The folder must not be there yet; the copy is of the last commit. What is counted, and why, stands in docs/GATE.md ("What stood
+before the crates were split", the wider count). First, at the top of a clone,
+
+    rt ci wl_kernel_process wl_broker_process wl_tab_process
+
+proves what is not counted, and with it most of what is. `rt` keeps that beside the kit; so what it keeps there of the counted
+crates, which this prints, has to be removed. Then, in the copy,
 
     time (rt ci; python3 tools/try_edits.py --gate)
 
-tells what the gate costs of it, from nothing.
+tells what the gate costs of what stood then, from nothing.
 """
 import collections
 import os
