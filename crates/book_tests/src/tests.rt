@@ -14,7 +14,7 @@ use std::process::Abort;
 use std::sync::Wait;
 use std::sync::ledger::Blank;
 use wl_broker::Outs;
-use wl_frames::{Addressed, Answer, Downward, Mode, Operation, Outcome, Sequence};
+use wl_frames::{Addressed, Answer, Downward, Mode, Operation, Outcome};
 use wl_locked::{
     BookEvent, Generation, LANE_LIMIT, Lane, LockedBroker, NotStepped, Receipt, Reply, Step,
 };
@@ -40,19 +40,19 @@ fn answer(tab: u16, upto: u32, number: u32, outcome: Outcome) -> Addressed {
 
 /// A reply that sends nothing.
 fn nothing(alloc: Global) -> Reply {
-    Reply::Outs(Sequence::new(Vec::new(alloc)))
+    Reply::Outs(Outs::new(Vec::new(alloc)))
 }
 
 /// A reply that sends one frame.
 fn one(alloc: Global, out: Addressed) -> Result<Reply, AllocError> {
     let outs = Vec::from_array(alloc, [out])?;
-    Ok(Reply::Outs(Sequence::new(outs)))
+    Ok(Reply::Outs(Outs::new(outs)))
 }
 
 /// A reply that sends two frames.
 fn two(alloc: Global, first: Addressed, second: Addressed) -> Result<Reply, AllocError> {
     let outs = Vec::from_array(alloc, [first, second])?;
-    Ok(Reply::Outs(Sequence::new(outs)))
+    Ok(Reply::Outs(Outs::new(outs)))
 }
 
 /// A step of an event, if its reply could be made.

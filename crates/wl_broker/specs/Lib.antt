@@ -7,6 +7,7 @@ pub mod Events
 pub mod Grants
 pub mod Kept
 pub mod Laws
+pub mod Outs
 pub mod Rows
 pub mod ShardRows
 pub mod Shards

@@ -21,6 +21,7 @@ use crate::judging::{
     generation_of, is_bad_report, is_held_by_newcomer, is_misplaced, is_out_of_turn,
 };
 use crate::listed::{awaited_at, count_arrival, listed_at, missing_at, missing_without, read_list};
+use crate::outs::Outs;
 use crate::partition::Partition;
 use crate::rooms::Rooms;
 use crate::seat::Seat;
@@ -28,13 +29,10 @@ use crate::seats::{is_dead, is_joined, limit_in, next_in, put_back, seat_of, set
 use std::alloc::{AllocError, Global};
 use std::collections::BTreeMap;
 use std::marker::Model;
-use wl_grammar::{Addressed, Entry, Operation, Sequence, Stamped, Upward};
+use wl_grammar::{Entry, Operation, Stamped, Upward};
 use wl_parts::Heading;
 use wl_parts::kept::{Kept, give_up, is_last, is_there, keep, kept_of};
 use wl_table::LockTable;
-
-/// What the broker sends, each frame with the tab that it is for.
-pub type Outs = Sequence<Addressed>;
 
 /// The broker of one generation, over lock tables of any kind. Contracts see it as the state of the definition.
 #[derive(Drop)]
@@ -89,7 +87,7 @@ impl<T: LockTable> Broker<T> {
             kept: BTreeMap::new(alloc),
             rooms: Rooms::new(alloc),
         };
-        Ok((broker, Sequence::new(hellos)))
+        Ok((broker, Outs::new(hellos)))
     }
 
     /// Takes a stamped command, report or part of a report. A command that was taken before is answered again, and changes

@@ -9,8 +9,8 @@ ghost use Rattle.wl_broker.specs.Broker.{drafted, is_lock, outcome_at, snapshot_
 ghost use Rattle.wl_broker.specs.Kept.{no_partition, state_of, row_or};
 
 use crate::answers::outcome;
-use crate::broker::Outs;
 use crate::judging::is_lock;
+use crate::outs::Outs;
 use crate::partition::Partition;
 use std::alloc::{AllocError, Global};
 use std::collections::BTreeMap;

@@ -8,12 +8,14 @@ pub mod dropped;
 mod judging;
 pub mod laws;
 mod listed;
+pub mod outs;
 mod partition;
 mod rooms;
 pub mod rows;
 pub mod seat;
 mod seats;
 
-pub use broker::{Broker, Outs};
+pub use broker::Broker;
 pub use dropped::Dropped;
+pub use outs::{Frames, Outs};
 pub use wl_table::{LockTable, Memory};

@@ -8,11 +8,11 @@ ghost use Rattle.wl_broker.specs.Broker.{drafted, snapshot_of, snapshot_entries}
 ghost use Rattle.wl_broker.specs.Kept.{no_partition, is_grant_of};
 
 use crate::answers::snapshot;
-use crate::broker::Outs;
+use crate::outs::Outs;
 use std::alloc::{AllocError, Global};
 use std::marker::Model;
 use wl_draft::{Entry, Grant, Standing};
-use wl_grammar::{Operation, Sequence};
+use wl_grammar::Operation;
 use wl_table::LockTable;
 
 /// The locks of one partition. While it is active they are settled.
@@ -88,7 +88,7 @@ impl<T: LockTable> Partition<T> {
         for _ in 0..copies {
             let (held, waiting) = self.table.snapshot()?;
             let outs = snapshot(alloc, generation, upto, tab, number, held, waiting)?;
-            all.push_reserved(Sequence::new(outs));
+            all.push_reserved(Outs::new(outs));
         }
         Ok(all)
     }

@@ -6,13 +6,13 @@ ghost use Rattle.std.specs.Vec.{vec_len, vec_capacity};
 ghost use Rattle.wl_broker.specs.Kept.{no_rooms, replied, grant_of};
 
 use crate::answers::{Reply, push_grants};
-use crate::broker::Outs;
+use crate::outs::Outs;
 use crate::seat::Seat;
 use std::alloc::{AllocError, Global};
 use std::collections::BTreeMap;
 use std::marker::Model;
 use wl_draft::Grant;
-use wl_grammar::{Addressed, Sequence};
+use wl_grammar::Addressed;
 
 /// Empty lists, each with room for so many frames. What is said takes lists of its own that have room for just that, and
 /// one of these only where such a list is refused. So no change that was begun has to fail, and nobody who keeps what was
@@ -116,7 +116,8 @@ impl Rooms {
         }
     }
 
-    /// One list of what is said: an answer, if there is one, and the grants. There is room for that.
+    /// What is said: an answer, if there is one, and the grants. There is room for that. An answer alone, as most events bring,
+    /// takes none.
     fn said(
         &mut self,
         generation: u32,
@@ -131,13 +132,34 @@ impl Rooms {
         ensures lists { self.old.lists ≤ self.new.lists + 1 }
         ensures frames { self.new.frames ≡ self.old.frames }
     {
+        match own {
+            Some(reply) if granted.is_empty() => Outs::one(reply.to_frame(generation)),
+            _ => Outs::new(self.said_in_list(generation, seats, own, granted)),
+        }
+    }
+
+    /// The same in a list.
+    fn said_in_list(
+        &mut self,
+        generation: u32,
+        seats: &BTreeMap<u16, Seat>,
+        own: Option<Reply>,
+        granted: &[Grant],
+    ) -> Vec<Addressed>
+        requires lists { 0 < self.old.lists }
+        requires frames { length (replied generation own) + length granted.now ≤ self.old.frames }
+        ensures said { result.items
+            ≡ replied generation own ++ map (grant_of generation seats.now.entries) granted.now }
+        ensures lists { self.old.lists ≤ self.new.lists + 1 }
+        ensures frames { self.new.frames ≡ self.old.frames }
+    {
         let answers = usize::from(own.is_some());
         let mut outs = self.list(answers + granted.len());
         if let Some(reply) = own {
             outs.push_reserved(reply.to_frame(generation));
         }
         push_grants(&mut outs, generation, seats, granted);
-        Sequence::new(outs)
+        outs
     }
 
     /// So many lists of what is said. There is room for that.

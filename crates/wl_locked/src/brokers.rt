@@ -20,7 +20,7 @@ use crate::work::{Work, shard_of};
 use std::alloc::{AllocError, Global};
 use std::sync::Wait;
 use std::sync::ledger::{Blank, Share};
-use wl_broker::Dropped;
+use wl_broker::{Dropped, Frames, Outs};
 use wl_grammar::Addressed;
 
 /// A locked broker for each shard that there may be, by fours. Where there are fewer, the others have nothing to do.
@@ -59,6 +59,17 @@ fn listed_in(beginning: &Beginning<'_>, shard: u16) -> Result<Vec<(u16, u16)>, A
     Ok(part)
 }
 
+/// Puts hellos behind others.
+fn append_hellos(greetings: &mut Vec<Addressed>, hellos: Outs) -> Result<(), AllocError>
+    ensures { OnOk result (greetings.new.items ≡ greetings.old.items ++ hellos) }
+{
+    match hellos.into_frames() {
+        Frames::One(hello) => greetings.push(hello)?,
+        Frames::Listed(mut hellos) => greetings.append(&mut hellos)?,
+    }
+    Ok(())
+}
+
 /// Starts the broker of one shard with its part of the list, and puts its hellos behind the others.
 pub(crate) fn open_shard<J: Shards, const SHARD: u16>(
     beginning: &Beginning<'_>,
@@ -83,8 +94,7 @@ pub(crate) fn open_shard<J: Shards, const SHARD: u16>(
         part.as_slice(),
         beginning.limit,
     )?;
-    let mut hellos = hellos.into_vec();
-    greetings.append(&mut hellos)?;
+    append_hellos(greetings, hellos)?;
     Ok((broker, share))
 }
 

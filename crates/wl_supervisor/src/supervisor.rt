@@ -13,7 +13,7 @@ ghost use Rattle.wl_limits.specs.declared.brokers.TheConstants.{LAST_GENERATION}
 
 use std::alloc::{AllocError, Global};
 use wl_broker::{Broker, Dropped, Outs};
-use wl_grammar::{Frame, Sequence, Stamped, Start, Upward};
+use wl_grammar::{Frame, Stamped, Start, Upward};
 use wl_kernel::{Down, GenerationsUsedUp, OpenFault, StartFault, Tabs, Up};
 use wl_limits::brokers::LAST_GENERATION;
 use wl_origin::Partition;
@@ -202,7 +202,7 @@ fn silent(alloc: Global, said: Said) -> Outcome
 {
     Outcome {
         said,
-        outs: Sequence::new(Vec::new(alloc)),
+        outs: Outs::new(Vec::new(alloc)),
     }
 }
 

@@ -1,5 +1,5 @@
 -- Lemmas on lanes: one event more, and how a lane ends.
-use Rattle.std.proofs.Common.{◌≡◌, ◌+◌, ◌≤◌, ℕ, List, [], ◌∷◌, ◌++◌, length, map, Option, Some, Result, Ok, Err, refl, sym, ap, ◌∙◌, subst, append_assoc, append-nil, inl, inr, arith}
+use Rattle.std.proofs.Common.{◌≡◌, ◌+◌, ◌≤◌, ℕ, List, [], ◌∷◌, ◌++◌, length, map, Option, Some, Result, Ok, Err, IfErr, refl, sym, ap, ◌∙◌, subst, append_assoc, append-nil, inl, inr, arith}
 use Rattle.std.specs.List.{AllByRecursion, flat_map}
 use Rattle.std.proofs.lemmas.List.{length_push}
 use Rattle.wl_grammar.specs.declared.frame.Addressed.{Addressed}
@@ -186,6 +186,12 @@ put_one a b c done out r before one ok =
 pub put_whole : (a b : Option (List PutOut)) (outs done rest : List Addressed) → outs ≡ done ++ rest → rest ≡ [] → Grows a b (all_put (as_frames done)) → Grows a b (all_put (as_frames outs))
 put_whole a b outs done rest split none h =
     subst (λ l. Grows a b (all_put (as_frames l))) (sym (split ∙ ap (λ l. done ++ l) none ∙ append-nil done)) h
+
+-- one frame alone was put out or refused
+pub put_alone : (a b : Option (List PutOut)) (out : Addressed) (r : Result (Unit {0}) OutletFault) → Grows a b ((frame.Addressed out, r) ∷ [])
+    → IfErr r (λ fault. PutsUpTo a b (as_frames (out ∷ [])) fault)
+put_alone a b out (Ok done) grown = tt
+put_alone a b out (Err fault) grown = record { front = []; refused = frame.Addressed out; rest = []; are = refl; put = grown }
 
 -- the next is refused
 pub put_refused : (a b c : Option (List PutOut)) (outs done rest : List Addressed) (out : Addressed) (r : Result (Unit {0}) OutletFault) (fault : OutletFault) → outs ≡ done ++ out ∷ rest

@@ -15,9 +15,9 @@ use std::alloc::{AllocError, Global};
 use std::io::{Read, Write};
 use std::marker::Model;
 use thiserror::Error;
-use wl_broker::{Broker, Dropped, LockTable, Outs};
+use wl_broker::{Broker, Dropped, Frames, LockTable, Outs};
 use wl_frames::device::{BUNDLE_LEN, PIECE_LEN, READ_LIMIT, ReadFault, Sink, Source, WriteFault};
-use wl_frames::{Addressed, Dead, Feed, Frame, FrameFault, Sequence, Stamped, Start, encode_into};
+use wl_frames::{Addressed, Dead, Feed, Frame, FrameFault, Stamped, Start, encode_into};
 use wl_table::IndexedTable;
 
 /// Why a run of the desk did not end well.
@@ -286,7 +286,7 @@ fn unanswered(alloc: Global, reason: Dropped) -> Result<Outs, DeskFault>
 {
     match reason {
         Dropped::Memory => Err(DeskFault::Memory),
-        _ => Ok(Sequence::new(Vec::new(alloc))),
+        _ => Ok(Outs::new(Vec::new(alloc))),
     }
 }
 
@@ -296,7 +296,19 @@ fn spell_all(outs: Outs, bytes: &mut Vec<u8>) -> Result<(), AllocError>
     ensures spelled { OnOk result (bytes.new.items ≡ bytes.old.items ++ spelled outs) }
     ensures refused { OnErr result (IsBegun bytes.old.items (spelled outs) bytes.new.items) }
 {
-    for addressed in outs.into_vec() {
+    match outs.into_frames() {
+        Frames::One(addressed) => spell_one(addressed, bytes),
+        Frames::Listed(listed) => spell_list(listed, bytes),
+    }
+}
+
+/// The same of frames in a list.
+fn spell_list(listed: Vec<Addressed>, bytes: &mut Vec<u8>) -> Result<(), AllocError>
+    requires { AllByRecursion IsAddressed listed.items }
+    ensures spelled { OnOk result (bytes.new.items ≡ bytes.old.items ++ spelled listed.items) }
+    ensures refused { OnErr result (IsBegun bytes.old.items (spelled listed.items) bytes.new.items) }
+{
+    for addressed in listed {
         spell_one(addressed, bytes)?;
     }
     Ok(())

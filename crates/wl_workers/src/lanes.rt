@@ -10,7 +10,7 @@ use std::rt::Clock;
 use std::sync::Wait;
 use thiserror::Error;
 use wl_frames::{Addressed, Frame};
-use wl_locked::{NotStepped, Receipt, Reply, Work};
+use wl_locked::{Frames, NotStepped, Receipt, Reply, Work};
 
 /// The most events that a lane takes.
 pub const EVENT_LIMIT: u32 = 1_000_000;
@@ -164,7 +164,10 @@ fn put_reply<R: Wait + Clock, O: Outlet>(
         PutsUpTo (O.put_out outlet.old) (O.put_out outlet.new) (frames_of reply) fault) }
 {
     match reply {
-        Reply::Outs(outs) => put_frames(rt, outs.into_vec(), outlet),
+        Reply::Outs(outs) => match outs.into_frames() {
+            Frames::One(addressed) => put_one(rt, addressed, outlet),
+            Frames::Listed(listed) => put_frames(rt, listed, outlet),
+        },
         Reply::Dropped(_reason) => Ok(()),
     }
 }

@@ -7,8 +7,8 @@ ghost use Rattle.wl_world.specs.World.{from_broker};
 
 use std::alloc::{AllocError, Global};
 use wl_bag::{Message, Sender};
-use wl_broker::Outs;
-use wl_grammar::{Frame, Sequence};
+use wl_broker::{Frames, Outs};
+use wl_grammar::{Addressed, Frame, Sequence};
 use wl_kernel::{Routed, Tabs};
 use wl_tab::TabLocks;
 
@@ -16,13 +16,20 @@ use wl_tab::TabLocks;
 pub fn from_broker(alloc: Global, outs: Outs) -> Result<Vec<Message>, AllocError>
     ensures { IfOk result (λ ms. ms.items ≡ map from_broker outs) }
 {
-    outs.into_vec()
-        .into_iter()
-        .map(|addressed| Message::Down {
-            sender: Sender::Broker,
-            addressed,
-        })
-        .collect(alloc)
+    match outs.into_frames() {
+        Frames::One(addressed) => Ok(Vec::from_array(alloc, [message_of(addressed)])?),
+        Frames::Listed(listed) => listed.into_iter().map(message_of).collect(alloc),
+    }
+}
+
+/// A frame of the broker, as a message.
+fn message_of(addressed: Addressed) -> Message
+    ensures { result ≡ from_broker addressed }
+{
+    Message::Down {
+        sender: Sender::Broker,
+        addressed,
+    }
 }
 
 /// Adds what a tab says to the broker, with the kernel's stamp.

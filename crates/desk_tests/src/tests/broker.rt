@@ -8,11 +8,11 @@ use crate::tests::desk::rows::{DEATH_HANDS_OVER, HANDOVER, RESTART_WHILE_HELD, R
 use crate::tests::same;
 use std::alloc::{AllocError, Global};
 use std::process::Abort;
-use wl_broker::{Broker, Dropped, Outs};
+use wl_broker::{Broker, Dropped, Frames, Outs};
 use wl_fakes::again::{BACK, append};
 use wl_frames::{
-    Addressed, Entry, Feed, Frame, Mode, Name, Report, ReportPart, Sequence, Stamped, Upward,
-    encode,
+    Addressed, Downward, Entry, Feed, Frame, Hello, Mode, Name, Report, ReportPart, Sequence,
+    Stamped, Upward, encode,
 };
 use wl_table::IndexedTable;
 
@@ -44,7 +44,7 @@ static TWO_PARTS: Row = Row {
 };
 
 fn nothing(alloc: Global) -> Outs {
-    Sequence::new(Vec::new(alloc))
+    Outs::new(Vec::new(alloc))
 }
 
 /// A broker that is started, and again where memory was refused.
@@ -152,8 +152,13 @@ fn write_one(rt: &impl Abort, alloc: Global, addressed: Addressed, written: &mut
 
 /// Appends the encodings of the broker's frames.
 fn write(rt: &impl Abort, alloc: Global, outs: Outs, written: &mut Vec<u8>) {
-    for addressed in outs.into_vec() {
-        write_one(rt, alloc, addressed, written);
+    match outs.into_frames() {
+        Frames::One(addressed) => write_one(rt, alloc, addressed, written),
+        Frames::Listed(listed) => {
+            for addressed in listed {
+                write_one(rt, alloc, addressed, written);
+            }
+        }
     }
 }
 
@@ -406,4 +411,39 @@ fn parts_that_do_not_fit(rt: HostRuntime) {
     assert!(&rt; bury(&rt, &mut broker, 1).as_slice().is_empty());
     let second = part_in(&rt, alloc, 1, 1, 0);
     drops(&rt, &mut broker, second, Dropped::DeadTab);
+}
+
+// ---- what is sent for one event
+
+fn hello(tab: u16) -> Addressed {
+    Addressed {
+        tab,
+        inner: Downward::Hello(Hello { generation: 1 }),
+    }
+}
+
+fn list_of_hello(alloc: Global, tab: u16) -> Result<Outs, AllocError> {
+    Ok(Outs::new(Vec::from_array(alloc, [hello(tab)])?))
+}
+
+/// A list of one frame; where memory is refused, once more.
+fn in_list(rt: &impl Abort, alloc: Global, tab: u16) -> Outs {
+    match list_of_hello(alloc, tab) {
+        Ok(outs) => outs,
+        Err(_) => list_of_hello(alloc, tab).expect(rt, BACK),
+    }
+}
+
+/// Compares one frame alone with a list of one frame, in both orders.
+fn compares(rt: &impl Abort, alone: Outs, listed: Outs, want: bool) {
+    assert!(rt; (alone == listed) == want);
+    assert!(rt; (listed == alone) == want);
+}
+
+#[test]
+fn a_frame_alone_equals_it_in_a_list(rt: HostRuntime) {
+    let alloc = rt.alloc();
+    compares(&rt, Outs::one(hello(1)), in_list(&rt, alloc, 1), true);
+    compares(&rt, Outs::one(hello(1)), in_list(&rt, alloc, 2), false);
+    compares(&rt, Outs::one(hello(1)), nothing(alloc), false);
 }

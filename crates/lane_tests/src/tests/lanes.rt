@@ -18,9 +18,9 @@ use std::sync::Wait;
 use std::sync::ledger::Blank;
 use std::thread::Threads;
 use wl_fakes::dice::Dice;
-use wl_frames::{Addressed, Answer, Downward, Mode, Operation, Outcome, Sequence};
+use wl_frames::{Addressed, Answer, Downward, Mode, Operation, Outcome};
 use wl_locked::{
-    BookEvent, CloseFault, Generation, History, LANE_LIMIT, Lane, LockedBroker, NotStepped,
+    BookEvent, CloseFault, Generation, History, LANE_LIMIT, Lane, LockedBroker, NotStepped, Outs,
     Receipt, Reply, Work,
 };
 
@@ -173,7 +173,7 @@ pub(super) fn granted(alloc: Global) -> Result<Reply, AllocError> {
             outcome: Outcome::Granted,
         }),
     };
-    Ok(Reply::Outs(Sequence::new(Vec::from_array(alloc, [granted])?)))
+    Ok(Reply::Outs(Outs::new(Vec::from_array(alloc, [granted])?)))
 }
 
 /// A tab's report, its request, and its death twice.

@@ -4,13 +4,14 @@ use Rattle.wl_origin.specs.Order.{Pair}
 use Rattle.wl_draft.specs.Tables.{Table}
 use Rattle.wl_broadcast.specs.Channels.{ChannelState}
 use Rattle.wl_agent.specs.Tab.{TabState}
-use Rattle.wl_broker.specs.Broker.{BrokerState, started, hellos, burial}
+use Rattle.wl_grammar.specs.declared.frame.Stamped.{Stamped}
+use Rattle.wl_broker.specs.Broker.{BrokerState, Drops, Does, started, hellos, taking, burial}
 use Rattle.wl_kernel.specs.Kernel.{open_refusal, opened, may_stop, stopped, placed}
 use Rattle.wl_bag.specs.declared.message.Message.{Message}
 use Rattle.wl_supervisor.specs.declared.supervisor.Supervisor.{Supervisor}
 use Rattle.wl_supervisor.specs.declared.supervisor.Supervisor.TheVariants.{Down, Up}
-use Rattle.wl_supervisor.specs.Supervised.{broker_of, begins as may_begin, begun, greeted, halted, is_dead, after_burial, outs_by_burial}
-use Rattle.wl_world.specs.World.{with_kernel as kernel_deed, WorldState, from_broker, nothing, where_allowed, with_rows, opens_as, tells, buries, stops, starts, begins}
+use Rattle.wl_supervisor.specs.Supervised.{broker_of, begins as may_begin, begun, greeted, halted, broker_after, outs_of, after_taking, outs_by_taking, is_dead, after_burial, outs_by_burial}
+use Rattle.wl_world.specs.World.{with_kernel as kernel_deed, WorldState, from_broker, nothing, where_allowed, with_rows, opens_as, follows, comes_up, tells, buries, stops, starts, begins}
 use Rattle.wl_world.specs.Parts.{world_of}
 
 -- what holds anyway holds after a success
@@ -47,6 +48,18 @@ starts-sends ts cs (Down k) bag corrupt listed =
     elim (may_begin listed k) as (λ m. map from_broker (cond m (hellos k.generation (placed listed k)) []) ≡ (where_allowed m w (begins w listed)).sends) [ true ↦ refl | false ↦ refl ]
 
 -- ---- what comes to the broker
+
+pub brings-after : (ts : Table TabState) (cs : Table ChannelState) (s : Supervisor) (bag : List Message) (corrupt : List ℕ) (x : Stamped) → world_of ts cs (after_taking x s) bag corrupt ≡ (comes_up (world_of ts cs s bag corrupt) x (broker_of s)).world
+brings-after ts cs (Down k) bag corrupt x = refl
+brings-after ts cs (Up k b) bag corrupt x =
+    let w = world_of ts cs (Up k b) bag corrupt in
+    elim (taking b x) as (λ d. world_of ts cs (Up k (broker_after b d)) bag corrupt ≡ (follows w d).world) [ Drops reason ↦ refl | Does z outs ↦ refl ]
+
+pub brings-sends : (ts : Table TabState) (cs : Table ChannelState) (s : Supervisor) (bag : List Message) (corrupt : List ℕ) (x : Stamped) → map from_broker (outs_by_taking x s) ≡ (comes_up (world_of ts cs s bag corrupt) x (broker_of s)).sends
+brings-sends ts cs (Down k) bag corrupt x = refl
+brings-sends ts cs (Up k b) bag corrupt x =
+    let w = world_of ts cs (Up k b) bag corrupt in
+    elim (taking b x) as (λ d. map from_broker (outs_of d) ≡ (follows w d).sends) [ Drops reason ↦ refl | Does z outs ↦ refl ]
 
 pub tells-after : (ts : Table TabState) (cs : Table ChannelState) (s : Supervisor) (bag : List Message) (corrupt : List ℕ) (t : ℕ) → world_of ts cs (after_burial t s) bag corrupt ≡ (tells (world_of ts cs s bag corrupt) t (broker_of s)).world
 tells-after ts cs (Down k) bag corrupt t = refl

@@ -7,11 +7,11 @@ use Rattle.wl_grammar.specs.declared.frame.Frame.TheVariants as frame
 use Rattle.wl_grammar.specs.Grammar.{IsAddressed, spelling}
 use Rattle.wl_workers.specs.DeskSteps.{spelled}
 use Rattle.wl_workers.proofs.DeskLemmas.{outs_more}
-use Rattle.wl_workers.proofs.desk.spell_all.Goals as goal
+use Rattle.wl_workers.proofs.desk.spell_list.Goals as goal
 
 pub loop-addressed-init : goal.loop-addressed-init
 loop-addressed-init c =
-    let items = c.into_iter-addressed-iterator.ensures.into_iter_gives.0 ∙ c.into_vec-addressed-items.ensures in record {
+    let items = c.into_iter-addressed-iterator.ensures.into_iter_gives.0 in record {
       spellable = subst (AllByRecursion IsAddressed) (sym items) c.requires;
       output = [];
       appended = sym (append-nil _);
@@ -29,7 +29,7 @@ loop-addressed-preserved c =
       spellable = (subst (AllByRecursion IsAddressed) step h.spellable).1;
       output = h.output ++ piece;
       appended = c.in_ok-spell_one.ensures.spelled ∙ ap (λ l. l ++ piece) h.appended ∙ append_assoc _ h.output piece;
-      output_is = outs_more c.args.outs _ _ c.in-Some.addressed h.output piece step h.output_is refl;
+      output_is = outs_more c.args.listed.items _ _ c.in-Some.addressed h.output piece step h.output_is refl;
     }
 
 pub returns-in_err-spell_one-clause-refused : goal.returns-in_err-spell_one-clause-refused

@@ -3,7 +3,7 @@ use Rattle.std.specs.List.{AllByRecursion}
 use Rattle.std.specs.Vec.Iter.{into_iter_items}
 use Rattle.wl_grammar.specs.Grammar.{IsAddressed}
 use Rattle.wl_workers.specs.DeskSteps.{spelled}
-use Rattle.wl_workers.proofs.desk.spell_all.Given as goal
+use Rattle.wl_workers.proofs.desk.spell_list.Given as goal
 
 -- what was appended, and the bytes of the frames that are left, are what is due
 abbrev pub invariant-loop-addressed : goal.invariant-loop-addressed
@@ -11,5 +11,5 @@ invariant-loop-addressed l = record {
   spellable : AllByRecursion IsAddressed (into_iter_items l.addressed-iterator);
   output : List ℕ;
   appended : l.bytes.items ≡ l.fn.bytes.items ++ output;
-  output_is : output ++ spelled (into_iter_items l.addressed-iterator) ≡ spelled l.fn.outs;
+  output_is : output ++ spelled (into_iter_items l.addressed-iterator) ≡ spelled l.fn.listed.items;
 }
