@@ -14,6 +14,10 @@ use wl_grammar::frame::{
     PairWelcome, Post, Report, ReportPart, Snapshot, SnapshotEntry, Stamped, Start, Upward,
     Welcome,
 };
+use wl_grammar::kinds::{
+    ADDRESSED, ANSWER, COMMAND, DEAD, FIRST_VERSION, HEARD, HELLO, PAIR_WELCOME, POST, REPORT,
+    REPORT_PART, SECOND_VERSION, SNAPSHOT, STAMPED, START, WELCOME,
+};
 
 /// The one spelling of a frame: the length of its body and the body.
 pub fn encode(alloc: Global, frame: &Frame) -> Result<Vec<u8>, AllocError>
@@ -288,7 +292,7 @@ fn put_command(out: &mut Vec<u8>, c: &Command) -> Result<(), AllocError>
     ensures spelled { OnOk result (out.new.items ≡ out.old.items ++ command c.now) }
     ensures kept { IsPrefixOf out.old.items out.new.items }
 {
-    put_kind(out, 1, 1)?;
+    put_kind(out, FIRST_VERSION, COMMAND)?;
     put_u32(out, c.generation)?;
     put_u32(out, c.number)?;
     put_operation(out, &c.operation)
@@ -300,7 +304,7 @@ fn put_report(out: &mut Vec<u8>, r: &Report) -> Result<(), AllocError>
     ensures spelled { OnOk result (out.new.items ≡ out.old.items ++ report r.now) }
     ensures kept { IsPrefixOf out.old.items out.new.items }
 {
-    put_kind(out, 1, 2)?;
+    put_kind(out, FIRST_VERSION, REPORT)?;
     put_u32(out, r.generation)?;
     put_u32(out, r.base)?;
     put_entries(out, r.entries.as_slice())
@@ -312,7 +316,7 @@ fn put_report_part(out: &mut Vec<u8>, r: &ReportPart) -> Result<(), AllocError>
     ensures spelled { OnOk result (out.new.items ≡ out.old.items ++ report_part r.now) }
     ensures kept { IsPrefixOf out.old.items out.new.items }
 {
-    put_kind(out, 2, 2)?;
+    put_kind(out, SECOND_VERSION, REPORT_PART)?;
     put_u32(out, r.generation)?;
     put_u32(out, r.base)?;
     put_u16(out, r.part)?;
@@ -326,7 +330,7 @@ fn put_post(out: &mut Vec<u8>, p: &Post) -> Result<(), AllocError>
     ensures spelled { OnOk result (out.new.items ≡ out.old.items ++ post p.now) }
     ensures kept { IsPrefixOf out.old.items out.new.items }
 {
-    put_kind(out, 1, 3)?;
+    put_kind(out, FIRST_VERSION, POST)?;
     put_u32(out, p.number)?;
     put_short_text(out, p.channel.as_str())?;
     put_long_text(out, p.bytes.as_slice())
@@ -337,7 +341,7 @@ fn put_hello(out: &mut Vec<u8>, h: &Hello) -> Result<(), AllocError>
     ensures spelled { OnOk result (out.new.items ≡ out.old.items ++ hello h.now) }
     ensures kept { IsPrefixOf out.old.items out.new.items }
 {
-    put_kind(out, 1, 16)?;
+    put_kind(out, FIRST_VERSION, HELLO)?;
     put_u32(out, h.generation)
 }
 
@@ -346,7 +350,7 @@ fn put_answer(out: &mut Vec<u8>, a: &Answer) -> Result<(), AllocError>
     ensures spelled { OnOk result (out.new.items ≡ out.old.items ++ answer a.now) }
     ensures kept { IsPrefixOf out.old.items out.new.items }
 {
-    put_kind(out, 1, 17)?;
+    put_kind(out, FIRST_VERSION, ANSWER)?;
     put_u32(out, a.generation)?;
     put_u32(out, a.upto)?;
     put_u32(out, a.number)?;
@@ -359,7 +363,7 @@ fn put_snapshot(out: &mut Vec<u8>, s: &Snapshot) -> Result<(), AllocError>
     ensures spelled { OnOk result (out.new.items ≡ out.old.items ++ snapshot s.now) }
     ensures kept { IsPrefixOf out.old.items out.new.items }
 {
-    put_kind(out, 1, 18)?;
+    put_kind(out, FIRST_VERSION, SNAPSHOT)?;
     put_u32(out, s.generation)?;
     put_u32(out, s.number)?;
     put_u16(out, s.part)?;
@@ -373,7 +377,7 @@ fn put_heard(out: &mut Vec<u8>, h: &Heard) -> Result<(), AllocError>
     ensures spelled { OnOk result (out.new.items ≡ out.old.items ++ heard h.now) }
     ensures kept { IsPrefixOf out.old.items out.new.items }
 {
-    put_kind(out, 1, 19)?;
+    put_kind(out, FIRST_VERSION, HEARD)?;
     put_u16(out, h.source)?;
     put_u32(out, h.number)?;
     put_short_text(out, h.channel.as_str())?;
@@ -386,7 +390,7 @@ fn put_welcome(out: &mut Vec<u8>, w: &Welcome) -> Result<(), AllocError>
     ensures spelled { OnOk result (out.new.items ≡ out.old.items ++ welcome w.now) }
     ensures kept { IsPrefixOf out.old.items out.new.items }
 {
-    put_kind(out, 1, 20)?;
+    put_kind(out, FIRST_VERSION, WELCOME)?;
     put_u16(out, w.tab)?;
     put_long_text(out, w.origin.as_str().as_bytes())
 }
@@ -397,7 +401,7 @@ fn put_pair_welcome(out: &mut Vec<u8>, w: &PairWelcome) -> Result<(), AllocError
     ensures spelled { OnOk result (out.new.items ≡ out.old.items ++ pair_welcome w.now) }
     ensures kept { IsPrefixOf out.old.items out.new.items }
 {
-    put_kind(out, 2, 20)?;
+    put_kind(out, SECOND_VERSION, PAIR_WELCOME)?;
     put_u16(out, w.tab)?;
     put_long_text(out, w.top.as_str().as_bytes())?;
     put_long_text(out, w.own.as_str().as_bytes())
@@ -435,7 +439,7 @@ fn put_stamped(out: &mut Vec<u8>, s: &Stamped) -> Result<(), AllocError>
     ensures spelled { OnOk result (out.new.items ≡ out.old.items ++ stamped s.now) }
     ensures kept { IsPrefixOf out.old.items out.new.items }
 {
-    put_kind(out, 1, 32)?;
+    put_kind(out, FIRST_VERSION, STAMPED)?;
     put_u16(out, s.tab)?;
     put_u16(out, s.partition)?;
     put_upward(out, &s.inner)
@@ -447,7 +451,7 @@ fn put_start(out: &mut Vec<u8>, s: &Start) -> Result<(), AllocError>
     ensures spelled { OnOk result (out.new.items ≡ out.old.items ++ start s.now) }
     ensures kept { IsPrefixOf out.old.items out.new.items }
 {
-    put_kind(out, 1, 33)?;
+    put_kind(out, FIRST_VERSION, START)?;
     put_u32(out, s.generation)?;
     put_places(out, s.list.as_slice())
 }
@@ -458,7 +462,7 @@ fn put_addressed(out: &mut Vec<u8>, a: &Addressed) -> Result<(), AllocError>
     ensures spelled { OnOk result (out.new.items ≡ out.old.items ++ addressed a.now) }
     ensures kept { IsPrefixOf out.old.items out.new.items }
 {
-    put_kind(out, 1, 34)?;
+    put_kind(out, FIRST_VERSION, ADDRESSED)?;
     put_u16(out, a.tab)?;
     put_downward(out, &a.inner)
 }
@@ -468,6 +472,6 @@ fn put_dead(out: &mut Vec<u8>, d: &Dead) -> Result<(), AllocError>
     ensures spelled { OnOk result (out.new.items ≡ out.old.items ++ dead d.now) }
     ensures kept { IsPrefixOf out.old.items out.new.items }
 {
-    put_kind(out, 1, 35)?;
+    put_kind(out, FIRST_VERSION, DEAD)?;
     put_u16(out, d.tab)
 }

@@ -4,6 +4,7 @@ use Rattle.std.specs.Prelude.{⊤}
 use Rattle.std.specs.List.{flat_map, AllByRecursion}
 use Rattle.std.proofs.lemmas.Bool.{eqb-true}
 use Rattle.std.proofs.lemmas.List.{append-nil}
+use Rattle.wl_grammar.specs.declared.kinds.TheConstants.{FIRST_VERSION, SECOND_VERSION, COMMAND, REPORT, POST, HELLO, ANSWER, SNAPSHOT, HEARD, WELCOME, STAMPED, START, ADDRESSED, DEAD, REPORT_PART, PAIR_WELCOME}
 use Rattle.wl_grammar.specs.declared.frame.Upward.{Upward}
 use Rattle.wl_grammar.specs.declared.frame.Upward.TheVariants as up
 use Rattle.wl_grammar.specs.declared.frame.Downward.{Downward}
@@ -25,30 +26,30 @@ use Rattle.wl_frames.proofs.Bodies.{command_form, report_form, report_part_form,
 -- ---- versions and kinds
 
 abbrev pub code_of : Kind → ℕ
-code_of kind.Command = 1
-code_of kind.Report = 2
-code_of kind.Post = 3
-code_of kind.Hello = 16
-code_of kind.Answer = 17
-code_of kind.Snapshot = 18
-code_of kind.Heard = 19
-code_of kind.Welcome = 20
-code_of kind.Stamped = 32
-code_of kind.Start = 33
-code_of kind.Addressed = 34
-code_of kind.Dead = 35
-code_of kind.ReportPart = 2
-code_of kind.PairWelcome = 20
+code_of kind.Command = COMMAND
+code_of kind.Report = REPORT
+code_of kind.Post = POST
+code_of kind.Hello = HELLO
+code_of kind.Answer = ANSWER
+code_of kind.Snapshot = SNAPSHOT
+code_of kind.Heard = HEARD
+code_of kind.Welcome = WELCOME
+code_of kind.Stamped = STAMPED
+code_of kind.Start = START
+code_of kind.Addressed = ADDRESSED
+code_of kind.Dead = DEAD
+code_of kind.ReportPart = REPORT_PART
+code_of kind.PairWelcome = PAIR_WELCOME
 
 abbrev pub version_of : Kind → ℕ
-version_of kind.ReportPart = 2
-version_of kind.PairWelcome = 2
-version_of _ = 1
+version_of kind.ReportPart = SECOND_VERSION
+version_of kind.PairWelcome = SECOND_VERSION
+version_of _ = FIRST_VERSION
 
 abbrev AreKinds : ℕ → List (ℕ × Kind) → Type 0
 AreKinds version table = AllByRecursion (λ e. (version ≡ version_of e.1) × (e.0 ≡ code_of e.1)) table
 
-first_are : AreKinds 1 first_kinds
+first_are : AreKinds FIRST_VERSION first_kinds
 first_are = (
   (refl, refl),
   (
@@ -69,16 +70,19 @@ first_are = (
   ),
 )
 
-second_are : AreKinds 2 second_kinds
+second_are : AreKinds SECOND_VERSION second_kinds
 second_are = ((refl, refl), ((refl, refl), tt))
 
-kinds_by : (version : ℕ) (first second : Bool) → eqb version 1 ≡ first → eqb version 2 ≡ second → AreKinds version (cond first first_kinds (cond second second_kinds []))
-kinds_by version true second e f = subst (λ (n : ℕ). AreKinds n first_kinds) (sym (eqb-true version 1 e)) first_are
-kinds_by version false true e f = subst (λ (n : ℕ). AreKinds n second_kinds) (sym (eqb-true version 2 f)) second_are
+kinds_by : (version : ℕ) (first second : Bool) → eqb version FIRST_VERSION ≡ first → eqb version SECOND_VERSION ≡ second
+    → AreKinds version (cond first first_kinds (cond second second_kinds []))
+kinds_by version true second e f =
+    subst (λ (n : ℕ). AreKinds n first_kinds) (sym (eqb-true version FIRST_VERSION e)) first_are
+kinds_by version false true e f =
+    subst (λ (n : ℕ). AreKinds n second_kinds) (sym (eqb-true version SECOND_VERSION f)) second_are
 kinds_by version false false e f = tt
 
 kinds_are : (version : ℕ) → AreKinds version (kinds_of version)
-kinds_are version = kinds_by version (eqb version 1) (eqb version 2) refl refl
+kinds_are version = kinds_by version (eqb version FIRST_VERSION) (eqb version SECOND_VERSION) refl refl
 
 pub kind_at-code : (k : Kind) → kind_at (version_of k) (code_of k) ≡ Some k
 unfolding kind_at

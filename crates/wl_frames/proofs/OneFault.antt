@@ -19,20 +19,20 @@ record HasKind (bytes : List ℕ) : Type 0 where
 
 has_kind : (f : Frame) → HasKind (body f)
 unfolding body command report report_part post hello answer snapshot heard welcome pair_welcome stamped start addressed dead
-has_kind (frame.Command c) = record { version = 1; kind = 1; fields = _; spelled = refl; is_kind = IsKind.command }
-has_kind (frame.Report r) = record { version = 1; kind = 2; fields = _; spelled = refl; is_kind = IsKind.report }
-has_kind (frame.ReportPart r) = record { version = 2; kind = 2; fields = _; spelled = refl; is_kind = IsKind.report_part }
-has_kind (frame.Post p) = record { version = 1; kind = 3; fields = _; spelled = refl; is_kind = IsKind.post }
-has_kind (frame.Hello h) = record { version = 1; kind = 16; fields = _; spelled = refl; is_kind = IsKind.hello }
-has_kind (frame.Answer a) = record { version = 1; kind = 17; fields = _; spelled = refl; is_kind = IsKind.answer }
-has_kind (frame.Snapshot s) = record { version = 1; kind = 18; fields = _; spelled = refl; is_kind = IsKind.snapshot }
-has_kind (frame.Heard h) = record { version = 1; kind = 19; fields = _; spelled = refl; is_kind = IsKind.heard }
-has_kind (frame.Welcome w) = record { version = 1; kind = 20; fields = _; spelled = refl; is_kind = IsKind.welcome }
-has_kind (frame.PairWelcome w) = record { version = 2; kind = 20; fields = _; spelled = refl; is_kind = IsKind.pair_welcome }
-has_kind (frame.Stamped s) = record { version = 1; kind = 32; fields = _; spelled = refl; is_kind = IsKind.stamped }
-has_kind (frame.Start s) = record { version = 1; kind = 33; fields = _; spelled = refl; is_kind = IsKind.start }
-has_kind (frame.Addressed a) = record { version = 1; kind = 34; fields = _; spelled = refl; is_kind = IsKind.addressed }
-has_kind (frame.Dead d) = record { version = 1; kind = 35; fields = _; spelled = refl; is_kind = IsKind.dead }
+has_kind (frame.Command c) = record { version = _; kind = _; fields = _; spelled = refl; is_kind = IsKind.command }
+has_kind (frame.Report r) = record { version = _; kind = _; fields = _; spelled = refl; is_kind = IsKind.report }
+has_kind (frame.ReportPart r) = record { version = _; kind = _; fields = _; spelled = refl; is_kind = IsKind.report_part }
+has_kind (frame.Post p) = record { version = _; kind = _; fields = _; spelled = refl; is_kind = IsKind.post }
+has_kind (frame.Hello h) = record { version = _; kind = _; fields = _; spelled = refl; is_kind = IsKind.hello }
+has_kind (frame.Answer a) = record { version = _; kind = _; fields = _; spelled = refl; is_kind = IsKind.answer }
+has_kind (frame.Snapshot s) = record { version = _; kind = _; fields = _; spelled = refl; is_kind = IsKind.snapshot }
+has_kind (frame.Heard h) = record { version = _; kind = _; fields = _; spelled = refl; is_kind = IsKind.heard }
+has_kind (frame.Welcome w) = record { version = _; kind = _; fields = _; spelled = refl; is_kind = IsKind.welcome }
+has_kind (frame.PairWelcome w) = record { version = _; kind = _; fields = _; spelled = refl; is_kind = IsKind.pair_welcome }
+has_kind (frame.Stamped s) = record { version = _; kind = _; fields = _; spelled = refl; is_kind = IsKind.stamped }
+has_kind (frame.Start s) = record { version = _; kind = _; fields = _; spelled = refl; is_kind = IsKind.start }
+has_kind (frame.Addressed a) = record { version = _; kind = _; fields = _; spelled = refl; is_kind = IsKind.addressed }
+has_kind (frame.Dead d) = record { version = _; kind = _; fields = _; spelled = refl; is_kind = IsKind.dead }
 
 has_kind_ahead : (bytes : List ℕ) (f : Frame) (more : List ℕ) → bytes ≡ body f ++ more → HasKind bytes
 has_kind_ahead bytes f more e =

@@ -5,6 +5,7 @@ use Rattle.std.specs.Int.{Width, w16, w32, byte_len, from_be_bytes}
 use Rattle.std.specs.List.{list_all}
 use Rattle.std.specs.Str.{is_utf8}
 use Rattle.wl_limits.specs.declared.texts.TheConstants.{DATA_LIMIT, ORIGIN_LIMIT}
+use Rattle.wl_grammar.specs.declared.kinds.TheConstants.{FIRST_VERSION, SECOND_VERSION, COMMAND, REPORT, POST, HELLO, ANSWER, SNAPSHOT, HEARD, WELCOME, STAMPED, START, ADDRESSED, DEAD, REPORT_PART, PAIR_WELCOME}
 use Rattle.wl_draft.specs.declared.mode.Mode.{Mode}
 use Rattle.wl_draft.specs.declared.mode.Mode.TheVariants.{Shared, Exclusive}
 use Rattle.wl_frames.specs.declared.fault.FrameFault.{FrameFault}
@@ -151,15 +152,16 @@ list_at read most bytes = do
 
 abbrev pub first_kinds : List (ℕ × Kind)
 first_kinds =
-    (1, kind.Command) ∷ (2, kind.Report) ∷ (3, kind.Post) ∷ (16, kind.Hello) ∷ (17, kind.Answer) ∷ (18, kind.Snapshot)
-    ∷ (19, kind.Heard) ∷ (20, kind.Welcome) ∷ (32, kind.Stamped) ∷ (33, kind.Start) ∷ (34, kind.Addressed)
-    ∷ (35, kind.Dead) ∷ []
+    (COMMAND, kind.Command) ∷ (REPORT, kind.Report) ∷ (POST, kind.Post) ∷ (HELLO, kind.Hello) ∷ (ANSWER, kind.Answer)
+    ∷ (SNAPSHOT, kind.Snapshot) ∷ (HEARD, kind.Heard) ∷ (WELCOME, kind.Welcome) ∷ (STAMPED, kind.Stamped)
+    ∷ (START, kind.Start) ∷ (ADDRESSED, kind.Addressed) ∷ (DEAD, kind.Dead) ∷ []
 
 abbrev pub second_kinds : List (ℕ × Kind)
-second_kinds = (2, kind.ReportPart) ∷ (20, kind.PairWelcome) ∷ []
+second_kinds = (REPORT_PART, kind.ReportPart) ∷ (PAIR_WELCOME, kind.PairWelcome) ∷ []
 
 abbrev pub kinds_of : ℕ → List (ℕ × Kind)
-kinds_of version = if version == 1 then first_kinds else (if version == 2 then second_kinds else [])
+kinds_of version =
+    if version == FIRST_VERSION then first_kinds else (if version == SECOND_VERSION then second_kinds else [])
 
 unfoldable pub kind_at : ℕ → ℕ → Option Kind
 kind_at version code = value_of (kinds_of version) code

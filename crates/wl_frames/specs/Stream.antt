@@ -1,6 +1,7 @@
 -- The reading of a stream of bytes: the frames that begin it, up to a rest that is no whole frame or to the first fault.
 use Rattle.std.specs.Prelude.{◌≡◌, ◌≢◌, ◌⊎◌, ◌↔◌, ◌==◌, ℕ, ◌^◌, ◌<◌, List, [], ◌∷◌, ◌++◌, Bool, true, false, length, Result, Ok, Err, if◌then◌else◌}
 use Rattle.std.specs.List.{flat_map, AllByRecursion}
+use Rattle.wl_grammar.specs.declared.kinds.TheConstants.{FIRST_VERSION, SECOND_VERSION, COMMAND, REPORT, POST, HELLO, ANSWER, SNAPSHOT, HEARD, WELCOME, STAMPED, START, ADDRESSED, DEAD, REPORT_PART, PAIR_WELCOME}
 use Rattle.wl_grammar.specs.declared.frame.Frame.{Frame}
 use Rattle.wl_grammar.specs.declared.frame.Frame.TheVariants as frame
 use Rattle.wl_encoding.specs.Lengths.{IsLength}
@@ -12,24 +13,24 @@ use Rattle.wl_grammar.specs.Grammar.{u32, IsWellFormed, body, spelling}
 
 -- the versions of bodies
 abbrev pub IsVersion : ℕ → Type 0
-IsVersion n = (n ≡ 1) ⊎ (n ≡ 2)
+IsVersion n = (n ≡ FIRST_VERSION) ⊎ (n ≡ SECOND_VERSION)
 
 -- the kinds of frames, each of one version
 pub data IsKind : ℕ → ℕ → Type 0 where
-  command : IsKind 1 1
-  report : IsKind 1 2
-  post : IsKind 1 3
-  hello : IsKind 1 16
-  answer : IsKind 1 17
-  snapshot : IsKind 1 18
-  heard : IsKind 1 19
-  welcome : IsKind 1 20
-  stamped : IsKind 1 32
-  start : IsKind 1 33
-  addressed : IsKind 1 34
-  dead : IsKind 1 35
-  report_part : IsKind 2 2
-  pair_welcome : IsKind 2 20
+  command : IsKind FIRST_VERSION COMMAND
+  report : IsKind FIRST_VERSION REPORT
+  post : IsKind FIRST_VERSION POST
+  hello : IsKind FIRST_VERSION HELLO
+  answer : IsKind FIRST_VERSION ANSWER
+  snapshot : IsKind FIRST_VERSION SNAPSHOT
+  heard : IsKind FIRST_VERSION HEARD
+  welcome : IsKind FIRST_VERSION WELCOME
+  stamped : IsKind FIRST_VERSION STAMPED
+  start : IsKind FIRST_VERSION START
+  addressed : IsKind FIRST_VERSION ADDRESSED
+  dead : IsKind FIRST_VERSION DEAD
+  report_part : IsKind SECOND_VERSION REPORT_PART
+  pair_welcome : IsKind SECOND_VERSION PAIR_WELCOME
 
 -- the last field of these frames is a body of its own, which goes to the end
 abbrev pub is_envelope : Frame → Bool

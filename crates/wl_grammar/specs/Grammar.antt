@@ -8,6 +8,7 @@ use Rattle.wl_limits.specs.declared.texts.TheConstants.{DATA_LIMIT, NAME_LIMIT, 
 use Rattle.wl_draft.specs.declared.mode.Mode.{Mode}
 use Rattle.wl_draft.specs.declared.mode.Mode.TheVariants.{Shared, Exclusive}
 use Rattle.wl_draft.specs.declared.row.Entry.{Entry}
+use Rattle.wl_grammar.specs.declared.kinds.TheConstants.{FIRST_VERSION, SECOND_VERSION, COMMAND, REPORT, POST, HELLO, ANSWER, SNAPSHOT, HEARD, WELCOME, STAMPED, START, ADDRESSED, DEAD, REPORT_PART, PAIR_WELCOME}
 use Rattle.wl_grammar.specs.declared.frame.Operation.{Operation}
 use Rattle.wl_grammar.specs.declared.frame.Operation.TheVariants as op
 use Rattle.wl_grammar.specs.declared.frame.Outcome.{Outcome}
@@ -148,7 +149,7 @@ spelled_outcome outcome.Taken = 4 ∷ []
 -- ---- bodies: the version, the kind, and the fields of the kind
 
 unfoldable pub command : Command → List ℕ
-command c = 1 ∷ 1 ∷ (u32 c.generation ++ u32 c.number ++ operation c.operation)
+command c = FIRST_VERSION ∷ COMMAND ∷ (u32 c.generation ++ u32 c.number ++ operation c.operation)
 
 pub record IsCommand (c : Command) : Type 0 where
   pub generation : IsGeneration c.generation
@@ -156,7 +157,8 @@ pub record IsCommand (c : Command) : Type 0 where
   pub operation : IsOperation c.operation
 
 unfoldable pub report : Report → List ℕ
-report r = 1 ∷ 2 ∷ (u32 r.generation ++ u32 r.base ++ u16 (length r.entries) ++ flat_map entry r.entries)
+report r =
+    FIRST_VERSION ∷ REPORT ∷ (u32 r.generation ++ u32 r.base ++ u16 (length r.entries) ++ flat_map entry r.entries)
 
 pub record IsReport (r : Report) : Type 0 where
   pub generation : IsGeneration r.generation
@@ -168,7 +170,8 @@ pub record IsReport (r : Report) : Type 0 where
 -- a part of a report is of version 2
 unfoldable pub report_part : ReportPart → List ℕ
 report_part r =
-    2 ∷ 2 ∷ (u32 r.generation ++ u32 r.base ++ u16 r.part ++ u16 r.parts ++ u16 (length r.entries) ++ flat_map entry r.entries)
+    SECOND_VERSION ∷ REPORT_PART
+    ∷ (u32 r.generation ++ u32 r.base ++ u16 r.part ++ u16 r.parts ++ u16 (length r.entries) ++ flat_map entry r.entries)
 
 pub record IsReportPart (r : ReportPart) : Type 0 where
   pub generation : IsGeneration r.generation
@@ -180,7 +183,7 @@ pub record IsReportPart (r : ReportPart) : Type 0 where
   pub rise : RiseFrom 0 r.entries
 
 unfoldable pub post : Post → List ℕ
-post p = 1 ∷ 3 ∷ (u32 p.number ++ short_text p.channel ++ long_text p.bytes)
+post p = FIRST_VERSION ∷ POST ∷ (u32 p.number ++ short_text p.channel ++ long_text p.bytes)
 
 pub record IsPost (p : Post) : Type 0 where
   pub number : IsU32 p.number
@@ -188,13 +191,13 @@ pub record IsPost (p : Post) : Type 0 where
   pub bytes : IsData p.bytes
 
 unfoldable pub hello : Hello → List ℕ
-hello h = 1 ∷ 16 ∷ u32 h.generation
+hello h = FIRST_VERSION ∷ HELLO ∷ u32 h.generation
 
 abbrev pub IsHello : Hello → Type 0
 IsHello h = IsGeneration h.generation
 
 unfoldable pub answer : Answer → List ℕ
-answer a = 1 ∷ 17 ∷ (u32 a.generation ++ u32 a.upto ++ u32 a.number ++ spelled_outcome a.outcome)
+answer a = FIRST_VERSION ∷ ANSWER ∷ (u32 a.generation ++ u32 a.upto ++ u32 a.number ++ spelled_outcome a.outcome)
 
 pub record IsAnswer (a : Answer) : Type 0 where
   pub generation : IsGeneration a.generation
@@ -203,7 +206,8 @@ pub record IsAnswer (a : Answer) : Type 0 where
 
 unfoldable pub snapshot : Snapshot → List ℕ
 snapshot s =
-    1 ∷ 18 ∷ (u32 s.generation ++ u32 s.number ++ u16 s.part ++ u16 s.parts ++ u16 (length s.entries) ++ flat_map snapshot_entry s.entries)
+    FIRST_VERSION ∷ SNAPSHOT
+    ∷ (u32 s.generation ++ u32 s.number ++ u16 s.part ++ u16 s.parts ++ u16 (length s.entries) ++ flat_map snapshot_entry s.entries)
 
 pub record IsSnapshot (s : Snapshot) : Type 0 where
   pub generation : IsGeneration s.generation
@@ -214,7 +218,7 @@ pub record IsSnapshot (s : Snapshot) : Type 0 where
   pub entries : AllByRecursion IsSnapshotEntry s.entries
 
 unfoldable pub heard : Heard → List ℕ
-heard h = 1 ∷ 19 ∷ (u16 h.source ++ u32 h.number ++ short_text h.channel ++ long_text h.bytes)
+heard h = FIRST_VERSION ∷ HEARD ∷ (u16 h.source ++ u32 h.number ++ short_text h.channel ++ long_text h.bytes)
 
 pub record IsHeard (h : Heard) : Type 0 where
   pub source : IsTab h.source
@@ -223,7 +227,7 @@ pub record IsHeard (h : Heard) : Type 0 where
   pub bytes : IsData h.bytes
 
 unfoldable pub welcome : Welcome → List ℕ
-welcome w = 1 ∷ 20 ∷ (u16 w.tab ++ long_text w.origin)
+welcome w = FIRST_VERSION ∷ WELCOME ∷ (u16 w.tab ++ long_text w.origin)
 
 pub record IsWelcome (w : Welcome) : Type 0 where
   pub tab : IsTab w.tab
@@ -231,7 +235,7 @@ pub record IsWelcome (w : Welcome) : Type 0 where
 
 -- and so is the welcome to a page under another top
 unfoldable pub pair_welcome : PairWelcome → List ℕ
-pair_welcome w = 2 ∷ 20 ∷ (u16 w.tab ++ long_text w.top ++ long_text w.own)
+pair_welcome w = SECOND_VERSION ∷ PAIR_WELCOME ∷ (u16 w.tab ++ long_text w.top ++ long_text w.own)
 
 pub record IsPairWelcome (w : PairWelcome) : Type 0 where
   pub tab : IsTab w.tab
@@ -260,7 +264,7 @@ IsDownward (down.Answer a) = IsAnswer a
 IsDownward (down.Snapshot s) = IsSnapshot s
 
 unfoldable pub stamped : Stamped → List ℕ
-stamped s = 1 ∷ 32 ∷ (u16 s.tab ++ u16 s.partition ++ upward s.inner)
+stamped s = FIRST_VERSION ∷ STAMPED ∷ (u16 s.tab ++ u16 s.partition ++ upward s.inner)
 
 pub record IsStamped (s : Stamped) : Type 0 where
   pub tab : IsTab s.tab
@@ -268,7 +272,7 @@ pub record IsStamped (s : Stamped) : Type 0 where
   pub inner : IsUpward s.inner
 
 unfoldable pub start : Start → List ℕ
-start s = 1 ∷ 33 ∷ (u32 s.generation ++ u16 (length s.list) ++ flat_map place s.list)
+start s = FIRST_VERSION ∷ START ∷ (u32 s.generation ++ u16 (length s.list) ++ flat_map place s.list)
 
 pub record IsStart (s : Start) : Type 0 where
   pub generation : IsGeneration s.generation
@@ -277,14 +281,14 @@ pub record IsStart (s : Start) : Type 0 where
   pub rise : TabsRiseFrom 1 s.list
 
 unfoldable pub addressed : Addressed → List ℕ
-addressed a = 1 ∷ 34 ∷ (u16 a.tab ++ downward a.inner)
+addressed a = FIRST_VERSION ∷ ADDRESSED ∷ (u16 a.tab ++ downward a.inner)
 
 pub record IsAddressed (a : Addressed) : Type 0 where
   pub tab : IsTab a.tab
   pub inner : IsDownward a.inner
 
 unfoldable pub dead : Dead → List ℕ
-dead d = 1 ∷ 35 ∷ u16 d.tab
+dead d = FIRST_VERSION ∷ DEAD ∷ u16 d.tab
 
 abbrev pub IsDead : Dead → Type 0
 IsDead d = IsTab d.tab

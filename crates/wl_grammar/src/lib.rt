@@ -4,6 +4,7 @@
 pub mod boxed;
 mod copy;
 pub mod frame;
+pub mod kinds;
 pub mod origin;
 pub mod sequence;
 mod well_formed;

@@ -4,9 +4,10 @@ ghost use Rattle.std.specs.Prelude.{◌≡◌, ◌↔◌, IsTrue};
 ghost use Rattle.wl_frames.specs.Reading.{kind_at, first_kinds, second_kinds, value_of};
 ghost use Rattle.wl_frames.specs.Stream.{IsVersion};
 
-const FIRST_VERSION: u8 = 1;
-
-const SECOND_VERSION: u8 = 2;
+use wl_grammar::kinds::{
+    ADDRESSED, ANSWER, COMMAND, DEAD, FIRST_VERSION, HEARD, HELLO, PAIR_WELCOME, POST, REPORT,
+    REPORT_PART, SECOND_VERSION, SNAPSHOT, STAMPED, START, WELCOME,
+};
 
 /// A kind of frame.
 #[derive(Clone, Copy)]
@@ -50,18 +51,18 @@ fn first_kind_of(code: u8) -> Option<Kind>
     ensures { result ≡ value_of first_kinds code }
 {
     match code {
-        1 => Some(Kind::Command),
-        2 => Some(Kind::Report),
-        3 => Some(Kind::Post),
-        16 => Some(Kind::Hello),
-        17 => Some(Kind::Answer),
-        18 => Some(Kind::Snapshot),
-        19 => Some(Kind::Heard),
-        20 => Some(Kind::Welcome),
-        32 => Some(Kind::Stamped),
-        33 => Some(Kind::Start),
-        34 => Some(Kind::Addressed),
-        35 => Some(Kind::Dead),
+        COMMAND => Some(Kind::Command),
+        REPORT => Some(Kind::Report),
+        POST => Some(Kind::Post),
+        HELLO => Some(Kind::Hello),
+        ANSWER => Some(Kind::Answer),
+        SNAPSHOT => Some(Kind::Snapshot),
+        HEARD => Some(Kind::Heard),
+        WELCOME => Some(Kind::Welcome),
+        STAMPED => Some(Kind::Stamped),
+        START => Some(Kind::Start),
+        ADDRESSED => Some(Kind::Addressed),
+        DEAD => Some(Kind::Dead),
         _ => None,
     }
 }
@@ -70,8 +71,8 @@ fn second_kind_of(code: u8) -> Option<Kind>
     ensures { result ≡ value_of second_kinds code }
 {
     match code {
-        2 => Some(Kind::ReportPart),
-        20 => Some(Kind::PairWelcome),
+        REPORT_PART => Some(Kind::ReportPart),
+        PAIR_WELCOME => Some(Kind::PairWelcome),
         _ => None,
     }
 }
