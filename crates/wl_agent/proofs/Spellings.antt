@@ -13,10 +13,11 @@ use Rattle.wl_grammar.specs.declared.frame.Operation.TheVariants.{Request, Relea
 use Rattle.wl_grammar.specs.declared.frame.Report.{Report}
 use Rattle.wl_grammar.specs.declared.frame.Frame.{Frame}
 use Rattle.wl_grammar.specs.Grammar.{IsU32, IsGeneration, IsLockName, HasNoDash, IsOperation, IsEntry, RiseFrom, IsWellFormed}
+use Rattle.wl_grammar.specs.PartCount.{part_count}
 use Rattle.wl_agent.specs.declared.fault.AgentFault.TheVariants.{NotSupported, NameTooLong}
 use Rattle.wl_agent.specs.declared.status.Status.{Status}
 use Rattle.wl_agent.specs.declared.status.Status.TheVariants.{Asked, Held, Querying, Whole, Lost}
-use Rattle.wl_agent.specs.Tab.{TabState, enter, enter_first, enter_later, report_of, upward_frame, report_bodies, part_count, ask_refusal, live_refusal, is_supported}
+use Rattle.wl_agent.specs.Tab.{TabState, enter, enter_first, enter_later, report_of, upward_frame, report_bodies, ask_refusal, live_refusal, is_supported}
 use Rattle.wl_agent.specs.Kept.{IsTidy, IsTellable, IsSpoken, RowsFit, can_become, reports, entry_at, entries_of}
 use Rattle.wl_agent.proofs.Outcomes.{passed}
 use Rattle.wl_agent.proofs.ToldReports.{part_frame, told_in_parts, length-entries_of}

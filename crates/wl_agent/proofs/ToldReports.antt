@@ -12,9 +12,10 @@ use Rattle.wl_grammar.specs.declared.frame.Report.{Report}
 use Rattle.wl_grammar.specs.declared.frame.Upward.TheVariants as up
 use Rattle.wl_grammar.specs.declared.frame.Frame.{Frame}
 use Rattle.wl_grammar.specs.declared.frame.Frame.TheVariants as frame
+use Rattle.wl_grammar.specs.PartCount.{part_count}
 use Rattle.wl_agent.specs.declared.status.Status.{Status}
 use Rattle.wl_agent.specs.declared.status.Status.TheVariants.{Asked, Held, Querying, Whole, Lost}
-use Rattle.wl_agent.specs.Tab.{TabState, enter, enter_first, enter_later, report_frames, report_bodies, upward_frame, part_of, part_count, count_of, is_live}
+use Rattle.wl_agent.specs.Tab.{TabState, enter, enter_first, enter_later, report_frames, report_bodies, upward_frame, part_of, count_of, is_live}
 use Rattle.wl_agent.specs.Kept.{reports, entry_at, entries_of}
 use Rattle.wl_agent.proofs.Rows.{weight, passing-cons}
 

@@ -1,9 +1,10 @@
 //! A report as frames: at once, or in parts.
 
 ghost use Rattle.std.specs.Prelude.{◌≡◌, ◌≤◌, IfOk, length, map};
-ghost use Rattle.wl_agent.specs.Tab.{upward_frame, report_bodies, part_count};
+ghost use Rattle.wl_agent.specs.Tab.{upward_frame, report_bodies};
 ghost use Rattle.wl_agent.specs.Kept.{IsTellable};
 ghost use Rattle.wl_limits.specs.declared.tabs.TheConstants.{LIVE_LIMIT_IN_PARTS};
+ghost use Rattle.wl_grammar.specs.PartCount.{part_count};
 
 use std::alloc::{AllocError, Global};
 use wl_grammar::{Entry, Frame, Report, ReportPart, Sequence};

@@ -12,9 +12,10 @@ use Rattle.wl_grammar.specs.declared.frame.SnapshotEntry.{SnapshotEntry}
 use Rattle.wl_grammar.specs.declared.frame.Addressed.{Addressed}
 use Rattle.wl_grammar.specs.declared.frame.Upward.{Upward}
 use Rattle.wl_grammar.specs.declared.frame.Upward.TheVariants as up
+use Rattle.wl_grammar.specs.PartCount.{part_count}
 use Rattle.wl_parts.specs.Parts.{Told, told_of, with_told, whole_of}
 use Rattle.wl_broker.specs.declared.seat.Seat.TheVariants.{Joined, Dead}
-use Rattle.wl_broker.specs.Broker.{BrokerState, started, seat_of, manager_of, partial_of, limit_of, is_active, is_dead, place_of, burial, with_seat, settled_at, newly_at, keeping, drafted, first_answer, later_answer, snapshot_to, snapshot_part, snapshot_entries, parts_of, grants_to}
+use Rattle.wl_broker.specs.Broker.{BrokerState, started, seat_of, manager_of, partial_of, limit_of, is_active, is_dead, place_of, burial, with_seat, settled_at, newly_at, keeping, drafted, first_answer, later_answer, snapshot_to, snapshot_part, snapshot_entries, grants_to}
 use Rattle.wl_broker.specs.Laws.{IsListedOnce, LeavesAlone}
 use Rattle.wl_broker.specs.Grants.{AreSettled, TakesOut, Grants, IsTo, IsOwnAnswer, to_tell, TellsGrants, TellsOfDeath}
 use Rattle.wl_broker.proofs.Activity.{manager_of-settled_at, is_active-settled_at, is_active-keeping, is_active-with_seat, Takes-LeavesAlone, Buries-LeavesAlone}
@@ -127,10 +128,10 @@ map_some f (suc n) some e = cc
 
 snapshot-own : (b : BrokerState) (t n : ℕ) (entries : List SnapshotEntry) → (snapshot_to b t n entries ≢ []) × AllByRecursion (IsTo t n) (snapshot_to b t n entries)
 snapshot-own b t n entries =
-    cond_both (ltb 65535 (parts_of entries)) _ _ (λ outs. (outs ≢ []) × AllByRecursion (IsTo t n) outs) (λ many. (not_empty _ _, ((refl, refl), tt)))
+    cond_both (ltb 65535 (part_count entries)) _ _ (λ outs. (outs ≢ []) × AllByRecursion (IsTo t n) outs) (λ many. (not_empty _ _, ((refl, refl), tt)))
     (λ few. (
-      map_some (snapshot_part b t n entries) (parts_of entries) (some_parts (length entries) (eqb (length entries) 0) refl),
-      AllByRecursion-range (IsTo t n) (snapshot_part b t n entries) 0 (parts_of entries) (λ k below. (refl, refl)),
+      map_some (snapshot_part b t n entries) (part_count entries) (some_parts (length entries) (eqb (length entries) 0) refl),
+      AllByRecursion-range (IsTo t n) (snapshot_part b t n entries) 0 (part_count entries) (λ k below. (refl, refl)),
     ))
 
 first-own : (b : BrokerState) (t p n : ℕ) (o : Operation) → (first_answer b t p n o ≢ []) × AllByRecursion (IsTo t n) (first_answer b t p n o)

@@ -6,7 +6,8 @@ use Rattle.std.specs.List.{range_with_len}
 use Rattle.wl_grammar.specs.declared.frame.SnapshotEntry.{SnapshotEntry}
 use Rattle.wl_grammar.specs.declared.frame.Addressed.{Addressed}
 use Rattle.wl_grammar.specs.declared.frame.Downward.TheVariants as down
-use Rattle.wl_broker.specs.Broker.{parts_of, part_of}
+use Rattle.wl_grammar.specs.PartCount.{part_count}
+use Rattle.wl_broker.specs.Broker.{part_of}
 
 -- a whole part was taken
 pub whole_part : {X : Type 0} (n : ℕ) (part rest all : List X) → part ++ rest ≡ all → length part ≡ n → (part ≡ take n all) × (rest ≡ drop n all)
@@ -25,7 +26,7 @@ last_part n part rest all e none h =
     (sym (ap (take n) same ∙ take_all n part h), nil ∙ sym (ap (drop n) same ∙ drop_all n part h))
 
 -- one more part is made
-pub part_more : (g t n : ℕ) (entries : List SnapshotEntry) (k parts : ℕ) (outs : List Addressed) (part rest : List SnapshotEntry) → outs ≡ map (part_of g t n entries) (range_with_len 0 k) → part ≡ take 64 rest → rest ≡ drop (64 * k) entries → parts ≡ parts_of entries → outs ++ record { tab = t; inner = down.Snapshot (record { generation = g; number = n; part = k; parts = parts; entries = part }) } ∷ [] ≡ map (part_of g t n entries) (range_with_len 0 (k + 1))
+pub part_more : (g t n : ℕ) (entries : List SnapshotEntry) (k parts : ℕ) (outs : List Addressed) (part rest : List SnapshotEntry) → outs ≡ map (part_of g t n entries) (range_with_len 0 k) → part ≡ take 64 rest → rest ≡ drop (64 * k) entries → parts ≡ part_count entries → outs ++ record { tab = t; inner = down.Snapshot (record { generation = g; number = n; part = k; parts = parts; entries = part }) } ∷ [] ≡ map (part_of g t n entries) (range_with_len 0 (k + 1))
 part_more g t n entries k parts outs part rest made taken left count =
     rw (made, taken, left, count) (sym (map-range_with_len_more (part_of g t n entries) 0 k k (omega arith)))
 

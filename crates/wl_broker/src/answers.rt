@@ -3,9 +3,10 @@
 ghost use Rattle.std.specs.Prelude.{◌≡◌, ◌+◌, ◌≤◌, ◌++◌, IfOk, OnOk, length, map, take, drop, true, false};
 ghost use Rattle.std.specs.Vec.{vec_len, vec_capacity};
 ghost use Rattle.std.specs.Vec.Iter.{into_iter_items};
-ghost use Rattle.wl_broker.specs.Broker.{hello_to, hellos, outcome_of, parts_of, answer_of, snapshot_entry_of, snapshot_of};
+ghost use Rattle.wl_broker.specs.Broker.{hello_to, hellos, outcome_of, answer_of, snapshot_entry_of, snapshot_of};
 ghost use Rattle.wl_broker.specs.Kept.{grant_of};
 ghost use Rattle.wl_limits.specs.declared.frames.TheConstants.{ENTRY_LIMIT};
+ghost use Rattle.wl_grammar.specs.PartCount.{part_count};
 
 use crate::seat::Seat;
 use crate::seats::{next_in, seat_of};
@@ -157,8 +158,8 @@ fn next_part(
 }
 
 /// How many parts a snapshot has. One without entries is one part.
-fn parts_of(entries: &[SnapshotEntry]) -> usize
-    ensures { result ≡ parts_of entries.now }
+fn part_count(entries: &[SnapshotEntry]) -> usize
+    ensures { result ≡ part_count entries.now }
 {
     if entries.is_empty() {
         1
@@ -178,7 +179,7 @@ fn snapshot_parts(
 ) -> Result<Vec<Addressed>, AllocError>
     ensures { IfOk result (λ outs. outs.items ≡ snapshot_of generation upto tab number entries.items) }
 {
-    let parts = parts_of(&entries);
+    let parts = part_count(&entries);
     let mut outs = Vec::new(alloc);
     if parts > usize::from(SNAPSHOT_PART_LIMIT) {
         outs.push(answer(generation, upto, tab, number, Outcome::Gone))?;

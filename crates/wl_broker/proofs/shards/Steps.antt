@@ -24,13 +24,14 @@ use Rattle.wl_parts.specs.Parts.{has_held, all_below, Partial, Told, Whole, kept
 use Rattle.wl_broker.specs.declared.seat.Seat.{Seat}
 use Rattle.wl_broker.specs.declared.seat.Seat.TheVariants.{Joined, Dead}
 use Rattle.wl_broker.specs.declared.dropped.Dropped.TheVariants.{OldGeneration, LaterGeneration, NotJoined, Recovering, OutOfTurn, DeadTab, AlreadyJoined, HeldByNewcomer, BadReport, Misplaced, TooMany, PartTwice}
-use Rattle.wl_broker.specs.Broker.{BrokerState, seat_of, manager_of, is_joined, is_dead, has_come, next_in, next_of, is_active, with_seat, settled_at, newly_at, answer_to, grants_to, outcome_of, snapshot_entries, parts_of, snapshot_part, snapshot_to, first_answer, later_answer, listed_at, is_listed, elsewhere, seated_at, or_else, is_lock, limit_in, limit_of, is_misplaced, place_of, generation_of, drafted, Taking, Drops, Does, join, perform, partial_of, keeping, join_if, take_told, take_command, take_inner, taking, buried_at, burial}
+use Rattle.wl_broker.specs.Broker.{BrokerState, seat_of, manager_of, is_joined, is_dead, has_come, next_in, next_of, is_active, with_seat, settled_at, newly_at, answer_to, grants_to, outcome_of, snapshot_entries, snapshot_part, snapshot_to, first_answer, later_answer, listed_at, is_listed, elsewhere, seated_at, or_else, is_lock, limit_in, limit_of, is_misplaced, place_of, generation_of, drafted, Taking, Drops, Does, join, perform, partial_of, keeping, join_if, take_told, take_command, take_inner, taking, buried_at, burial}
 use Rattle.wl_broker.specs.Events.{broker_after}
 use Rattle.wl_broker.specs.Shards.{listed_of, is_seen, seen_at, taking_at, stands_in}
 use Rattle.wl_broker.proofs.Takings.{Takes, joins, keeps, repeats, performs, taking-Takes}
 use Rattle.wl_broker.proofs.shards.Cuts.{sieved, find-sieved, at-sieved, put-kept, put-lost, filter-spare}
 use Rattle.wl_broker.proofs.shards.Homes.{newly_at-Own, AtHome, Homes, Placed, manager_of-AtHome, with_seat-Homes, settled_at-Homes, with_told-home, place_of-Placed, Takes-Homes}
 use Rattle.wl_limits.specs.declared.tabs.TheConstants.{LAST_NUMBER}
+use Rattle.wl_grammar.specs.PartCount.{part_count}
 
 -- what is kept
 abbrev seat_test : (ℕ → Bool) → ℕ × Seat → Bool
@@ -172,7 +173,7 @@ module _ (home : ℕ → ℕ) (f : ℕ → Bool) where
 
   own-snapshot : (b : BrokerState) (t n : ℕ) (entries : List SnapshotEntry) → f (home t) ≡ true → Homes home b → snapshot_to (seen_at f b) t n entries ≡ snapshot_to b t n entries
   own-snapshot b t n entries e h =
-      ap (λ z. cond (nat_lt 65535 (parts_of entries)) (z ∷ []) (map (snapshot_part b t n entries) (range_with_len 0 (parts_of entries)))) (own-answer b t n Gone e h)
+      ap (λ z. cond (nat_lt 65535 (part_count entries)) (z ∷ []) (map (snapshot_part b t n entries) (range_with_len 0 (part_count entries)))) (own-answer b t n Gone e h)
 
   own-first_answer : (b : BrokerState) (t p n : ℕ) (o : Operation) → f (home t) ≡ true → f p ≡ true → Homes home b → first_answer (seen_at f b) t p n o ≡ first_answer b t p n o
   own-first_answer b t p n (Request mode if_available name) e i h = ap (λ z. z ∷ []) (own-standing b t p n e i h)

@@ -22,7 +22,7 @@ use Rattle.wl_parts.specs.Parts.{has_held, all_below, Partial, Told, Whole, kept
 use Rattle.wl_broker.specs.declared.seat.Seat.{Seat}
 use Rattle.wl_broker.specs.declared.seat.Seat.TheVariants.{Joined, Dead}
 use Rattle.wl_broker.specs.declared.dropped.Dropped.TheVariants.{OldGeneration, LaterGeneration, NotJoined, Recovering, OutOfTurn, DeadTab, AlreadyJoined, HeldByNewcomer, BadReport, Misplaced, TooMany, PartTwice}
-use Rattle.wl_broker.specs.Broker.{BrokerState, seat_of, manager_of, is_joined, is_dead, has_come, next_in, next_of, is_active, with_seat, settled_at, newly_at, answer_to, grants_to, outcome_of, snapshot_entries, parts_of, snapshot_part, snapshot_to, first_answer, later_answer, listed_at, is_listed, elsewhere, seated_at, or_else, is_lock, limit_in, limit_of, is_misplaced, place_of, generation_of, drafted, Taking, Drops, Does, join, perform, partial_of, keeping, join_if, take_told, take_command, take_inner, taking, buried_at, burial}
+use Rattle.wl_broker.specs.Broker.{BrokerState, seat_of, manager_of, is_joined, is_dead, has_come, next_in, next_of, is_active, with_seat, settled_at, newly_at, answer_to, grants_to, outcome_of, snapshot_entries, snapshot_part, snapshot_to, first_answer, later_answer, listed_at, is_listed, elsewhere, seated_at, or_else, is_lock, limit_in, limit_of, is_misplaced, place_of, generation_of, drafted, Taking, Drops, Does, join, perform, partial_of, keeping, join_if, take_told, take_command, take_inner, taking, buried_at, burial}
 use Rattle.wl_draft.specs.Membership.{In, Here, Later}
 use Rattle.wl_draft.proofs.Membership.{apart, either, by_test, along, filter-swap, map-same}
 use Rattle.wl_world.specs.Apart.{only, broker_for}
@@ -30,6 +30,7 @@ use Rattle.wl_world.proofs.apart.Cuts.{filter-all, filter-nothing, filter-spare,
 use Rattle.wl_world.proofs.apart.CutMail.{outs_for}
 use Rattle.wl_world.proofs.apart.OnePartition.{Mates, Fits, first-told, later-told, grants-told, manager_of-Stands, with_seat-Fits, newly_at-Own, without-Own, Placed, place_of-Placed, settles, buries}
 use Rattle.wl_limits.specs.declared.tabs.TheConstants.{LAST_NUMBER}
+use Rattle.wl_grammar.specs.PartCount.{part_count}
 
 -- what is done, as the partition has it
 abbrev pub taking_for : (ℕ → Bool) → Taking → Taking
@@ -132,7 +133,7 @@ module _ (g f : ℕ → Bool) where
 
   own-snapshot : (b : BrokerState) (t n : ℕ) (entries : List SnapshotEntry) → f t ≡ true → snapshot_to (broker_for f b) t n entries ≡ snapshot_to b t n entries
   own-snapshot b t n entries e =
-      ap (λ z. cond (nat_lt 65535 (parts_of entries)) (z ∷ []) (map (snapshot_part b t n entries) (range_with_len 0 (parts_of entries)))) (own-answer b t n Gone e)
+      ap (λ z. cond (nat_lt 65535 (part_count entries)) (z ∷ []) (map (snapshot_part b t n entries) (range_with_len 0 (part_count entries)))) (own-answer b t n Gone e)
 
   own-first_answer : (b : BrokerState) (t p n : ℕ) (o : Operation) → f t ≡ true → f p ≡ true → first_answer (broker_for f b) t p n o ≡ first_answer b t p n o
   own-first_answer b t p n (Request mode if_available name) e i = ap (λ z. z ∷ []) (own-standing b t p n e i)

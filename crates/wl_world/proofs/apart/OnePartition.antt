@@ -20,10 +20,11 @@ use Rattle.wl_parts.specs.Parts.{has_held, all_below, Partial, Told as ToldBy, W
 use Rattle.wl_broker.specs.declared.seat.Seat.{Seat}
 use Rattle.wl_broker.specs.declared.seat.Seat.TheVariants.{Joined, Dead}
 use Rattle.wl_broker.specs.declared.dropped.Dropped.TheVariants.{OldGeneration, LaterGeneration, NotJoined, Recovering, OutOfTurn, DeadTab, AlreadyJoined, HeldByNewcomer, BadReport, Misplaced, TooMany, PartTwice}
-use Rattle.wl_broker.specs.Broker.{BrokerState, seat_of, manager_of, is_joined, is_dead, next_of, is_active, with_seat, settled_at, newly_at, answer_to, grants_to, snapshot_entries, parts_of, snapshot_part, snapshot_to, first_answer, later_answer, listed_at, is_listed, seated_at, or_else, is_lock, limit_of, is_misplaced, place_of, generation_of, drafted, Taking, Drops, Does, join, perform, partial_of, keeping, join_if, take_told, take_command, take_inner, taking, buried_at, burial}
+use Rattle.wl_broker.specs.Broker.{BrokerState, seat_of, manager_of, is_joined, is_dead, next_of, is_active, with_seat, settled_at, newly_at, answer_to, grants_to, snapshot_entries, snapshot_part, snapshot_to, first_answer, later_answer, listed_at, is_listed, seated_at, or_else, is_lock, limit_of, is_misplaced, place_of, generation_of, drafted, Taking, Drops, Does, join, perform, partial_of, keeping, join_if, take_told, take_command, take_inner, taking, buried_at, burial}
 use Rattle.wl_draft.specs.Membership.{In, Here, Later}
 use Rattle.wl_draft.proofs.Membership.{either, In-nil, In-one, In-append_cases, In-map_cases, In-filter_cases}
 use Rattle.wl_limits.specs.declared.tabs.TheConstants.{LAST_NUMBER}
+use Rattle.wl_grammar.specs.PartCount.{part_count}
 
 -- ---- the broker
 
@@ -69,9 +70,9 @@ one-told x y i = ap (λ z. z.tab) (In-one i)
 
 snapshot-told : (b : BrokerState) (t n : ℕ) (entries : List SnapshotEntry) → IsTold t (snapshot_to b t n entries)
 snapshot-told b t n entries =
-    either (IsTold t) (nat_lt 65535 (parts_of entries)) (answer_to b t n Gone ∷ []) (map (snapshot_part b t n entries) (range_with_len 0 (parts_of entries)))
+    either (IsTold t) (nat_lt 65535 (part_count entries)) (answer_to b t n Gone ∷ []) (map (snapshot_part b t n entries) (range_with_len 0 (part_count entries)))
     (λ _. one-told (answer_to b t n Gone))
-    (λ _ x i. ap (λ z. z.tab) (In-map_cases (snapshot_part b t n entries) (range_with_len 0 (parts_of entries)) i).2)
+    (λ _ x i. ap (λ z. z.tab) (In-map_cases (snapshot_part b t n entries) (range_with_len 0 (part_count entries)) i).2)
 
 pub first-told : (b : BrokerState) (t p n : ℕ) (o : Operation) → IsTold t (first_answer b t p n o)
 first-told b t p n (Request mode if_available name) x i = ap (λ z. z.tab) (In-one i)

@@ -10,10 +10,11 @@ use Rattle.wl_grammar.specs.declared.frame.Operation.TheVariants.{Request, Relea
 use Rattle.wl_grammar.specs.declared.frame.Outcome.TheVariants.{Granted, Gone}
 use Rattle.wl_grammar.specs.declared.frame.SnapshotEntry.{SnapshotEntry}
 use Rattle.wl_grammar.specs.declared.frame.Addressed.{Addressed}
-use Rattle.wl_broker.specs.Broker.{BrokerState, manager_of, outcome_of, answer_to, grants_to, snapshot_entries, parts_of, snapshot_part, snapshot_to, settled_at, newly_at, first_answer, later_answer, Taking}
+use Rattle.wl_broker.specs.Broker.{BrokerState, manager_of, outcome_of, answer_to, grants_to, snapshot_entries, snapshot_part, snapshot_to, settled_at, newly_at, first_answer, later_answer, Taking}
 use Rattle.wl_bag.specs.Messages.{sent_all}
 use Rattle.wl_draft.specs.Membership.{In}
 use Rattle.wl_draft.proofs.Membership.{either, In-append_cases, In-one, In-map_cases}
+use Rattle.wl_grammar.specs.PartCount.{part_count}
 use Rattle.wl_world.specs.World.{WorldState, with_broker, from_broker, follows}
 use Rattle.wl_world.proofs.exclusion.HeldAfterSettling.{has_pair-true}
 use Rattle.wl_world.proofs.exclusion.Invariant.{Sound, generation}
@@ -47,9 +48,9 @@ module _ (w : WorldState) (b : BrokerState) (current : b.generation ≡ generati
 
   snapshot-says : (t n : ℕ) (entries : List SnapshotEntry) (a : Addressed) → In a (snapshot_to b t n entries) → SaysTo w b a
   snapshot-says t n entries a i =
-      either (λ zs. In a zs → SaysTo w b a) (nat_lt 65535 (parts_of entries)) (answer_to b t n Gone ∷ []) (map (snapshot_part b t n entries) (range_with_len 0 (parts_of entries)))
+      either (λ zs. In a zs → SaysTo w b a) (nat_lt 65535 (part_count entries)) (answer_to b t n Gone ∷ []) (map (snapshot_part b t n entries) (range_with_len 0 (part_count entries)))
       (λ _ j. subst (SaysTo w b) (sym (In-one j)) (λ g. cc))
-      (λ _ j. let o = In-map_cases (snapshot_part b t n entries) (range_with_len 0 (parts_of entries)) j in subst (SaysTo w b) (sym o.2) tt)
+      (λ _ j. let o = In-map_cases (snapshot_part b t n entries) (range_with_len 0 (part_count entries)) j in subst (SaysTo w b) (sym o.2) tt)
       i
 
   pub first-says : (t p n : ℕ) (c : Operation) (a : Addressed) → In a (first_answer b t p n c) → SaysTo w b a

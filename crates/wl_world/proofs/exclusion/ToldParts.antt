@@ -17,9 +17,10 @@ use Rattle.wl_grammar.specs.declared.frame.Upward.{Upward}
 use Rattle.wl_grammar.specs.declared.frame.Upward.TheVariants as up
 use Rattle.wl_parts.specs.Parts.{Partial, Told, all_below, fits, at_once, in_part, told_of, came_in, with_told, is_whole, whole_of}
 use Rattle.wl_broker.specs.Broker.{generation_of}
-use Rattle.wl_agent.specs.Tab.{part_count, part_of, report_bodies}
+use Rattle.wl_agent.specs.Tab.{part_of, report_bodies}
 use Rattle.wl_draft.specs.Membership.{In, Here, Later}
 use Rattle.wl_draft.proofs.Membership.{either, In-nil, In-cons_cases, In-head, In-one, In-map_cases}
+use Rattle.wl_grammar.specs.PartCount.{part_count}
 
 -- ---- lists and tables
 

@@ -17,11 +17,12 @@ use Rattle.wl_grammar.specs.declared.frame.Downward.TheVariants as down
 use Rattle.wl_parts.specs.Parts.{has_held, all_below, Told, Whole, at_once, in_part, fits, is_there, with_told, is_whole, whole_of}
 use Rattle.wl_broker.specs.declared.seat.Seat.TheVariants.{Joined, Dead}
 use Rattle.wl_broker.specs.declared.dropped.Dropped.TheVariants.{OldGeneration, LaterGeneration, NotJoined, Recovering, OutOfTurn, DeadTab, AlreadyJoined, HeldByNewcomer, BadReport, Misplaced, TooMany, PartTwice}
-use Rattle.wl_broker.specs.Broker.{BrokerState, seat_of, manager_of, is_joined, is_dead, next_of, is_active, with_seat, settled_at, newly_at, answer_to, grants_to, snapshot_entries, parts_of, snapshot_part, snapshot_to, first_answer, later_answer, listed_at, is_listed, is_lock, limit_of, is_misplaced, place_of, generation_of, drafted, Taking, Drops, Does, partial_of, keeping, join, join_if, perform, take_told, take_command, take_inner, taking, buried_at, burial}
+use Rattle.wl_broker.specs.Broker.{BrokerState, seat_of, manager_of, is_joined, is_dead, next_of, is_active, with_seat, settled_at, newly_at, answer_to, grants_to, snapshot_entries, snapshot_part, snapshot_to, first_answer, later_answer, listed_at, is_listed, is_lock, limit_of, is_misplaced, place_of, generation_of, drafted, Taking, Drops, Does, partial_of, keeping, join, join_if, perform, take_told, take_command, take_inner, taking, buried_at, burial}
 use Rattle.wl_draft.specs.Membership.{In}
 use Rattle.wl_draft.proofs.Membership.{either, In-nil, In-one, In-append_cases, In-map_cases}
 use Rattle.wl_world.proofs.order.TakenIsPicked.{settled-fields}
 use Rattle.wl_limits.specs.declared.tabs.TheConstants.{LAST_NUMBER}
+use Rattle.wl_grammar.specs.PartCount.{part_count}
 
 abbrev pub AnswerDown : ℕ → Downward → Type 0
 AnswerDown g (down.Hello h) = ⊥
@@ -40,9 +41,9 @@ grants-of g z rows e a i = let o = In-map_cases (λ (r : Row). answer_to z r.cli
 
 snapshot-of : (g : ℕ) (z : BrokerState) (t n : ℕ) (entries : List SnapshotEntry) → z.generation ≡ g → (a : Addressed) → In a (snapshot_to z t n entries) → Of g a
 snapshot-of g z t n entries e a i =
-    either (λ zs. In a zs → Of g a) (nat_lt 65535 (parts_of entries)) (answer_to z t n Gone ∷ []) (map (snapshot_part z t n entries) (range_with_len 0 (parts_of entries)))
+    either (λ zs. In a zs → Of g a) (nat_lt 65535 (part_count entries)) (answer_to z t n Gone ∷ []) (map (snapshot_part z t n entries) (range_with_len 0 (part_count entries)))
     (λ _ j. subst (Of g) (sym (In-one j)) e)
-    (λ _ j. let o = In-map_cases (snapshot_part z t n entries) (range_with_len 0 (parts_of entries)) j in subst (Of g) (sym o.2) tt)
+    (λ _ j. let o = In-map_cases (snapshot_part z t n entries) (range_with_len 0 (part_count entries)) j in subst (Of g) (sym o.2) tt)
     i
 
 first-of : (g : ℕ) (z : BrokerState) (t p n : ℕ) (c : Operation) → z.generation ≡ g → (a : Addressed) → In a (first_answer z t p n c) → Of g a

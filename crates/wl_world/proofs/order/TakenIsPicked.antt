@@ -16,7 +16,7 @@ use Rattle.wl_grammar.specs.declared.frame.Downward.TheVariants as down
 use Rattle.wl_parts.specs.Parts.{without_partial, Whole, all_below}
 use Rattle.wl_broker.specs.declared.seat.Seat.{Seat}
 use Rattle.wl_broker.specs.declared.seat.Seat.TheVariants.{Joined}
-use Rattle.wl_broker.specs.Broker.{BrokerState, seat_of, manager_of, is_joined, is_dead, next_in, next_of as broker_next, limit_in, limit_of as broker_limit, is_active, with_seat, settled_at, newly_at, answer_to, grants_to, snapshot_entries, parts_of, snapshot_part, snapshot_to, first_answer, is_lock, drafted, Taking, Drops, Does, join, perform}
+use Rattle.wl_broker.specs.Broker.{BrokerState, seat_of, manager_of, is_joined, is_dead, next_in, next_of as broker_next, limit_in, limit_of as broker_limit, is_active, with_seat, settled_at, newly_at, answer_to, grants_to, snapshot_entries, snapshot_part, snapshot_to, first_answer, is_lock, drafted, Taking, Drops, Does, join, perform}
 use Rattle.wl_bag.specs.declared.message.Sender.TheVariants.{Broker}
 use Rattle.wl_bag.specs.declared.message.Message.{Message}
 use Rattle.wl_bag.specs.declared.message.Message.TheVariants.{Down}
@@ -33,6 +33,7 @@ use Rattle.wl_world.proofs.order.RunsOfCommands.{Ordered, ordered-reports, order
 use Rattle.wl_world.proofs.order.BrokerIsPicked.{seat_by, Placed, Tied, Kept, seats-more, tied-more, kept-more}
 use Rattle.wl_world.proofs.order.Standings.{newly-held, newly-stood, stays-held, rows-below, restored-stands, drafted-stands, probe-held, has_pair-from, standing-granted, first-lock, joined-facts, fresh-facts, seat_by-reports, seat_by-commands, joined-same}
 use Rattle.std.specs.List.{range_with_len}
+use Rattle.wl_grammar.specs.PartCount.{part_count}
 
 -- the broker and the bag after this are what the list says
 abbrev pub Tells : (ℕ → ℕ) → (ℕ → Bool) → ℕ → BrokerState → (ℕ → List Operation) → (ℕ → Type 0) → List Message → Picked → Taking → Type 0
@@ -188,9 +189,9 @@ module _ (part : ℕ → ℕ) (opened : ℕ → Bool) (g : ℕ) (b : BrokerState
     where
       snapshot-spoken : (entries : List SnapshotEntry) → In x (snapshot_to z t n entries) → Spoken part opened z p x
       snapshot-spoken entries i =
-          either (λ zs. In x zs → Spoken part opened z p x) (nat_lt 65535 (parts_of entries)) (answer_to z t n Gone ∷ []) (map (snapshot_part z t n entries) (range_with_len 0 (parts_of entries)))
+          either (λ zs. In x zs → Spoken part opened z p x) (nat_lt 65535 (part_count entries)) (answer_to z t n Gone ∷ []) (map (snapshot_part z t n entries) (range_with_len 0 (part_count entries)))
           (λ _ j. subst (Spoken part opened z p) (sym (In-one j)) (λ h. cc))
-          (λ _ j. let o = In-map_cases (snapshot_part z t n entries) (range_with_len 0 (parts_of entries)) j in subst (Spoken part opened z p) (sym o.2) tt)
+          (λ _ j. let o = In-map_cases (snapshot_part z t n entries) (range_with_len 0 (part_count entries)) j in subst (Spoken part opened z p) (sym o.2) tt)
           i
 
   pub perform-follows : (n : ℕ) (c : Operation) → is_joined (seat_of b t) ≡ true → n ≡ broker_next b t → (honest t → (n < length (issued t)) × (get_or (issued t) n Query ≡ c))

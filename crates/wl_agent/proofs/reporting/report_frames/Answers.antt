@@ -4,7 +4,8 @@ use Rattle.std.proofs.lemmas.List.{take_min, drop_min}
 use Rattle.wl_grammar.specs.declared.frame.Report.{Report}
 use Rattle.wl_grammar.specs.declared.frame.Frame.{Frame}
 use Rattle.wl_grammar.specs.declared.frame.Frame.TheVariants as frame
-use Rattle.wl_agent.specs.Tab.{upward_frame, report_bodies, part_count}
+use Rattle.wl_grammar.specs.PartCount.{part_count}
+use Rattle.wl_agent.specs.Tab.{upward_frame, report_bodies}
 use Rattle.wl_agent.proofs.ToldReports.{part_frame, told_at_once, told_in_parts, part_more, drop_part}
 use Rattle.wl_agent.proofs.reporting.report_frames.Goals as goal
 

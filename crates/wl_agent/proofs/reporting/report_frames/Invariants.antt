@@ -1,6 +1,6 @@
 use Rattle.std.proofs.Common.{◌≡◌, ◌*◌, map, drop}
 use Rattle.std.specs.List.{range_with_len}
-use Rattle.wl_agent.specs.Tab.{part_count}
+use Rattle.wl_grammar.specs.PartCount.{part_count}
 use Rattle.wl_agent.proofs.ToldReports.{part_frame}
 use Rattle.wl_agent.proofs.reporting.report_frames.Given as goal
 
