@@ -9,7 +9,7 @@ pub mod ending;
 mod entering;
 pub mod issuing;
 pub mod sending;
-pub mod settling;
+pub mod tokens;
 
 use crate::statuses::Statuses;
 use std::alloc::Global;

@@ -33,7 +33,7 @@ pub enum Unheard {
     LaterGeneration,
     /// The lock is held already.
     Held,
-    /// The number is over.
+    /// A late grant or other answer: its number is over, by an abort, a release, an answer before or a later generation.
     Over,
     /// No broker answers so to such a command.
     Odd,

@@ -11,7 +11,7 @@ use std::alloc::{AllocError, Global};
 /// What became of a number that is not over. It is public for contracts alone.
 #[derive(Drop)]
 pub enum Status {
-    /// A request or probe that no answer has settled.
+    /// A request or probe that no answer has granted or refused.
     Asked,
     Held,
     /// A query that is asked, with what has come of its answer.

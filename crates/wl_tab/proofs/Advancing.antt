@@ -19,9 +19,9 @@ use Rattle.wl_agent.specs.Kept.{RowsFit, Stands, can_become}
 use Rattle.wl_tab.specs.declared.locks.kept.Kept.{Kept}
 use Rattle.wl_tab.specs.Tabs.{is_told, told}
 use Rattle.wl_tab.specs.TabTokens.{token_for, kept_as, kept_for}
-use Rattle.wl_tab.specs.declared.locks.settling.Fate.{Fate}
-use Rattle.wl_tab.specs.declared.locks.settling.Fate.TheVariants as fate
-use Rattle.wl_tab.specs.Settling.{Run, settle_next, settle_run, with_fate, fate_of, fate_by_query, settled}
+use Rattle.wl_tab.specs.declared.locks.telling.Fate.{Fate}
+use Rattle.wl_tab.specs.declared.locks.telling.Fate.TheVariants as fate
+use Rattle.wl_tab.specs.Telling.{Run, tell_next, told_run, with_fate, fate_of, fate_by_query, after_telling}
 
 -- ---- what may become of a row
 
@@ -166,7 +166,7 @@ advanced k o (Some s) run =
 -- the telling of the token of a number
 abbrev Tells : Run → ℕ → Operation → Status → Option Status → Type 0
 Tells run k o s n =
-    can_become o s ≡ true → status_of run.agent k ≡ n → settle_next run (kept_as o (token_for run.agent.tab o k s)) ≡ advanced k o n run
+    can_become o s ≡ true → status_of run.agent k ≡ n → tell_next run (kept_as o (token_for run.agent.tab o k s)) ≡ advanced k o n run
 
 tells_null : (run : Run) (k : ℕ) (o : Operation) → operation_of run.agent k ≡ o → eqb run.agent.tab run.agent.tab ≡ true → is_probe o ≡ true → Tells run k o Asked None
 tells_null run k (Request m true n) op own p fits st = rw (own, op, st) refl
@@ -194,15 +194,15 @@ asks_own : (a : TabState) (k : ℕ) (s : Status) → operation_of a k ≡ Query 
 asks_own a k s op own issued st = rw (own, issued, op, st) refl
 
 -- the telling of a query's token
-tells_query : (run : Run) (k : ℕ) (s : Status) → operation_of run.agent k ≡ Query → eqb run.agent.tab run.agent.tab ≡ true → ltb k (length run.agent.issued) ≡ true → status_of run.agent k ≡ Some s → settle_next run (kept_as Query (token.Asking (record { tab = run.agent.tab; number = k }))) ≡ with_fate (run_with (cond (is_querying (Some s)) run.agent (ended k run.agent)) run.kept run.snapshot) (kept_as Query (token.HeldLock (record { tab = run.agent.tab; number = k }))) (fate_by_query (told_by_status (Some s) (record { tab = run.agent.tab; number = k })))
+tells_query : (run : Run) (k : ℕ) (s : Status) → operation_of run.agent k ≡ Query → eqb run.agent.tab run.agent.tab ≡ true → ltb k (length run.agent.issued) ≡ true → status_of run.agent k ≡ Some s → tell_next run (kept_as Query (token.Asking (record { tab = run.agent.tab; number = k }))) ≡ with_fate (run_with (cond (is_querying (Some s)) run.agent (ended k run.agent)) run.kept run.snapshot) (kept_as Query (token.HeldLock (record { tab = run.agent.tab; number = k }))) (fate_by_query (told_by_status (Some s) (record { tab = run.agent.tab; number = k })))
 tells_query run k s op own issued st =
     let q : Issued = record { tab = run.agent.tab; number = k } in
     let mine = asks_own run.agent k s op own issued st in
     let fate_is : fate_of run.agent (token.Asking q) ≡ fate_by_query (told_by_status (Some s) q) = ap (λ b. cond b (fate_by_query (told_query run.agent q)) (fate.Stays (token.Asking q))) mine ∙ ap (λ (o : Option Status). fate_by_query (told_by_status o q)) st in
-    let left_is : settled (token.Asking q) run.agent ≡ cond (is_querying (Some s)) run.agent (ended k run.agent) = ap (λ b. cond b (after_query k run.agent) run.agent) mine ∙ ap (λ (o : Option Status). cond (is_querying o) run.agent (ended k run.agent)) st in
+    let left_is : after_telling (token.Asking q) run.agent ≡ cond (is_querying (Some s)) run.agent (ended k run.agent) = ap (λ b. cond b (after_query k run.agent) run.agent) mine ∙ ap (λ (o : Option Status). cond (is_querying o) run.agent (ended k run.agent)) st in
     ap (with_fate run (kept_as Query (token.Asking q))) fate_is ∙ moved_on (fate_by_query (told_by_status (Some s) q)) q left_is
   where
-    moved_on : (f : Fate) (q : Issued) → settled (token.Asking q) run.agent ≡ cond (is_querying (Some s)) run.agent (ended k run.agent) → with_fate run (kept_as Query (token.Asking q)) f ≡ with_fate (run_with (cond (is_querying (Some s)) run.agent (ended k run.agent)) run.kept run.snapshot) (kept_as Query (token.HeldLock (record { tab = run.agent.tab; number = k }))) f
+    moved_on : (f : Fate) (q : Issued) → after_telling (token.Asking q) run.agent ≡ cond (is_querying (Some s)) run.agent (ended k run.agent) → with_fate run (kept_as Query (token.Asking q)) f ≡ with_fate (run_with (cond (is_querying (Some s)) run.agent (ended k run.agent)) run.kept run.snapshot) (kept_as Query (token.HeldLock (record { tab = run.agent.tab; number = k }))) f
     moved_on (fate.Stays t) q e = ap (λ (a : TabState). run_with a (run.kept ++ kept_as Query t ∷ []) run.snapshot) e
     moved_on fate.Over q e = ap (λ (a : TabState). run_with a run.kept run.snapshot) e
     moved_on (fate.Whole w) q e = ap (λ (a : TabState). run_with a run.kept (Some w)) e
@@ -252,7 +252,7 @@ finished D X run = record {
 abbrev RunsOn : (ℕ × Status → Option Status) → Table Status → Type 0
 RunsOn next R =
     (m : ℕ) (D : Table Status) (run : Run) → run.agent.statuses ≡ D ++ advance next R → Before m D → Rises m R → RowsFit run.agent.issued R → AllMove run.agent.issued next R →
-    fold settle_next run (map (kept_for run.agent.tab run.agent.issued) R) ≡ finished D (advance next R) run
+    fold tell_next run (map (kept_for run.agent.tab run.agent.issued) R) ≡ finished D (advance next R) run
 
 runs_none : (D : Table Status) (run : Run) → run.agent.statuses ≡ D ++ [] → run ≡ finished D [] run
 runs_none D run e =
@@ -263,7 +263,7 @@ runs_none D run e =
 stays_on : (D X : Table Status) (row : ℕ × Status) (run : Run) (x : Kept) (ks : List Kept) (w : Option Snapshot) → run_with (with_rows ((D ++ row ∷ []) ++ X) run.agent) ((run.kept ++ x ∷ []) ++ ks) w ≡ run_with (with_rows (D ++ row ∷ X) run.agent) (run.kept ++ x ∷ ks) w
 stays_on D X row run x ks w = simp append_assoc
 
-stays_as : (next : ℕ × Status → Option Status) (R D : Table Status) (k m : ℕ) (s : Status) (run : Run) → RunsOn next R → run.agent.statuses ≡ D ++ (k, s) ∷ advance next R → Before m D → m ≤ k → Rises (k + 1) R → RowsFit run.agent.issued R → AllMove run.agent.issued next R → fold settle_next (run_with run.agent (run.kept ++ kept_for run.agent.tab run.agent.issued (k, s) ∷ []) run.snapshot) (map (kept_for run.agent.tab run.agent.issued) R) ≡ run_with (with_rows (D ++ (k, s) ∷ untold (advance next R)) run.agent) (run.kept ++ kept_for run.agent.tab run.agent.issued (k, s) ∷ map (kept_for run.agent.tab run.agent.issued) (untold (advance next R))) (last_whole (advance next R) run.snapshot)
+stays_as : (next : ℕ × Status → Option Status) (R D : Table Status) (k m : ℕ) (s : Status) (run : Run) → RunsOn next R → run.agent.statuses ≡ D ++ (k, s) ∷ advance next R → Before m D → m ≤ k → Rises (k + 1) R → RowsFit run.agent.issued R → AllMove run.agent.issued next R → fold tell_next (run_with run.agent (run.kept ++ kept_for run.agent.tab run.agent.issued (k, s) ∷ []) run.snapshot) (map (kept_for run.agent.tab run.agent.issued) R) ≡ run_with (with_rows (D ++ (k, s) ∷ untold (advance next R)) run.agent) (run.kept ++ kept_for run.agent.tab run.agent.issued (k, s) ∷ map (kept_for run.agent.tab run.agent.issued) (untold (advance next R))) (last_whole (advance next R) run.snapshot)
 stays_as next R D k m s run on e before le r fit moves =
     let x = kept_for run.agent.tab run.agent.issued (k, s) in
     let next_run = run_with run.agent (run.kept ++ x ∷ []) run.snapshot in
@@ -272,14 +272,14 @@ stays_as next R D k m s run on e before le r fit moves =
     ∙ stays_on D (untold (advance next R)) (k, s) run x (map (kept_for run.agent.tab run.agent.issued) (untold (advance next R))) (last_whole (advance next R) run.snapshot)
 
 -- a query is told
-told_as : (next : ℕ × Status → Option Status) (R D : Table Status) (k m : ℕ) (s : Status) (w : Option Snapshot) (run : Run) → RunsOn next R → run.agent.statuses ≡ D ++ (k, s) ∷ advance next R → Before m D → m ≤ k → Rises (k + 1) R → RowsFit run.agent.issued R → AllMove run.agent.issued next R → fold settle_next (run_with (ended k run.agent) run.kept w) (map (kept_for run.agent.tab run.agent.issued) R) ≡ run_with (with_rows (D ++ untold (advance next R)) run.agent) (run.kept ++ map (kept_for run.agent.tab run.agent.issued) (untold (advance next R))) (last_whole (advance next R) w)
+told_as : (next : ℕ × Status → Option Status) (R D : Table Status) (k m : ℕ) (s : Status) (w : Option Snapshot) (run : Run) → RunsOn next R → run.agent.statuses ≡ D ++ (k, s) ∷ advance next R → Before m D → m ≤ k → Rises (k + 1) R → RowsFit run.agent.issued R → AllMove run.agent.issued next R → fold tell_next (run_with (ended k run.agent) run.kept w) (map (kept_for run.agent.tab run.agent.issued) R) ≡ run_with (with_rows (D ++ untold (advance next R)) run.agent) (run.kept ++ map (kept_for run.agent.tab run.agent.issued) (untold (advance next R))) (last_whole (advance next R) w)
 unfolding ended
 told_as next R D k m s w run on e before le r fit moves =
     let low = before_more m k D le before in
     let rows : without_row k run.agent.statuses ≡ D ++ advance next R = ap (without_row k) e ∙ without_behind k D ((k, s) ∷ advance next R) low ∙ ap (λ rs. D ++ rs) (without_here k s (advance next R) (advance-rises next (k + 1) R r)) in
     on (k + 1) D (run_with (ended k run.agent) run.kept w) rows (before_more m (k + 1) D (omega arith) before) r fit moves
 
-runs_as : (next : ℕ × Status → Option Status) (R D : Table Status) (k m : ℕ) (n : Option Status) (run : Run) → RunsOn next R → run.agent.statuses ≡ D ++ add_row k n (advance next R) → Before m D → m ≤ k → Rises (k + 1) R → RowsFit run.agent.issued R → AllMove run.agent.issued next R → fold settle_next (advanced k (get_or run.agent.issued k Query) n run) (map (kept_for run.agent.tab run.agent.issued) R) ≡ finished D (add_row k n (advance next R)) run
+runs_as : (next : ℕ × Status → Option Status) (R D : Table Status) (k m : ℕ) (n : Option Status) (run : Run) → RunsOn next R → run.agent.statuses ≡ D ++ add_row k n (advance next R) → Before m D → m ≤ k → Rises (k + 1) R → RowsFit run.agent.issued R → AllMove run.agent.issued next R → fold tell_next (advanced k (get_or run.agent.issued k Query) n run) (map (kept_for run.agent.tab run.agent.issued) R) ≡ finished D (add_row k n (advance next R)) run
 runs_as next R D k m None run on e before le r fit moves = on (k + 1) D run e (before_more m (k + 1) D (omega arith) before) r fit moves
 runs_as next R D k m (Some Asked) run on e before le r fit moves = stays_as next R D k m Asked run on e before le r fit moves
 runs_as next R D k m (Some Held) run on e before le r fit moves = stays_as next R D k m Held run on e before le r fit moves
@@ -297,12 +297,12 @@ runs next (row ∷ R) m D run e before r fit moves =
     let low : Before k D = before_more m k D r.0 before in
     let here : status_of run.agent k ≡ n = ap (λ (rows : Table Status). find rows k) e ∙ find_behind k D (add_row k n X) low ∙ find_here k n X (advance-rises next (k + 1) R r.1) in
     let step = tells run k o refl fit.0.0 row.1 n moves.0 fit.0.1 here in
-    ap (λ (x : Run). fold settle_next x (map (kept_for run.agent.tab run.agent.issued) R)) step
+    ap (λ (x : Run). fold tell_next x (map (kept_for run.agent.tab run.agent.issued) R)) step
     ∙ runs_as next R D k m n run (runs next R) e before r.0 r.1 fit.1 moves.1
 
 -- where all rows have gone on, all tokens are told
-pub run-advanced : (next : ℕ × Status → Option Status) (table : Table Status) (b : TabState) → b.statuses ≡ advance next table → Rises 0 table → RowsFit b.issued table → AllMove b.issued next table → settle_run b (map (kept_for b.tab b.issued) table) ≡ run_with (told b) (map (kept_for b.tab b.issued) (untold b.statuses)) (last_whole b.statuses None)
-unfolding settle_run told
+pub run-advanced : (next : ℕ × Status → Option Status) (table : Table Status) (b : TabState) → b.statuses ≡ advance next table → Rises 0 table → RowsFit b.issued table → AllMove b.issued next table → told_run b (map (kept_for b.tab b.issued) table) ≡ run_with (told b) (map (kept_for b.tab b.issued) (untold b.statuses)) (last_whole b.statuses None)
+unfolding told_run told
 run-advanced next table b e r fit moves =
     runs next table 0 [] (run_with b [] None) e tt r fit moves
     ∙ ap (λ (X : Table Status). run_with (with_rows (untold X) b) (map (kept_for b.tab b.issued) (untold X)) (last_whole X None)) (sym e)

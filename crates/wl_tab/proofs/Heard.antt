@@ -30,21 +30,21 @@ use Rattle.wl_said.specs.declared.said.Said.TheVariants as said
 use Rattle.wl_tab.specs.Tabs.{is_told, told}
 use Rattle.wl_tab.specs.Arrivals.{arrival, told_said, snapshot_in, generation_in, ended_in, ended_by_entering}
 use Rattle.wl_tab.specs.TabTokens.{token_for, kept_for, kept_of, IsKept, whole_said, NoneTold, ended_by, ended_kept, has_snapshot, said_of_told, entered_by, ended_before}
-use Rattle.wl_tab.specs.Settling.{Run, settle_run}
+use Rattle.wl_tab.specs.Telling.{Run, told_run}
 use Rattle.wl_tab.proofs.Advancing.{advance-rises, advance-fits, AllMove, run_with, last_whole, whole_or, untold, run-advanced}
 use Rattle.wl_tab.proofs.Arriving.{Advances, delivered-advances, AnswerFits, null_fits}
 use Rattle.wl_agent.specs.declared.token.Token.TheVariants as token
 
 -- ---- the tokens after a delivery
 
-pub tokens-told : (f : Frame) (a b : TabState) (tab entered : ℕ) (kept : List Kept) → IsKept a tab entered kept → b ≡ (delivery f a).0 → settle_run b kept ≡ run_with (told b) (kept_of (told b)) (last_whole b.statuses None)
+pub tokens-told : (f : Frame) (a b : TabState) (tab entered : ℕ) (kept : List Kept) → IsKept a tab entered kept → b ≡ (delivery f a).0 → told_run b kept ≡ run_with (told b) (kept_of (told b)) (last_whole b.statuses None)
 unfolding told
 tokens-told f a b tab entered kept is b_is =
     let d : Advances a b = subst (Advances a) (sym b_is) (delivered-advances f a is.rise is.untold) in
     let fit : RowsFit b.issued a.statuses = subst (λ (issued : List Operation). RowsFit issued a.statuses) (sym d.issued) is.rows in
     let moves : AllMove b.issued d.next a.statuses = subst (λ (issued : List Operation). AllMove issued d.next a.statuses) (sym d.issued) d.moves in
     let same : kept ≡ map (kept_for b.tab b.issued) a.statuses = is.tokens ∙ ap (λ t. map (kept_for t a.issued) a.statuses) (sym d.tab) ∙ ap (λ (issued : List Operation). map (kept_for b.tab issued) a.statuses) (sym d.issued) in
-    ap (settle_run b) same ∙ run-advanced d.next a.statuses b d.statuses is.rise fit moves
+    ap (told_run b) same ∙ run-advanced d.next a.statuses b d.statuses is.rise fit moves
 
 none_told_as : (row : ℕ × Status) (rows : Table Status) (b : Bool) → is_told row.1 ≡ b → NoneTold rows → NoneTold (cond (not b) (row ∷ rows) rows)
 none_told_as row rows true e none = none
@@ -221,7 +221,7 @@ pub record Comes (f : Frame) (a c : TabState) (d : Delivered) (tab g : ℕ) (kep
   pub whole : has_snapshot d w ≡ true
   pub says : (ends : List Ended) → ends ≡ ended_by_entering a → said_of_told f ends w d ≡ arrival f a
 
-pub comes : (f : Frame) (a b c : TabState) (d : Delivered) (tab entered g : ℕ) (kept ks : List Kept) (w : Option Snapshot) → IsKept a tab entered kept → (b, d) ≡ delivery f a → g ≡ entered_by f d entered → c ≡ (settle_run b kept).agent → ks ≡ (settle_run b kept).kept → w ≡ (settle_run b kept).snapshot → Comes f a c d tab g ks w
+pub comes : (f : Frame) (a b c : TabState) (d : Delivered) (tab entered g : ℕ) (kept ks : List Kept) (w : Option Snapshot) → IsKept a tab entered kept → (b, d) ≡ delivery f a → g ≡ entered_by f d entered → c ≡ (told_run b kept).agent → ks ≡ (told_run b kept).kept → w ≡ (told_run b kept).snapshot → Comes f a c d tab g ks w
 comes f a b c d tab entered g kept ks w is delivered g_is c_is ks_is w_is =
     let b_is : b ≡ (delivery f a).0 = ap (λ (p : TabState × Delivered). p.0) delivered in
     let d_is : d ≡ (delivery f a).1 = ap (λ (p : TabState × Delivered). p.1) delivered in

@@ -2,4 +2,4 @@ pub mod Tabs
 pub mod Arrivals
 pub mod TabTokens
 pub mod TabChannels
-pub mod Settling
+pub mod Telling

@@ -68,7 +68,7 @@ abbrev pub is_lock : Token → Bool
 is_lock (token.HeldLock lock) = true
 is_lock t = false
 
--- a number of which nothing has come yet: a request or probe that no answer has settled, a query whose answer is not whole
+-- a number of which nothing has come yet: a request or probe neither granted nor refused, a query whose answer is not whole
 abbrev pub is_open : Option Status → Bool
 is_open s = is_some s && not (is_held s)
 

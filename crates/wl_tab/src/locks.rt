@@ -11,7 +11,7 @@ mod arriving;
 mod asking;
 mod ending;
 mod kept;
-mod settling;
+mod telling;
 
 use crate::holding::Holding;
 use crate::locks::kept::Kept;

@@ -8,7 +8,7 @@ ghost use Rattle.wl_tab.specs.TabTokens.{ended_before, has_snapshot, said_of_tol
 
 use crate::locks::TabLocks;
 use crate::locks::kept::Kept;
-use crate::locks::settling::settle_all;
+use crate::locks::telling::tell_all;
 use std::alloc::{AllocError, Global};
 use wl_agent::{Delivered, Snapshot, Unheard};
 use wl_grammar::{Frame, Sequence};
@@ -23,7 +23,7 @@ impl TabLocks {
         let ended = ended_by_entering(self.alloc, self.entered, &self.kept)?;
         let delivered = taken(self.agent.deliver(frame))?;
         self.entered = entered_by(frame, &delivered, self.entered);
-        let snapshot = settle_all(&mut self.agent, &mut self.kept);
+        let snapshot = tell_all(&mut self.agent, &mut self.kept);
         Ok(said_of_told(frame, ended, snapshot, delivered))
     }
 }

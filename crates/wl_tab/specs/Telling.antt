@@ -1,4 +1,4 @@
--- What tokens are told, one after another, and what becomes of them. Helpers of the proofs.
+-- What tokens are told, one after another, and what becomes of them. The contracts of `tell` and `tell_all` speak of it.
 use Rattle.std.specs.Prelude.{List, [], ◌∷◌, ◌++◌, fold, Option, Some, None, if◌then◌else◌}
 use Rattle.wl_agent.specs.declared.snapshot.Snapshot.{Snapshot}
 use Rattle.wl_agent.specs.declared.token.Token.{Token}
@@ -13,14 +13,14 @@ use Rattle.wl_agent.specs.Tab.{TabState}
 use Rattle.wl_agent.specs.Tokens.{is_own, is_pending, is_probing, is_asking, told_pending, told_probe, told_query, after_query}
 use Rattle.wl_tab.specs.declared.locks.kept.Kept.{Kept}
 use Rattle.wl_tab.specs.TabTokens.{kept_as}
-use Rattle.wl_tab.specs.declared.locks.settling.Fate.{Fate}
-use Rattle.wl_tab.specs.declared.locks.settling.Fate.TheVariants as fate
+use Rattle.wl_tab.specs.declared.locks.telling.Fate.{Fate}
+use Rattle.wl_tab.specs.declared.locks.telling.Fate.TheVariants as fate
 
 -- ---- one token
 
-abbrev pub fate_by_settled : Settled → Fate
-fate_by_settled (answered.Waiting p) = fate.Stays (token.Pending p)
-fate_by_settled (answered.Held lock) = fate.Stays (token.HeldLock lock)
+abbrev pub fate_by_request : Settled → Fate
+fate_by_request (answered.Waiting p) = fate.Stays (token.Pending p)
+fate_by_request (answered.Held lock) = fate.Stays (token.HeldLock lock)
 
 abbrev pub fate_by_probe : ProbeSettled → Fate
 fate_by_probe (probe.Waiting p) = fate.Stays (token.Probe p)
@@ -35,7 +35,7 @@ fate_by_query query.Lost = fate.Over
 -- what becomes of a token; one that is not the tab's own stays as it is
 abbrev pub fate_of : TabState → Token → Fate
 fate_of a (token.Pending p) =
-    if is_own is_pending a p.tab p.number then fate_by_settled (told_pending a p) else fate.Stays (token.Pending p)
+    if is_own is_pending a p.tab p.number then fate_by_request (told_pending a p) else fate.Stays (token.Pending p)
 fate_of a (token.Probe p) =
     if is_own is_probing a p.tab p.number then fate_by_probe (told_probe a p) else fate.Stays (token.Probe p)
 fate_of a (token.HeldLock lock) = fate.Stays (token.HeldLock lock)
@@ -43,9 +43,9 @@ fate_of a (token.Asking q) =
     if is_own is_asking a q.tab q.number then fate_by_query (told_query a q) else fate.Stays (token.Asking q)
 
 -- what the telling of a token makes of its tab
-abbrev pub settled : Token → TabState → TabState
-settled (token.Asking q) a = if is_own is_asking a q.tab q.number then after_query q.number a else a
-settled t a = a
+abbrev pub after_telling : Token → TabState → TabState
+after_telling (token.Asking q) a = if is_own is_asking a q.tab q.number then after_query q.number a else a
+after_telling t a = a
 
 -- ---- all tokens
 
@@ -57,15 +57,15 @@ pub record Run : Type 0 where
 
 abbrev pub with_fate : Run → Kept → Fate → Run
 with_fate run x (fate.Stays t) =
-    record { agent = settled x.token run.agent; kept = run.kept ++ kept_as x.operation t ∷ []; snapshot = run.snapshot }
-with_fate run x fate.Over = record { agent = settled x.token run.agent; kept = run.kept; snapshot = run.snapshot }
-with_fate run x (fate.Whole s) = record { agent = settled x.token run.agent; kept = run.kept; snapshot = Some s }
+    record { agent = after_telling x.token run.agent; kept = run.kept ++ kept_as x.operation t ∷ []; snapshot = run.snapshot }
+with_fate run x fate.Over = record { agent = after_telling x.token run.agent; kept = run.kept; snapshot = run.snapshot }
+with_fate run x (fate.Whole s) = record { agent = after_telling x.token run.agent; kept = run.kept; snapshot = Some s }
 
-abbrev pub settle_next : Run → Kept → Run
-settle_next run x = with_fate run x (fate_of run.agent x.token)
+abbrev pub tell_next : Run → Kept → Run
+tell_next run x = with_fate run x (fate_of run.agent x.token)
 
 abbrev pub run_from : TabState → Run
 run_from a = record { agent = a; kept = []; snapshot = None }
 
-unfoldable pub settle_run : TabState → List Kept → Run
-settle_run a kept = fold settle_next (run_from a) kept
+unfoldable pub told_run : TabState → List Kept → Run
+told_run a kept = fold tell_next (run_from a) kept

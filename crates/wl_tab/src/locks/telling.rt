@@ -1,7 +1,7 @@
 //! Tokens that are told what became of their numbers.
 
 ghost use Rattle.std.specs.Prelude.{◌≡◌, ◌≤◌, vec_len, vec_capacity};
-ghost use Rattle.wl_tab.specs.Settling.{fate_of, settled, settle_run};
+ghost use Rattle.wl_tab.specs.Telling.{fate_of, after_telling, told_run};
 
 use crate::locks::kept::Kept;
 use wl_agent::{Agent, Foreign, ProbeSettled, QuerySettled, Settled, Snapshot, Token};
@@ -16,9 +16,9 @@ pub enum Fate {
 }
 
 /// Tells a token what became of its number. One that the agent does not know stays as it is.
-pub(crate) fn settle(agent: &mut Agent, token: Token) -> Fate
+pub(crate) fn tell(agent: &mut Agent, token: Token) -> Fate
     ensures fate { result ≡ fate_of agent.old token }
-    ensures agent { agent.new ≡ settled token agent.old }
+    ensures agent { agent.new ≡ after_telling token agent.old }
 {
     match token {
         Token::Pending(pending) => match agent.settle(pending) {
@@ -43,16 +43,16 @@ pub(crate) fn settle(agent: &mut Agent, token: Token) -> Fate
 }
 
 /// Tells all tokens, one after another; those that stay keep their order. Gives the answer of a query that is whole.
-pub(crate) fn settle_all(agent: &mut Agent, kept: &mut Vec<Kept>) -> Option<Snapshot>
-    ensures agent { agent.new ≡ (settle_run agent.old kept.old.items).agent }
-    ensures kept { kept.new.items ≡ (settle_run agent.old kept.old.items).kept }
-    ensures snapshot { result ≡ (settle_run agent.old kept.old.items).snapshot }
+pub(crate) fn tell_all(agent: &mut Agent, kept: &mut Vec<Kept>) -> Option<Snapshot>
+    ensures agent { agent.new ≡ (told_run agent.old kept.old.items).agent }
+    ensures kept { kept.new.items ≡ (told_run agent.old kept.old.items).kept }
+    ensures snapshot { result ≡ (told_run agent.old kept.old.items).snapshot }
     ensures fewer { vec_len kept.new ≤ vec_len kept.old }
     ensures capacity { vec_capacity kept.new ≡ vec_capacity kept.old }
 {
     let Kept { operation, token } = kept.pop()?;
-    let before = settle_all(agent, kept);
-    match settle(agent, token) {
+    let before = tell_all(agent, kept);
+    match tell(agent, token) {
         Fate::Stays(token) => {
             kept.push_reserved(Kept { operation, token });
             before
