@@ -5,3 +5,4 @@ pub mod Stream
 pub mod Reading
 pub mod Bodies
 pub mod Device
+pub mod Faults

@@ -1,4 +1,3 @@
 pub mod Status
-pub mod Faults
 pub mod Links
 pub mod Paths

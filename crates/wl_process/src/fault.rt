@@ -2,8 +2,8 @@
 
 ghost use Rattle.std.specs.IoError.{error_kind};
 ghost use Rattle.std.specs.Prelude.{◌≡◌, ◌≢◌};
-ghost use Rattle.wl_process.specs.Faults.{of_read, of_frame};
-ghost use Rattle.wl_process.specs.declared.fault.ProcessFault.TheVariants.{Write as write_fault, Memory as memory};
+ghost use Rattle.wl_frames.specs.Faults.{of_read, of_frame};
+ghost use Rattle.wl_process.specs.declared.fault.ProcessFault.TheVariants as faults;
 ghost use Rattle.wl_process.specs.Status.{status_of};
 
 use std::alloc::{AllocError, AllocFailed};
@@ -93,7 +93,7 @@ impl ProcessFault {
 }
 
 impl From<AllocError> for ProcessFault {
-    ghost from_gives = { λ _ e. e ≡ memory };
+    ghost from_gives = { λ _ e. e ≡ faults.Memory };
 
     fn from(_refused: AllocError) -> ProcessFault {
         ProcessFault::Memory
@@ -101,7 +101,7 @@ impl From<AllocError> for ProcessFault {
 }
 
 impl<T: Drop> From<AllocFailed<T>> for ProcessFault {
-    ghost from_gives = { λ _ e. e ≡ memory };
+    ghost from_gives = { λ _ e. e ≡ faults.Memory };
 
     fn from(_refused: AllocFailed<T>) -> ProcessFault {
         ProcessFault::Memory
@@ -109,7 +109,7 @@ impl<T: Drop> From<AllocFailed<T>> for ProcessFault {
 }
 
 impl From<FrameFault> for ProcessFault {
-    ghost from_gives = { λ fault e. e ≡ of_frame fault };
+    ghost from_gives = { λ fault e. e ≡ of_frame faults.Memory faults.Frame fault };
 
     fn from(fault: FrameFault) -> ProcessFault {
         match fault {
@@ -120,7 +120,7 @@ impl From<FrameFault> for ProcessFault {
 }
 
 impl From<ReadFault> for ProcessFault {
-    ghost from_gives = { λ fault e. e ≡ of_read fault };
+    ghost from_gives = { λ fault e. e ≡ of_read faults.Read faults.TooManyReads fault };
 
     fn from(fault: ReadFault) -> ProcessFault {
         match fault {
@@ -131,7 +131,7 @@ impl From<ReadFault> for ProcessFault {
 }
 
 impl From<WriteFault> for ProcessFault {
-    ghost from_gives = { λ _ e. e ≡ write_fault };
+    ghost from_gives = { λ _ e. e ≡ faults.Write };
 
     fn from(_fault: WriteFault) -> ProcessFault {
         ProcessFault::Write

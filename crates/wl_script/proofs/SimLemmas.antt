@@ -5,10 +5,11 @@ use Rattle.std.proofs.KnownBytes.{Consumes-trans, Appends-trans, Consumes-kept, 
 use Rattle.wl_world.specs.World.{empty_world}
 use Rattle.wl_frames.specs.declared.device.ReadFault.{ReadFault}
 use Rattle.wl_frames.specs.declared.device.ReadFault.TheVariants as read
+use Rattle.wl_frames.specs.Faults.{of_read}
 use Rattle.wl_script.specs.declared.sim.SimFault.{SimFault}
 use Rattle.wl_script.specs.declared.sim.SimFault.TheVariants as sim
 use Rattle.wl_script.specs.Sim.{Ran, runs, whole_lines, run_of, whole_run_of, Answered, NeedsEnd, Runs}
-use Rattle.wl_script.specs.SimSteps.{SimState, at_first, of_read, lines_after, EndsBy, Plays, Closes}
+use Rattle.wl_script.specs.SimSteps.{SimState, at_first, lines_after, EndsBy, Plays, Closes}
 use Rattle.wl_script.proofs.Splits.{lines_after-nil, lines_none, whole_but_last}
 use Rattle.wl_script.proofs.RunLemmas.{before, EndsBy-before, runs-after, Plays-more, Ends-after}
 
@@ -75,13 +76,13 @@ whole_is input output s h =
     ∙ ap (runs 1 empty_world) (whole_but_last h.texts s.text)
     ∙ h.ran
 
-unread_answered : (input output : List ℕ) (s : SimState) (e : ReadFault) → Plays at_first input s output → Answered input (Err (of_read e)) output
+unread_answered : (input output : List ℕ) (s : SimState) (e : ReadFault) → Plays at_first input s output → Answered input (Err (of_read sim.Read sim.TooManyReads e)) output
 unread_answered input output s read.Failed h =
     let is = whole_is input output s h in (ap (λ (r : Ran). r.refused) is, sym (ap (λ (r : Ran). r.written) is))
 unread_answered input output s read.TooManyReads h =
     let is = whole_is input output s h in (ap (λ (r : Ran). r.refused) is, sym (ap (λ (r : Ran). r.written) is))
 
-unread_needs_none : (input : List ℕ) (e : ReadFault) (reader : Option (List ℕ)) → NeedsEnd input (Err (of_read e)) reader
+unread_needs_none : (input : List ℕ) (e : ReadFault) (reader : Option (List ℕ)) → NeedsEnd input (Err (of_read sim.Read sim.TooManyReads e)) reader
 unread_needs_none input read.Failed reader = tt
 unread_needs_none input read.TooManyReads reader = tt
 
@@ -91,7 +92,7 @@ keeps_unread b b' read.Failed failed limit = failed refl
 keeps_unread b b' read.TooManyReads failed limit = subst (Keeps b) (sym (limit refl)) (Keeps-refl b)
 
 pub Runs-unread : (a b b' c d : Option (List ℕ)) (s : SimState) (e : ReadFault) → Stands a b c d s → (e ≡ read.Failed → Keeps b b') → (e ≡ read.TooManyReads → b' ≡ b)
-    → Runs a b' c d (Err (of_read e))
+    → Runs a b' c d (Err (of_read sim.Read sim.TooManyReads e))
 Runs-unread a b b' c d s e h failed limit = record {
   input = h.input;
   output = h.output;

@@ -4,17 +4,11 @@ use Rattle.wl_said.specs.declared.said.Said.{Said}
 use Rattle.wl_said.specs.declared.said.Said.TheVariants as said
 use Rattle.wl_world.specs.World.{WorldState, empty_world}
 use Rattle.wl_world.specs.Machine.{Machine}
-use Rattle.wl_frames.specs.declared.device.ReadFault.{ReadFault}
-use Rattle.wl_frames.specs.declared.device.ReadFault.TheVariants as read
 use Rattle.wl_encoding.specs.Prefixes.{IsPrefixOf}
 use Rattle.wl_script.specs.declared.sim.SimFault.{SimFault}
 use Rattle.wl_script.specs.declared.sim.SimFault.TheVariants as sim
 use Rattle.wl_script.specs.Played.{Played}
 use Rattle.wl_script.specs.Sim.{Ran, runs, lines_of}
-
-abbrev pub of_read : ReadFault → SimFault
-of_read read.Failed = sim.Read
-of_read read.TooManyReads = sim.TooManyReads
 
 -- the kernel has opened the tab
 abbrev pub is_opened : Said → Bool

@@ -3,9 +3,10 @@
 ghost use Rattle.std.specs.Prelude.{◌≡◌, ◌↔◌, ◌+◌, ◌<◌, ◌^◌, ℕ, List, length, true, false, Err, OnOk};
 ghost use Rattle.std.specs.Io.KnownBytes.{Appends, IsAtEnd};
 ghost use Rattle.wl_frames.specs.declared.device.TheConstants.{READ_LIMIT};
-ghost use Rattle.wl_script.specs.declared.sim.SimFault.TheVariants.{Write as write_fault, Memory as memory};
+ghost use Rattle.wl_frames.specs.Faults.{of_read};
+ghost use Rattle.wl_script.specs.declared.sim.SimFault.TheVariants as faults;
 ghost use Rattle.wl_script.specs.Sim.{Runs};
-ghost use Rattle.wl_script.specs.SimSteps.{of_read, at_first, PlaysLine, Takes, Closes};
+ghost use Rattle.wl_script.specs.SimSteps.{at_first, PlaysLine, Takes, Closes};
 
 use crate::play::play;
 use crate::reading::read_line;
@@ -39,7 +40,7 @@ pub enum SimFault {
 }
 
 impl From<ReadFault> for SimFault {
-    ghost from_gives = { λ fault e. e ≡ of_read fault };
+    ghost from_gives = { λ fault e. e ≡ of_read faults.Read faults.TooManyReads fault };
 
     fn from(fault: ReadFault) -> SimFault {
         match fault {
@@ -50,7 +51,7 @@ impl From<ReadFault> for SimFault {
 }
 
 impl From<WriteFault> for SimFault {
-    ghost from_gives = { λ _ e. e ≡ write_fault };
+    ghost from_gives = { λ _ e. e ≡ faults.Write };
 
     fn from(_fault: WriteFault) -> SimFault {
         SimFault::Write
@@ -58,7 +59,7 @@ impl From<WriteFault> for SimFault {
 }
 
 impl From<AllocError> for SimFault {
-    ghost from_gives = { λ _ e. e ≡ memory };
+    ghost from_gives = { λ _ e. e ≡ faults.Memory };
 
     fn from(_fault: AllocError) -> SimFault {
         SimFault::Memory
@@ -66,7 +67,7 @@ impl From<AllocError> for SimFault {
 }
 
 impl<T: Drop> From<AllocFailed<T>> for SimFault {
-    ghost from_gives = { λ _ e. e ≡ memory };
+    ghost from_gives = { λ _ e. e ≡ faults.Memory };
 
     fn from(_fault: AllocFailed<T>) -> SimFault {
         SimFault::Memory

@@ -7,12 +7,13 @@ use Rattle.wl_frames.specs.declared.fault.FrameFault.{FrameFault}
 use Rattle.wl_frames.specs.declared.fault.FrameFault.TheVariants as fault
 use Rattle.wl_grammar.specs.declared.frame.Frame.{Frame}
 use Rattle.wl_grammar.specs.Grammar.{IsWellFormed, spelling}
+use Rattle.wl_frames.specs.Faults.{of_frame}
 use Rattle.wl_frames.specs.Stream.{Stop, Rest, Fault, HasFault, HasFaultNext, Reads, IsPartial, Feeding, Refuses}
 use Rattle.wl_workers.specs.declared.desk.DeskFault.{DeskFault}
 use Rattle.wl_workers.specs.declared.desk.DeskFault.TheVariants as desk
 use Rattle.wl_encoding.specs.Prefixes.{IsPrefixOf}
 use Rattle.wl_workers.specs.Desk.{DeskState, desk_after, IsRefused, IsReadPart}
-use Rattle.wl_workers.specs.DeskSteps.{of_frame, due, Deals, EndsBy, Breaks}
+use Rattle.wl_workers.specs.DeskSteps.{due, Deals, EndsBy, Breaks}
 
 -- a reading up to a rest, and one of the rest and more, are one reading
 pub Reads-join : (stream piece rest : List ℕ) (fs gs : List Frame) (stop : Stop) → Reads stream fs (Rest rest) → Reads (rest ++ piece) gs stop → Reads (stream ++ piece) (fs ++ gs) stop
@@ -121,7 +122,7 @@ breaks_before old new before after piece frames fault.Failed e output sound part
 
 -- the frames before a fault were answered, and then it counts
 pub breaks_after : (old new : DeskState) (before after : Feeding) (piece : List ℕ) (frames : List Frame) (fault : FrameFault) (output : List ℕ) → before.has_failed ≡ false
-    → IsPartial before.rest → Refuses before after piece frames fault → Deals old frames new (Ok tt) output → Breaks old before.rest piece (of_frame fault) output
+    → IsPartial before.rest → Refuses before after piece frames fault → Deals old frames new (Ok tt) output → Breaks old before.rest piece (of_frame desk.Memory desk.Frame fault) output
 breaks_after old new before after piece frames fault.BadLength output sound partial refuses h =
     breaks_by_fault old new before.rest piece frames fault.BadLength output (refuses.stops (λ x. cc) (λ x. cc)).0 h
 breaks_after old new before after piece frames fault.BadVersion output sound partial refuses h =

@@ -8,9 +8,10 @@ use Rattle.wl_workers.specs.declared.desk.DeskFault.{DeskFault}
 use Rattle.wl_workers.specs.declared.desk.DeskFault.TheVariants as desk
 use Rattle.wl_frames.specs.declared.device.ReadFault.{ReadFault}
 use Rattle.wl_frames.specs.declared.device.ReadFault.TheVariants as read
+use Rattle.wl_frames.specs.Faults.{of_read}
 use Rattle.wl_encoding.specs.Prefixes.{IsPrefixOf}
 use Rattle.wl_workers.specs.Desk.{DeskState, Opening, desk_after, written, IsServing, IsRefused, IsReadPart, Answered, NeedsEnd, Runs}
-use Rattle.wl_workers.specs.DeskSteps.{of_read, due, EndsBy, Passes, Breaks, Closes}
+use Rattle.wl_workers.specs.DeskSteps.{due, EndsBy, Passes, Breaks, Closes}
 use Rattle.wl_encoding.proofs.Prefixes.{append-IsPrefixOf}
 use Rattle.wl_workers.proofs.DeskLemmas.{desk_after-append, due-append, frames_before_opening, IsWriteFault}
 use Rattle.wl_workers.proofs.PieceLemmas.{Reads-join, no_cut}
@@ -217,7 +218,7 @@ Serves-started reader writer feed state e is =
     subst (Serves reader reader writer writer feed.rest) (sym is) (subst (λ (f : Feeding). Serves reader reader writer writer f.rest Opening) (sym e) (Serves-start reader writer))
 
 pub Runs-unread : (a b b' c d : Option (List ℕ)) (rest : List ℕ) (state : DeskState) (e : ReadFault) → Serves a b c d rest state → (e ≡ read.Failed → Keeps b b') → (e ≡ read.TooManyReads → b' ≡ b)
-    → Runs a b' c d (Err (of_read e))
+    → Runs a b' c d (Err (of_read desk.Read desk.TooManyReads e))
 Runs-unread a b b' c d rest state read.Failed h failed limit = Runs-read a b b' c d rest state h (failed refl)
 Runs-unread a b b' c d rest state read.TooManyReads h failed limit = subst (λ x. Runs a x c d (Err desk.TooManyReads)) (sym (limit refl)) (Runs-limit a b c d rest state h)
 
@@ -226,11 +227,11 @@ Runs-unread a b b' c d rest state read.TooManyReads h failed limit = subst (λ x
 abbrev pub IsReadFault : Result (Unit {0}) DeskFault → Type 0
 IsReadFault r = r ≡ Err desk.Read
 
-pub unread_is_read : (e : ReadFault) (old new : Bool) → old ≡ false → (e ≡ read.Failed → new ≡ true) → (e ≡ read.TooManyReads → new ≡ old) → IsReadFault (Err (of_read e)) ↔ (new ≡ true)
+pub unread_is_read : (e : ReadFault) (old new : Bool) → old ≡ false → (e ≡ read.Failed → new ≡ true) → (e ≡ read.TooManyReads → new ≡ old) → IsReadFault (Err (of_read desk.Read desk.TooManyReads e)) ↔ (new ≡ true)
 unread_is_read read.Failed old new sound failed limit = (λ h. failed refl, λ h. refl)
 unread_is_read read.TooManyReads old new sound failed limit = (λ h. cc, λ h. absurd (let e : true ≡ false = sym h ∙ limit refl ∙ sound in cc))
 
-pub unread_is_no_write : (e : ReadFault) (b : Bool) → b ≡ false → IsWriteFault (Err (of_read e)) ↔ (b ≡ true)
+pub unread_is_no_write : (e : ReadFault) (b : Bool) → b ≡ false → IsWriteFault (Err (of_read desk.Read desk.TooManyReads e)) ↔ (b ≡ true)
 unread_is_no_write read.Failed b sound = (λ h. cc, λ h. cc)
 unread_is_no_write read.TooManyReads b sound = (λ h. cc, λ h. cc)
 

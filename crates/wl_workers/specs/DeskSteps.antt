@@ -4,7 +4,6 @@ use Rattle.std.specs.List.{flat_map}
 use Rattle.wl_grammar.specs.declared.frame.Addressed.{Addressed}
 use Rattle.wl_grammar.specs.declared.frame.Frame.{Frame}
 use Rattle.wl_grammar.specs.declared.frame.Frame.TheVariants as frame
-use Rattle.wl_frames.specs.declared.fault.FrameFault.{FrameFault}
 use Rattle.wl_frames.specs.declared.fault.FrameFault.TheVariants as fault
 use Rattle.wl_grammar.specs.Grammar.{spelling}
 use Rattle.wl_frames.specs.Stream.{Stop, Rest, Fault, Reads, Feeding}
@@ -12,26 +11,8 @@ use Rattle.wl_broker.specs.Broker.{BrokerState}
 use Rattle.wl_broker.specs.Speech.{IsSpellable}
 use Rattle.wl_workers.specs.declared.desk.DeskFault.{DeskFault}
 use Rattle.wl_workers.specs.declared.desk.DeskFault.TheVariants as desk
-use Rattle.wl_frames.specs.declared.device.ReadFault.{ReadFault}
-use Rattle.wl_frames.specs.declared.device.ReadFault.TheVariants as read
 use Rattle.wl_encoding.specs.Prefixes.{IsPrefixOf}
 use Rattle.wl_workers.specs.Desk.{DeskState, Opening, Serving, Refused, desk_step, desk_after, desk_outs, IsServing, IsRefused, IsReadPart}
-
--- ---- faults
-
-abbrev pub of_read : ReadFault → DeskFault
-of_read read.Failed = desk.Read
-of_read read.TooManyReads = desk.TooManyReads
-
-abbrev pub of_frame : FrameFault → DeskFault
-of_frame fault.BadLength = desk.Frame fault.BadLength
-of_frame fault.BadVersion = desk.Frame fault.BadVersion
-of_frame fault.BadKind = desk.Frame fault.BadKind
-of_frame fault.BadField = desk.Frame fault.BadField
-of_frame fault.LeftOver = desk.Frame fault.LeftOver
-of_frame fault.Truncated = desk.Frame fault.Truncated
-of_frame fault.Memory = desk.Memory
-of_frame fault.Failed = desk.Frame fault.Failed
 
 -- ---- the desk's state
 

@@ -7,8 +7,6 @@ use Rattle.wl_board.specs.declared.tab.Life.TheVariants as life
 use Rattle.wl_grammar.specs.declared.frame.Frame.{Frame}
 use Rattle.wl_frames.specs.declared.fault.FrameFault.TheVariants as fault
 use Rattle.wl_frames.specs.declared.device.TheConstants.{PIECE_LEN}
-use Rattle.wl_frames.specs.declared.device.ReadFault.{ReadFault}
-use Rattle.wl_frames.specs.declared.device.ReadFault.TheVariants as read
 use Rattle.wl_frames.specs.Stream.{Stop, Rest, Fault, Reads, Feeding}
 use Rattle.wl_workers.specs.declared.tab_reader.ReadEnd.{ReadEnd}
 use Rattle.wl_workers.specs.declared.tab_reader.ReadEnd.TheVariants as end
@@ -16,10 +14,6 @@ use Rattle.wl_workers.specs.Told.{Grows}
 use Rattle.wl_workers.specs.Looks.{IsNotDead, at_tab}
 
 -- ---- ends
-
-abbrev pub of_read : ReadFault → ReadEnd
-of_read read.Failed = end.Read
-of_read read.TooManyReads = end.TooManyReads
 
 abbrev pub ended : Result (Unit {0}) ReadEnd → ReadEnd
 ended (Ok done) = end.End

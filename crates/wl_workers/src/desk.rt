@@ -7,9 +7,10 @@ ghost use Rattle.wl_frames.specs.declared.device.TheConstants.{READ_LIMIT};
 ghost use Rattle.wl_frames.specs.Device.{WritesPrefix};
 ghost use Rattle.wl_grammar.specs.Grammar.{IsWellFormed, IsAddressed, spelling};
 ghost use Rattle.wl_frames.specs.Stream.{IsPartial};
-ghost use Rattle.wl_workers.specs.declared.desk.DeskFault.TheVariants.{Write as write_fault, Memory as memory};
+ghost use Rattle.wl_frames.specs.Faults.{of_read, of_frame};
+ghost use Rattle.wl_workers.specs.declared.desk.DeskFault.TheVariants as faults;
 ghost use Rattle.wl_workers.specs.Desk.{Opening, IsRefused, Runs};
-ghost use Rattle.wl_workers.specs.DeskSteps.{of_read, of_frame, spelled, IsBegun, Steps, Spells, Deals, Treats, Closes};
+ghost use Rattle.wl_workers.specs.DeskSteps.{spelled, IsBegun, Steps, Spells, Deals, Treats, Closes};
 
 use std::alloc::{AllocError, Global};
 use std::io::{Read, Write};
@@ -44,7 +45,7 @@ pub enum DeskFault {
 }
 
 impl From<ReadFault> for DeskFault {
-    ghost from_gives = { λ fault e. e ≡ of_read fault };
+    ghost from_gives = { λ fault e. e ≡ of_read faults.Read faults.TooManyReads fault };
 
     fn from(fault: ReadFault) -> DeskFault {
         match fault {
@@ -55,7 +56,7 @@ impl From<ReadFault> for DeskFault {
 }
 
 impl From<WriteFault> for DeskFault {
-    ghost from_gives = { λ _ e. e ≡ write_fault };
+    ghost from_gives = { λ _ e. e ≡ faults.Write };
 
     fn from(_fault: WriteFault) -> DeskFault {
         DeskFault::Write
@@ -63,7 +64,7 @@ impl From<WriteFault> for DeskFault {
 }
 
 impl From<FrameFault> for DeskFault {
-    ghost from_gives = { λ fault e. e ≡ of_frame fault };
+    ghost from_gives = { λ fault e. e ≡ of_frame faults.Memory faults.Frame fault };
 
     fn from(fault: FrameFault) -> DeskFault {
         match fault {
@@ -74,7 +75,7 @@ impl From<FrameFault> for DeskFault {
 }
 
 impl From<AllocError> for DeskFault {
-    ghost from_gives = { λ _ e. e ≡ memory };
+    ghost from_gives = { λ _ e. e ≡ faults.Memory };
 
     fn from(_fault: AllocError) -> DeskFault {
         DeskFault::Memory

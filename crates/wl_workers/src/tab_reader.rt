@@ -4,8 +4,9 @@ ghost use Rattle.std.specs.Prelude.{◌≡◌, ◌≢◌, ◌↔◌, ◌≤◌, 
 ghost use Rattle.wl_frames.specs.declared.device.TheConstants.{PIECE_LEN, READ_LIMIT};
 ghost use Rattle.wl_grammar.specs.declared.frame.Frame.{Frame as TheFrame};
 ghost use Rattle.wl_frames.specs.Stream.{IsPartial};
-ghost use Rattle.wl_workers.specs.declared.tab_reader.ReadEnd.TheVariants.{Frame as frame_end};
-ghost use Rattle.wl_workers.specs.TabReader.{of_read, ended, dead_look, HandsUp, IsProperPrefix, EndsAfter, Passes, NeedsEnd, ReadsTab, Closes, IsPieceEnd};
+ghost use Rattle.wl_frames.specs.Faults.{of_read};
+ghost use Rattle.wl_workers.specs.declared.tab_reader.ReadEnd.TheVariants as ends;
+ghost use Rattle.wl_workers.specs.TabReader.{ended, dead_look, HandsUp, IsProperPrefix, EndsAfter, Passes, NeedsEnd, ReadsTab, Closes, IsPieceEnd};
 
 use crate::lives::{Lives, finds_dead};
 use crate::uplink::Uplink;
@@ -32,7 +33,7 @@ pub enum ReadEnd {
 }
 
 impl From<FrameFault> for ReadEnd {
-    ghost from_gives = { λ fault end. end ≡ frame_end fault };
+    ghost from_gives = { λ fault end. end ≡ ends.Frame fault };
 
     fn from(fault: FrameFault) -> ReadEnd {
         ReadEnd::Frame(fault)
@@ -40,7 +41,7 @@ impl From<FrameFault> for ReadEnd {
 }
 
 impl From<ReadFault> for ReadEnd {
-    ghost from_gives = { λ fault end. end ≡ of_read fault };
+    ghost from_gives = { λ fault end. end ≡ of_read ends.Read ends.TooManyReads fault };
 
     fn from(fault: ReadFault) -> ReadEnd {
         match fault {
