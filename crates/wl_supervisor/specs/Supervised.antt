@@ -3,6 +3,7 @@ use Rattle.std.specs.Prelude.{ℕ, List, [], Bool, not, ◌&&◌, Option, Some, 
 use Rattle.wl_grammar.specs.declared.frame.Stamped.{Stamped}
 use Rattle.wl_grammar.specs.declared.frame.Addressed.{Addressed}
 use Rattle.wl_broker.specs.Broker.{BrokerState, started, hellos, Taking, Drops, Does, taking, burial}
+use Rattle.wl_broker.specs.Events.{broker_after}
 use Rattle.wl_kernel.specs.Kernel.{KernelState, is_opened, is_living, may_stop, stopped, start_refusal, placed}
 use Rattle.wl_supervisor.specs.declared.supervisor.Supervisor.{Supervisor}
 use Rattle.wl_supervisor.specs.declared.supervisor.Supervisor.TheVariants.{Down, Up}
@@ -37,10 +38,6 @@ halted (Down k) = Down k
 halted (Up k b) = if may_stop k then Down (stopped k) else Up k b
 
 -- ---- what comes to the broker
-
-abbrev pub broker_after : BrokerState → Taking → BrokerState
-broker_after b (Drops reason) = b
-broker_after b (Does after outs) = after
 
 abbrev pub outs_of : Taking → List Addressed
 outs_of (Drops reason) = []

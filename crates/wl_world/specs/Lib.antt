@@ -1,3 +1,4 @@
+pub mod Sends
 pub mod World
 pub mod Holdings
 pub mod Rows

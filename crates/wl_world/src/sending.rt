@@ -2,8 +2,9 @@
 
 ghost use Rattle.std.specs.Prelude.{◌≡◌, ◌++◌, [], ◌∷◌, IfOk, OnOk, map};
 ghost use Rattle.std.specs.List.{flat_map};
-ghost use Rattle.wl_world.specs.Parts.{issued_in, command_in, report_in, resent_in, stamped_in};
+ghost use Rattle.wl_world.specs.Parts.{passed_up};
 ghost use Rattle.wl_world.specs.World.{from_broker};
+ghost use Rattle.wl_world.specs.Sends.{command_message, issued_messages, report_messages, resent};
 
 use std::alloc::{AllocError, Global};
 use wl_bag::{Message, Sender};
@@ -39,7 +40,7 @@ pub fn add_stamped(
     frame: Frame,
     sends: &mut Vec<Message>,
 ) -> Result<(), AllocError>
-    ensures { OnOk result (sends.new.items ≡ sends.old.items ++ stamped_in kernel.now tab frame) }
+    ensures { OnOk result (sends.new.items ≡ sends.old.items ++ passed_up kernel.now tab frame) }
 {
     match kernel.route_up(tab, frame) {
         Ok(Routed::Broker(Frame::Stamped(stamped))) => sends.push(Message::Up(stamped))?,
@@ -57,7 +58,7 @@ pub fn issued(
     locks: &TabLocks,
     number: u32,
 ) -> Result<Vec<Message>, AllocError>
-    ensures { IfOk result (λ ms. ms.items ≡ issued_in kernel.now tab locks.now number) }
+    ensures { IfOk result (λ ms. ms.items ≡ issued_messages kernel.now tab locks.now number) }
 {
     let mut sends = Vec::new(alloc);
     if locks.entered() != 0 {
@@ -75,7 +76,7 @@ fn add_command(
     sends: &mut Vec<Message>,
 ) -> Result<(), AllocError>
     ensures { OnOk result (sends.new.items
-        ≡ sends.old.items ++ command_in kernel.now tab locks.now number ∷ []) }
+        ≡ sends.old.items ++ command_message kernel.now tab locks.now number ∷ []) }
 {
     match locks.message(number) {
         Ok(frame) => add_stamped(kernel, tab, frame, sends),
@@ -91,7 +92,7 @@ pub fn add_report(
     locks: &TabLocks,
     sends: &mut Vec<Message>,
 ) -> Result<(), AllocError>
-    ensures { OnOk result (sends.new.items ≡ sends.old.items ++ report_in kernel.now tab locks.now) }
+    ensures { OnOk result (sends.new.items ≡ sends.old.items ++ report_messages kernel.now tab locks.now) }
 {
     match locks.report_frames() {
         Ok(frames) => add_all_stamped(kernel, tab, frames, sends),
@@ -106,7 +107,7 @@ fn add_all_stamped(
     frames: Sequence<Frame>,
     sends: &mut Vec<Message>,
 ) -> Result<(), AllocError>
-    ensures { OnOk result (sends.new.items ≡ sends.old.items ++ flat_map (stamped_in kernel.now tab) frames) }
+    ensures { OnOk result (sends.new.items ≡ sends.old.items ++ flat_map (passed_up kernel.now tab) frames) }
 {
     for frame in frames.into_vec() {
         add_stamped(kernel, tab, frame, sends)?;
@@ -121,7 +122,7 @@ pub fn resent(
     tab: u16,
     locks: &TabLocks,
 ) -> Result<Vec<Message>, AllocError>
-    ensures { IfOk result (λ ms. ms.items ≡ resent_in kernel.now tab locks.now) }
+    ensures { IfOk result (λ ms. ms.items ≡ resent kernel.now tab locks.now) }
 {
     let resend = locks.resend()?;
     let mut sends = Vec::new(alloc);

@@ -21,7 +21,8 @@ use Rattle.wl_draft.proofs.Membership.{either, In-nil, In-one, In-append_cases, 
 use Rattle.wl_tab.specs.Tabs.{told}
 use Rattle.wl_world.specs.declared.event.Forged.{Forged}
 use Rattle.wl_world.specs.declared.event.Forged.TheVariants as forged
-use Rattle.wl_world.specs.World.{WorldState, where_allowed, acts, lives, tab_of, channels_of, partition_of, asks, queries, aborts, releases, resends, opens_channel, across, posts, reads, closes, becomes, report_if_entered, hears, forged_across, forges}
+use Rattle.wl_world.specs.World.{WorldState, where_allowed, acts, lives, tab_of, channels_of, partition_of, asks, queries, aborts, releases, resends, opens_channel, posts, reads, closes, becomes, hears, forges, post_of}
+use Rattle.wl_world.specs.Sends.{across, report_if_entered}
 use Rattle.wl_world.proofs.apart.ToldApart.{Seen, OfLocks, OfChannels, OfNothing, IsFrom, TabAct, does}
 
 first : (x y : Bool) → (x && y) ≡ true → x ≡ true
@@ -117,7 +118,7 @@ abbrev report_told : ℕ → ℕ → TabState → Delivered → List Message
 report_told t q a (Entered reports) = reports_said t q a
 report_told t q a d = []
 
-told-same : (w : WorldState) (t : ℕ) (a : TabState) (d : Delivered) → report_if_entered w t a d ≡ report_told t (partition_of w t) a d
+told-same : (w : WorldState) (t : ℕ) (a : TabState) (d : Delivered) → report_if_entered w.kernel t a d ≡ report_told t (partition_of w t) a d
 told-same w t a (Entered reports) = refl
 told-same w t a _ = refl
 
@@ -158,9 +159,9 @@ pub posting : (t k : ℕ) (bytes : List ℕ) → TabAct t
 posting t k bytes = record {
   may = λ s. s.living && not (is_some (post_refusal t k bytes s.channels));
   change = λ s. OfChannels (posted k bytes s.channels);
-  sends = λ s. map (across t k bytes s.channels) s.hearers;
+  sends = λ s. map (across t (post_of k bytes s.channels)) s.hearers;
   living = λ s e. first s.living (not (is_some (post_refusal t k bytes s.channels))) e;
-  from = λ s m i. let o = In-map_cases (across t k bytes s.channels) s.hearers i in subst (IsFrom t s) (sym o.2) (o.1, refl);
+  from = λ s m i. let o = In-map_cases (across t (post_of k bytes s.channels)) s.hearers i in subst (IsFrom t s) (sym o.2) (o.1, refl);
 }
 
 pub posts-does : (w : WorldState) (t k : ℕ) (bytes : List ℕ) → posts w t k bytes ≡ does t (posting t k bytes) w
@@ -211,11 +212,11 @@ takes_in-does w t x = refl
 
 abbrev forged_said : ℕ → Seen → Forged → List Message
 forged_said t s (forged.Upward u) = said t s.number u ∷ []
-forged_said t s (forged.Post p) = map (forged_across t p) s.hearers
+forged_said t s (forged.Post p) = map (across t p) s.hearers
 
 forged-from : (t : ℕ) (s : Seen) (x : Forged) (m : Message) → In m (forged_said t s x) → IsFrom t s m
 forged-from t s (forged.Upward u) m i = subst (IsFrom t s) (sym (In-one i)) (refl, refl)
-forged-from t s (forged.Post p) m i = let o = In-map_cases (forged_across t p) s.hearers i in subst (IsFrom t s) (sym o.2) (o.1, refl)
+forged-from t s (forged.Post p) m i = let o = In-map_cases (across t p) s.hearers i in subst (IsFrom t s) (sym o.2) (o.1, refl)
 
 pub forging : (t : ℕ) → Forged → TabAct t
 forging t x = record {

@@ -17,7 +17,8 @@ use Rattle.wl_tab.specs.declared.channels.ChannelRefusal.{ChannelRefusal}
 use Rattle.wl_tab.specs.declared.channels.ChannelRefusal.TheVariants as why
 use Rattle.wl_tab.specs.Tabs.{channels_in}
 use Rattle.wl_tab.specs.TabChannels.{number_refusal, posting_refusal, refusal_or}
-use Rattle.wl_world.specs.World.{WorldState, channels_of, lives, becomes, posts, reads, across, nothing}
+use Rattle.wl_world.specs.World.{WorldState, channels_of, lives, becomes, posts, reads, nothing, post_of}
+use Rattle.wl_world.specs.Sends.{across}
 use Rattle.wl_world.specs.Replies.{posting, reached}
 use Rattle.wl_world.specs.Parts.{OwnRows, of_posting}
 
@@ -120,7 +121,7 @@ posts-refused w t k bytes e live own h =
     let some : is_some (post_refusal t k bytes c) ≡ true = may_not_post (ltb k (length c.objects)) (is_open_at c.objects k) (ltb 16384 (length bytes)) (leb post_limit c.posts) (is_own c t k) e (own-open c t k own) (open_beyond c.objects k) (sym (posting-by k bytes c) ∙ h) in
     rw (live, some) refl
 
-pub posts-done : (w : WorldState) (t k : ℕ) (bytes : List ℕ) → lives w t ≡ true → (channels_of w t).tab ≡ t → posting_refusal k bytes (channels_of w t) ≡ None → posts w t k bytes ≡ becomes w t (posted k bytes (channels_of w t)) (map (across t k bytes (channels_of w t)) (hearers t w.kernel))
+pub posts-done : (w : WorldState) (t k : ℕ) (bytes : List ℕ) → lives w t ≡ true → (channels_of w t).tab ≡ t → posting_refusal k bytes (channels_of w t) ≡ None → posts w t k bytes ≡ becomes w t (posted k bytes (channels_of w t)) (map (across t (post_of k bytes (channels_of w t))) (hearers t w.kernel))
 posts-done w t k bytes live own h =
     let c = channels_of w t in
     let none : is_some (post_refusal t k bytes c) ≡ false = may_post (ltb k (length c.objects)) (is_open_at c.objects k) (ltb 16384 (length bytes)) (leb post_limit c.posts) (is_own c t k) (own-open c t k own) (sym (posting-by k bytes c) ∙ h) in

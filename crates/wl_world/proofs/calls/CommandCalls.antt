@@ -12,18 +12,19 @@ use Rattle.wl_tab.specs.Tabs.{tab_in}
 use Rattle.wl_tab.specs.TabTokens.{abortion}
 use Rattle.wl_supervisor.specs.declared.supervisor.Supervisor.{Supervisor}
 use Rattle.wl_supervisor.specs.Supervised.{kernel_of}
-use Rattle.wl_world.specs.World.{WorldState, Deed, tab_of, lives, acts, issues, asks, queries, aborts, releases, resends, resent, where_allowed}
+use Rattle.wl_world.specs.World.{WorldState, Deed, tab_of, lives, acts, issues, asks, queries, aborts, releases, resends, where_allowed}
+use Rattle.wl_world.specs.Sends.{issued_messages, resent}
 use Rattle.wl_world.specs.Replies.{resending, some_resent}
-use Rattle.wl_world.specs.Parts.{world_of, issued_in}
+use Rattle.wl_world.specs.Parts.{world_of}
 
 -- ---- a new command
 
-pub issue-sends : (ts : Table TabState) (cs : Table ChannelState) (s : Supervisor) (bag : List Message) (corrupt : List ℕ) (t : ℕ) (x : TabState) (us : Table TabState) (n : ℕ) → us ≡ put t x ts → n ≡ length (tab_in t (find ts t)).issued → issued_in (kernel_of s) t (tab_in t (find us t)) n ≡ (issues (world_of ts cs s bag corrupt) t x).sends
+pub issue-sends : (ts : Table TabState) (cs : Table ChannelState) (s : Supervisor) (bag : List Message) (corrupt : List ℕ) (t : ℕ) (x : TabState) (us : Table TabState) (n : ℕ) → us ≡ put t x ts → n ≡ length (tab_in t (find ts t)).issued → issued_messages (kernel_of s) t (tab_in t (find us t)) n ≡ (issues (world_of ts cs s bag corrupt) t x).sends
 unfolding acts
 issue-sends ts cs s bag corrupt t x us n e l =
-    ap (λ z. issued_in (kernel_of s) t (tab_in t (find z t)) n) e
-    ∙ ap (λ o. issued_in (kernel_of s) t (tab_in t o) n) (find-put_same t x ts)
-    ∙ ap (λ m. issued_in (kernel_of s) t x m) l
+    ap (λ z. issued_messages (kernel_of s) t (tab_in t (find z t)) n) e
+    ∙ ap (λ o. issued_messages (kernel_of s) t (tab_in t o) n) (find-put_same t x ts)
+    ∙ ap (λ m. issued_messages (kernel_of s) t x m) l
 
 -- ---- requests and probes
 
@@ -63,47 +64,47 @@ release-issued k n x e = release_by (is_holding x k) (length x.issued) n e
 
 -- ---- resending
 
-pub resends-sends : (w : WorldState) (t : ℕ) → lives w t ≡ true → (resends w t).sends ≡ resent w t (tab_of w t)
+pub resends-sends : (w : WorldState) (t : ℕ) → lives w t ≡ true → (resends w t).sends ≡ resent w.kernel t (tab_of w t)
 resends-sends w t live = rw live refl
 
 pub resends-same : (w : WorldState) (t : ℕ) → (resends w t).world ≡ w
-resends-same w t = elim (lives w t) as (λ b. (where_allowed b w (record { world = w; sends = resent w t (tab_of w t) })).world ≡ w) [ true ↦ refl | false ↦ refl ]
+resends-same w t = elim (lives w t) as (λ b. (where_allowed b w (record { world = w; sends = resent w.kernel t (tab_of w t) })).world ≡ w) [ true ↦ refl | false ↦ refl ]
 
-pub resending-done : (w : WorldState) (t : ℕ) → lives w t ≡ true → resending w t ≡ some_resent (resent w t (tab_of w t))
+pub resending-done : (w : WorldState) (t : ℕ) → lives w t ≡ true → resending w t ≡ some_resent (resent w.kernel t (tab_of w t))
 resending-done w t live = rw live refl
 
 -- ---- what is sent, over the parts of the world
 
-pub asked-sends : (ts : Table TabState) (cs : Table ChannelState) (s : Supervisor) (bag : List Message) (corrupt : List ℕ) (w : WorldState) → world_of ts cs s bag corrupt ≡ w → (t : ℕ) (m : Mode) (f : Bool) (name : List ℕ) (us : Table TabState) (n : ℕ) → lives w t ≡ true → us ≡ put t (asked m f name (tab_in t (find ts t))) ts → ask_refusal (tab_in t (find ts t)) name ≡ None → n ≡ length (tab_in t (find ts t)).issued → issued_in (kernel_of s) t (tab_in t (find us t)) n ≡ (asks w t m f name).sends
+pub asked-sends : (ts : Table TabState) (cs : Table ChannelState) (s : Supervisor) (bag : List Message) (corrupt : List ℕ) (w : WorldState) → world_of ts cs s bag corrupt ≡ w → (t : ℕ) (m : Mode) (f : Bool) (name : List ℕ) (us : Table TabState) (n : ℕ) → lives w t ≡ true → us ≡ put t (asked m f name (tab_in t (find ts t))) ts → ask_refusal (tab_in t (find ts t)) name ≡ None → n ≡ length (tab_in t (find ts t)).issued → issued_messages (kernel_of s) t (tab_in t (find us t)) n ≡ (asks w t m f name).sends
 asked-sends ts cs s bag corrupt w v t m f name us n live e none l =
-    subst (λ (z : WorldState). lives z t ≡ true → issued_in (kernel_of s) t (tab_in t (find us t)) n ≡ (asks z t m f name).sends) v
+    subst (λ (z : WorldState). lives z t ≡ true → issued_messages (kernel_of s) t (tab_in t (find us t)) n ≡ (asks z t m f name).sends) v
     (λ alive. issue-sends ts cs s bag corrupt t _ us n e l ∙ ap (λ (d : Deed). d.sends) (sym (asks-done (world_of ts cs s bag corrupt) t m f name alive none)))
     live
 
-pub queried-sends : (ts : Table TabState) (cs : Table ChannelState) (s : Supervisor) (bag : List Message) (corrupt : List ℕ) (w : WorldState) → world_of ts cs s bag corrupt ≡ w → (t : ℕ) (us : Table TabState) (n : ℕ) → lives w t ≡ true → us ≡ put t (queried (tab_in t (find ts t))) ts → query_refusal (tab_in t (find ts t)) ≡ None → n ≡ length (tab_in t (find ts t)).issued → issued_in (kernel_of s) t (tab_in t (find us t)) n ≡ (queries w t).sends
+pub queried-sends : (ts : Table TabState) (cs : Table ChannelState) (s : Supervisor) (bag : List Message) (corrupt : List ℕ) (w : WorldState) → world_of ts cs s bag corrupt ≡ w → (t : ℕ) (us : Table TabState) (n : ℕ) → lives w t ≡ true → us ≡ put t (queried (tab_in t (find ts t))) ts → query_refusal (tab_in t (find ts t)) ≡ None → n ≡ length (tab_in t (find ts t)).issued → issued_messages (kernel_of s) t (tab_in t (find us t)) n ≡ (queries w t).sends
 queried-sends ts cs s bag corrupt w v t us n live e none l =
-    subst (λ (z : WorldState). lives z t ≡ true → issued_in (kernel_of s) t (tab_in t (find us t)) n ≡ (queries z t).sends) v
+    subst (λ (z : WorldState). lives z t ≡ true → issued_messages (kernel_of s) t (tab_in t (find us t)) n ≡ (queries z t).sends) v
     (λ alive. issue-sends ts cs s bag corrupt t _ us n e l ∙ ap (λ (d : Deed). d.sends) (sym (queries-done (world_of ts cs s bag corrupt) t alive none)))
     live
 
 both_true : (p q : Bool) (us ts vs : Table TabState) → p ≡ true → q ≡ true → us ≡ cond (p && q) vs ts → us ≡ vs
 both_true p q us ts vs e f h = rw (e, f) at h
 
-pub aborted-sends : (ts : Table TabState) (cs : Table ChannelState) (s : Supervisor) (bag : List Message) (corrupt : List ℕ) (w : WorldState) → world_of ts cs s bag corrupt ≡ w → (t k : ℕ) (us : Table TabState) (n : ℕ) → lives w t ≡ true → us ≡ cond (is_pending (tab_in t (find ts t)) k && is_asked (status_of (tab_in t (find ts t)) k)) (put t (aborted k (tab_in t (find ts t))) ts) ts → abortion k (tab_in t (find ts t)) ≡ a.Issued n → issued_in (kernel_of s) t (tab_in t (find us t)) n ≡ (aborts w t k).sends
+pub aborted-sends : (ts : Table TabState) (cs : Table ChannelState) (s : Supervisor) (bag : List Message) (corrupt : List ℕ) (w : WorldState) → world_of ts cs s bag corrupt ≡ w → (t k : ℕ) (us : Table TabState) (n : ℕ) → lives w t ≡ true → us ≡ cond (is_pending (tab_in t (find ts t)) k && is_asked (status_of (tab_in t (find ts t)) k)) (put t (aborted k (tab_in t (find ts t))) ts) ts → abortion k (tab_in t (find ts t)) ≡ a.Issued n → issued_messages (kernel_of s) t (tab_in t (find us t)) n ≡ (aborts w t k).sends
 aborted-sends ts cs s bag corrupt w v t k us n live e said =
     let x = tab_in t (find ts t) in
     let p = abort-issued k n x said in
-    subst (λ (z : WorldState). lives z t ≡ true → issued_in (kernel_of s) t (tab_in t (find us t)) n ≡ (aborts z t k).sends) v
+    subst (λ (z : WorldState). lives z t ≡ true → issued_messages (kernel_of s) t (tab_in t (find us t)) n ≡ (aborts z t k).sends) v
     (λ alive. issue-sends ts cs s bag corrupt t _ us n (both_true _ _ us ts _ p.0 p.1 e) (sym p.2) ∙ ap (λ (d : Deed). d.sends) (sym (aborts-done (world_of ts cs s bag corrupt) t k alive p.0 p.1)))
     live
 
 one_true : (p : Bool) (us ts vs : Table TabState) → p ≡ true → us ≡ cond p vs ts → us ≡ vs
 one_true p us ts vs e h = rw e at h
 
-pub released-sends : (ts : Table TabState) (cs : Table ChannelState) (s : Supervisor) (bag : List Message) (corrupt : List ℕ) (w : WorldState) → world_of ts cs s bag corrupt ≡ w → (t k : ℕ) (us : Table TabState) (n : ℕ) → lives w t ≡ true → us ≡ cond (is_holding (tab_in t (find ts t)) k) (put t (released k (tab_in t (find ts t))) ts) ts → Some n ≡ cond (is_holding (tab_in t (find ts t)) k) (Some (length (tab_in t (find ts t)).issued)) None → issued_in (kernel_of s) t (tab_in t (find us t)) n ≡ (releases w t k).sends
+pub released-sends : (ts : Table TabState) (cs : Table ChannelState) (s : Supervisor) (bag : List Message) (corrupt : List ℕ) (w : WorldState) → world_of ts cs s bag corrupt ≡ w → (t k : ℕ) (us : Table TabState) (n : ℕ) → lives w t ≡ true → us ≡ cond (is_holding (tab_in t (find ts t)) k) (put t (released k (tab_in t (find ts t))) ts) ts → Some n ≡ cond (is_holding (tab_in t (find ts t)) k) (Some (length (tab_in t (find ts t)).issued)) None → issued_messages (kernel_of s) t (tab_in t (find us t)) n ≡ (releases w t k).sends
 released-sends ts cs s bag corrupt w v t k us n live e next =
     let x = tab_in t (find ts t) in
     let p = release-issued k n x next in
-    subst (λ (z : WorldState). lives z t ≡ true → issued_in (kernel_of s) t (tab_in t (find us t)) n ≡ (releases z t k).sends) v
+    subst (λ (z : WorldState). lives z t ≡ true → issued_messages (kernel_of s) t (tab_in t (find us t)) n ≡ (releases z t k).sends) v
     (λ alive. issue-sends ts cs s bag corrupt t _ us n (one_true _ us ts _ p.0 e) (sym p.1) ∙ ap (λ (d : Deed). d.sends) (sym (releases-done (world_of ts cs s bag corrupt) t k alive p.0)))
     live

@@ -47,7 +47,8 @@ use Rattle.wl_tab.specs.Arrivals.{told_said, arrival}
 use Rattle.wl_supervisor.specs.Supervising.{up_or, stopping, starting, taken_said, taking_said, brought}
 use Rattle.wl_world.specs.declared.event.Event.{Event}
 use Rattle.wl_world.specs.declared.event.Event.TheVariants as event
-use Rattle.wl_world.specs.World.{WorldState, tab_of, channels_of, lives, is_corrupt, resent, forgery}
+use Rattle.wl_world.specs.World.{WorldState, tab_of, channels_of, lives, is_corrupt}
+use Rattle.wl_world.specs.Sends.{forgery, resent}
 use Rattle.wl_world.specs.Replies.{issued_next, some_resent, read_letter, some_forged, delivering, said_of, reply_of}
 use Rattle.wl_world.specs.Refusals.{says_memory, MemoryIsNeverSaid}
 use Rattle.wl_limits.specs.declared.tabs.TheConstants.{LAST_NUMBER}
@@ -266,7 +267,7 @@ said-never w (event.Probe t mode name) = one_of (lives w t) (now (ask-never (tab
 said-never w (event.Query t) = one_of (lives w t) (now (live-never (tab_of w t) 1 (issued_next w t) (now refl)).is) (now refl)
 said-never w (event.Abort t k) = one_of (lives w t) (one_of (is_pending (tab_of w t) k) (one_of (is_asked (status_of (tab_of w t) k)) (now refl) (now refl)) (now refl)) (now refl)
 said-never w (event.Release t k) = one_of (lives w t) (one_of (is_holding (tab_of w t) k) (now refl) (now refl)) (now refl)
-said-never w (event.Resend t) = one_of (lives w t) (resent-never (resent w t (tab_of w t))) (now refl)
+said-never w (event.Resend t) = one_of (lives w t) (resent-never (resent w.kernel t (tab_of w t))) (now refl)
 said-never w (event.Channel t name) = one_of (lives w t) (now (channel-never name (channels_of w t) (said.ChannelOpened (length (channels_of w t).objects)) (now refl)).is) (now refl)
 said-never w (event.Post t k bytes) = one_of (lives w t) (one_of (nat_lt k (length (channels_of w t).objects)) (one_of (is_own_channel (channels_of w t) t k) (one_of (nat_lt DATA_LIMIT (length bytes)) (now refl) (one_of (nat_le post_limit (channels_of w t).posts) (now refl) (now refl))) (now refl)) (now refl)) (now refl)
 said-never w (event.Read t k) = one_of (lives w t) (one_of (nat_lt k (length (channels_of w t).objects)) (one_of (is_own_channel (channels_of w t) t k) (read-never (first_of (inbox_at (channels_of w t).objects k))) (now refl)) (now refl)) (now refl)
@@ -278,7 +279,7 @@ said-never w event.Stop = stopping-never w.kernel w.broker
 said-never w (event.Start ts) = starting-never w.kernel ts w.broker
 said-never w (event.Hello t) = one_of (lives w t) (up-never w.broker said.Greeted (now refl)) (now refl)
 said-never w (event.Corrupt t) = one_of (lives w t) (now refl) (now refl)
-said-never w (event.Forge t x) = one_of (lives w t) (one_of (is_corrupt w t) (forged-never (forgery w t x)) (now refl)) (now refl)
+said-never w (event.Forge t x) = one_of (lives w t) (one_of (is_corrupt w t) (forged-never (forgery w.kernel t x)) (now refl)) (now refl)
 
 pub memory-is_never_said : MemoryIsNeverSaid
 unfolding reply_of

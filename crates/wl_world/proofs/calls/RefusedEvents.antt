@@ -36,7 +36,8 @@ use Rattle.wl_tab.specs.Arrivals.{arrival, told_said}
 use Rattle.wl_supervisor.specs.Supervising.{brought, starting, stopping, taken_said, taking_said, telling}
 use Rattle.wl_world.specs.declared.event.Event.{Event}
 use Rattle.wl_world.specs.declared.event.Event.TheVariants as event
-use Rattle.wl_world.specs.World.{WorldState, Deed, becomes, channels_of, deed, greets, happens, lives, nothing, resent, starts, stops, tab_of, tells, where_allowed, is_corrupt, forgery}
+use Rattle.wl_world.specs.World.{WorldState, Deed, becomes, channels_of, deed, greets, happens, lives, nothing, starts, stops, tab_of, tells, where_allowed, is_corrupt}
+use Rattle.wl_world.specs.Sends.{forgery, resent}
 use Rattle.wl_world.specs.Replies.{delivering, greeting, hearing, letter_of, reached, read_letter, reply_of, said_of, sendings, some_resent, some_forged}
 use Rattle.wl_world.specs.Refusals.{AreSame, RefusedChangesNothing}
 use Rattle.wl_world.proofs.calls.ChannelCalls.{open_beyond}
@@ -245,7 +246,7 @@ refused-deed w (event.Release t k) r h =
     let a = tab_of w t in
     undone w (lives w t && is_holding a k) _
     (of_life (lives w t) (is_holding a k) _ refusal.NoTab r (not_so (is_holding a k) (said.Issued t (length a.issued)) refusal.Nothing r (λ q e. cc)) h)
-refused-deed w (event.Resend t) r h = resent-same w t (lives w t) (resent w t (tab_of w t)) r h
+refused-deed w (event.Resend t) r h = resent-same w t (lives w t) (resent w.kernel t (tab_of w t)) r h
 refused-deed w (event.Channel t name) r h =
     let o = channel_refusal name (channels_of w t) in
     undone w (lives w t && not (is_some o)) _
@@ -270,7 +271,7 @@ refused-deed w event.Stop r h = stops-refused w w.broker r h
 refused-deed w (event.Start ts) r h = starts-refused w ts w.broker r h
 refused-deed w (event.Hello t) r h = greets-refused w t w.broker r h
 refused-deed w (event.Corrupt t) r h = undone w (lives w t) _ (not_so (lives w t) (said.Corrupted t) refusal.NoTab r (λ q e. cc) h)
-refused-deed w (event.Forge t x) r h = forged-same w t (lives w t) (is_corrupt w t) (forgery w t x) r h
+refused-deed w (event.Forge t x) r h = forged-same w t (lives w t) (is_corrupt w t) (forgery w.kernel t x) r h
 
 pub refused-changes_nothing : RefusedChangesNothing
 unfolding happens reply_of

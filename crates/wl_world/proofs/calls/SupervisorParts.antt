@@ -10,7 +10,8 @@ use Rattle.wl_kernel.specs.Kernel.{open_refusal, opened, may_stop, stopped, plac
 use Rattle.wl_bag.specs.declared.message.Message.{Message}
 use Rattle.wl_supervisor.specs.declared.supervisor.Supervisor.{Supervisor}
 use Rattle.wl_supervisor.specs.declared.supervisor.Supervisor.TheVariants.{Down, Up}
-use Rattle.wl_supervisor.specs.Supervised.{broker_of, begins as may_begin, begun, greeted, halted, broker_after, outs_of, after_taking, outs_by_taking, is_dead, after_burial, outs_by_burial}
+use Rattle.wl_broker.specs.Events.{broker_after}
+use Rattle.wl_supervisor.specs.Supervised.{broker_of, begins as may_begin, begun, greeted, halted, outs_of, after_taking, outs_by_taking, is_dead, after_burial, outs_by_burial}
 use Rattle.wl_world.specs.World.{with_kernel as kernel_deed, WorldState, from_broker, nothing, where_allowed, with_rows, opens_as, follows, comes_up, tells, buries, stops, starts, begins}
 use Rattle.wl_world.specs.Parts.{world_of}
 

@@ -25,7 +25,8 @@ use Rattle.wl_bag.proofs.Same.{sent_all-keeps, sent_all-cases}
 use Rattle.wl_tab.specs.Tabs.{tab_in}
 use Rattle.wl_world.specs.declared.event.Forged.{Forged}
 use Rattle.wl_world.specs.declared.event.Forged.TheVariants as forged
-use Rattle.wl_world.specs.World.{WorldState, tab_of, lives, partition_of, Deed, nothing, where_allowed, acts, command_message, stamped, report_messages, issues, asks, queries, aborts, releases, resent, resends, is_corrupt, forged_across, forgery, forges}
+use Rattle.wl_world.specs.World.{WorldState, tab_of, lives, partition_of, Deed, nothing, where_allowed, acts, issues, asks, queries, aborts, releases, resends, is_corrupt, forges}
+use Rattle.wl_world.specs.Sends.{across, command_message, forgery, report_messages, resent, stamped}
 use Rattle.wl_world.specs.Holdings.{IsHonest}
 use Rattle.wl_world.proofs.Tables.{each_found}
 use Rattle.wl_world.proofs.exclusion.Invariant.{Sound, SoundTab, was_opened, IsBorn, Alive, HasGrant, IsKnown, Ends, lock}
@@ -132,12 +133,12 @@ module _ (t : ℕ) (x : TabState) (sx : SoundTab t x) (c : Operation) (rows : Ta
   extended-alive : (j : ℕ) → Alive (find rows j) → Alive (status_of x j) ⊎ (length x.issued ≤ j)
   extended-alive j a = ⊎_elim (λ e. inr (let n : j ≡ length x.issued = e.0 in omega arith)) (λ o. inl o.0) (live j a)
 
-command-said : (w : WorldState) (t : ℕ) (y : TabState) (n : ℕ) → n < length y.issued → FromTab (IsHonest w t) t (partition_of w t) y (command_message w t y n)
+command-said : (w : WorldState) (t : ℕ) (y : TabState) (n : ℕ) → n < length y.issued → FromTab (IsHonest w t) t (partition_of w t) y (command_message w.kernel t y n)
 command-said w t y n lt = (refl, refl, λ _. (lt, refl))
 
-pub issued-sends : (w : WorldState) (t : ℕ) (y : TabState) (n : ℕ) → n < length y.issued → (m : Message) → In m (cond (y.entered == 0) [] (command_message w t y n ∷ [])) → FromTab (IsHonest w t) t (partition_of w t) y m
+pub issued-sends : (w : WorldState) (t : ℕ) (y : TabState) (n : ℕ) → n < length y.issued → (m : Message) → In m (cond (y.entered == 0) [] (command_message w.kernel t y n ∷ [])) → FromTab (IsHonest w t) t (partition_of w t) y m
 issued-sends w t y n lt m i =
-    either (λ zs. In m zs → FromTab (IsHonest w t) t (partition_of w t) y m) (y.entered == 0) [] (command_message w t y n ∷ [])
+    either (λ zs. In m zs → FromTab (IsHonest w t) t (partition_of w t) y m) (y.entered == 0) [] (command_message w.kernel t y n ∷ [])
     (λ _ j. absurd (In-nil j))
     (λ _ j. subst (FromTab (IsHonest w t) t (partition_of w t) y) (sym (In-one j)) (command-said w t y n lt))
     i
@@ -225,29 +226,29 @@ releases-sound w t k s =
 pub In-numbers : (x : TabState) (k : ℕ) → In k (numbers_of x) → k < length x.issued
 In-numbers x k i = let lt : k < 0 + length x.issued = In-range 0 (length x.issued) k i in omega arith
 
-due-said : (w : WorldState) (t : ℕ) (x : TabState) (m : Message) → In m (map (command_message w t x) (due x)) → FromTab (IsHonest w t) t (partition_of w t) x m
+due-said : (w : WorldState) (t : ℕ) (x : TabState) (m : Message) → In m (map (command_message w.kernel t x) (due x)) → FromTab (IsHonest w t) t (partition_of w t) x m
 unfolding due
 due-said w t x m i =
-    let o = In-map_cases (command_message w t x) (cond (x.entered == 0) [] (filter (is_due x) (numbers_of x))) i in
+    let o = In-map_cases (command_message w.kernel t x) (cond (x.entered == 0) [] (filter (is_due x) (numbers_of x))) i in
     either (λ zs. In o.0 zs → FromTab (IsHonest w t) t (partition_of w t) x m) (x.entered == 0) [] (filter (is_due x) (numbers_of x))
     (λ _ j. absurd (In-nil j))
     (λ _ j. subst (FromTab (IsHonest w t) t (partition_of w t) x) (sym o.2) (command-said w t x o.0 (In-numbers x o.0 (In-filter_cases (is_due x) (numbers_of x) j).0)))
     o.1
 
-pub reports-said : (w : WorldState) (t : ℕ) (x : TabState) (m : Message) → 0 < x.entered → In m (report_messages w t x) → FromTab (IsHonest w t) t (partition_of w t) x m
+pub reports-said : (w : WorldState) (t : ℕ) (x : TabState) (m : Message) → 0 < x.entered → In m (report_messages w.kernel t x) → FromTab (IsHonest w t) t (partition_of w t) x m
 reports-said w t x m pos i =
-    let o = In-map_cases (stamped w t) (report_bodies x.in_parts x.report) i in
+    let o = In-map_cases (stamped w.kernel t) (report_bodies x.in_parts x.report) i in
     subst (FromTab (IsHonest w t) t (partition_of w t) x) (sym o.2) (refl, refl, λ _. said-body x o.0 pos o.1)
 
-report-said : (w : WorldState) (t : ℕ) (x : TabState) (m : Message) → In m (cond (is_report_due x) (report_messages w t x) []) → FromTab (IsHonest w t) t (partition_of w t) x m
+report-said : (w : WorldState) (t : ℕ) (x : TabState) (m : Message) → In m (cond (is_report_due x) (report_messages w.kernel t x) []) → FromTab (IsHonest w t) t (partition_of w t) x m
 report-said w t x m i =
-    either (λ zs. In m zs → FromTab (IsHonest w t) t (partition_of w t) x m) (is_report_due x) (report_messages w t x) []
+    either (λ zs. In m zs → FromTab (IsHonest w t) t (partition_of w t) x m) (is_report_due x) (report_messages w.kernel t x) []
     (λ d j. let n : x.entered ≢ 0 = eqb-false x.entered 0 (not-true _ (and_parts _ _ d).0) in reports-said w t x m (omega arith) j)
     (λ _ j. absurd (In-nil j))
     i
 
-pub resent-said : (w : WorldState) (t : ℕ) (x : TabState) (m : Message) → In m (resent w t x) → FromTab (IsHonest w t) t (partition_of w t) x m
-resent-said w t x m i = ⊎_elim (λ a. report-said w t x m a) (λ a. due-said w t x m a) (In-append_cases _ (map (command_message w t x) (due x)) i)
+pub resent-said : (w : WorldState) (t : ℕ) (x : TabState) (m : Message) → In m (resent w.kernel t x) → FromTab (IsHonest w t) t (partition_of w t) x m
+resent-said w t x m i = ⊎_elim (λ a. report-said w t x m a) (λ a. due-said w t x m a) (In-append_cases _ (map (command_message w.kernel t x) (due x)) i)
 
 -- an opened tab sends these, and is what it was
 sends-sound : (w : WorldState) (t : ℕ) (ms : List Message) → Sound w → was_opened w t ≡ true → ((m : Message) → In m ms → FromTab (IsHonest w t) t (partition_of w t) (tab_of w t) m) → Sound (record w { bag = sent_all ms w.bag })
@@ -266,8 +267,8 @@ sends-sound w t ms s o from = grown-sound w s w.tabs (sent_all ms w.bag) (record
 
 pub resends-sound : (w : WorldState) (t : ℕ) → Sound w → Sound (after w (resends w t))
 resends-sound w t s =
-    allowed-sound w (lives w t) (record { world = w; sends = resent w t (tab_of w t) }) s
-    (λ l. sends-sound w t (resent w t (tab_of w t)) s (living_opened _ l) (resent-said w t (tab_of w t)))
+    allowed-sound w (lives w t) (record { world = w; sends = resent w.kernel t (tab_of w t) }) s
+    (λ l. sends-sound w t (resent w.kernel t (tab_of w t)) s (living_opened _ l) (resent-said w t (tab_of w t)))
 
 -- ---- hearing
 
@@ -303,11 +304,11 @@ heard-sound w t y G s l c grant =
 -- ---- forging
 
 -- only a tab that was taken over forges
-pub forgery-said : (w : WorldState) (t : ℕ) (x : Forged) → is_corrupt w t ≡ true → (m : Message) → In m (forgery w t x) → FromTab (IsHonest w t) t (partition_of w t) (tab_of w t) m
+pub forgery-said : (w : WorldState) (t : ℕ) (x : Forged) → is_corrupt w t ≡ true → (m : Message) → In m (forgery w.kernel t x) → FromTab (IsHonest w t) t (partition_of w t) (tab_of w t) m
 forgery-said w t (forged.Upward x) c m i = subst (FromTab (IsHonest w t) t (partition_of w t) (tab_of w t)) (sym (In-one i)) (refl, refl, λ h. apart c h)
-forgery-said w t (forged.Post p) c m i = let o = In-map_cases (forged_across t p) (hearers t w.kernel) i in subst (FromTab (IsHonest w t) t (partition_of w t) (tab_of w t)) (sym o.2) tt
+forgery-said w t (forged.Post p) c m i = let o = In-map_cases (across t p) (hearers t w.kernel) i in subst (FromTab (IsHonest w t) t (partition_of w t) (tab_of w t)) (sym o.2) tt
 
 pub forges-sound : (w : WorldState) (t : ℕ) (x : Forged) → Sound w → Sound (after w (forges w t x))
 forges-sound w t x s =
-    allowed-sound w (is_corrupt w t && lives w t) (record { world = w; sends = forgery w t x }) s
-    (λ l. sends-sound w t (forgery w t x) s (living_opened _ (and_parts _ _ l).1) (forgery-said w t x (and_parts _ _ l).0))
+    allowed-sound w (is_corrupt w t && lives w t) (record { world = w; sends = forgery w.kernel t x }) s
+    (λ l. sends-sound w t (forgery w.kernel t x) s (living_opened _ (and_parts _ _ l).1) (forgery-said w t x (and_parts _ _ l).0))

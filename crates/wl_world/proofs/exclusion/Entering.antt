@@ -29,7 +29,8 @@ use Rattle.wl_draft.specs.Membership.{In}
 use Rattle.wl_draft.proofs.Membership.{apart, either, In-nil, In-map_cases}
 use Rattle.wl_bag.proofs.Same.{sent_all-keeps, sent_all-cases, up-same}
 use Rattle.wl_tab.specs.Tabs.{is_told, told}
-use Rattle.wl_world.specs.World.{WorldState, tab_of, lives, partition_of, acts, report_if_entered, hears}
+use Rattle.wl_world.specs.World.{WorldState, tab_of, lives, partition_of, acts, hears}
+use Rattle.wl_world.specs.Sends.{report_if_entered}
 use Rattle.wl_world.specs.Holdings.{IsHonest}
 use Rattle.wl_world.proofs.exclusion.ToldParts.{body-told, no-command}
 use Rattle.wl_world.proofs.exclusion.HeldAfterSettling.{Compatible-fewer}
@@ -228,7 +229,7 @@ pub hello-sound : (w : WorldState) → Sound w → (t : ℕ) (h : Hello) (v : Se
 unfolding delivery
 hello-sound w s t h v i l =
     let x = tab_of w t in
-    either {A = TabState × Delivered} (λ a. Sound (after w (acts w t (told a.0) (report_if_entered w t a.0 a.1)))) (nat_lt x.entered h.generation)
+    either {A = TabState × Delivered} (λ a. Sound (after w (acts w t (told a.0) (report_if_entered w.kernel t a.0 a.1)))) (nat_lt x.entered h.generation)
     (enter h.generation x, heard.Entered (report_frames (enter h.generation x))) (x, heard.Dropped unheard.OldGeneration)
     (λ lt. either (λ y. Sound (after w (acts w t (told y) (map (up_message t (partition_of w t)) (report_bodies y.in_parts y.report))))) (x.entered == 0) (enter_first h.generation x) (enter_later h.generation x)
     (λ z. first-sound w s t h v i l (ltb-true _ _ lt) (eqb-true _ _ z))

@@ -29,7 +29,8 @@ use Rattle.wl_bag.specs.declared.message.Message.{Message}
 use Rattle.wl_draft.specs.Membership.{In}
 use Rattle.wl_draft.proofs.Membership.{either, In-nil, In-map_cases}
 use Rattle.wl_tab.specs.Tabs.{told}
-use Rattle.wl_world.specs.World.{WorldState, tab_of, lives, acts, channels_of, becomes, opens_channel, across, posts, reads, closes, report_if_entered, hears}
+use Rattle.wl_world.specs.World.{WorldState, tab_of, lives, acts, channels_of, becomes, opens_channel, posts, reads, closes, hears, post_of}
+use Rattle.wl_world.specs.Sends.{across, report_if_entered}
 use Rattle.wl_world.proofs.exclusion.HeldAfterSettling.{Compatible-fewer}
 use Rattle.wl_world.proofs.exclusion.Invariant.{Sound, Claim, Counts, stands, reported, carried, HasGrant, Lists, down_message}
 use Rattle.wl_world.proofs.exclusion.HeardNumbers.{Kept, same-kept, told-kept, noted-kept, answer-kept, part-kept}
@@ -41,7 +42,7 @@ use Rattle.wl_world.proofs.exclusion.SayingAndPosting.{Says, said-sound}
 
 module _ (w : WorldState) (t : ℕ) (y : TabState) where
   abbrev Silent : Delivered → Type 0
-  Silent d = report_if_entered w t y d ≡ []
+  Silent d = report_if_entered w.kernel t y d ≡ []
 
   asked-silent : (k : ℕ) (b : Bool) (o : Outcome) → Silent (told_asked k b o)
   asked-silent k b outcome.Granted = refl
@@ -87,13 +88,13 @@ module _ (w : WorldState) (t : ℕ) (y : TabState) where
 -- ---- a message comes to a tab
 
 -- a tab that hears something in its generation sends nothing
-quiet-sound : (w : WorldState) (t : ℕ) (y : TabState) (d : Delivered) (G : ℕ → Type 0) → Sound w → lives w t ≡ true → report_if_entered w t y d ≡ [] → Kept (tab_of w t) y G → ((k : ℕ) → G k → HasGrant w.bag t (tab_of w t).entered k)
-    → Sound (after w (acts w t (told y) (report_if_entered w t y d)))
+quiet-sound : (w : WorldState) (t : ℕ) (y : TabState) (d : Delivered) (G : ℕ → Type 0) → Sound w → lives w t ≡ true → report_if_entered w.kernel t y d ≡ [] → Kept (tab_of w t) y G → ((k : ℕ) → G k → HasGrant w.bag t (tab_of w t).entered k)
+    → Sound (after w (acts w t (told y) (report_if_entered w.kernel t y d)))
 quiet-sound w t y d G s l quiet c grant =
     subst (λ ms. Sound (after w (acts w t (told y) ms))) (sym quiet) (heard-sound w t (told y) G s l (told-kept (tab_of w t) y G c) grant)
 
 -- what is of another generation changes nothing
-other-sound : (w : WorldState) (t g : ℕ) → Sound w → lives w t ≡ true → Sound (after w (acts w t (told (tab_of w t)) (report_if_entered w t (tab_of w t) (of_other g (tab_of w t)))))
+other-sound : (w : WorldState) (t g : ℕ) → Sound w → lives w t ≡ true → Sound (after w (acts w t (told (tab_of w t)) (report_if_entered w.kernel t (tab_of w t) (of_other g (tab_of w t)))))
 other-sound w t g s l =
     let x = tab_of w t in
     quiet-sound w t x (of_other g x) (λ k. ⊥) s l (other-silent w t x g x) (same-kept x (λ k. ⊥) (s.tabs t).rises) (λ k e. absurd e)
@@ -104,13 +105,13 @@ down-sound w v t (down.Hello h) s l i = hello-sound w s t h v i l
 down-sound w v t (down.Answer x) s l i =
     let a = tab_of w t in
     let y = noted x.upto (after_answer (told_by_answer x a) a) in
-    either {A = TabState × Delivered} (λ o. Sound (after w (acts w t (told o.0) (report_if_entered w t o.0 o.1)))) (has_entered x.generation a) (y, told_by_answer x a) (a, of_other x.generation a)
+    either {A = TabState × Delivered} (λ o. Sound (after w (acts w t (told o.0) (report_if_entered w.kernel t o.0 o.1)))) (has_entered x.generation a) (y, told_by_answer x a) (a, of_other x.generation a)
     (λ e. quiet-sound w t y (told_by_answer x a) _ s l (answer-silent w t y x a) (noted-kept x.upto a _ _ (answer-kept x a (s.tabs t).rises)) (λ k g. (v, x, i, eqb-true x.generation a.entered (and_parts _ _ e).0, g.0, g.1)))
     (λ _. other-sound w t x.generation s l)
 down-sound w v t (down.Snapshot x) s l i =
     let a = tab_of w t in
     let y = noted (x.number + 1) (after_part x a) in
-    either {A = TabState × Delivered} (λ o. Sound (after w (acts w t (told o.0) (report_if_entered w t o.0 o.1)))) (has_entered x.generation a) (y, told_by_part x a) (a, of_other x.generation a)
+    either {A = TabState × Delivered} (λ o. Sound (after w (acts w t (told o.0) (report_if_entered w.kernel t o.0 o.1)))) (has_entered x.generation a) (y, told_by_part x a) (a, of_other x.generation a)
     (λ _. quiet-sound w t y (told_by_part x a) (λ k. ⊥) s l (unless-silent w t y (part_refusal x a) x (parts_of (status_of a x.number))) (noted-kept (x.number + 1) a _ _ (part-kept x a (λ k. ⊥) (s.tabs t).rises)) (λ k e. absurd e))
     (λ _. other-sound w t x.generation s l)
 
@@ -164,9 +165,9 @@ opens_channel-sound w t name s =
 pub posts-sound : (w : WorldState) (t k : ℕ) (bytes : List ℕ) → Sound w → Sound (after w (posts w t k bytes))
 posts-sound w t k bytes s =
     let c = channels_of w t in
-    allowed-sound w (lives w t && not (is_some (post_refusal t k bytes c))) (becomes w t (posted k bytes c) (map (across t k bytes c) (hearers t w.kernel))) s
-    (λ _. becomes-sound w t (posted k bytes c) (map (across t k bytes c) (hearers t w.kernel)) s
-    (λ v m i. let o = In-map_cases (across t k bytes c) (hearers t w.kernel) i in subst (Says v) (sym o.2) tt))
+    allowed-sound w (lives w t && not (is_some (post_refusal t k bytes c))) (becomes w t (posted k bytes c) (map (across t (post_of k bytes c)) (hearers t w.kernel))) s
+    (λ _. becomes-sound w t (posted k bytes c) (map (across t (post_of k bytes c)) (hearers t w.kernel)) s
+    (λ v m i. let o = In-map_cases (across t (post_of k bytes c)) (hearers t w.kernel) i in subst (Says v) (sym o.2) tt))
 
 pub reads-sound : (w : WorldState) (t k : ℕ) → Sound w → Sound (after w (reads w t k))
 reads-sound w t k s =

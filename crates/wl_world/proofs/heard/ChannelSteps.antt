@@ -30,7 +30,8 @@ use Rattle.wl_world.specs.declared.event.Event.{Event}
 use Rattle.wl_world.specs.declared.event.Event.TheVariants as event
 use Rattle.wl_world.specs.declared.event.Forged.{Forged}
 use Rattle.wl_world.specs.declared.event.Forged.TheVariants as forged
-use Rattle.wl_world.specs.World.{WorldState, tab_of, channels_of, lives, Deed, nothing, where_allowed, acts, command_message, issues, stamped, report_messages, resent, becomes, across, report_if_entered, hears, from_broker, follows, comes_up, comes, with_kernel, with_rows, opens_as, buries, tells, stops, begins, starts, greets, is_corrupt, taken_over, forged_across, forgery, deed, happens}
+use Rattle.wl_world.specs.World.{WorldState, tab_of, channels_of, lives, Deed, nothing, where_allowed, acts, issues, becomes, hears, from_broker, follows, comes_up, comes, with_kernel, with_rows, opens_as, buries, tells, stops, begins, starts, greets, is_corrupt, taken_over, deed, happens, post_of}
+use Rattle.wl_world.specs.Sends.{across, command_message, forgery, report_if_entered, report_messages, resent, stamped}
 use Rattle.wl_world.specs.Heard.{may_post}
 use Rattle.wl_world.proofs.Tables.{each_found}
 use Rattle.wl_world.proofs.exclusion.CoverExcludes.{living_opened}
@@ -56,7 +57,7 @@ Caused w u e (Closes k) = Unit {0}
 
 -- what a call sends
 abbrev pub IsSentBy : WorldState → ℕ → Call → Message → Type 0
-IsSentBy w u (Posts j bytes) m = (n : ℕ) × In n (hearers u w.kernel) × (m ≡ across u j bytes (channels_of w u) n)
+IsSentBy w u (Posts j bytes) m = (n : ℕ) × In n (hearers u w.kernel) × (m ≡ across u (post_of j bytes (channels_of w u)) n)
 IsSentBy w u call m = ⊥
 
 pub data Kind (w : WorldState) (e : Event) (d : Deed) : Type 0 where
@@ -74,26 +75,26 @@ acts-kind w e t a ms h = quiet (λ _. refl) h
 
 issues-kind : (w : WorldState) (e : Event) (t : ℕ) (a : TabState) → Kind w e (issues w t a)
 issues-kind w e t a =
-    acts-kind w e t a (cond (a.entered == 0) [] (command_message w t a (length (tab_of w t).issued) ∷ [])) (λ m. either (λ zs. In m zs → IsNoPost w m) (a.entered == 0) [] (command_message w t a (length (tab_of w t).issued) ∷ [])
+    acts-kind w e t a (cond (a.entered == 0) [] (command_message w.kernel t a (length (tab_of w t).issued) ∷ [])) (λ m. either (λ zs. In m zs → IsNoPost w m) (a.entered == 0) [] (command_message w.kernel t a (length (tab_of w t).issued) ∷ [])
     (λ _ i. absurd (In-nil i)) (λ _ i. subst (IsNoPost w) (sym (In-one i)) tt))
 
-reports-kind : (w : WorldState) (t : ℕ) (a : TabState) (m : Message) → In m (report_messages w t a) → IsNoPost w m
-reports-kind w t a m i = subst (IsNoPost w) (sym (In-map_cases (stamped w t) (report_bodies a.in_parts a.report) i).2) tt
+reports-kind : (w : WorldState) (t : ℕ) (a : TabState) (m : Message) → In m (report_messages w.kernel t a) → IsNoPost w m
+reports-kind w t a m i = subst (IsNoPost w) (sym (In-map_cases (stamped w.kernel t) (report_bodies a.in_parts a.report) i).2) tt
 
-resent-kind : (w : WorldState) (t : ℕ) (a : TabState) (m : Message) → In m (resent w t a) → IsNoPost w m
+resent-kind : (w : WorldState) (t : ℕ) (a : TabState) (m : Message) → In m (resent w.kernel t a) → IsNoPost w m
 resent-kind w t a m i = ⊎_elim
-    (either (λ zs. In m zs → IsNoPost w m) (is_report_due a) (report_messages w t a) [] (λ _ j. reports-kind w t a m j) (λ _ j. absurd (In-nil j)))
-    (λ j. subst (IsNoPost w) (sym (In-map_cases (command_message w t a) (due a) j).2) tt)
-    (In-append_cases (cond (is_report_due a) (report_messages w t a) []) (map (command_message w t a) (due a)) i)
+    (either (λ zs. In m zs → IsNoPost w m) (is_report_due a) (report_messages w.kernel t a) [] (λ _ j. reports-kind w t a m j) (λ _ j. absurd (In-nil j)))
+    (λ j. subst (IsNoPost w) (sym (In-map_cases (command_message w.kernel t a) (due a) j).2) tt)
+    (In-append_cases (cond (is_report_due a) (report_messages w.kernel t a) []) (map (command_message w.kernel t a) (due a)) i)
 
-report-kind : (w : WorldState) (t : ℕ) (a : TabState) (d : Delivered) (m : Message) → In m (report_if_entered w t a d) → IsNoPost w m
+report-kind : (w : WorldState) (t : ℕ) (a : TabState) (d : Delivered) (m : Message) → In m (report_if_entered w.kernel t a d) → IsNoPost w m
 report-kind w t a (Entered reports) m i = reports-kind w t a m i
 report-kind w t a _ m i = absurd (In-nil i)
 
-forgery-kind : (w : WorldState) (t : ℕ) (x : Forged) → is_corrupt w t ≡ true → (m : Message) → In m (forgery w t x) → IsNoPost w m
+forgery-kind : (w : WorldState) (t : ℕ) (x : Forged) → is_corrupt w t ≡ true → (m : Message) → In m (forgery w.kernel t x) → IsNoPost w m
 forgery-kind w t (forged.Upward x) c m i = subst (IsNoPost w) (sym (In-one i)) tt
 forgery-kind w t (forged.Post p) c m i =
-    let o = In-map_cases (forged_across t p) (hearers t w.kernel) i in
+    let o = In-map_cases (across t p) (hearers t w.kernel) i in
     subst (IsNoPost w) (sym o.2) (c, λ e. hearers-others w.kernel t o.0 o.1 (sym e))
 
 outs-kind : (w : WorldState) (outs : List Addressed) (m : Message) → In m (map from_broker outs) → IsNoPost w m
@@ -149,7 +150,7 @@ second a b e = not-true b (and_parts a (not b) e).1
 across-kind : (w : WorldState) (e : Event) (m : Message) → In m w.bag → Kind w e (comes w m)
 across-kind w e (Up x) i = up-kind w e x w.broker
 across-kind w e (Down v x) i =
-    allowed-kind w e (lives w x.tab) (hears w x.tab (frame_of x.inner)) (λ _. let a = delivery (frame_of x.inner) (tab_of w x.tab) in acts-kind w e x.tab (told a.0) (report_if_entered w x.tab a.0 a.1) (report-kind w x.tab a.0 a.1))
+    allowed-kind w e (lives w x.tab) (hears w x.tab (frame_of x.inner)) (λ _. let a = delivery (frame_of x.inner) (tab_of w x.tab) in acts-kind w e x.tab (told a.0) (report_if_entered w.kernel x.tab a.0 a.1) (report-kind w x.tab a.0 a.1))
 across-kind w e (Across t x) i = allowed-kind w e (lives w t) (becomes w t (after_hearing (frame.Heard x) (channels_of w t)) []) (λ l. becomes-kind w e t (Hears x) (after_hearing (frame.Heard x) (channels_of w t)) [] l refl i (λ m j. absurd (In-nil j)))
 
 pub kind : (w : WorldState) (e : Event) → Owned w → Kind w e (deed w e)
@@ -161,17 +162,17 @@ kind w (event.Probe t mode name) own = allowed-kind w (event.Probe t mode name) 
 kind w (event.Query t) own = allowed-kind w (event.Query t) (lives w t && not (is_some (query_refusal (tab_of w t)))) (issues w t (queried (tab_of w t))) (λ _. issues-kind w (event.Query t) t (queried (tab_of w t)))
 kind w (event.Abort t k) own = allowed-kind w (event.Abort t k) (lives w t && is_pending (tab_of w t) k && is_asked (status_of (tab_of w t) k)) (issues w t (aborted k (tab_of w t))) (λ _. issues-kind w (event.Abort t k) t (aborted k (tab_of w t)))
 kind w (event.Release t k) own = allowed-kind w (event.Release t k) (lives w t && is_holding (tab_of w t) k) (issues w t (released k (tab_of w t))) (λ _. issues-kind w (event.Release t k) t (released k (tab_of w t)))
-kind w (event.Resend t) own = allowed-kind w (event.Resend t) (lives w t) (record { world = w; sends = resent w t (tab_of w t) }) (λ _. quiet (λ _. refl) (resent-kind w t (tab_of w t)))
+kind w (event.Resend t) own = allowed-kind w (event.Resend t) (lives w t) (record { world = w; sends = resent w.kernel t (tab_of w t) }) (λ _. quiet (λ _. refl) (resent-kind w t (tab_of w t)))
 kind w (event.Channel t name) own =
     let c = channels_of w t in
     allowed-kind w (event.Channel t name) (lives w t && not (is_some (channel_refusal name c))) (becomes w t (channel_opened name c) [])
     (λ e. becomes-kind w (event.Channel t name) t (Opens name) (channel_opened name c) [] (and_parts (lives w t) (not (is_some (channel_refusal name c))) e).0 (sym (cond-false _ _ _ (second (lives w t) (is_some (channel_refusal name c)) e))) tt (λ m i. absurd (In-nil i)))
 kind w (event.Post t k bytes) own =
     let c = channels_of w t in
-    allowed-kind w (event.Post t k bytes) (may_post w t k bytes) (becomes w t (posted k bytes c) (map (across t k bytes c) (hearers t w.kernel)))
-    (λ e. becomes-kind w (event.Post t k bytes) t (Posts k bytes) (posted k bytes c) (map (across t k bytes c) (hearers t w.kernel)) (and_parts (lives w t) (not (is_some (post_refusal t k bytes c))) e).0
+    allowed-kind w (event.Post t k bytes) (may_post w t k bytes) (becomes w t (posted k bytes c) (map (across t (post_of k bytes c)) (hearers t w.kernel)))
+    (λ e. becomes-kind w (event.Post t k bytes) t (Posts k bytes) (posted k bytes c) (map (across t (post_of k bytes c)) (hearers t w.kernel)) (and_parts (lives w t) (not (is_some (post_refusal t k bytes c))) e).0
     (sym (ap (λ z. cond (is_some (post_refusal z k bytes c)) c (posted k bytes c)) (own.own t) ∙ cond-false _ _ _ (second (lives w t) (is_some (post_refusal t k bytes c)) e)))
-    (refl, e) (λ m i. In-map_cases (across t k bytes c) (hearers t w.kernel) i))
+    (refl, e) (λ m i. In-map_cases (across t (post_of k bytes c)) (hearers t w.kernel) i))
 kind w (event.Read t k) own =
     let c = channels_of w t in
     allowed-kind w (event.Read t k) (lives w t && is_own_channel c t k) (becomes w t (read_at k c) [])
@@ -190,7 +191,7 @@ kind w (event.Start ts) own = starts-kind w (event.Start ts) ts w.broker
 kind w (event.Hello t) own = greets-kind w (event.Hello t) t w.broker
 kind w (event.Corrupt t) own = allowed-kind w (event.Corrupt t) (lives w t) (nothing (record w { corrupt = taken_over t w.corrupt })) (λ _. quiet (λ _. refl) (λ m i. absurd (In-nil i)))
 kind w (event.Forge t x) own =
-    allowed-kind w (event.Forge t x) (is_corrupt w t && lives w t) (record { world = w; sends = forgery w t x }) (λ e. quiet (λ _. refl) (forgery-kind w t x (and_parts _ _ e).0))
+    allowed-kind w (event.Forge t x) (is_corrupt w t && lives w t) (record { world = w; sends = forgery w.kernel t x }) (λ e. quiet (λ _. refl) (forgery-kind w t x (and_parts _ _ e).0))
 
 -- ---- what it means for one tab's channels
 

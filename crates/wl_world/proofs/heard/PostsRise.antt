@@ -18,7 +18,8 @@ use Rattle.wl_draft.proofs.Membership.{apart, either, In-nil, In-cons_cases, In-
 use Rattle.wl_bag.proofs.Same.{sent_all-keeps, sent_all-cases}
 use Rattle.wl_world.specs.declared.event.Event.{Event}
 use Rattle.wl_world.specs.declared.event.Event.TheVariants as event
-use Rattle.wl_world.specs.World.{WorldState, empty_world, channels_of, across, deed, happens, run}
+use Rattle.wl_world.specs.World.{WorldState, empty_world, channels_of, deed, happens, run, post_of}
+use Rattle.wl_world.specs.Sends.{across}
 use Rattle.wl_world.specs.Holdings.{IsHonest, partition_in, partition_at}
 use Rattle.wl_world.specs.Apart.{was_opened_in, is_in}
 use Rattle.wl_world.specs.Heard.{objects_of, takes_at, taken_in, may_post, WasPosted, IsPostFor, HeardRisingForAll, HeardPostsForAll}
@@ -86,7 +87,7 @@ AllSent events w = (t : ℕ) (x : Heard) → In (Across t x) w.bag → Sent even
 -- what an event sends across is its post
 new-sent : (done : List Event) (e : Event) (t : ℕ) (x : Heard) → (d : WorldState) → d ≡ run done empty_world → (u : ℕ) (call : Call) → Caused d u e call → IsSentBy d u call (Across t x) → Sent (done ++ e ∷ []) t x
 new-sent done e t x d r u (Posts j bytes) cause sent =
-    let at : Across t x ≡ across u j bytes (channels_of d u) sent.0 = sent.2 in
+    let at : Across t x ≡ across u (post_of j bytes (channels_of d u)) sent.0 = sent.2 in
     let same = across-same t x sent.0 (record { source = u; number = (channels_of d u).posts; channel = name_at (objects_of d u) j; bytes = bytes }) at in
     subst (λ z. Sent (done ++ e ∷ []) t z) (sym same.1)
     (record {

@@ -30,7 +30,8 @@ use Rattle.wl_bag.proofs.Same.{sent_all-keeps, sent_all-cases}
 use Rattle.wl_limits.specs.declared.tabs.TheConstants.{COMMAND_LIMIT}
 use Rattle.wl_tab.specs.Tabs.{told}
 use Rattle.wl_world.specs.declared.event.Forged.{Forged}
-use Rattle.wl_world.specs.World.{WorldState, tab_of, partition_of, Deed, nothing, where_allowed, acts, stamped, issues, asks, queries, aborts, releases, resent, resends, becomes, across, report_if_entered, hears, with_kernel, with_rows, opens_as, kills, lives, channels_of, opens_channel, posts, reads, closes, is_corrupt, taken_over, corrupts, forgery, forges}
+use Rattle.wl_world.specs.World.{WorldState, tab_of, partition_of, Deed, nothing, where_allowed, acts, issues, asks, queries, aborts, releases, resends, becomes, hears, with_kernel, with_rows, opens_as, kills, lives, channels_of, opens_channel, posts, reads, closes, is_corrupt, taken_over, corrupts, forges, post_of}
+use Rattle.wl_world.specs.Sends.{across, forgery, report_if_entered, resent, stamped}
 use Rattle.wl_world.specs.Holdings.{IsHonest}
 use Rattle.wl_world.proofs.exclusion.Invariant.{Sound, SoundTab, was_opened, HasGrant, up_message}
 use Rattle.wl_world.proofs.exclusion.ToldParts.{body-told}
@@ -167,13 +168,13 @@ sends-quiet w t ms b fine = record {
 
 pub resends-quiet : (w : WorldState) (t : ℕ) → Based w → Quiet w (after w (resends w t))
 resends-quiet w t b =
-    quiet-allowed w (lives w t) (record { world = w; sends = resent w t (tab_of w t) }) b
-    (λ _. sends-quiet w t (resent w t (tab_of w t)) b (λ m i. fine-from (IsHonest w t) t (partition_of w t) (tab_of w t) m (b.own t) (resent-said w t (tab_of w t) m i)))
+    quiet-allowed w (lives w t) (record { world = w; sends = resent w.kernel t (tab_of w t) }) b
+    (λ _. sends-quiet w t (resent w.kernel t (tab_of w t)) b (λ m i. fine-from (IsHonest w t) t (partition_of w t) (tab_of w t) m (b.own t) (resent-said w t (tab_of w t) m i)))
 
 -- ---- a message comes to a tab
 
-entered-sends : (w : WorldState) (t : ℕ) (y : TabState) (d : Delivered) (m : Message) → In m (report_if_entered w t y d) → (u : Upward) × In u (report_bodies y.in_parts y.report) × (m ≡ stamped w t u)
-entered-sends w t y (heard.Entered reports) m i = In-map_cases (stamped w t) (report_bodies y.in_parts y.report) i
+entered-sends : (w : WorldState) (t : ℕ) (y : TabState) (d : Delivered) (m : Message) → In m (report_if_entered w.kernel t y d) → (u : Upward) × In u (report_bodies y.in_parts y.report) × (m ≡ stamped w.kernel t u)
+entered-sends w t y (heard.Entered reports) m i = In-map_cases (stamped w.kernel t) (report_bodies y.in_parts y.report) i
 entered-sends w t y d m i = absurd (In-nil i)
 
 enter-based : (g : ℕ) (x : TabState) → (enter g x).report.base ≤ length x.issued
@@ -200,7 +201,7 @@ hears-quiet w s t m b =
     let is = told-issued a.0 ∙ delivery-issued t x (s t) m in
     let le = delivery-based t x (s t) (b.own t) m in
     let base = subst (λ zs. a.0.report.base ≤ length zs) (sym is) le in
-    acts-quiet w t (told a.0) (report_if_entered w t a.0 a.1) b (Grows-same _ _ is) (subst (λ z. z.base ≤ length (told a.0).issued) (sym (told-report a.0)) base)
+    acts-quiet w t (told a.0) (report_if_entered w.kernel t a.0 a.1) b (Grows-same _ _ is) (subst (λ z. z.base ≤ length (told a.0).issued) (sym (told-report a.0)) base)
     (λ y i. let o = entered-sends w t a.0 a.1 y i in subst (Fine (IsHonest w t) t (told a.0)) (sym o.2) (refl, λ _. fine-body (told a.0) o.0 a.0.in_parts a.0.report o.1 (subst (λ z. z.base ≤ length (told a.0).issued) (told-report a.0) (subst (λ z. z.base ≤ length (told a.0).issued) (sym (told-report a.0)) base))))
 
 -- ---- channels, the kernel and hellos
@@ -273,9 +274,9 @@ opens_channel-quiet w t name b =
 pub posts-quiet : (w : WorldState) (t k : ℕ) (bytes : List ℕ) → Based w → Quiet w (after w (posts w t k bytes))
 posts-quiet w t k bytes b =
     let c = channels_of w t in
-    quiet-allowed w (lives w t && not (is_some (post_refusal t k bytes c))) (becomes w t (posted k bytes c) (map (across t k bytes c) (hearers t w.kernel))) b
-    (λ _. becomes-quiet w t (posted k bytes c) (map (across t k bytes c) (hearers t w.kernel)) b
-    (λ m i. let o = In-map_cases (across t k bytes c) (hearers t w.kernel) i in subst IsOther (sym o.2) tt))
+    quiet-allowed w (lives w t && not (is_some (post_refusal t k bytes c))) (becomes w t (posted k bytes c) (map (across t (post_of k bytes c)) (hearers t w.kernel))) b
+    (λ _. becomes-quiet w t (posted k bytes c) (map (across t (post_of k bytes c)) (hearers t w.kernel)) b
+    (λ m i. let o = In-map_cases (across t (post_of k bytes c)) (hearers t w.kernel) i in subst IsOther (sym o.2) tt))
 
 pub reads-quiet : (w : WorldState) (t k : ℕ) → Based w → Quiet w (after w (reads w t k))
 reads-quiet w t k b =
@@ -304,5 +305,5 @@ corrupts-quiet w t b =
 
 pub forges-quiet : (w : WorldState) (t : ℕ) (x : Forged) → Based w → Quiet w (after w (forges w t x))
 forges-quiet w t x b =
-    quiet-allowed w (is_corrupt w t && lives w t) (record { world = w; sends = forgery w t x }) b
-    (λ l. sends-quiet w t (forgery w t x) b (λ m i. fine-from (IsHonest w t) t (partition_of w t) (tab_of w t) m (b.own t) (forgery-said w t x (and_parts _ _ l).0 m i)))
+    quiet-allowed w (is_corrupt w t && lives w t) (record { world = w; sends = forgery w.kernel t x }) b
+    (λ l. sends-quiet w t (forgery w.kernel t x) b (λ m i. fine-from (IsHonest w t) t (partition_of w t) (tab_of w t) m (b.own t) (forgery-said w t x (and_parts _ _ l).0 m i)))

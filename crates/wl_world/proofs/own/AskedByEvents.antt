@@ -23,7 +23,8 @@ use Rattle.wl_limits.specs.declared.tabs.TheConstants.{COMMAND_LIMIT}
 use Rattle.wl_tab.specs.Tabs.{told}
 use Rattle.wl_world.specs.declared.event.Event.{Event}
 use Rattle.wl_world.specs.declared.event.Event.TheVariants as event
-use Rattle.wl_world.specs.World.{WorldState, empty_world, with_rows, tab_of, lives, Deed, nothing, where_allowed, acts, issues, asks, queries, aborts, releases, resends, becomes, report_if_entered, hears, follows, comes_up, comes, tells, stops, starts, greets, deed, happens, run}
+use Rattle.wl_world.specs.World.{WorldState, empty_world, with_rows, tab_of, lives, Deed, nothing, where_allowed, acts, issues, asks, queries, aborts, releases, resends, becomes, hears, follows, comes_up, comes, tells, stops, starts, greets, deed, happens, run}
+use Rattle.wl_world.specs.Sends.{report_if_entered}
 use Rattle.wl_world.specs.Holdings.{asking, WasAsked, Own}
 use Rattle.wl_world.proofs.calls.StepsAndSends.{run-push}
 use Rattle.wl_world.proofs.exclusion.Invariant.{Sound, SoundTab}
@@ -124,7 +125,7 @@ told-issued x = refl
 hears-adds : (e : Event) (w : WorldState) → Sound w → (t : ℕ) (m : Downward) → AddsBy e w (hears w t (frame_of m))
 hears-adds e w s t m =
     let a = delivery (frame_of m) (tab_of w t) in
-    acts-adds e w t (told a.0) (report_if_entered w t a.0 a.1) (same-added e t (tab_of w t) (told a.0) (told-issued a.0 ∙ delivery-issued t (tab_of w t) (s.tabs t) m))
+    acts-adds e w t (told a.0) (report_if_entered w.kernel t a.0 a.1) (same-added e t (tab_of w t) (told a.0) (told-issued a.0 ∙ delivery-issued t (tab_of w t) (s.tabs t) m))
 
 follows-adds : (e : Event) (w : WorldState) (o : Taking) → AddsBy e w (follows w o)
 follows-adds e w (Drops reason) = none-added e w (nothing w) refl

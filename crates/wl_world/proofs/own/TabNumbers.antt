@@ -21,7 +21,8 @@ use Rattle.wl_limits.specs.declared.tabs.TheConstants.{COMMAND_LIMIT}
 use Rattle.wl_tab.specs.Tabs.{told}
 use Rattle.wl_world.specs.declared.event.Event.{Event}
 use Rattle.wl_world.specs.declared.event.Event.TheVariants as event
-use Rattle.wl_world.specs.World.{WorldState, empty_world, with_rows, tab_of, lives, Deed, nothing, where_allowed, acts, asks, queries, aborts, releases, resends, becomes, report_if_entered, hears, follows, comes_up, comes, tells, stops, starts, greets, deed, happens, run}
+use Rattle.wl_world.specs.World.{WorldState, empty_world, with_rows, tab_of, lives, Deed, nothing, where_allowed, acts, asks, queries, aborts, releases, resends, becomes, hears, follows, comes_up, comes, tells, stops, starts, greets, deed, happens, run}
+use Rattle.wl_world.specs.Sends.{report_if_entered}
 use Rattle.wl_world.proofs.exclusion.GrownTabs.{tab_at}
 use Rattle.wl_world.proofs.exclusion.ActsWithinAGeneration.{each_tab}
 
@@ -108,7 +109,7 @@ resends-keeps w t = allowed-keeps w _ _ (λ u. refl)
 hears-keeps : (w : WorldState) (t : ℕ) (f : Frame) → Keeps w (hears w t f)
 hears-keeps w t f =
     let a = delivery f (tab_of w t) in
-    acts-keeps w t (told a.0) (report_if_entered w t a.0 a.1) (told-tab a.0 ∙ delivery-tab f (tab_of w t))
+    acts-keeps w t (told a.0) (report_if_entered w.kernel t a.0 a.1) (told-tab a.0 ∙ delivery-tab f (tab_of w t))
 
 follows-keeps : (w : WorldState) (o : Taking) → Keeps w (follows w o)
 follows-keeps w (Drops reason) t = refl

@@ -3,8 +3,8 @@
 ghost use Rattle.std.specs.Prelude.{◌≡◌, ◌≢◌, true, IfOk, OnOk};
 ghost use Rattle.wl_said.specs.declared.said.Said.TheVariants as said;
 ghost use Rattle.wl_world.specs.World.{tab_of, lives, asks, queries, aborts, releases, resends};
+ghost use Rattle.wl_world.specs.Sends.{issued_messages};
 ghost use Rattle.wl_world.specs.Replies.{asking, querying, aborting, releasing, resending, some_resent};
-ghost use Rattle.wl_world.specs.Parts.{issued_in};
 
 use crate::parts::{Done, Parts, refused};
 use crate::sending;
@@ -107,7 +107,7 @@ impl Parts {
         requires { lives self.now tab ≡ true }
         ensures said { IfOk result (λ done. done.said ≡ said.Issued tab number) }
         ensures sends { IfOk result (λ done.
-            done.sends.items ≡ issued_in self.now.kernel tab (tab_of self.now tab) number) }
+            done.sends.items ≡ issued_messages self.now.kernel tab (tab_of self.now tab) number) }
     {
         let kernel = self.supervisor.tabs();
         let sends = sending::issued(self.alloc, kernel, tab, self.locks(tab), number)?;

@@ -12,7 +12,7 @@ ghost use Rattle.wl_tab.specs.Arrivals.{arrival};
 ghost use Rattle.wl_supervisor.specs.Supervising.{brought};
 ghost use Rattle.wl_world.specs.World.{lives, hears, comes, comes_up, where_allowed, tab_of};
 ghost use Rattle.wl_world.specs.Replies.{alive_or, delivering};
-ghost use Rattle.wl_world.specs.Parts.{reported_in};
+ghost use Rattle.wl_world.specs.Parts.{report_if_said};
 
 use crate::parts::{Done, Parts, of_broker, refused, silent};
 use crate::sending;
@@ -86,7 +86,7 @@ impl Parts {
     fn reported(&self, tab: u16, said: &Said) -> Result<Vec<Message>, AllocError>
         requires { lives self.now tab ≡ true }
         ensures { IfOk result (λ ms.
-            ms.items ≡ reported_in self.now.kernel tab (tab_of self.now tab) said.now) }
+            ms.items ≡ report_if_said self.now.kernel tab (tab_of self.now tab) said.now) }
     {
         let Said::Entered { .. } = said else {
             return Ok(Vec::new(self.alloc));

@@ -2,9 +2,9 @@
 
 ghost use Rattle.std.specs.Prelude.{◌≡◌, IfOk, OnOk};
 ghost use Rattle.wl_world.specs.World.{corrupts, forges, is_corrupt};
+ghost use Rattle.wl_world.specs.Sends.{forgery};
 ghost use Rattle.wl_world.specs.Replies.{corrupting, forging, some_forged};
 ghost use Rattle.wl_agent.specs.Tab.{upward_frame};
-ghost use Rattle.wl_world.specs.Parts.{forged_in};
 
 use crate::event::Forged;
 use crate::parts::posting::to_others;
@@ -73,7 +73,7 @@ fn forgery(
     tab: u16,
     forged: &Forged,
 ) -> Result<Vec<Message>, AllocError>
-    ensures { IfOk result (λ ms. ms.items ≡ forged_in kernel.now tab forged.now) }
+    ensures { IfOk result (λ ms. ms.items ≡ forgery kernel.now tab forged.now) }
 {
     match forged {
         Forged::Upward(upward) => {

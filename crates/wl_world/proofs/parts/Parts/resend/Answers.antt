@@ -4,7 +4,7 @@ use Rattle.wl_agent.specs.Tab.{TabState}
 use Rattle.wl_kernel.specs.Kernel.{KernelState}
 use Rattle.wl_supervisor.specs.Supervised.{kernel_of}
 use Rattle.wl_world.specs.World.{WorldState, tab_of, lives}
-use Rattle.wl_world.specs.Parts.{resent_in}
+use Rattle.wl_world.specs.Sends.{resent}
 use Rattle.wl_world.specs.Replies.{some_resent}
 use Rattle.wl_world.proofs.calls.CommandCalls.{resends-sends, resends-same, resending-done}
 use Rattle.wl_world.proofs.parts.Parts.resend.Goals as goal
@@ -15,9 +15,9 @@ returns-clause-said c =
     let tab = tab_of c.args.self.now c.args.tab in
     let sent =
     c.in_ok-sends.ensures
-    ∙ ap (λ (k : KernelState). resent_in k c.args.tab c.locks.result.now) c.tabs.ensures
-    ∙ ap (λ (x : TabState). resent_in (kernel_of c.self.inside.supervisor) c.args.tab x) c.locks.ensures
-    ∙ ap (λ (w : WorldState). resent_in w.kernel c.args.tab tab) c.self.view_is in
+    ∙ ap (λ (k : KernelState). resent k c.args.tab c.locks.result.now) c.tabs.ensures
+    ∙ ap (λ (x : TabState). resent (kernel_of c.self.inside.supervisor) c.args.tab x) c.locks.ensures
+    ∙ ap (λ (w : WorldState). resent w.kernel c.args.tab tab) c.self.view_is in
     c.resent_said-said.ensures ∙ ap some_resent (c.deref.ensures.value ∙ sent) ∙ sym (resending-done c.args.self.now c.args.tab live)
 
 pub returns-clause-sends : goal.returns-clause-sends
@@ -25,9 +25,9 @@ returns-clause-sends c =
     let live : lives c.args.self.now c.args.tab ≡ true = grind (arith, common_steps) in
     let tab = tab_of c.args.self.now c.args.tab in
     c.in_ok-sends.ensures
-    ∙ ap (λ (k : KernelState). resent_in k c.args.tab c.locks.result.now) c.tabs.ensures
-    ∙ ap (λ (x : TabState). resent_in (kernel_of c.self.inside.supervisor) c.args.tab x) c.locks.ensures
-    ∙ ap (λ (w : WorldState). resent_in w.kernel c.args.tab tab) c.self.view_is
+    ∙ ap (λ (k : KernelState). resent k c.args.tab c.locks.result.now) c.tabs.ensures
+    ∙ ap (λ (x : TabState). resent (kernel_of c.self.inside.supervisor) c.args.tab x) c.locks.ensures
+    ∙ ap (λ (w : WorldState). resent w.kernel c.args.tab tab) c.self.view_is
     ∙ sym (resends-sends c.args.self.now c.args.tab live)
 
 pub returns-clause-world : goal.returns-clause-world
