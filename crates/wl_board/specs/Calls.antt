@@ -1,6 +1,6 @@
 -- Words for the contracts of a board's calls.
 use Rattle.std.specs.Prelude.{◌≡◌, ℕ, ◌+◌, ◌<◌, ◌≤◌, ◌⊎◌, slice_index}
-use Rattle.wl_board.specs.declared.board.TheConstants.{STEP_LIMIT}
+use Rattle.wl_board.specs.declared.board.TheConstants.{SEAT_STEP_LIMIT}
 use Rattle.wl_board.specs.declared.rule.View.{View}
 use Rattle.wl_board.specs.declared.tab.Life.{Life}
 use Rattle.wl_board.specs.declared.tab.Life.TheVariants as life
@@ -43,4 +43,4 @@ HasMetEnd tabs v = tabs + 2 ≤ counter_seen v
 abbrev pub MeetsEnd : ℕ → View → View → Type 0
 MeetsEnd tabs v w =
     (HasMetEnd tabs v × (w ≡ v))
-    ⊎ ((¬ HasMetEnd tabs v) × (v.draws < STEP_LIMIT) × ((found : ℕ) × (tabs < found) × (counter_seen v ≤ found) × (w ≡ draws_none v found)))
+    ⊎ ((¬ HasMetEnd tabs v) × (v.draws < SEAT_STEP_LIMIT) × ((found : ℕ) × (tabs < found) × (counter_seen v ≤ found) × (w ≡ draws_none v found)))

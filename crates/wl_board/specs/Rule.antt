@@ -4,7 +4,7 @@ use Rattle.std.specs.Prelude.{◌≡◌, ℕ, ◌+◌, ◌<◌, ◌≤◌, ◌==
 use mathlib.Core.Option.{some}
 use lib.ListN.{get_elem?}
 use Rattle.atomic_table.specs.Table.{State}
-use Rattle.wl_board.specs.declared.board.TheConstants.{SEAT_LIMIT, STEP_LIMIT}
+use Rattle.wl_board.specs.declared.board.TheConstants.{SEAT_LIMIT, SEAT_STEP_LIMIT}
 use Rattle.wl_board.specs.declared.rule.View.{View}
 
 -- how often a number stands in a list
@@ -33,7 +33,7 @@ pub record IsOrderly (tabs : ℕ) (s : Board) : Type 0 where
   pub wide : length s.words ≡ tabs + 2
   -- the seats are not too many, those that may still be split off among them
   pub few : length s.views + total (λ v. v.to_give) s.views ≤ SEAT_LIMIT
-  pub limits : EachSeat (λ v. (v.draws ≤ STEP_LIMIT) × (v.bumps ≤ STEP_LIMIT)) s.views
+  pub limits : EachSeat (λ v. (v.draws ≤ SEAT_STEP_LIMIT) × (v.bumps ≤ SEAT_STEP_LIMIT)) s.views
   -- no word is below what a seat has seen of it
   pub seen : EachSeat (λ v. (word : ℕ) → slice_index v.seen word ≤ slice_index s.words word) s.views
   -- no number is drawn twice, and none is drawn from the counter on

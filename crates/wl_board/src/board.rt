@@ -1,7 +1,7 @@
 //! The board that threads share.
 
 ghost use Rattle.std.specs.Prelude.{◌≡◌, ◌+◌, ◌<◌, ◌≤◌, Err, IfOk, OnOk, OnErr, All, vec_len};
-ghost use Rattle.wl_board.specs.declared.board.TheConstants.{SEAT_LIMIT, STEP_LIMIT};
+ghost use Rattle.wl_board.specs.declared.board.TheConstants.{SEAT_LIMIT, SEAT_STEP_LIMIT};
 ghost use Rattle.wl_board.specs.Rule.{Has, newcomer};
 ghost use Rattle.wl_board.specs.Steps.{sees, marks, draws_number, bears, bumps_to};
 ghost use Rattle.wl_board.specs.Calls.{IsOf, IsSameSeat, IsNew, HasMetEnd, MeetsEnd, counter_seen, generation_seen, tab_seen, word_of};
@@ -36,7 +36,7 @@ const DEAD: u64 = 2;
 pub const SEAT_LIMIT: u16 = 16;
 
 /// The most draws that a seat makes, and the most bumps.
-pub const STEP_LIMIT: u16 = 65_535;
+pub const SEAT_STEP_LIMIT: u16 = 65_535;
 
 /// A counter of tab numbers, a word for each tab and a generation. The calls on a shared board take neither memory nor a
 /// lock: each is one atomic step.
@@ -109,20 +109,20 @@ impl Board {
         ensures drawn { IfOk result (λ t. seat.new.view ≡ draws_number seat.old.view t) }
         ensures ticket { IfOk result (λ t. Has t seat.new.view.drawn × (¬ Has t seat.new.view.born)) }
         ensures allowed { OnOk result ((¬ HasMetEnd self.now.tabs seat.old.view)
-            × (seat.old.view.draws < STEP_LIMIT)) }
+            × (seat.old.view.draws < SEAT_STEP_LIMIT)) }
 
         // A refusal comes for its cause alone.
         ensures used_up { result ≡ Err DrawFault.TabsUsedUp
             → MeetsEnd self.now.tabs seat.old.view seat.new.view }
         ensures spent { result ≡ Err DrawFault.SeatSpent
             → (¬ HasMetEnd self.now.tabs seat.old.view)
-            × (seat.old.view.draws ≡ STEP_LIMIT) × (seat.new ≡ seat.old) }
+            × (seat.old.view.draws ≡ SEAT_STEP_LIMIT) × (seat.new ≡ seat.old) }
     {
         let tabs = self.tabs;
         if seat.met_end {
             return Err(DrawFault::TabsUsedUp);
         }
-        if seat.draws == STEP_LIMIT {
+        if seat.draws == SEAT_STEP_LIMIT {
             return Err(DrawFault::SeatSpent);
         }
         let found = self
@@ -191,10 +191,10 @@ impl Board {
         ensures later { IfOk result (λ g. generation_seen seat.old.view < g) }
         ensures counted { IfOk result (λ g. seat.old.view.bumps + 1 < g) }
         ensures bumped { IfOk result (λ g. seat.new.view ≡ bumps_to seat.old.view g) }
-        ensures allowed { OnOk result (seat.old.view.bumps < STEP_LIMIT) }
-        ensures spent { OnErr result ((seat.old.view.bumps ≡ STEP_LIMIT) × (seat.new ≡ seat.old)) }
+        ensures allowed { OnOk result (seat.old.view.bumps < SEAT_STEP_LIMIT) }
+        ensures spent { OnErr result ((seat.old.view.bumps ≡ SEAT_STEP_LIMIT) × (seat.new ≡ seat.old)) }
     {
-        if seat.bumps == STEP_LIMIT {
+        if seat.bumps == SEAT_STEP_LIMIT {
             return Err(SeatSpent);
         }
         let found = self

@@ -13,14 +13,14 @@ abbrev pub IsHistory : BrokerState → ℕ → List (List Receipt) → List Step
 IsHistory opening limit lanes history = IsReplay opening history × (length history ≤ limit) × IsMadeOf history lanes
 
 -- a receipt is not that of a step, or the lanes are not all
-abbrev pub IsFault : BrokerState → ℕ → List (List Receipt) → CloseFault → Type 0
-IsFault opening parts lanes (Mismatch p) =
-    (history : List Step) × IsReplay opening history × (length lanes ≡ parts → length history ≡ total lanes) × IsMismatch history lanes p
-IsFault opening parts lanes WrongCount = length lanes ≢ parts
+abbrev pub IsFault : BrokerState → ℕ → ℕ → List (List Receipt) → CloseFault → Type 0
+IsFault opening limit parts lanes (Mismatch p) =
+    (history : List Step) × IsReplay opening history × (length history ≤ limit) × (length lanes ≡ parts → length history ≡ total lanes) × IsMismatch history lanes p
+IsFault opening limit parts lanes WrongCount = length lanes ≢ parts
 
 abbrev pub IsClosed : BrokerState → ℕ → ℕ → List (List Receipt) → Result (List Step) CloseFault → Type 0
 IsClosed opening limit parts lanes (Ok history) = IsHistory opening limit lanes history
-IsClosed opening limit parts lanes (Err fault) = IsFault opening parts lanes fault
+IsClosed opening limit parts lanes (Err fault) = IsFault opening limit parts lanes fault
 
 -- Only a helper: what the comparison found, and how many steps the ledger counts
 pub record IsCompared (opening : BrokerState) (limit : ℕ) (lanes : List (List Receipt)) (steps : List Step) (compared : Result Bool ℕ) (counted : ℕ) : Type 0 where

@@ -86,7 +86,7 @@ abbrev pub IsShardHistory : Run → List (List (List Receipt)) → ℕ → List 
 IsShardHistory run lanes shard history = IsHistory (opening_of run shard) run.limit (receipts_in shard lanes) history
 
 abbrev pub IsShardFault : Run → List (List (List Receipt)) → ℕ → CloseFault → Type 0
-IsShardFault run lanes shard fault = IsFault (opening_of run shard) run.lanes (receipts_in shard lanes) fault
+IsShardFault run lanes shard fault = IsFault (opening_of run shard) run.limit run.lanes (receipts_in shard lanes) fault
 
 -- Only a helper: there is room for the histories to come, and as many were gathered as shards came, up to the first fault
 pub record IsRoomy (shard : ℕ) (g : Gathering) : Type 0 where

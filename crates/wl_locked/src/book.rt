@@ -123,6 +123,7 @@ impl<J: Generation> Book<J> {
         ensures counted { OnOk result (share.new.amount ≡ share.old.amount + 1) }
         ensures parts { share.new.parts ≡ share.old.parts }
         ensures behind { OnOk result (share.old.amount ≤ length self.old) }
+        ensures limit { OnOk result (length self.old < J.limit) }
         ensures spent { (result ≡ Err NotStepped.GenerationSpent) ↔ (length self.old ≡ J.limit) }
         ensures err { OnErr result ((self.new ≡ self.old) × (share.new.amount ≡ share.old.amount)) }
     {
@@ -148,42 +149,6 @@ impl<J: Generation> Book<J> {
             reply: replies.last(),
         };
         Ok((one, other))
-    }
-
-    /// Steps the broker for a lane, which keeps a receipt. Otherwise the lane and the book are as before.
-    pub fn take(&mut self, lane: &mut Lane<J>, event: BookEvent) -> Result<Receipt, NotStepped>
-        ensures event { IfOk result (λ r. r.event ≡ event) }
-        ensures place { IfOk result (λ r. r.place ≡ length self.old) }
-        ensures reply { IfOk result (λ r. r.reply ≡ (stepped (replay J.opening (events self.old)) event).1) }
-        ensures cause { IfOk result (λ r. r.reply ≢ Reply.Dropped Dropped.Memory) }
-        ensures stored { IfOk result (λ r. self.new ≡ self.old ++ step_of r ∷ []) }
-        ensures kept { IfOk result (λ r. lane.new ≡ lane.old ++ r ∷ []) }
-        ensures behind { OnOk result (length lane.old ≤ length self.old) }
-        ensures spent { (result ≡ Err NotStepped.GenerationSpent) ↔ (length self.old ≡ J.limit) }
-        ensures err { OnErr result ((self.new ≡ self.old) × (lane.new ≡ lane.old)) }
-    {
-        let Ok((first, second)) = copies_with_room(self.alloc, &mut lane.receipts, &event) else {
-            drop(event);
-            return Err(self.without_memory());
-        };
-        let (place, mut replies) = match self.store(&mut lane.share, event) {
-            Ok(stored) => stored,
-            Err(fault) => {
-                drop((first, second));
-                return Err(fault);
-            }
-        };
-        let kept = Receipt {
-            place,
-            event: second,
-            reply: replies.next(),
-        };
-        lane.receipts.push_reserved(kept);
-        Ok(Receipt {
-            place,
-            event: first,
-            reply: replies.last(),
-        })
     }
 
     /// Why nothing is stepped where memory was refused before: that the book is spent comes first.
@@ -214,10 +179,16 @@ impl<J: Generation> Book<J> {
         ensures counted { OnOk result (share.new.amount ≡ share.old.amount + 1) }
         ensures parts { share.new.parts ≡ share.old.parts }
         ensures behind { OnOk result (share.old.amount ≤ length self.old) }
+        ensures limit { OnOk result (length self.old < J.limit) }
         ensures spent { (result ≡ Err NotStepped.GenerationSpent) ↔ (length self.old ≡ J.limit) }
         ensures err { OnErr result ((self.new ≡ self.old) × (share.new.amount ≡ share.old.amount)) }
     {
-        if let Err(fault) = room::for_step(self.is_spent(), &mut self.steps, &mut self.marks) {
+        if let Err(fault) = room::for_step(
+            self.is_spent(),
+            self.limit,
+            &mut self.steps,
+            &mut self.marks,
+        ) {
             drop(event);
             return Err(fault);
         }

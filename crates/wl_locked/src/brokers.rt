@@ -166,6 +166,7 @@ impl<J: Shards> Brokers<J> {
         ensures reply { IfOk result (λ r. IsAnswer (opening_of J.run work.shard) r.place work.event r.reply) }
         ensures cause { IfOk result (λ r. r.reply ≢ Reply.Dropped Dropped.Memory) }
         ensures place { IfOk result (λ r. length (receipts_of work.shard lane.old) ≤ r.place) }
+        ensures limit { IfOk result (λ r. r.place < J.run.limit) }
         ensures kept { IfOk result (λ r. lane.new ≡ with_receipt work.shard r lane.old) }
         ensures wide { length lane.old ≡ SHARD_LIMIT }
         ensures err { OnErr result (lane.new ≡ lane.old) }

@@ -20,7 +20,7 @@ pub enum BookEvent {
 pub enum Reply {
     /// It did what it was told, and sends these.
     Outs(Outs),
-    /// The message was dropped for this cause, which is never want of memory, and nothing has changed.
+    /// The message was dropped for this cause, which is never out of memory, and nothing has changed.
     Dropped(Dropped),
 }
 

@@ -115,6 +115,7 @@ impl<J: Generation> LockedBroker<J> {
         ensures reply { IfOk result (λ r. IsAnswer J.opening r.place event r.reply) }
         ensures cause { IfOk result (λ r. r.reply ≢ Reply.Dropped Dropped.Memory) }
         ensures place { IfOk result (λ r. length lane.old ≤ r.place) }
+        ensures limit { IfOk result (λ r. r.place < J.limit) }
         ensures kept { IfOk result (λ r. lane.new ≡ lane.old ++ r ∷ []) }
         ensures err { OnErr result (lane.new ≡ lane.old) }
     {
@@ -149,7 +150,7 @@ impl<J: Generation> LockedBroker<J> {
         ensures within { IfOk result (λ h. length h ≤ J.limit) }
         ensures made { IfOk result (λ h. IsMadeOf h lanes.items) }
         ensures mismatch { (p : ℕ) → result ≡ Err (CloseFault.Mismatch p)
-            → (h : List Step) × IsReplay J.opening h
+            → (h : List Step) × IsReplay J.opening h × (length h ≤ J.limit)
             × (length lanes.items ≡ J.parts → length h ≡ total lanes.items) × IsMismatch h lanes.items p }
         ensures count { result ≡ Err CloseFault.WrongCount → length lanes.items ≢ J.parts }
     {

@@ -3,10 +3,28 @@
 ghost use Rattle.std.specs.Prelude.{◌≡◌, ◌<◌, ◌↔◌, true, Err, OnOk, vec_len, vec_capacity};
 
 use crate::receipt::{NotStepped, Step};
+use std::alloc::AllocError;
+
+/// For how many steps a history makes room at once, at most: as many as a shard of the broker's process has. A history that
+/// grew step by step would be moved again and again while its lock is held.
+const STEPS_AT_ONCE: usize = 65_536;
+
+/// Makes room for one more at least: for so many where memory allows, and else for one.
+fn for_one<T>(list: &mut Vec<T>, at_once: usize) -> Result<(), AllocError>
+    requires { 0 < at_once }
+    ensures items { list.new.items ≡ list.old.items }
+    ensures room { OnOk result (vec_len list.new < vec_capacity list.new) }
+{
+    if list.len() < list.capacity() || list.reserve(at_once).is_ok() {
+        return Ok(());
+    }
+    list.reserve(1)
+}
 
 /// Makes room for a step with its mark, where the book is not spent.
 pub(crate) fn for_step(
     is_spent: bool,
+    limit: u32,
     steps: &mut Vec<Step>,
     marks: &mut Vec<bool>,
 ) -> Result<(), NotStepped>
@@ -19,7 +37,8 @@ pub(crate) fn for_step(
     if is_spent {
         return Err(NotStepped::GenerationSpent);
     }
-    steps.reserve(1)?;
-    marks.reserve(1)?;
+    let at_once = (limit as usize).min(STEPS_AT_ONCE).max(1);
+    for_one(steps, at_once)?;
+    for_one(marks, at_once)?;
     Ok(())
 }

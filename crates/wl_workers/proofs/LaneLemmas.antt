@@ -1,5 +1,5 @@
 -- Lemmas on lanes: one event more, and how a lane ends.
-use Rattle.std.proofs.Common.{◌≡◌, ◌+◌, ◌≤◌, ℕ, List, [], ◌∷◌, ◌++◌, length, map, Option, Some, Result, Ok, Err, IfErr, refl, sym, ap, ◌∙◌, subst, append_assoc, append-nil, inl, inr, arith}
+use Rattle.std.proofs.Common.{◌≡◌, ◌+◌, ◌≤◌, ◌⊎◌, ℕ, Bool, true, List, [], ◌∷◌, ◌++◌, length, map, Option, Some, Result, Ok, Err, IfErr, refl, sym, ap, ◌∙◌, subst, append_assoc, append-nil, inl, inr, arith}
 use Rattle.std.specs.List.{AllByRecursion, flat_map}
 use Rattle.std.proofs.lemmas.List.{length_push}
 use Rattle.wl_grammar.specs.declared.frame.Addressed.{Addressed}
@@ -13,7 +13,7 @@ use Rattle.wl_workers.specs.declared.lanes.Cause.{Cause}
 use Rattle.wl_workers.specs.declared.lanes.Cause.TheVariants as cause
 use Rattle.wl_workers.specs.declared.lanes.TheConstants.{EVENT_LIMIT}
 use Rattle.wl_workers.specs.Told.{Grows}
-use Rattle.wl_workers.specs.Lane.{Answered, PutOut, as_frames, frames_of, sent_by, receipt_in, all_put, step_of, steps_of, PutsUpTo, IsUnsent, IsUnspent, EndsWith, RunsLane, GoesOn}
+use Rattle.wl_workers.specs.Lane.{Answered, PutOut, as_frames, frames_of, sent_by, receipt_in, all_put, step_of, steps_of, PutsUpTo, IsUnsent, IsUnspent, EndsWith, IsLet, RunsLane, GoesOn}
 use Rattle.wl_workers.proofs.ToldLemmas.{Grows-nil, Grows-trans}
 
 map-push : {A B : Type 0} (f : A → B) (xs : List A) (x : A) → map f (xs ++ x ∷ []) ≡ map f xs ++ f x ∷ []
@@ -204,3 +204,29 @@ put_refused a b c outs done rest out r fault split before one refused =
       are = ap as_frames split ∙ map-append _ done (out ∷ rest);
       put = Grows-trans a b c _ _ before (subst (λ s. Grows b c ((frame.Addressed out, s) ∷ [])) refused one);
     }
+
+-- ---- what the gate lets pass
+
+-- a step that was sent was let pass
+pub sent_is_let : {lets : Bool} {u : Unit {0}} → (◌≡◌ {A = Result (Unit {0}) Cause} (Ok u) (Err cause.Shut)) ⊎ (lets ≡ true) → lets ≡ true
+sent_is_let {lets} {u} (inl shut) =
+    let sent : Result (Unit {0}) Cause = Ok u in
+    let unsent : Result (Unit {0}) Cause = Err cause.Shut in
+    let k : sent ≡ unsent = shut in cc
+sent_is_let {lets} {u} (inr is) = is
+
+-- a lane that ends has been let pass, or has made no step
+pub ended_is_let : {lets : Bool} {steps : ℕ} (why : Cause) → (lets ≡ true) ⊎ (steps ≡ 0) → IsLet lets (record { steps = steps; why = why })
+ended_is_let {lets} {steps} why (inl is) = inl is
+ended_is_let {lets} {steps} why (inr none) = inr (inl none)
+
+-- the same of a lane whose last step was not sent
+pub unsent_is_let : {lets : Bool} {steps : ℕ} (why : Cause) → (lets ≡ true) ⊎ (steps ≡ 0) → (◌≡◌ {A = Result (Unit {0}) Cause} (Err why) (Err cause.Shut)) ⊎ (lets ≡ true) → IsLet lets (record { steps = steps + 1; why = why })
+unsent_is_let {lets} {steps} why h (inr is) = inl is
+unsent_is_let {lets} {steps} why (inl is) (inl shut) = inl is
+unsent_is_let {lets} {steps} why (inr none) (inl shut) =
+    let one : Result (Unit {0}) Cause = Err why in
+    let other : Result (Unit {0}) Cause = Err cause.Shut in
+    let k : one ≡ other = shut in
+    let is : why ≡ cause.Shut = cc in
+    inr (inr (ap (λ n. n + 1) none, is))

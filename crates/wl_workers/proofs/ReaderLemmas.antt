@@ -56,7 +56,7 @@ handed_all tab a b x y frames done rest split none h = subst (λ fs. HandsUp tab
 
 -- ---- a piece
 
--- a piece is refused for want of memory, and had no frames then, or for the fault that stands next
+-- a piece is refused when out of memory, and had no frames then, or for the fault that stands next
 refused_by : (old new : Feeding) (piece : List ℕ) (before : List Frame) (f : FrameFault) → old.has_failed ≡ false → Refuses old new piece before f
     → ((f ≡ fault.Memory) × (before ≡ [])) ⊎ Reads (old.rest ++ piece) before (Fault f)
 refused_by old new piece before fault.BadLength sound h = inr (h.stops (λ x. cc) (λ x. cc)).0

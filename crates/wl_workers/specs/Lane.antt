@@ -1,5 +1,5 @@
 -- A lane: what it is given, what its desk answers and what it puts out belong together, up to its end.
-use Rattle.std.specs.Prelude.{◌≡◌, ◌≢◌, ◌⊎◌, ◌+◌, ◌==◌, ℕ, List, [], ◌∷◌, ◌++◌, length, map, Option, None, Some, Result, Ok, Err, if◌then◌else◌}
+use Rattle.std.specs.Prelude.{◌≡◌, ◌≢◌, ◌⊎◌, ◌+◌, ◌==◌, ℕ, Bool, true, List, [], ◌∷◌, ◌++◌, length, map, Option, None, Some, Result, Ok, Err, if◌then◌else◌}
 use Rattle.std.specs.List.{AllByRecursion, flat_map}
 use Rattle.wl_grammar.specs.declared.frame.Addressed.{Addressed}
 use Rattle.wl_grammar.specs.declared.frame.Frame.{Frame}
@@ -114,6 +114,10 @@ pub record RunsLane (given_before given_after : Option (List (Option Work))) (an
   pub put_out : Grows put_before put_after put
   pub steps : end.steps ≡ steps_of answers
   pub ends : EndsBy end.why answers put
+
+-- a lane that its gate never lets pass ends with its first step
+abbrev pub IsLet : Bool → LaneEnd → Type 0
+IsLet lets end = (lets ≡ true) ⊎ (end.steps ≡ 0) ⊎ ((end.steps ≡ 1) × (end.why ≡ cause.Shut))
 
 -- Only a helper: a lane that goes on
 pub record GoesOn (given_before given_now : Option (List (Option Work))) (answered_before answered_now : Option (List Answered)) (kept_before kept_now : ℕ → Option (List Receipt)) (put_before put_now : Option (List PutOut)) (seen steps : ℕ) : Type 0 where

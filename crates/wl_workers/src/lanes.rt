@@ -1,10 +1,10 @@
 //! A lane: one thread's part of a broker. It takes works from an intake, has the desk take them, and puts what the broker
 //! sends out.
 
-ghost use Rattle.std.specs.Prelude.{◌≡◌, [], ◌∷◌, OnOk, IfErr};
+ghost use Rattle.std.specs.Prelude.{◌≡◌, ◌⊎◌, [], ◌∷◌, true, Err, OnOk, IfErr};
 ghost use Rattle.wl_grammar.specs.declared.frame.Frame.TheVariants as frame;
 ghost use Rattle.wl_workers.specs.Told.{Grows};
-ghost use Rattle.wl_workers.specs.Lane.{as_frames, frames_of, all_put, PutsUpTo, IsUnsent, RunsLane};
+ghost use Rattle.wl_workers.specs.Lane.{as_frames, frames_of, all_put, PutsUpTo, IsUnsent, IsLet, RunsLane};
 
 use std::rt::Clock;
 use std::sync::Wait;
@@ -68,8 +68,14 @@ pub trait Desk {
 
 /// Stands between a step and what is sent for it. Several lanes call one gate.
 pub trait Gate {
+    ghost use Rattle.std.specs.Prelude.{◌≡◌, ℕ, Bool, true};
+
+    /// Whether it may ever let the lane of this number pass, if it tells.
+    ghost lets: { Self → ℕ → Bool } = { λ _ _. true };
+
     /// Whether the lane may send what its step answered; else the lane ends. It may wait.
-    fn pass<R: Wait + Clock>(&self, rt: &R, lane: u16) -> bool;
+    fn pass<R: Wait + Clock>(&self, rt: &R, lane: u16) -> bool
+        ensures { result ≡ true → lets self.now lane ≡ true };
 
     /// The lane has sent all that its step answered.
     fn answered<R: Wait + Clock>(&self, rt: &R, lane: u16);
@@ -191,6 +197,7 @@ fn send<R: Wait + Clock, G: Gate, O: Outlet>(
         (Grows (O.put_out outlet.old) (O.put_out outlet.new) (all_put (frames_of receipt.reply))) }
     ensures some { IfErr result (λ why.
         IsUnsent why (O.put_out outlet.old) (O.put_out outlet.new) receipt.reply) }
+    ensures lets { (result ≡ Err Cause.Shut) ⊎ (G.lets gate.now number ≡ true) }
 {
     if !gate.pass(rt, number) {
         drop(receipt);
@@ -204,7 +211,7 @@ fn send<R: Wait + Clock, G: Gate, O: Outlet>(
 }
 
 /// Has the desk take what the intake gives, one event after another, and puts out what each step sends, once the gate lets
-/// it pass. An event that is lost for want of memory is no step, and nothing is sent for it.
+/// it pass. An event that is lost when out of memory is no step, and nothing is sent for it.
 pub fn lane<R: Wait + Clock, I: Intake, D: Desk, G: Gate, O: Outlet>(
     rt: &R,
     number: u16,
@@ -218,6 +225,7 @@ pub fn lane<R: Wait + Clock, I: Intake, D: Desk, G: Gate, O: Outlet>(
         (D.answered desk.old) (D.answered desk.new)
         (D.kept desk.old) (D.kept desk.new) (O.put_out outlet.old) (O.put_out outlet.new) result }
     ensures borrowed { D.borrowed desk.new ≡ D.borrowed desk.old }
+    ensures lets { IsLet (G.lets gate.now number) result }
 {
     let mut steps = 0;
     for _event in 0..EVENT_LIMIT {

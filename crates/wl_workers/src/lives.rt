@@ -1,11 +1,11 @@
 //! Who tells whether a tab lives.
 
-ghost use Rattle.std.specs.Prelude.{◌≡◌, ◌+◌, ◌<◌, ◌≤◌, IfOk, OnOk, OnErr};
+ghost use Rattle.std.specs.Prelude.{◌≡◌, ◌+◌, ◌<◌, ◌≤◌, Err, IfOk, OnOk, OnErr};
 ghost use Rattle.std.specs.Arc.{arc_value};
-ghost use Rattle.wl_board.specs.Calls.{IsOf, IsSameSeat, generation_seen, tab_seen, word_of};
+ghost use Rattle.wl_board.specs.Calls.{IsOf, IsSameSeat, HasMetEnd, MeetsEnd, counter_seen, generation_seen, tab_seen, word_of};
 ghost use Rattle.wl_board.specs.Rule.{Has};
 ghost use Rattle.wl_board.specs.Steps.{sees, marks, draws_number, bears, bumps_to};
-ghost use Rattle.wl_board.specs.declared.board.TheConstants.{STEP_LIMIT};
+ghost use Rattle.wl_board.specs.declared.board.TheConstants.{SEAT_STEP_LIMIT};
 ghost use Rattle.wl_workers.specs.Looks.{IsOnBoard, FindsDead};
 
 use std::marker::Model;
@@ -58,9 +58,18 @@ impl BoardSeat {
     pub fn draw(&mut self) -> Result<Ticket, DrawFault>
         ensures same { (self.new.board ≡ self.old.board) × IsSameSeat self.old.seat self.new.seat }
         ensures range { IfOk result (λ t. IsOnBoard t self.old.board) }
+        ensures rising { IfOk result (λ t. counter_seen self.old.seat.view ≤ t) }
+        ensures unknown { IfOk result (λ t. ¬ Has t self.old.seat.view.drawn) }
         ensures drawn { IfOk result (λ t. self.new.seat.view ≡ draws_number self.old.seat.view t) }
         ensures ticket { IfOk result (λ t.
             Has t self.new.seat.view.drawn × (¬ Has t self.new.seat.view.born)) }
+        ensures allowed { OnOk result ((¬ HasMetEnd self.old.board.tabs self.old.seat.view)
+            × (self.old.seat.view.draws < SEAT_STEP_LIMIT)) }
+        ensures used_up { result ≡ Err DrawFault.TabsUsedUp
+            → MeetsEnd self.old.board.tabs self.old.seat.view self.new.seat.view }
+        ensures spent { result ≡ Err DrawFault.SeatSpent
+            → (¬ HasMetEnd self.old.board.tabs self.old.seat.view)
+            × (self.old.seat.view.draws ≡ SEAT_STEP_LIMIT) × (self.new ≡ self.old) }
     {
         self.board.draw(&mut self.seat)
     }
@@ -93,9 +102,9 @@ impl BoardSeat {
         ensures same { (self.new.board ≡ self.old.board) × IsSameSeat self.old.seat self.new.seat }
         ensures later { IfOk result (λ g. generation_seen self.old.seat.view < g) }
         ensures bumped { IfOk result (λ g. self.new.seat.view ≡ bumps_to self.old.seat.view g) }
-        ensures allowed { OnOk result (self.old.seat.view.bumps < STEP_LIMIT) }
+        ensures allowed { OnOk result (self.old.seat.view.bumps < SEAT_STEP_LIMIT) }
         ensures spent { OnErr result
-            ((self.old.seat.view.bumps ≡ STEP_LIMIT) × (self.new ≡ self.old)) }
+            ((self.old.seat.view.bumps ≡ SEAT_STEP_LIMIT) × (self.new ≡ self.old)) }
     {
         self.board.bump(&mut self.seat)
     }

@@ -434,10 +434,10 @@ fn in_list(rt: &impl Abort, alloc: Global, tab: u16) -> Outs {
     }
 }
 
-/// Compares one frame alone with a list of one frame, in both orders.
-fn compares(rt: &impl Abort, alone: Outs, listed: Outs, want: bool) {
-    assert!(rt; (alone == listed) == want);
-    assert!(rt; (listed == alone) == want);
+/// Compares what is sent for two events, in both orders.
+fn compares(rt: &impl Abort, one: Outs, other: Outs, want: bool) {
+    assert!(rt; (one == other) == want);
+    assert!(rt; (other == one) == want);
 }
 
 #[test]
@@ -446,4 +446,31 @@ fn a_frame_alone_equals_it_in_a_list(rt: HostRuntime) {
     compares(&rt, Outs::one(hello(1)), in_list(&rt, alloc, 1), true);
     compares(&rt, Outs::one(hello(1)), in_list(&rt, alloc, 2), false);
     compares(&rt, Outs::one(hello(1)), nothing(alloc), false);
+    compares(&rt, Outs::one(hello(1)), Outs::one(hello(1)), true);
+    compares(&rt, Outs::one(hello(1)), Outs::one(hello(2)), false);
+}
+
+/// Whether it is one frame that takes no memory of its own.
+fn is_alone(outs: Outs) -> bool {
+    match outs.into_frames() {
+        Frames::One(_frame) => true,
+        Frames::Listed(_frames) => false,
+    }
+}
+
+/// Whether the last answer to a row's frames is one frame that takes no memory.
+fn ends_alone(rt: &impl Abort, alloc: Global, row: &Row) -> bool {
+    let (mut broker, _hellos) = start(rt, alloc, 1, &[]);
+    let mut is_last_alone = false;
+    for frame in &frames(rt, alloc, row) {
+        is_last_alone = is_alone(answer(rt, alloc, &mut broker, frame));
+    }
+    is_last_alone
+}
+
+// No clause tells of it, since contracts see the list.
+#[test]
+fn an_answer_alone_takes_no_memory(rt: HostRuntime) {
+    assert!(&rt; ends_alone(&rt, rt.alloc(), &ONE_PART));
+    assert!(&rt; !ends_alone(&rt, rt.alloc(), &HANDOVER));
 }

@@ -1,9 +1,10 @@
-use Rattle.std.proofs.Common.{ℕ, [], ◌∷◌, Ok, Err, refl, sym, ap, ◌∙◌, subst, arith, add-zero}
+use Rattle.std.proofs.Common.{ℕ, [], ◌∷◌, Ok, Err, inl, inr, refl, sym, ap, ◌∙◌, subst, arith, add-zero}
 use Rattle.wl_locked.specs.declared.receipt.NotStepped.TheVariants.{Memory}
+use Rattle.wl_workers.specs.declared.lanes.Cause.TheVariants as cause
 use Rattle.wl_workers.specs.Told.{Grows}
 use Rattle.wl_workers.specs.Lane.{receipt_in}
 use Rattle.wl_workers.proofs.ToldLemmas.{Grows-nil}
-use Rattle.wl_workers.proofs.LaneLemmas.{lane_goes_on, lane_at_limit, lane_spent, lane_unsent, lane_begins, steps_within, step_unspent, lost_unspent}
+use Rattle.wl_workers.proofs.LaneLemmas.{lane_goes_on, lane_at_limit, lane_spent, lane_unsent, lane_begins, sent_is_let, ended_is_let, unsent_is_let, steps_within, step_unspent, lost_unspent}
 use Rattle.wl_workers.proofs.lanes.lane.Goals.{in-Ok+in_default-send, in-Err-Memory}
 use Rattle.wl_workers.proofs.lanes.lane.Goals as goal
 
@@ -11,7 +12,7 @@ pub overflow_add-steps : goal.overflow_add-steps
 overflow_add-steps g c = omega (arith, steps_within c.loop-event.invariant.on)
 
 pub loop-event-init : goal.loop-event-init
-loop-event-init g c = record { on = lane_begins; borrowed = refl; shards = c.requires }
+loop-event-init g c = record { on = lane_begins; borrowed = refl; shards = c.requires; lets = inr refl }
 
 pub returns-in-Err-GenerationSpent-clause-runs : goal.returns-in-Err-GenerationSpent-clause-runs
 returns-in-Err-GenerationSpent-clause-runs g c =
@@ -41,14 +42,23 @@ loop-event-preserved g c =
           let answered = subst (λ a. Grows (g.D.Desk.answered c.loop-event.desk) (g.D.Desk.answered c.take_one.new.self) ((event, a) ∷ [])) w.in-Ok.is c.take_one.ensures.answered in
           let kept = λ (shard : ℕ). subst (λ a. Grows (g.D.Desk.kept c.loop-event.desk shard) (g.D.Desk.kept c.take_one.new.self shard) (receipt_in shard (event, a))) w.in-Ok.is (c.take_one.ensures.kept shard) in
           let on = lane_goes_on (event, Ok w.in-Ok.receipt) c.loop-event.invariant.on (step_unspent event w.in-Ok.receipt) given answered kept w.in_default-send.ensures.all in
-          record { on = rw (w.outlet-is, w.steps-is) on; borrowed = borrowed; shards = shards }
+          record { on = rw (w.outlet-is, w.steps-is) on; borrowed = borrowed; shards = shards; lets = inl (sent_is_let w.in_default-send.ensures.lets) }
       | in-Err-Memory w ↦
           let is = w.in-Err-Memory.is ∙ ap Err w.in-Err-Memory.field-0-is in
           let answered = subst (λ a. Grows (g.D.Desk.answered c.loop-event.desk) (g.D.Desk.answered c.take_one.new.self) ((event, a) ∷ [])) is c.take_one.ensures.answered in
           let kept = λ (shard : ℕ). subst (λ a. Grows (g.D.Desk.kept c.loop-event.desk shard) (g.D.Desk.kept c.take_one.new.self shard) (receipt_in shard (event, a))) is (c.take_one.ensures.kept shard) in
           let on = lane_goes_on (event, Err Memory) c.loop-event.invariant.on (lost_unspent event) given answered kept (Grows-nil (g.O.Outlet.put_out c.loop-event.outlet)) in
-          record { on = rw (w.outlet-is, w.steps-is, ← add-zero c.loop-event.steps) on; borrowed = borrowed; shards = shards }
+          record { on = rw (w.outlet-is, w.steps-is, ← add-zero c.loop-event.steps) on; borrowed = borrowed; shards = shards; lets = rw w.steps-is c.loop-event.invariant.lets }
     ]
 
 pub returns-clause-runs : goal.returns-clause-runs
 returns-clause-runs g c = lane_at_limit c.loop-event.invariant.on (omega (arith, c.loop-event-test.false))
+
+pub returns-in-Err-GenerationSpent-clause-lets : goal.returns-in-Err-GenerationSpent-clause-lets
+returns-in-Err-GenerationSpent-clause-lets g c = ended_is_let cause.Spent c.loop-event.invariant.lets
+
+pub returns-in-Err-clause-lets : goal.returns-in-Err-clause-lets
+returns-in-Err-clause-lets g c = unsent_is_let c.in-Err.why c.loop-event.invariant.lets c.in-Err.ensures.lets
+
+pub returns-clause-lets : goal.returns-clause-lets
+returns-clause-lets g c = ended_is_let cause.Spent c.loop-event.invariant.lets
