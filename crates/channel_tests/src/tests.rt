@@ -1,4 +1,4 @@
-//! A tab's channels. Each call that may answer for want of memory is made again where it does, once the channels were seen to be
+//! A tab's channels. Each call that may answer Memory is made again where it does, once the channels were seen to be
 //! as before, and has to answer as if it had not been refused: so these tests pass whichever allocation is refused.
 
 use bytes::Bytes;

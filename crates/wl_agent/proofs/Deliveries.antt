@@ -69,7 +69,7 @@ pub collects-by_memory : (x : Part) (a : TabState) → has_entered x.generation 
 collects-by_memory x a same e =
     ap (λ (p : TabState × Delivered). takes_memory p.1) (sym (collecting x a true same)) ∙ e
 
--- no frame is dropped for want of memory by itself
+-- no frame is dropped by itself as out of memory
 abbrev pub is_memory : Delivered → Bool
 is_memory (told.Dropped unheard.Memory) = true
 is_memory d = false

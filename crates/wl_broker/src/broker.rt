@@ -96,7 +96,7 @@ impl<T: LockTable> Broker<T> {
         ensures taken { IfOk result (λ outs. taking self.old stamped.now ≡ Does self.new outs) }
         // It is dropped for the first cause that applies,
         ensures dropped { IfErr result (λ d. d ≢ Dropped.Memory → taking self.old stamped.now ≡ Drops d) }
-        // and for want of memory only where no other cause does.
+        // and when out of memory only where no other cause does.
         ensures memory { IfErr result (λ d. d ≡ Dropped.Memory → IsTaken (taking self.old stamped.now)) }
         ensures err { OnErr result (self.new ≡ self.old) }
     {
@@ -112,7 +112,7 @@ impl<T: LockTable> Broker<T> {
             copied copies (taking self.old stamped.now) ≡ Some (self.new, all.items)) }
         // It is dropped for the first cause that applies,
         ensures dropped { IfErr result (λ d. d ≢ Dropped.Memory → taking self.old stamped.now ≡ Drops d) }
-        // and for want of memory only where no other cause does.
+        // and when out of memory only where no other cause does.
         ensures memory { IfErr result (λ d. d ≡ Dropped.Memory → IsTaken (taking self.old stamped.now)) }
         ensures err { OnErr result (self.new ≡ self.old) }
     {

@@ -14,7 +14,7 @@ use std::marker::Model;
 use wl_draft::Grant;
 use wl_grammar::Addressed;
 
-/// Empty lists, each with room for so many frames. What is said takes lists of its own that have room for just that, and
+/// Empty lists, each with room for so many frames. What is said in a list takes one of its own that has room for just that, and
 /// one of these only where such a list is refused. So no change that was begun has to fail, and nobody who keeps what was
 /// said keeps more room than that.
 #[derive(Drop)]

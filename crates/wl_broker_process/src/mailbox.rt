@@ -60,7 +60,7 @@ impl Mailbox {
         }
     }
 
-    /// Puts a work behind the others, and returns for how many its lane will come now; 0 where it will not. For want of memory
+    /// Puts a work behind the others, and returns for how many its lane will come now; 0 where it will not. When out of memory
     /// the work is lost.
     pub(crate) fn put<R: Wait>(&self, rt: &R, work: Work) -> usize {
         let Some(coming) = self.queue.lock(rt).put(work) else {

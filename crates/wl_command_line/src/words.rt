@@ -22,7 +22,7 @@ pub fn line(alloc: Global, words: &[String]) -> Result<Line, LineFault>
     ensures meant { IfOk result (IsMeant (map string_bytes words.now)) }
     // and its numbers are within their limits;
     ensures ranges { IfOk result IsInRange }
-    // what is a command in its plain form is refused for want of memory alone,
+    // what is a command in its plain form is refused only when out of memory,
     ensures command { IfErr result (λ e. IsCommand (map string_bytes words.now) → e ≡ LineFault.Memory) }
     // what the command line's grammar refuses is no line,
     ensures refused { IfOk result (λ _. fault_of command_line (map string_bytes words.now) ≡ []) }

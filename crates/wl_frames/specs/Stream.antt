@@ -57,7 +57,7 @@ HasFault bytes Truncated = ⊥
 HasFault bytes Memory = ⊥
 HasFault bytes Failed = ⊥
 
--- why a body was not read: its first fault, or want of memory
+-- why a body was not read: its first fault, or out of memory
 abbrev pub IsFaultOf : List ℕ → FrameFault → Type 0
 IsFaultOf bytes fault = (fault ≡ Memory) ⊎ HasFault bytes fault
 

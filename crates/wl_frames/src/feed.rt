@@ -98,7 +98,7 @@ impl Feed {
     }
 
     /// Takes the next piece, and answers the frames that are whole now. A fault comes with the frames of the piece that
-    /// stood before it. After a fault other than want of memory every later call answers `Failed`.
+    /// stood before it. After a fault other than out of memory every later call answers `Failed`.
     pub fn push(&mut self, piece: &[u8]) -> Result<Vec<Frame>, PushFault>
         ensures frames { IfOk result (λ frames. Takes self.old self.new piece.now frames.items) }
         ensures fault { IfErr result (λ e. Refuses self.old self.new piece.now e.before.items e.fault) }

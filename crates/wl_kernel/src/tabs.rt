@@ -233,7 +233,7 @@ impl Tabs {
         Ok(())
     }
 
-    /// Why a tab is not opened, want of memory apart.
+    /// Why a tab is not opened, out of memory apart.
     fn open_fault(&self, tab: u16, partition: &Partition) -> Option<OpenFault>
         ensures { result ≡ open_refusal tab partition.now self.now }
     {

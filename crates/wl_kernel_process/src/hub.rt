@@ -72,7 +72,7 @@ pub(crate) struct Opened {
     pub(crate) tab: u16,
     pub(crate) post: Arc<Post>,
     pub(crate) taking: Taking,
-    /// What tells the broker that the tab is dead, spelled while its opening can still be refused for want of memory.
+    /// What tells the broker that the tab is dead, spelled while its opening can still be refused when out of memory.
     pub(crate) death: Vec<u8>,
 }
 

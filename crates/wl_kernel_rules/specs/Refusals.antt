@@ -5,7 +5,7 @@ use Rattle.wl_process.specs.declared.fault.ProcessFault.TheVariants as process
 use Rattle.wl_kernel_rules.specs.declared.refusals.Unopened.{Unopened}
 use Rattle.wl_kernel_rules.specs.declared.refusals.Unopened.TheVariants.{Refused, Failed}
 
--- want of memory is no refusal: the process can't go on
+-- out of memory is no refusal: the process can't go on
 abbrev pub of_open : OpenFault → Unopened
 of_open Memory = Failed process.Memory
 of_open fault = Refused fault

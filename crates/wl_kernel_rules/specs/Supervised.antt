@@ -78,7 +78,7 @@ pub record IsSentOn (t : ℕ) (f : Frame) (before after : List ℕ) : Type 0 whe
   pub allowed : route_up_refusal t f kernel ≡ None
   pub spelled : IsWellFormed f → after ≡ before ++ to_broker (routed_up t f kernel)
 
--- a tab's frame was refused for the cause that a kernel names which a list of calls reaches, or for want of memory where it
+-- a tab's frame was refused for the cause that a kernel names which a list of calls reaches, or when out of memory where it
 -- names none
 pub record IsRefusedBy (t : ℕ) (f : Frame) (e : RouteFault) : Type 0 where
   pub kernel : KernelState

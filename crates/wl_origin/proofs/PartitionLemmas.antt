@@ -73,7 +73,7 @@ pub partition_of_pair-origins : (top own : List ℕ) (t o : Triple) → origin_o
 unfolding partition_of_pair
 partition_of_pair-origins top own t o is also = ap₂ paired_origins is also
 
--- why a text was refused, or want of memory
+-- why a text was refused, or out of memory
 abbrev pub Refused : {X : Type 0} → Result X OriginFault → OriginFault → Type 0
 Refused answer fault = (fault ≡ Memory) ⊎ (answer ≡ Err fault)
 

@@ -48,7 +48,7 @@ opens in_parts w t partition =
     let p = plays w (opening in_parts t partition) in
     if is_none (open_refusal t partition w.kernel) && is_some w.broker then and_plays p (event.Hello t) else p
 
--- want of memory is no answer
+-- out of memory is no answer
 abbrev pub fault_text : OriginFault → List ℕ
 fault_text origin.BadUrl = codes "BadUrl"
 fault_text origin.Security = codes "SecurityError"

@@ -209,7 +209,7 @@ number_fault_as true true f e = cc
 number_fault_as true false f e = cc
 number_fault_as false c f e = cc
 
--- no number is refused for want of memory
+-- no number is refused when out of memory
 pub number-no-fault : (c : ChannelState) (k : ℕ) (f : ChannelFault) → number_refusal k c ≡ Some (Fault f) → ⊥
 number-no-fault c k f e = number_fault_as (ltb k (length c.objects)) (is_open_at c.objects k) f e
 

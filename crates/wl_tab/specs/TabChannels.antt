@@ -14,7 +14,7 @@ abbrev pub refusal_or : Option ChannelRefusal → Option ChannelRefusal → Opti
 refusal_or (Some refusal) later = Some refusal
 refusal_or None later = later
 
--- why a post on the channel of a number is refused, want of memory apart
+-- why a post on the channel of a number is refused, out of memory apart
 abbrev pub posting_refusal : ℕ → List ℕ → ChannelState → Option ChannelRefusal
 posting_refusal k bytes c = refusal_or (number_refusal k c) (option_map Fault (post_refusal c.tab k bytes c))
 

@@ -74,7 +74,7 @@ Answered frames stop (Err desk.TooManyReads) output =
 Answered frames stop (Err desk.Write) output = IsPrefixOf output (written frames)
 Answered frames stop (Err desk.Memory) output = IsPrefixOf output (written frames)
 
--- the part of the input that was read as frames: all of it, but for want of memory
+-- the part of the input that was read as frames: all of it, unless out of memory
 abbrev pub IsReadPart : List ℕ → List ℕ → Result (Unit {0}) DeskFault → Type 0
 IsReadPart part input (Err desk.Memory) = IsPrefixOf part input
 IsReadPart part input result = part ≡ input

@@ -37,7 +37,7 @@ due d frames = spelled (desk_outs d frames)
 
 -- ---- what a frame, frames and a piece do
 
--- a frame is answered, is not expected, or is not answered for want of memory
+-- a frame is answered, is not expected, or is not answered when out of memory
 abbrev pub Steps : DeskState → Frame → DeskState → Result (List Addressed) DeskFault → Type 0
 Steps old f new (Ok outs) = (desk_step old f ≡ (new, outs)) × IsServing new
 Steps old f new (Err (desk.Frame e)) = ⊥
@@ -51,7 +51,7 @@ Steps old f new (Err desk.Memory) = Unit {0}
 abbrev pub IsBegun : List ℕ → List ℕ → List ℕ → Type 0
 IsBegun old bytes new = (piece : List ℕ) × (new ≡ old ++ piece) × IsPrefixOf piece bytes
 
--- a frame was answered behind the bytes before, was not expected, or was not answered for want of memory
+-- a frame was answered behind the bytes before, was not expected, or was not answered when out of memory
 abbrev pub Spells : DeskState → Frame → DeskState → List ℕ → List ℕ → Result (Unit {0}) DeskFault → Type 0
 Spells old f new before after (Ok done) =
     (outs : List Addressed) × (desk_step old f ≡ (new, outs)) × IsServing new × (after ≡ before ++ spelled outs)

@@ -280,7 +280,7 @@ impl<T: LockTable> Desk<T> {
     }
 }
 
-/// A message that is dropped is not answered; but for want of memory the run ends.
+/// A message that is dropped is not answered; but when out of memory the run ends.
 fn unanswered(alloc: Global, reason: Dropped) -> Result<Outs, DeskFault>
     ensures { MatchResult result (λ outs.
         (outs ≡ []) × (reason ≢ Dropped.Memory)) (λ e. e ≡ DeskFault.Memory) }

@@ -1,4 +1,4 @@
-//! The kernel's rows. Each call that may answer for want of memory is made again where it does, with the kernel as it was:
+//! The kernel's rows. Each call that may answer Memory is made again where it does, with the kernel as it was:
 //! so these tests pass whichever allocation is refused.
 
 use super::origin::{pair_of, partition_of, refuses};

@@ -146,7 +146,7 @@ fn run_jobs<J: Shards + Send + Sync, G: Gate + Sync, R: Threads + Wait + Clock +
     run_lanes(rt, broker, jobs, gate);
 }
 
-/// How a job that was run ended. A work that is lost is for want of memory.
+/// How a job that was run ended. A work is lost only when out of memory.
 fn end_of<J: Shards, R: Abort>(
     rt: &R,
     job: &Job<J, Script<J>, Counter>,

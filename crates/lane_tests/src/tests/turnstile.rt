@@ -144,7 +144,7 @@ fn were_in_order(rt: &impl Abort, seen: &Seen) {
     same(rt, (second.stood, second.answered), (2, 2));
 }
 
-/// Runs two lanes, each of which waits for the other one. Where one got no thread, that is for want of memory.
+/// Runs two lanes, each of which waits for the other one. Where one got no thread, it is out of memory.
 fn run_gated<R: Threads + Wait + Clock + Abort + Sync>(
     rt: &R,
     alloc: Global,

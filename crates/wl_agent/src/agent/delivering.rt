@@ -14,13 +14,13 @@ use std::alloc::AllocError;
 use wl_grammar::{Answer, Frame, Hello, Snapshot};
 
 impl Agent {
-    /// Takes in a frame. A frame that is dropped for want of memory may be delivered again.
+    /// Takes in a frame. A frame that is dropped when out of memory may be delivered again.
     pub fn deliver(&mut self, frame: &Frame) -> Delivered
         ensures done { result ≢ Delivered.Dropped Unheard.Memory
             → (self.new, result) ≡ delivery frame.now self.old }
         // The frames of a report can be sent as they are.
         ensures sendable { IsSendable result }
-        // For want of memory a frame is dropped only where it takes memory, and then nothing is changed.
+        // When out of memory a frame is dropped only where it takes memory, and then nothing is changed.
         ensures memory { result ≡ Delivered.Dropped Unheard.Memory
             → (self.new ≡ self.old) × (takes_memory (delivery frame.now self.old).1 ≡ true) }
     {

@@ -1,5 +1,5 @@
 // Rows of tabs, brokers and messages, each as a text of events, and what living tabs hold after them, event by event and as one
-// run, and as the sim shows it. A row that meets a want of memory is played anew, so that any allocation may be refused.
+// run, and as the sim shows it. A row that runs out of memory is played anew, so that any allocation may be refused.
 use script_fakes::play::{letters, written_for};
 use std::alloc::{AllocError, Global};
 use std::marker::Model;

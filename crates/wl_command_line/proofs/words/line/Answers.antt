@@ -18,11 +18,11 @@ is_plain : is_simple_and_free command_line ≡ true
 unfolding clap_on_literals
 is_plain = refl
 
--- where no other kind is among those that may come, it is want of memory
+-- where no other kind is among those that may come, it is out of memory
 memory_alone : (kinds : Kinds) (e : Error) → kinds ≡ [] → HasKind kinds e → kind_of e ≡ OutOfMemory
 memory_alone kinds e none has = ⊎_elim (λ m. m) (λ among. absurd (subst (IsAmong (kind_of e)) none among)) has
 
--- a fault that is want of memory is no other
+-- a fault that is out of memory is no other
 memory_only : {T : Type 0} (P : Type 0) (r : Result T LineFault) → IsErrAnd r (λ e. e ≡ Memory) → IfErr r (λ e. e ≢ Memory → P)
 memory_only P (Ok x) is = tt
 memory_only P (Err e) is = λ differs. absurd (differs is)
