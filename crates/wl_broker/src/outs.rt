@@ -1,8 +1,9 @@
 //! What the broker sends for one event.
 
-ghost use Rattle.std.specs.Prelude.{◌≡◌, [], ◌∷◌};
+ghost use Rattle.std.specs.Prelude.{◌≡◌, [], ◌∷◌, length, IfOk, OnErr};
 ghost use Rattle.wl_broker.specs.Outs.{listed};
 
+use std::alloc::{AllocError, Global};
 use std::marker::Model;
 use std::slice;
 use wl_grammar::Addressed;
@@ -57,6 +58,17 @@ impl Outs {
         ensures { listed result ≡ self }
     {
         self.frames
+    }
+
+    /// The frames in a list of their own. Only one frame alone takes memory for it.
+    pub fn into_list(self, alloc: Global) -> Result<Vec<Addressed>, AllocError>
+        ensures list { IfOk result (λ list. list.items ≡ self) }
+        ensures refused { OnErr result (length self ≡ 1) }
+    {
+        match self.frames {
+            Frames::One(frame) => Ok(Vec::from_array(alloc, [frame])?),
+            Frames::Listed(frames) => Ok(frames),
+        }
     }
 
     pub fn as_slice(&self) -> &[Addressed]

@@ -18,7 +18,7 @@ use std::sync::{Arc, Mutex, Wait};
 use std::thread;
 use wl_frames::device::{BUNDLE_LEN, READ_LIMIT};
 use wl_frames::{Addressed, Frame, Start};
-use wl_locked::{Blanks, Frames, NotStepped, Outs, Receipt, ShardLane, Sharded, Shards, Work};
+use wl_locked::{Blanks, NotStepped, Outs, Receipt, ShardLane, Sharded, Shards, Work};
 use wl_process::{Host, Incoming, ProcessFault, append};
 use wl_workers::{Cause, Desk, Gate, Intake, LaneEnd, Outlet, OutletFault, lane};
 
@@ -492,13 +492,8 @@ fn greet(
 /// The bytes that greet the listed tabs, for one write.
 fn greeting_of(alloc: Global, hellos: Outs) -> Result<Vec<u8>, AllocError> {
     let mut bytes = Vec::new(alloc);
-    match hellos.into_frames() {
-        Frames::One(hello) => append_addressed(alloc, &mut bytes, hello)?,
-        Frames::Listed(hellos) => {
-            for hello in hellos {
-                append_addressed(alloc, &mut bytes, hello)?;
-            }
-        }
+    for hello in hellos.into_list(alloc)? {
+        append_addressed(alloc, &mut bytes, hello)?;
     }
     Ok(bytes)
 }

@@ -20,7 +20,7 @@ use crate::work::{Work, shard_of};
 use std::alloc::{AllocError, Global};
 use std::sync::Wait;
 use std::sync::ledger::{Blank, Share};
-use wl_broker::{Dropped, Frames, Outs};
+use wl_broker::{Dropped, Outs};
 use wl_grammar::Addressed;
 
 /// A locked broker for each shard that there may be, by fours. Where there are fewer, the others have nothing to do.
@@ -60,14 +60,15 @@ fn listed_in(beginning: &Beginning<'_>, shard: u16) -> Result<Vec<(u16, u16)>, A
 }
 
 /// Puts hellos behind others.
-fn append_hellos(greetings: &mut Vec<Addressed>, hellos: Outs) -> Result<(), AllocError>
+fn append_hellos(
+    alloc: Global,
+    greetings: &mut Vec<Addressed>,
+    hellos: Outs,
+) -> Result<(), AllocError>
     ensures { OnOk result (greetings.new.items ≡ greetings.old.items ++ hellos) }
 {
-    match hellos.into_frames() {
-        Frames::One(hello) => greetings.push(hello)?,
-        Frames::Listed(mut hellos) => greetings.append(&mut hellos)?,
-    }
-    Ok(())
+    let mut list = hellos.into_list(alloc)?;
+    greetings.append(&mut list)
 }
 
 /// Starts the broker of one shard with its part of the list, and puts its hellos behind the others.
@@ -94,7 +95,7 @@ pub(crate) fn open_shard<J: Shards, const SHARD: u16>(
         part.as_slice(),
         beginning.limit,
     )?;
-    append_hellos(greetings, hellos)?;
+    append_hellos(beginning.alloc, greetings, hellos)?;
     Ok((broker, share))
 }
 

@@ -8,7 +8,7 @@ ghost use Rattle.wl_world.specs.Sends.{command_message, issued_messages, report_
 
 use std::alloc::{AllocError, Global};
 use wl_bag::{Message, Sender};
-use wl_broker::{Frames, Outs};
+use wl_broker::Outs;
 use wl_grammar::{Addressed, Frame, Sequence};
 use wl_kernel::{Routed, Tabs};
 use wl_tab::TabLocks;
@@ -17,10 +17,8 @@ use wl_tab::TabLocks;
 pub fn from_broker(alloc: Global, outs: Outs) -> Result<Vec<Message>, AllocError>
     ensures { IfOk result (λ ms. ms.items ≡ map from_broker outs) }
 {
-    match outs.into_frames() {
-        Frames::One(addressed) => Ok(Vec::from_array(alloc, [message_of(addressed)])?),
-        Frames::Listed(listed) => listed.into_iter().map(message_of).collect(alloc),
-    }
+    let list = outs.into_list(alloc)?;
+    list.into_iter().map(message_of).collect(alloc)
 }
 
 /// A frame of the broker, as a message.
