@@ -11,9 +11,8 @@ use Rattle.clap.specs.ValueTests.{accepts}
 use Rattle.clap.specs.Walk.{Held, Names, Rule, Text, Walk, action_of, arg_by_id, arg_by_index, arg_by_long, finished, idle, is_append, is_pending, most_values, nothing_held, option, settled, takes_several, takes_values, walk_from, walked}
 use Rattle.clap.specs.Simple.{App, Shape, built, entered, filled, names_of, with_index}
 use Rattle.clap.specs.Takes.{built_takes, default_passes, entered_passes, is_valid, level_passes, settle_passes, takes, turn_passes, walk_passes}
-use Rattle.wl_locked.specs.declared.locked.TheConstants.{LANE_LIMIT}
+use Rattle.wl_locked.specs.declared.locked.TheConstants.{LANE_LIMIT, STEP_LIMIT}
 use Rattle.wl_locked.specs.declared.shards.TheConstants.{SHARD_LIMIT}
-use Rattle.wl_command_line.specs.declared.command.TheConstants.{STEP_LIMIT}
 use Rattle.wl_command_line.specs.Words.{broker_command, command_line, kernel_command, number_option, placed, size_words, tab_command, text_option, up_to, IsCommand, IsPlain, IsPlainForm, IsSizeInRange}
 use Rattle.wl_command_line.proofs.Given.{built_sub}
 use Rattle.clap.proofs.OnLiterals.{clap_on_literals}

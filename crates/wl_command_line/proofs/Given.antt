@@ -17,9 +17,8 @@ use Rattle.clap.specs.declared.parser.matches.ArgMatches.TheViews.{out-ArgMatche
 use Rattle.clap.specs.declared.parser.matches.SubCommand.{SubCommand}
 use Rattle.clap.specs.declared.builder.value_parser.ValueParser.{ValueParser}
 use Rattle.clap.proofs.ValueTestLemmas.{accepts-Accepts}
-use Rattle.wl_locked.specs.declared.locked.TheConstants.{LANE_LIMIT}
+use Rattle.wl_locked.specs.declared.locked.TheConstants.{LANE_LIMIT, STEP_LIMIT}
 use Rattle.wl_locked.specs.declared.shards.TheConstants.{SHARD_LIMIT}
-use Rattle.wl_command_line.specs.declared.command.TheConstants.{STEP_LIMIT}
 use Rattle.wl_command_line.specs.Words.{broker_command, command_line, kernel_command, number_option, placed, tab_command, text_option, up_to, GivesAll, GivesNumber, GivesSize, GivesText, IsKnown}
 use Rattle.wl_command_line.proofs.FaultFree.{IsGoodStop, is_reader, level_good, value_given}
 use Rattle.wl_command_line.proofs.Lists.{IsIn, find-IsIn, find-passes}

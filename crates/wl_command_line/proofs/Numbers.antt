@@ -7,9 +7,8 @@ use Rattle.clap.specs.Values.{IsSignedIn}
 use Rattle.clap.specs.Walk.{Row, Text, one_of}
 use Rattle.clap.specs.Words.{without_minus}
 use Rattle.clap.proofs.CallerReads.{signed_reads}
-use Rattle.wl_locked.specs.declared.locked.TheConstants.{LANE_LIMIT}
+use Rattle.wl_locked.specs.declared.locked.TheConstants.{LANE_LIMIT, STEP_LIMIT}
 use Rattle.wl_locked.specs.declared.shards.TheConstants.{SHARD_LIMIT}
-use Rattle.wl_command_line.specs.declared.command.TheConstants.{STEP_LIMIT}
 use Rattle.wl_command_line.specs.Words.{GivesNumber, GivesSize, HasNumber, HasSize, IsSizeInRange}
 
 -- what `get_one` reads of a number that is given

@@ -11,9 +11,8 @@ use Rattle.clap.specs.declared.builder.command.Command.TheViews.{out-Command}
 use Rattle.clap.specs.declared.builder.value_parser.ValueParser.{ValueParser}
 use Rattle.clap.specs.declared.builder.value_parser.ValueParser.TheVariants.{Signed}
 use Rattle.clap.specs.declared.parser.matches.ArgMatches.{ArgMatches}
-use Rattle.wl_locked.specs.declared.locked.TheConstants.{LANE_LIMIT}
+use Rattle.wl_locked.specs.declared.locked.TheConstants.{LANE_LIMIT, STEP_LIMIT}
 use Rattle.wl_locked.specs.declared.shards.TheConstants.{SHARD_LIMIT}
-use Rattle.wl_command_line.specs.declared.command.TheConstants.{STEP_LIMIT}
 use Rattle.wl_command_line.specs.declared.command.Line.{Line}
 use Rattle.wl_command_line.specs.declared.command.Line.TheVariants.{Desk, Sim, Kernel, Broker, Tab}
 

@@ -6,9 +6,6 @@ ghost use Rattle.wl_command_line.specs.declared.command.LineFault.TheVariants.{M
 use std::alloc::AllocError;
 use thiserror::Error;
 
-/// How many steps a generation has in a shard at most.
-pub const STEP_LIMIT: u32 = 65_536;
-
 /// What the program is asked to do.
 #[derive(Debug, PartialEq, Eq, Drop)]
 pub enum Line {

@@ -4,5 +4,5 @@
 pub mod command;
 pub mod words;
 
-pub use command::{Line, LineFault, STEP_LIMIT};
+pub use command::{Line, LineFault};
 pub use words::line;

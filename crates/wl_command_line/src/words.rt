@@ -9,12 +9,12 @@ ghost use Rattle.clap.specs.Words.{App, app_of, fault_of, kind_of, new_app, subc
 ghost use Rattle.wl_command_line.specs.Words.{broker_command, command_line, kernel_command, number_option, placed, tab_command, text_option, up_to, values_of, with_size};
 ghost use Rattle.wl_command_line.specs.Words.{GivesAll, GivesNumber, GivesSize, GivesText, HasGrammar, HasNumber, HasRule, HasText, IsCommand, IsInRange, IsMeant, Means};
 
-use crate::command::{Line, LineFault, STEP_LIMIT};
+use crate::command::{Line, LineFault};
 use clap::builder::ValueParser;
 use clap::error::ErrorKind;
 use clap::{Arg, ArgMatches, Command, value_parser};
 use std::alloc::{AllocError, Global};
-use wl_locked::{LANE_LIMIT, SHARD_LIMIT};
+use wl_locked::{LANE_LIMIT, SHARD_LIMIT, STEP_LIMIT};
 
 /// Reads the words, the program's name first. With none behind it the desk is meant.
 pub fn line(alloc: Global, words: &[String]) -> Result<Line, LineFault>

@@ -57,10 +57,11 @@ pub(crate) fn copies(alloc: Global, event: &BookEvent) -> Result<(BookEvent, Boo
     Ok((event.copy(alloc)?, event.copy(alloc)?))
 }
 
-/// Two copies of an event, and room for one receipt more among these.
+/// Two copies of an event, and room for one receipt more among these, which make room for so many at once.
 pub(crate) fn copies_with_room(
     alloc: Global,
     receipts: &mut Vec<Receipt>,
+    at_once: usize,
     event: &BookEvent,
 ) -> Result<(BookEvent, BookEvent), AllocError>
     ensures receipts { receipts.new.items ≡ receipts.old.items }
@@ -68,7 +69,7 @@ pub(crate) fn copies_with_room(
     ensures first { IfOk result (λ c. c.0 ≡ event.now) }
     ensures second { IfOk result (λ c. c.1 ≡ event.now) }
 {
-    receipts.reserve(1)?;
+    room::for_one(receipts, at_once)?;
     copies(alloc, event)
 }
 

@@ -40,6 +40,7 @@ pub(crate) struct Beginning<'a> {
     pub(crate) list: &'a [(u16, u16)],
     pub(crate) shards: u16,
     pub(crate) limit: u32,
+    pub(crate) lanes: u16,
 }
 
 /// The listed tabs of a shard.
@@ -94,6 +95,7 @@ pub(crate) fn open_shard<J: Shards, const SHARD: u16>(
         beginning.generation,
         part.as_slice(),
         beginning.limit,
+        beginning.lanes,
     )?;
     append_hellos(beginning.alloc, greetings, hellos)?;
     Ok((broker, share))

@@ -22,7 +22,7 @@ pub mod work;
 pub use book::Book;
 pub use event::{BookEvent, Reply};
 pub use lane::{Generation, Lane};
-pub use locked::{LANE_LIMIT, LockedBroker};
+pub use locked::{LANE_LIMIT, LockedBroker, STEP_LIMIT};
 pub use receipt::{CloseFault, History, NotStepped, Receipt, Step};
 pub use shard_lane::ShardLane;
 pub use sharded::Sharded;

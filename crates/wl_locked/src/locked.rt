@@ -14,6 +14,7 @@ use crate::event::{BookEvent, Reply};
 use crate::lane::{Generation, Kept, Lane};
 use crate::locking::lock;
 use crate::receipt::{CloseFault, History, NotStepped, Receipt};
+use crate::room::receipts_at_once;
 use std::alloc::{AllocError, Global};
 use std::sync::ledger::{Blank, Share};
 use std::sync::{Mutex, Wait};
@@ -22,10 +23,15 @@ use wl_broker::{Broker, Dropped, Outs};
 /// The most lanes of a broker.
 pub const LANE_LIMIT: u16 = 16;
 
+/// The most steps of a generation in a shard that the command line can ask for.
+pub const STEP_LIMIT: u32 = 65_536;
+
 /// A broker of one generation under a lock, which lanes of several threads share.
 #[derive(Drop)]
 pub struct LockedBroker<J: Generation> {
     book: Mutex<Book<J>>,
+    /// For how many receipts a lane makes room at once.
+    at_once: usize,
     alloc: Global,
 }
 
@@ -65,7 +71,9 @@ impl<J: Generation> LockedBroker<J> {
         ensures lanes { IfOk result (λ r. r.1.items ≡ replicate lanes []) }
         ensures hellos { IfOk result (λ r. r.2 ≡ hellos generation list.now) }
     {
-        let (locked, rest, hellos) = LockedBroker::open(alloc, blank, generation, list, limit)?;
+        let (locked, rest, hellos) = LockedBroker::open(
+            alloc, blank, generation, list, limit, lanes,
+        )?;
         let made = match cut_lanes(alloc, rest, lanes) {
             Ok(made) => made,
             Err(refused) => {
@@ -76,13 +84,14 @@ impl<J: Generation> LockedBroker<J> {
         Ok((locked, made, hellos))
     }
 
-    /// Starts a generation without lanes, and gives the share that they are cut from.
+    /// Starts a generation without its lanes, and gives the share that so many are cut from.
     pub(crate) fn open(
         alloc: Global,
         blank: Blank,
         generation: u32,
         list: &[(u16, u16)],
         limit: u32,
+        lanes: u16,
     ) -> Result<(LockedBroker<J>, Share<J>, Outs), AllocError>
         requires list { TabsRiseFrom 1 list.now }
         requires name { blank.name ≡ J.name }
@@ -98,6 +107,7 @@ impl<J: Generation> LockedBroker<J> {
         let book = Book::open(alloc, broker, limit, calls, share.empty());
         let locked = LockedBroker {
             book: Mutex::new(book),
+            at_once: receipts_at_once(limit, lanes),
             alloc,
         };
         Ok((locked, share, hellos))
@@ -119,7 +129,12 @@ impl<J: Generation> LockedBroker<J> {
         ensures kept { IfOk result (λ r. lane.new ≡ lane.old ++ r ∷ []) }
         ensures err { OnErr result (lane.new ≡ lane.old) }
     {
-        let Ok((first, second)) = copies_with_room(self.alloc, &mut lane.receipts, &event) else {
+        let Ok((first, second)) = copies_with_room(
+            self.alloc,
+            &mut lane.receipts,
+            self.at_once,
+            &event,
+        ) else {
             drop(event);
             return Err(lock(&self.book, rt).without_memory());
         };

@@ -1,21 +1,29 @@
-//! The room that a step takes, all of which is made before the broker is stepped.
+//! The room that a step takes, all of which is made before the broker is stepped. A list that grew step by step would be moved
+//! again and again, and what it is moved to is memory that was not touched before. So each makes room at once for all the steps
+//! that the command line can ask for, and takes the system's pages only as it fills.
 
 ghost use Rattle.std.specs.Prelude.{◌≡◌, ◌<◌, ◌↔◌, true, Err, OnOk, vec_len, vec_capacity};
 
+use crate::locked::STEP_LIMIT;
 use crate::receipt::{NotStepped, Step};
 use std::alloc::AllocError;
 
-/// For how many steps a history makes room at once, at most: as many as a shard of the broker's process has. A history that
-/// grew step by step would be moved again and again while its lock is held.
-const STEPS_AT_ONCE: usize = 65_536;
+/// For how many steps a history makes room at once.
+fn steps_at_once(limit: u32) -> usize {
+    limit.min(STEP_LIMIT) as usize
+}
+
+/// For how many receipts each of so many lanes makes room at once: all together for as many as the history has steps.
+pub(crate) fn receipts_at_once(limit: u32, lanes: u16) -> usize {
+    steps_at_once(limit) / (lanes as usize).max(1)
+}
 
 /// Makes room for one more at least: for so many where memory allows, and else for one.
-fn for_one<T>(list: &mut Vec<T>, at_once: usize) -> Result<(), AllocError>
-    requires { 0 < at_once }
+pub(crate) fn for_one<T>(list: &mut Vec<T>, at_once: usize) -> Result<(), AllocError>
     ensures items { list.new.items ≡ list.old.items }
     ensures room { OnOk result (vec_len list.new < vec_capacity list.new) }
 {
-    if list.len() < list.capacity() || list.reserve(at_once).is_ok() {
+    if list.len() < list.capacity() || list.reserve(at_once.max(1)).is_ok() {
         return Ok(());
     }
     list.reserve(1)
@@ -37,7 +45,7 @@ pub(crate) fn for_step(
     if is_spent {
         return Err(NotStepped::GenerationSpent);
     }
-    let at_once = (limit as usize).min(STEPS_AT_ONCE).max(1);
+    let at_once = steps_at_once(limit);
     for_one(steps, at_once)?;
     for_one(marks, at_once)?;
     Ok(())

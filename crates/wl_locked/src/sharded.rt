@@ -93,6 +93,7 @@ impl<J: Shards> Sharded<J> {
             list,
             shards,
             limit,
+            lanes,
         };
         let room = Vec::with_capacity(alloc, shards as usize)?;
         let (brokers, shares, greetings) = Brokers::open(&beginning, blanks)?;

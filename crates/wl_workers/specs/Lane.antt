@@ -115,7 +115,7 @@ pub record RunsLane (given_before given_after : Option (List (Option Work))) (an
   pub steps : end.steps ≡ steps_of answers
   pub ends : EndsBy end.why answers put
 
--- a lane that its gate never lets pass ends with its first step
+-- a lane that its gate never lets pass makes no step, or ends with its first one
 abbrev pub IsLet : Bool → LaneEnd → Type 0
 IsLet lets end = (lets ≡ true) ⊎ (end.steps ≡ 0) ⊎ ((end.steps ≡ 1) × (end.why ≡ cause.Shut))
 

@@ -1,7 +1,6 @@
 use Rattle.std.proofs.Common.{codes, arith}
-use Rattle.wl_locked.specs.declared.locked.TheConstants.{LANE_LIMIT}
+use Rattle.wl_locked.specs.declared.locked.TheConstants.{LANE_LIMIT, STEP_LIMIT}
 use Rattle.wl_locked.specs.declared.shards.TheConstants.{SHARD_LIMIT}
-use Rattle.wl_command_line.specs.declared.command.TheConstants.{STEP_LIMIT}
 use Rattle.wl_command_line.specs.Words.{values_of}
 use Rattle.wl_command_line.proofs.Numbers.{size_in_range, wider}
 use Rattle.wl_command_line.proofs.words.broker_line.Goals as goal
