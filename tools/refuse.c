@@ -1,6 +1,6 @@
 // Preloaded into a program: refuses the allocation of one number, counted from 1 over `malloc` and `realloc`, which are all that
-// the program has. REFUSE is that number. At the end the program's allocations are written, as a decimal, to the file descriptor
-// REFUSE_TELL. Needs glibc.
+// the program has, and each one of so many bytes or more. REFUSE is that number, and REFUSE_FROM these bytes; with 0 none is
+// refused. At the end the program's allocations are written, as a decimal, to the file descriptor REFUSE_TELL. Needs glibc.
 #define _GNU_SOURCE
 #include <stdio.h>
 #include <stdlib.h>
@@ -17,16 +17,18 @@ static long number_of(const char *name) {
     return text ? atol(text) : 0;
 }
 
-static int is_refused(void) {
-    return __atomic_add_fetch(&count, 1, __ATOMIC_SEQ_CST) == number_of("REFUSE");
+static int is_refused(size_t size) {
+    long number = __atomic_add_fetch(&count, 1, __ATOMIC_SEQ_CST);
+    size_t from = (size_t)number_of("REFUSE_FROM");
+    return number == number_of("REFUSE") || (from && size >= from);
 }
 
 void *malloc(size_t size) {
-    return is_refused() ? NULL : __libc_malloc(size);
+    return is_refused(size) ? NULL : __libc_malloc(size);
 }
 
 void *realloc(void *block, size_t size) {
-    return is_refused() ? NULL : __libc_realloc(block, size);
+    return is_refused(size) ? NULL : __libc_realloc(block, size);
 }
 
 static void tell(void) {

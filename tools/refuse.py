@@ -4,8 +4,9 @@ usage: refuse.py TESTS [MOST] [WORD ..]
 
 TESTS is what `rt test` leaves of a crate's tests, `crates/NAME/out/NAME_tests`. Each test whose name contains one of the words,
 or each, is run once for each of its allocations, which is refused in that run and no other; of a test with more than MOST of
-them, a number, for MOST that are spread evenly. Prints for each test how many were refused, and how it failed where it did. The
-status is 0 where all runs passed: where a call that was refused memory had changed nothing, was made again, and gave its answer.
+them, a number, for MOST that are spread evenly. And each is run once with every allocation of a megabyte or more refused, however
+often it is asked for. Prints for each test how many were refused, and how it failed where it did. The status is 0 where all runs
+passed: where a call that was refused memory had changed nothing, was made again, and gave its answer, or did with less.
 
 Tests with threads may allocate in another order each time, so there a number names no certain allocation. It needs `cc` and
 glibc.
@@ -19,6 +20,8 @@ import tempfile
 
 HERE = os.path.dirname(os.path.abspath(__file__))
 SECONDS = 120
+# From how many bytes on an allocation is refused each time, in one more run.
+LARGE = 1_000_000
 # How many bytes of what a failed run said are shown.
 SHOWN = 160
 
@@ -30,10 +33,11 @@ def build(place):
     return library
 
 
-def run(tests, name, library, number):
-    """One test with one allocation refused: its status, how many it made, and what it said."""
+def run(tests, name, library, number, large=0):
+    """One test with one allocation refused, and with those from so many bytes on: its status, how many it made, what it said."""
     reading, writing = os.pipe()
-    given = {**os.environ, "LD_PRELOAD": library, "REFUSE": str(number), "REFUSE_TELL": str(writing)}
+    refused = {"REFUSE": str(number), "REFUSE_FROM": str(large), "REFUSE_TELL": str(writing)}
+    given = {**os.environ, "LD_PRELOAD": library, **refused}
     try:
         ran = subprocess.run(
             [tests, name], env=given, pass_fds=[writing], capture_output=True, text=True, timeout=SECONDS, check=False
@@ -59,7 +63,8 @@ def refuse_all(tests, name, library, most):
     if status:
         return 0, 0, collections.Counter([said])
     tries = min(count, most) if most else count
-    failures = collections.Counter()
+    status, _told, said = run(tests, name, library, 0, LARGE)
+    failures = collections.Counter([f"large ones refused: {said}"] if status else [])
     for place in range(tries):
         status, _told, said = run(tests, name, library, place * count // tries + 1)
         if status:

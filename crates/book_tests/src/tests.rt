@@ -16,7 +16,8 @@ use std::sync::ledger::Blank;
 use wl_broker::Outs;
 use wl_frames::{Addressed, Answer, Downward, Mode, Operation, Outcome};
 use wl_locked::{
-    BookEvent, Generation, LANE_LIMIT, Lane, LockedBroker, NotStepped, Receipt, Reply, Step,
+    BookEvent, Generation, LANE_LIMIT, Lane, LockedBroker, NotStepped, Receipt, Reply, STEP_LIMIT,
+    Step,
 };
 
 /// Compares two values. Where they differ, both are printed.
@@ -244,7 +245,7 @@ fn find_spent<J: Generation, R: Wait + Abort>(
     same(rt, lane.count(), count);
 }
 
-/// Has lanes take the steps of a row, and then one event more, for which no step is left.
+/// Has lanes take the steps of a row.
 fn take_row<J: Generation, R: Wait + Abort>(
     rt: &R,
     alloc: Global,
@@ -257,7 +258,19 @@ fn take_row<J: Generation, R: Wait + Abort>(
         let lane = lanes.get_mut(number).expect(rt, "a lane");
         take_step(rt, alloc, broker, lane, row, place);
     }
-    find_spent(rt, broker, lanes.get_mut(0).expect(rt, "a lane"));
+}
+
+/// Has the first lane take an event more, where a broker of so many steps has taken a row.
+fn take_one_more<J: Generation, R: Wait + Abort>(
+    rt: &R,
+    broker: &LockedBroker<J>,
+    lanes: &mut [Lane<J>],
+    limit: u32,
+    row: &[Step],
+) {
+    if row.len() == limit as usize {
+        find_spent(rt, broker, lanes.get_mut(0).expect(rt, "a lane"));
+    }
 }
 
 /// Compares the receipts of lanes with the steps of a row.
@@ -277,7 +290,8 @@ fn is_row(rt: &impl Abort, steps: &[Step], row: &[Step]) {
     }
 }
 
-/// Plays a row on a broker that may take no more steps than the row has. Nothing but the broker itself is refused.
+/// Plays a row on a broker that may take so many steps: where the row has as many, no step is left. Nothing but the broker itself
+/// is refused.
 fn play_named<J: Generation, R: Wait + Abort>(
     rt: &R,
     alloc: Global,
@@ -294,6 +308,7 @@ fn play_named<J: Generation, R: Wait + Abort>(
 {
     let (broker, mut lanes, _hellos) = LockedBroker::<J>::new(alloc, blank, 1, &[], limit, lanes)?;
     take_row(rt, alloc, &broker, lanes.as_mut_slice(), row);
+    take_one_more(rt, &broker, lanes.as_mut_slice(), limit, row);
     are_of_row(rt, lanes.as_slice(), row);
     let history = broker.close(lanes).expect(rt, "the steps of the lanes");
     is_row(rt, history.steps(), row);
@@ -305,18 +320,18 @@ fn play<R: Wait + Abort>(
     rt: &R,
     alloc: Global,
     lanes: u16,
+    limit: u32,
     row: &[Step],
 ) -> Result<(), AllocError> {
     assert!(rt; 0 < lanes && lanes <= LANE_LIMIT);
-    let limit = u32::try_from(row.len()).expect(rt, "few steps");
     let blank = Blank::new(u64::from(lanes));
     play_named::<Brand, R>(rt, alloc, blank, lanes, limit, row)
 }
 
 /// The same; where the broker was refused, with another one.
-fn plays<R: Wait + Abort>(rt: &R, alloc: Global, lanes: u16, row: &[Step]) {
-    if play(rt, alloc, lanes, row).is_err() {
-        play(rt, alloc, lanes, row).expect(rt, "memory is back");
+fn plays<R: Wait + Abort>(rt: &R, alloc: Global, lanes: u16, limit: u32, row: &[Step]) {
+    if play(rt, alloc, lanes, limit, row).is_err() {
+        play(rt, alloc, lanes, limit, row).expect(rt, "memory is back");
     }
 }
 
@@ -336,29 +351,43 @@ fn steps_of(alloc: Global, row: Row) -> Result<Vec<Step>, AllocError> {
     }
 }
 
-/// Plays a row of so many steps; where memory is refused to make it, it is made once more.
-fn plays_row<R: Wait + Abort>(rt: &R, alloc: Global, lanes: u16, row: Row, count: usize) {
+/// Plays a row of so many steps on a broker that may take as many as the limit; where memory is refused to make the row, it is
+/// made once more.
+fn plays_row<R: Wait + Abort>(
+    rt: &R,
+    alloc: Global,
+    lanes: u16,
+    limit: u32,
+    row: Row,
+    count: usize,
+) {
     let steps = match steps_of(alloc, row) {
         Ok(steps) => steps,
         Err(_) => steps_of(alloc, row).expect(rt, "memory is back"),
     };
     same(rt, steps.len(), count);
-    plays(rt, alloc, lanes, steps.as_slice());
+    plays(rt, alloc, lanes, limit, steps.as_slice());
 }
 
 #[test]
 fn steps_used_up(rt: HostRuntime) {
-    plays_row(&rt, rt.alloc(), 1, Row::Three, 3);
+    plays_row(&rt, rt.alloc(), 1, 3, Row::Three, 3);
+}
+
+/// Where there is no memory for all the steps that a generation may have, room for one after the other is enough.
+#[test]
+fn a_long_generation_begins_with_three_steps(rt: HostRuntime) {
+    plays_row(&rt, rt.alloc(), 1, STEP_LIMIT, Row::Three, 3);
 }
 
 #[test]
 fn four_steps_of_one_lane(rt: HostRuntime) {
-    plays_row(&rt, rt.alloc(), 1, Row::Four, 4);
+    plays_row(&rt, rt.alloc(), 1, 4, Row::Four, 4);
 }
 
 #[test]
 fn two_lanes_hand_over(rt: HostRuntime) {
-    plays_row(&rt, rt.alloc(), 2, Row::HandingOver, 202);
+    plays_row(&rt, rt.alloc(), 2, 202, Row::HandingOver, 202);
 }
 
 // ---- a broker with tabs
