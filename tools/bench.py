@@ -34,14 +34,15 @@ has requests and releases of a tab that is alone in its partition. A broker that
 (`alone`), and a locked broker with one lane takes them by direct calls (`locked`), without intake, gate and outlet. Prints how
 many steps a second there were, of all lanes together, the best of the runs, and that rate as a ratio to the rate of one lane on
 one shard, the middle one of the runs.
-Where the broker alone has a ratio of 2, a step of a lane takes twice as long as one without lock, history and receipts; a locked
-step takes as many times as long as the rate of `alone` is that of `locked`. Each of the three has a process of its own, so that
-none finds memory as another left it. What a step stores is then memory that is touched for the first time, which costs more or
-less as the system makes it. So `alone` and `locked` run by turns in one process too, with an allocator that keeps what is given
-back to it: then all but the first turn finds memory that was touched before. Prints how many times as long a locked step took as
-one without lock, the middle, the least and the most of the turns after the first two, with that allocator and with the usual one:
-of the events of a tab that is alone, and of sixteen tabs of one partition, of which four want each of four locks, so that each
-release grants a lock to another tab and each request waits.
+Where the broker alone has a ratio of 2, a step of a lane takes twice as long as one without lock, history and receipts; a
+locked step takes as many times as long as the rate of `alone` is that of `locked`: both make as many steps as a generation may
+have in a shard. Each of the three has a process of its own, so that none finds memory as another left it. Prints that too, of
+the best runs. What a step stores is then memory that is touched for the first time, which costs more or less as the system
+makes it. So `alone` and `locked` run by turns in one process too, with an allocator that keeps what is given back to it: then
+all but the first turn finds memory that was touched before. Prints how many times as long a locked step took as one without
+lock, the middle, the least and the most of the turns after the first two, with that allocator and with the usual one: of the
+events of a tab that is alone, and of sixteen tabs of one partition, of which four want each of four locks, so that each release
+grants a lock to another tab and each request waits.
 
 Processes: a kernel, its broker with two lanes, and tabs, each of which asks for an exclusive lock, waits for it and gives it up,
 2,000 times: one tab; four tabs of one origin with a name each, and with one name for all; sixteen tabs of four origins with a
@@ -324,6 +325,8 @@ def shared(program):
 KEEPING = {"GLIBC_TUNABLES": "glibc.malloc.trim_threshold=4294967296:glibc.malloc.mmap_threshold=4294967296"}
 # How many turns come before those that count.
 FIRST_TURNS = 2
+# Whose events one broker takes, with what the program adds to the names of its runs.
+TRACES = (("of a tab that is alone", ""), ("of tabs that contend", "-contended"))
 
 
 def locked(program):
@@ -342,9 +345,12 @@ def locked(program):
             continue
         ratio = statistics.median(ratios[key])
         print(f"locked: {what} {lanes} on {shards} {max(some) / 1e6:8.3f} million a second  ratio to one lane {ratio:5.2f}")
+    for whose, trace in TRACES:
+        alone, locked_one = (max(rates[what + trace, "1", "1"]) for what in ("alone", "locked"))
+        print(f"a locked step, each kind in a process of its own, {whose}: {alone / locked_one:4.2f} times")
     for title, more in (("memory kept", KEEPING), ("memory given back", {})):
         run = [steps_a_second(program, "turns", more) for _ in range(RUNS)]
-        for whose, trace in (("of a tab that is alone", ""), ("of tabs that contend", "-contended")):
+        for whose, trace in TRACES:
             turns = [zip(one["alone" + trace, "1", "1"], one["locked" + trace, "1", "1"]) for one in run]
             times = [alone / locked for one in turns for alone, locked in list(one)[FIRST_TURNS:]]
             middle = f"{statistics.median(times):4.2f} times ({min(times):4.2f} to {max(times):4.2f})"

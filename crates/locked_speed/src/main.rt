@@ -40,8 +40,8 @@ const MANY: u32 = 100_000;
 /// How often the broker alone and the locked one run by turns.
 const TURNS: u32 = 24;
 
-/// How many locks they hand over in each turn: with the reports and first requests before, these are as many steps as a
-/// generation may have in a shard, or some fewer.
+/// How many locks they hand over where they are timed: with the reports and first requests before, these are as many steps as
+/// a generation of the program may have in a shard, or some fewer.
 const WHOLE: u32 = 32_751;
 
 /// Whose events one broker takes: those of a tab that is alone, or of tabs that want the same locks.
@@ -65,16 +65,17 @@ fn main(rt: HostRuntime) -> io::Result<()> {
     let mut words = std::env::args(&rt)?.skip(1);
     let is_timed = words.next().is_some();
     let only = words.next();
+    let whole = if is_timed { WHOLE } else { FEW };
     let locks = if is_timed { MANY } else { FEW };
     if is_named(&only, "turns") {
         return by_turns(&rt, alloc, is_timed);
     }
     for trace in TRACES {
         if is_wanted(&only, "alone") {
-            run_alone(&rt, alloc, trace, is_timed, locks)?;
+            run_alone(&rt, alloc, trace, is_timed, whole)?;
         }
         if is_wanted(&only, "locked") {
-            run_locked(&rt, alloc, trace, is_timed, locks)?;
+            run_locked(&rt, alloc, trace, is_timed, whole)?;
         }
     }
     if is_wanted(&only, "lanes") {
