@@ -1,7 +1,10 @@
-"""Makes a copy of the repository with what stood before its crates were split, to be timed: python3 tools/stood_before.py FOLDER
+"""Makes a copy of the repository with what stood before its crates were split, to be timed:
+
+python3 tools/stood_before.py FOLDER [narrow]
 
 The folder must not be there yet; the copy is of the last commit. What is counted, and why, stands in docs/GATE.md ("What stood
-before the crates were split", the wider count). First, at the top of a clone,
+before the crates were split"): without `narrow` the wider count, of whole crates; with it those that have come of the twelve of
+then, and of the loops and the program what stood then, the desk and the sim. First, at the top of a clone,
 
     rt ci wl_kernel_process wl_broker_process wl_tab_process
 
@@ -31,6 +34,14 @@ COUNTED = """wl_limits wl_origin wl_draft wl_ordered wl_index wl_table wl_gramma
 # What some of these stand on today, and did not then.
 PROVED_BEFORE = """wl_locked wl_outbox wl_board wl_process wl_process_rules wl_process_script wl_kernel_rules wl_kernel_process
     wl_broker_process wl_tab_process""".split()
+# What did not stand then, although others stand on it today; and of `wl_workers` and `wlb` all but the desk and the sim.
+NOT_NARROW = ["wl_ordered", "wl_index"]
+LOOPS_SINCE = ["jobs", "lanes", "lives", "tab_reader", "tab_writer", "uplink"]
+LOOP_DEFINITIONS_SINCE = ["Told", "Looks", "TabReader", "TabWriter", "Lane", "Jobs"]
+LOOP_LEMMAS_SINCE = ["ToldLemmas", "ReaderLemmas", "WriterLemmas", "LaneLemmas"]
+LOOPS_STOOD_ON = "wl_broker wl_table wl_frames wl_encoding wl_grammar wl_draft wl_limits bytes thiserror"
+PROGRAM_STANDS_ON = """wl_command_line wl_script wl_workers wl_world wl_supervisor wl_tab wl_said wl_bag wl_agent wl_broker wl_table
+    wl_kernel wl_broadcast wl_origin wl_frames wl_grammar wl_draft wl_limits bytes clap thiserror"""
 # Where the tests of then stand. Other files have some of the same names, since a row is played on several layers.
 TESTS = """agent_tests/src/tests/rows.rt channel_tests/src/tests.rt desk_tests/src/tests/broker.rt desk_tests/src/tests/desk.rt
     desk_tests/src/tests/desk/devices.rt frame_tests/src/tests.rt kernel_tests/src/tests/kernel.rt kernel_tests/src/tests/origin.rt
@@ -121,9 +132,68 @@ def strip_edits(copy):
             os.rmdir(os.path.join(try_edits.EDITS, crate))
 
 
+def change(path, *pairs):
+    """Puts other texts in the place of what patterns match, each of which does once at least."""
+    with open(path, encoding="utf-8") as file:
+        text = file.read()
+    for pattern, new in pairs:
+        text, count = re.subn(pattern, new, text, flags=re.MULTILINE | re.DOTALL)
+        if not count:
+            sys.exit(f"{path} has nothing like {pattern}")
+    with open(path, "w", encoding="utf-8") as file:
+        file.write(text)
+
+
+def strip_loops(copy):
+    """Leaves the desk alone of `wl_workers`."""
+    crate = os.path.join(copy, "crates", "wl_workers")
+    for name in LOOPS_SINCE:
+        os.remove(os.path.join(crate, "src", f"{name}.rt"))
+        shutil.rmtree(os.path.join(crate, "proofs", name), ignore_errors=True)
+    for folder, names in ("specs", LOOP_DEFINITIONS_SINCE), ("proofs", LOOP_LEMMAS_SINCE):
+        for name in names:
+            os.remove(os.path.join(crate, folder, f"{name}.antt"))
+        change(os.path.join(crate, folder, "Lib.antt"), (rf"^pub mod (?:{'|'.join(names)})\n", ""))
+    modules, definitions = "|".join(LOOPS_SINCE), "|".join(LOOP_DEFINITIONS_SINCE)
+    change(
+        os.path.join(crate, "src", "lib.rt"),
+        (rf"^pub mod (?:{modules});\n", ""),
+        (rf"^pub use (?:{modules})::[^;]*;\n", ""),
+    )
+    of_since = re.compile(rf"^file: (?:src/(?:{modules})\.rt|specs/(?:{definitions})\.antt)", re.MULTILINE)
+    edits = os.path.join(copy, "edits", "wl_workers")
+    for path in (os.path.join(edits, it) for it in os.listdir(edits)):
+        with open(path, encoding="utf-8") as file:
+            is_of_since = of_since.search(file.read())
+        if is_of_since:
+            os.remove(path)
+    change(os.path.join(copy, "crates.txt"), (r"^wl_workers [^\n]*", f"wl_workers: {LOOPS_STOOD_ON}"))
+
+
+def strip_program(copy):
+    """Leaves the desk and the sim of `wlb`. Other commands are told as if they were wrong."""
+    crate = os.path.join(copy, "crates", "wlb")
+    shutil.rmtree(os.path.join(crate, "proofs"))
+    change(
+        os.path.join(crate, "src", "main.rt"),
+        (r"^        Ok\(\n? *Line::Kernel.*?(?=^        Err\(fault\) => misused)", "        Ok(_) => ExitCode::from(USAGE),\n"),
+        (r"^/// The program that the first word names.*?^}\n\n", ""),
+        (r"^/// The status of a process\..*?^}\n\n", ""),
+        (r"^use wl_(?:broker_process|kernel_process|tab_process|process)::[^;]*;\n", ""),
+        (r"^use std::alloc::[^;]*;\n", ""),
+        (r"^(?=/// The status where the command line is wrong)", "const REFUSED: u8 = 1;\n\nconst DEVICE_OR_MEMORY: u8 = 3;\n\n"),
+    )
+    change(os.path.join(copy, "crates.txt"), (r"^wlb [^\n]*", f"wlb: {' '.join(PROGRAM_STANDS_ON.split())}"))
+
+
 def main():
-    copy = os.path.abspath(sys.argv[1])
+    copy, is_narrow = os.path.abspath(sys.argv[1]), sys.argv[2:] == ["narrow"]
     subprocess.run(["git", "clone", "--quiet", ROOT, copy], check=True)
+    if is_narrow:
+        COUNTED[:] = [it for it in COUNTED if it not in NOT_NARROW]
+        PROVED_BEFORE[:] = [*NOT_NARROW, "wl_locked", "wl_process_script"]
+        strip_loops(copy)
+        strip_program(copy)
     strip_tests(copy)
     strip_edits(copy)
     strip_crates(copy)
