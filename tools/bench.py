@@ -346,8 +346,8 @@ def locked(program):
         ratio = statistics.median(ratios[key])
         print(f"locked: {what} {lanes} on {shards} {max(some) / 1e6:8.3f} million a second  ratio to one lane {ratio:5.2f}")
     for whose, trace in TRACES:
-        alone, locked_one = (max(rates[what + trace, "1", "1"]) for what in ("alone", "locked"))
-        print(f"a locked step, each kind in a process of its own, {whose}: {alone / locked_one:4.2f} times")
+        alone, behind = (max(rates[what + trace, "1", "1"]) for what in ("alone", "locked"))
+        print(f"a locked step, each kind in a process of its own, {whose}: {alone / behind:4.2f} times")
     for title, more in (("memory kept", KEEPING), ("memory given back", {})):
         run = [steps_a_second(program, "turns", more) for _ in range(RUNS)]
         for whose, trace in TRACES:

@@ -8,8 +8,8 @@ then, and of the loops and the program what stood then, the desk and the sim. Fi
 
     rt ci wl_kernel_process wl_broker_process wl_tab_process
 
-proves what is not counted, and with it most of what is. `rt` keeps that beside the kit; so what it keeps there of the counted
-crates, which this prints, has to be removed. Then, in the copy,
+proves what is not counted, and with it most of what is; for the narrow count `rt ci wl_locked wl_process_script` does. `rt` keeps
+that beside the kit; so what it keeps there of the counted crates, which this prints, has to be removed. Then, in the copy,
 
     time (rt ci; python3 tools/try_edits.py --gate)
 
@@ -36,6 +36,7 @@ PROVED_BEFORE = """wl_locked wl_outbox wl_board wl_process wl_process_rules wl_p
     wl_broker_process wl_tab_process""".split()
 # What did not stand then, although others stand on it today; and of `wl_workers` and `wlb` all but the desk and the sim.
 NOT_NARROW = ["wl_ordered", "wl_index"]
+PROVED_BEFORE_NARROW = [*NOT_NARROW, "wl_locked", "wl_process_script"]
 LOOPS_SINCE = ["jobs", "lanes", "lives", "tab_reader", "tab_writer", "uplink"]
 LOOP_DEFINITIONS_SINCE = ["Told", "Looks", "TabReader", "TabWriter", "Lane", "Jobs"]
 LOOP_LEMMAS_SINCE = ["ToldLemmas", "ReaderLemmas", "WriterLemmas", "LaneLemmas"]
@@ -85,9 +86,9 @@ def without_tests(text, left):
     return "\n".join(kept)
 
 
-def strip_tests(copy):
+def strip_tests(copy, counted):
     names = tests_then()
-    for crate in (it for it in COUNTED if it.endswith("_tests")):
+    for crate in (it for it in counted if it.endswith("_tests")):
         for at, _, files in os.walk(os.path.join(copy, "crates", crate, "src")):
             for path in (os.path.join(at, it) for it in files):
                 left = names if os.path.relpath(path, os.path.join(copy, "crates")) in TESTS else ()
@@ -98,27 +99,28 @@ def strip_tests(copy):
         subprocess.run(["rt", "fmt"], cwd=os.path.join(copy, "crates", crate), check=True)
 
 
-def strip_crates(copy):
+def strip_crates(copy, counted, proved_before):
     path = os.path.join(copy, "crates.txt")
     with open(path, encoding="utf-8") as file:
         lines = file.read().split("\n")
     named = {line: re.match(r"\w*", line)[0] for line in lines}
-    for crate in {*named.values()} - {*COUNTED, *PROVED_BEFORE, ""}:
+    left = {*counted, *proved_before}
+    for crate in {*named.values()} - {*left, ""}:
         shutil.rmtree(os.path.join(copy, "crates", crate))
     with open(path, "w", encoding="utf-8") as file:
-        file.write("\n".join(it for it in lines if not named[it] or named[it] in {*COUNTED, *PROVED_BEFORE}))
-    for crate in PROVED_BEFORE:
+        file.write("\n".join(it for it in lines if not named[it] or named[it] in left))
+    for crate in proved_before:
         shutil.rmtree(os.path.join(copy, "crates", crate, "must-fail"), ignore_errors=True)
 
 
-def strip_edits(copy):
+def strip_edits(copy, counted):
     """Leaves as many edits as there were: those of then by name, and others of what the gate tries."""
     sys.path.insert(0, os.path.join(copy, "tools"))
     import try_edits
 
     then = {os.path.basename(it) for it in files_then() if "/must-fail/" in it}
     found = collections.defaultdict(list)
-    for crate in sorted({*COUNTED} - try_edits.LEFT_OUT):
+    for crate in sorted({*counted} - try_edits.LEFT_OUT):
         if os.path.isdir(os.path.join(try_edits.EDITS, crate)):
             found[crate] = [f"{it.name}.edit" for it in try_edits.edits_of(crate) if it.is_of_gate]
     order = sorted(found, key=lambda it: (FIRST.index(it) if it in FIRST else len(FIRST), it))
@@ -189,15 +191,15 @@ def strip_program(copy):
 def main():
     copy, is_narrow = os.path.abspath(sys.argv[1]), sys.argv[2:] == ["narrow"]
     subprocess.run(["git", "clone", "--quiet", ROOT, copy], check=True)
+    counted, proved_before = COUNTED, PROVED_BEFORE
     if is_narrow:
-        COUNTED[:] = [it for it in COUNTED if it not in NOT_NARROW]
-        PROVED_BEFORE[:] = [*NOT_NARROW, "wl_locked", "wl_process_script"]
+        counted, proved_before = [it for it in COUNTED if it not in NOT_NARROW], PROVED_BEFORE_NARROW
         strip_loops(copy)
         strip_program(copy)
-    strip_tests(copy)
-    strip_edits(copy)
-    strip_crates(copy)
-    print("counted:", *COUNTED)
+    strip_tests(copy, counted)
+    strip_edits(copy, counted)
+    strip_crates(copy, counted, proved_before)
+    print("counted:", *counted)
 
 
 if __name__ == "__main__":

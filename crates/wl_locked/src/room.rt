@@ -1,6 +1,6 @@
 //! The room that a step takes, all of which is made before the broker is stepped. A list that grew step by step would be moved
-//! again and again, and what it is moved to is memory that was not touched before. So each makes room at once for all the steps
-//! that the command line can ask for, and takes the system's pages only as it fills.
+//! again and again, and what it is moved to is memory that was not touched before. So a history makes room at once for as many
+//! steps as it may have, at most for those that the command line can ask for, and a lane for its part of them.
 
 ghost use Rattle.std.specs.Prelude.{◌≡◌, ◌<◌, ◌↔◌, true, Err, OnOk, vec_len, vec_capacity};
 
@@ -13,7 +13,7 @@ fn steps_at_once(limit: u32) -> usize {
     limit.min(STEP_LIMIT) as usize
 }
 
-/// For how many receipts each of so many lanes makes room at once: all together for as many as the history has steps.
+/// For how many receipts each of so many lanes makes room at once: all together for no more than a history for steps.
 pub(crate) fn receipts_at_once(limit: u32, lanes: u16) -> usize {
     steps_at_once(limit) / (lanes as usize).max(1)
 }
