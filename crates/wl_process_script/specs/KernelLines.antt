@@ -1,19 +1,8 @@
 -- What a line of a kernel's script says.
-use Rattle.std.specs.Prelude.{ℕ, nat_le, List, [], ◌∷◌, Option, Some, None, codes, if◌then◌else◌}
-use Rattle.wl_words.specs.Reading.{◌>>=◌, line_words_at, one, two, three, none, value_of, most_number, number_at, tab_at, url_at}
+use Rattle.std.specs.Prelude.{ℕ, nat_le, List, [], ◌∷◌, Option, Some, None, bytes_eq, codes, if◌then◌else◌}
+use Rattle.wl_words.specs.Reading.{◌>>=◌, line_words_at, one, two, three, none, most_number, number_at, tab_at, url_at}
 use Rattle.wl_process_script.specs.declared.kernel_line.KernelLine.{KernelLine}
 use Rattle.wl_process_script.specs.declared.kernel_line.KernelLine.TheVariants as line
-use Rattle.wl_process_script.specs.declared.kernel_line.KernelVerb.{KernelVerb}
-use Rattle.wl_process_script.specs.declared.kernel_line.KernelVerb.TheVariants as verb
-
--- each verb and its word
-abbrev pub verbs : List (List ℕ × KernelVerb)
-verbs =
-    (codes "start", verb.Start) ∷ (codes "open", verb.Open) ∷ (codes "open2", verb.OpenTwo) ∷ (codes "stop", verb.Stop) ∷
-    (codes "kill", verb.Kill) ∷ (codes "pause", verb.Pause) ∷ (codes "join", verb.Join) ∷ []
-
-unfoldable pub verb_at : List ℕ → Option KernelVerb
-verb_at word = value_of verbs word
 
 -- ---- the words after the verb
 
@@ -42,19 +31,22 @@ pause_at word = do
 
 -- ---- lines
 
-unfoldable pub said_by : KernelVerb → List (List ℕ) → Option KernelLine
-said_by verb.Start words = none words >>= λ x. Some line.Start
-said_by verb.Open words = url_and_file words >>= λ x. Some (line.Open x.0 x.1)
-said_by verb.OpenTwo words = urls_and_file words >>= λ x. Some (line.OpenTwo x.0 x.1 x.2)
-said_by verb.Stop words = none words >>= λ x. Some line.Stop
-said_by verb.Kill words = one words >>= tab_at >>= λ t. Some (line.Kill t)
-said_by verb.Pause words = one words >>= pause_at >>= λ n. Some (line.Pause n)
-said_by verb.Join words = none words >>= λ x. Some line.Join
+-- by the first word
+unfoldable pub said_by : List ℕ → List (List ℕ) → Option KernelLine
+said_by verb words =
+    if bytes_eq verb (codes "start") then (none words >>= λ x. Some line.Start)
+    else if bytes_eq verb (codes "open") then (url_and_file words >>= λ x. Some (line.Open x.0 x.1))
+    else if bytes_eq verb (codes "open2") then (urls_and_file words >>= λ x. Some (line.OpenTwo x.0 x.1 x.2))
+    else if bytes_eq verb (codes "stop") then (none words >>= λ x. Some line.Stop)
+    else if bytes_eq verb (codes "kill") then (one words >>= tab_at >>= λ t. Some (line.Kill t))
+    else if bytes_eq verb (codes "pause") then (one words >>= pause_at >>= λ n. Some (line.Pause n))
+    else if bytes_eq verb (codes "join") then (none words >>= λ x. Some line.Join)
+    else None
 
--- the first word is the verb; a line without words says nothing
+-- a line without words says nothing
 unfoldable pub said_in : List (List ℕ) → Option KernelLine
 said_in [] = Some line.Blank
-said_in (word ∷ words) = verb_at word >>= λ v. said_by v words
+said_in (word ∷ words) = said_by word words
 
 unfoldable pub kernel_line_at : List ℕ → Option KernelLine
 kernel_line_at text = line_words_at text >>= said_in

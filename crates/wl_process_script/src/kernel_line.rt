@@ -2,13 +2,12 @@
 
 ghost use Rattle.wl_words.specs.Reading.{texts};
 ghost use Rattle.wl_words.specs.Words.{Gives};
-ghost use Rattle.wl_process_script.specs.KernelLines.{verb_at, pause_at, url_and_file, urls_and_file, said_by, said_in, kernel_line_at};
+ghost use Rattle.wl_process_script.specs.KernelLines.{pause_at, url_and_file, urls_and_file, said_by, said_in, kernel_line_at};
 
 use std::alloc::Global;
 use wl_draft::Name;
 use wl_words::Unread;
 use wl_words::reading::{line_words, nothing, number_of, one, tab_of, three, two, url_of};
-use wl_words::table::value_of;
 
 /// How many milliseconds a pause may last.
 pub const PAUSE_LIMIT: u16 = 10_000;
@@ -49,29 +48,6 @@ pub enum KernelLine {
     Join,
 }
 
-/// What a line asks for.
-#[derive(Clone, Copy, Debug, PartialEq, Eq)]
-pub enum KernelVerb {
-    Start,
-    Open,
-    OpenTwo,
-    Stop,
-    Kill,
-    Pause,
-    Join,
-}
-
-/// Each verb and its word.
-const VERBS: [(&'static str, KernelVerb); 7] = [
-    ("start", KernelVerb::Start),
-    ("open", KernelVerb::Open),
-    ("open2", KernelVerb::OpenTwo),
-    ("stop", KernelVerb::Stop),
-    ("kill", KernelVerb::Kill),
-    ("pause", KernelVerb::Pause),
-    ("join", KernelVerb::Join),
-];
-
 /// What a line says, without its line feed.
 #[tactic(auto, unfolding(crate::specs::KernelLines::kernel_line_at))]
 pub fn read_kernel_line(alloc: Global, text: &[u8]) -> Result<KernelLine, Unread>
@@ -87,49 +63,39 @@ fn read_words(alloc: Global, words: &[&[u8]]) -> Result<KernelLine, Unread>
 {
     match words {
         [] => Ok(KernelLine::Blank),
-        [verb, rest @ ..] => said(alloc, verb_of(verb)?, rest),
+        [verb, rest @ ..] => said(alloc, verb, rest),
     }
 }
 
-/// The verb of a word.
-#[tactic(auto, unfolding(crate::specs::KernelLines::verb_at))]
-fn verb_of(word: &[u8]) -> Result<KernelVerb, Unread>
-    ensures { Gives (λ verb. verb) result (verb_at word.now) }
-{
-    value_of(&VERBS, word)
-}
-
 #[tactic(auto, unfolding(crate::specs::KernelLines::said_by))]
-fn said(alloc: Global, verb: KernelVerb, words: &[&[u8]]) -> Result<KernelLine, Unread>
-    ensures { Gives (λ line. line) result (said_by verb (texts words.now)) }
+fn said(alloc: Global, verb: &[u8], words: &[&[u8]]) -> Result<KernelLine, Unread>
+    ensures { Gives (λ line. line) result (said_by verb.now (texts words.now)) }
 {
-    match verb {
-        KernelVerb::Start => {
-            nothing(words)?;
-            Ok(KernelLine::Start)
-        }
-        KernelVerb::Open => {
-            let (url, file) = url_and_file(alloc, words)?;
-            Ok(KernelLine::Open { url, file })
-        }
-        KernelVerb::OpenTwo => {
-            let (top, url, file) = urls_and_file(alloc, words)?;
-            Ok(KernelLine::OpenTwo { top, url, file })
-        }
-        KernelVerb::Stop => {
-            nothing(words)?;
-            Ok(KernelLine::Stop)
-        }
-        KernelVerb::Kill => Ok(KernelLine::Kill {
+    if verb == b"start".as_slice() {
+        nothing(words)?;
+        Ok(KernelLine::Start)
+    } else if verb == b"open".as_slice() {
+        let (url, file) = url_and_file(alloc, words)?;
+        Ok(KernelLine::Open { url, file })
+    } else if verb == b"open2".as_slice() {
+        let (top, url, file) = urls_and_file(alloc, words)?;
+        Ok(KernelLine::OpenTwo { top, url, file })
+    } else if verb == b"stop".as_slice() {
+        nothing(words)?;
+        Ok(KernelLine::Stop)
+    } else if verb == b"kill".as_slice() {
+        Ok(KernelLine::Kill {
             tab: tab_of(one(words)?)?,
-        }),
-        KernelVerb::Pause => Ok(KernelLine::Pause {
+        })
+    } else if verb == b"pause".as_slice() {
+        Ok(KernelLine::Pause {
             milliseconds: pause_of(one(words)?)?,
-        }),
-        KernelVerb::Join => {
-            nothing(words)?;
-            Ok(KernelLine::Join)
-        }
+        })
+    } else if verb == b"join".as_slice() {
+        nothing(words)?;
+        Ok(KernelLine::Join)
+    } else {
+        Err(Unread::Form)
     }
 }
 

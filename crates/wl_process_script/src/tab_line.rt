@@ -2,13 +2,12 @@
 
 ghost use Rattle.wl_words.specs.Reading.{texts};
 ghost use Rattle.wl_words.specs.Words.{Gives};
-ghost use Rattle.wl_process_script.specs.TabLines.{verb_at, mode_and_name, said_by, said_in, tab_line_at};
+ghost use Rattle.wl_process_script.specs.TabLines.{mode_and_name, said_by, said_in, tab_line_at};
 
 use std::alloc::Global;
 use wl_draft::{Mode, Name};
 use wl_words::Unread;
 use wl_words::reading::{command_of, line_words, mode_of, name_of, nothing, one, two, url_of};
-use wl_words::table::value_of;
 
 /// A line of a tab's script, one variant for each form. Commands are counted from 0; a number above the greatest `u32` is read
 /// as that.
@@ -47,29 +46,6 @@ pub enum TabLine {
     },
 }
 
-/// What a line asks for.
-#[derive(Clone, Copy, Debug, PartialEq, Eq)]
-pub enum TabVerb {
-    Ask,
-    Probe,
-    Wait,
-    Release,
-    Abort,
-    Query,
-    Add,
-}
-
-/// Each verb and its word.
-const VERBS: [(&'static str, TabVerb); 7] = [
-    ("ask", TabVerb::Ask),
-    ("probe", TabVerb::Probe),
-    ("wait", TabVerb::Wait),
-    ("release", TabVerb::Release),
-    ("abort", TabVerb::Abort),
-    ("query", TabVerb::Query),
-    ("add", TabVerb::Add),
-];
-
 /// What a line says, without its line feed.
 #[tactic(auto, unfolding(crate::specs::TabLines::tab_line_at))]
 pub fn read_tab_line(alloc: Global, text: &[u8]) -> Result<TabLine, Unread>
@@ -85,47 +61,41 @@ fn read_words(alloc: Global, words: &[&[u8]]) -> Result<TabLine, Unread>
 {
     match words {
         [] => Ok(TabLine::Blank),
-        [verb, rest @ ..] => said(alloc, verb_of(verb)?, rest),
+        [verb, rest @ ..] => said(alloc, verb, rest),
     }
 }
 
-/// The verb of a word.
-#[tactic(auto, unfolding(crate::specs::TabLines::verb_at))]
-fn verb_of(word: &[u8]) -> Result<TabVerb, Unread>
-    ensures { Gives (λ verb. verb) result (verb_at word.now) }
-{
-    value_of(&VERBS, word)
-}
-
 #[tactic(auto, unfolding(crate::specs::TabLines::said_by))]
-fn said(alloc: Global, verb: TabVerb, words: &[&[u8]]) -> Result<TabLine, Unread>
-    ensures { Gives (λ line. line) result (said_by verb (texts words.now)) }
+fn said(alloc: Global, verb: &[u8], words: &[&[u8]]) -> Result<TabLine, Unread>
+    ensures { Gives (λ line. line) result (said_by verb.now (texts words.now)) }
 {
-    match verb {
-        TabVerb::Ask => {
-            let (mode, name) = mode_and_name(alloc, words)?;
-            Ok(TabLine::Ask { mode, name })
-        }
-        TabVerb::Probe => {
-            let (mode, name) = mode_and_name(alloc, words)?;
-            Ok(TabLine::Probe { mode, name })
-        }
-        TabVerb::Wait => Ok(TabLine::Wait {
+    if verb == b"ask".as_slice() {
+        let (mode, name) = mode_and_name(alloc, words)?;
+        Ok(TabLine::Ask { mode, name })
+    } else if verb == b"probe".as_slice() {
+        let (mode, name) = mode_and_name(alloc, words)?;
+        Ok(TabLine::Probe { mode, name })
+    } else if verb == b"wait".as_slice() {
+        Ok(TabLine::Wait {
             number: command_of(one(words)?)?,
-        }),
-        TabVerb::Release => Ok(TabLine::Release {
+        })
+    } else if verb == b"release".as_slice() {
+        Ok(TabLine::Release {
             number: command_of(one(words)?)?,
-        }),
-        TabVerb::Abort => Ok(TabLine::Abort {
+        })
+    } else if verb == b"abort".as_slice() {
+        Ok(TabLine::Abort {
             number: command_of(one(words)?)?,
-        }),
-        TabVerb::Query => {
-            nothing(words)?;
-            Ok(TabLine::Query)
-        }
-        TabVerb::Add => Ok(TabLine::Add {
+        })
+    } else if verb == b"query".as_slice() {
+        nothing(words)?;
+        Ok(TabLine::Query)
+    } else if verb == b"add".as_slice() {
+        Ok(TabLine::Add {
             file: url_of(alloc, one(words)?)?,
-        }),
+        })
+    } else {
+        Err(Unread::Form)
     }
 }
 

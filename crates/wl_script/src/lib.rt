@@ -7,7 +7,6 @@ pub mod line;
 mod play;
 pub mod reading;
 pub mod sim;
-pub mod verb;
 
 pub use line::Line;
 pub use reading::read_line;

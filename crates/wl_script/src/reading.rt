@@ -7,7 +7,6 @@ ghost use Rattle.wl_limits.specs.declared.tabs.TheConstants.{LAST_NUMBER};
 
 use crate::forgery::forged_of;
 use crate::line::Line;
-use crate::verb::{Verb, verb_of};
 use bytes::Bytes;
 use std::alloc::Global;
 use wl_frames::{Mode, Name, Sequence};
@@ -33,99 +32,83 @@ fn read_words(alloc: Global, words: &[&[u8]]) -> Result<Line, Unread>
 {
     match words {
         [] => Ok(Line::Blank),
-        [verb, rest @ ..] => said(alloc, verb_of(verb)?, rest),
+        [verb, rest @ ..] => said(alloc, verb, rest),
     }
 }
 
 #[tactic(auto, unfolding(crate::specs::Lines::said_by))]
-fn said(alloc: Global, verb: Verb, words: &[&[u8]]) -> Result<Line, Unread>
-    ensures { Gives (λ line. line) result (said_by verb (texts words.now)) }
+fn said(alloc: Global, verb: &[u8], words: &[&[u8]]) -> Result<Line, Unread>
+    ensures { Gives (λ line. line) result (said_by verb.now (texts words.now)) }
 {
-    match verb {
-        Verb::Open => {
-            let (tab, url) = tab_and_url(alloc, words)?;
-            Ok(Line::Open { tab, url })
-        }
-        Verb::OpenTwo => {
-            let (tab, top, url) = tab_and_urls(alloc, words)?;
-            Ok(Line::OpenTwo { tab, top, url })
-        }
-        Verb::Start => start(alloc, words),
-        Verb::Stop => {
-            nothing(words)?;
-            Ok(Line::Happens(Event::Stop))
-        }
-        Verb::Hello => {
-            let tab = tab_alone(words)?;
-            Ok(Line::Happens(Event::Hello { tab }))
-        }
-        Verb::Kill => {
-            let tab = tab_alone(words)?;
-            Ok(Line::Happens(Event::Kill { tab }))
-        }
-        Verb::Tell => {
-            let tab = tab_alone(words)?;
-            Ok(Line::Happens(Event::Tell { tab }))
-        }
-        Verb::Ask => {
-            let (tab, mode, name) = tab_mode_name(alloc, words)?;
-            Ok(Line::Happens(Event::Ask { tab, mode, name }))
-        }
-        Verb::Probe => {
-            let (tab, mode, name) = tab_mode_name(alloc, words)?;
-            Ok(Line::Happens(Event::Probe { tab, mode, name }))
-        }
-        Verb::Query => {
-            let tab = tab_alone(words)?;
-            Ok(Line::Happens(Event::Query { tab }))
-        }
-        Verb::Abort => {
-            let (tab, number) = tab_and_command(words)?;
-            Ok(Line::Happens(Event::Abort { tab, number }))
-        }
-        Verb::Release => {
-            let (tab, number) = tab_and_command(words)?;
-            Ok(Line::Happens(Event::Release { tab, number }))
-        }
-        Verb::Resend => {
-            let tab = tab_alone(words)?;
-            Ok(Line::Happens(Event::Resend { tab }))
-        }
-        Verb::Deliver => Ok(Line::Deliver {
+    if verb == b"open".as_slice() {
+        let (tab, url) = tab_and_url(alloc, words)?;
+        Ok(Line::Open { tab, url })
+    } else if verb == b"open2".as_slice() {
+        let (tab, top, url) = tab_and_urls(alloc, words)?;
+        Ok(Line::OpenTwo { tab, top, url })
+    } else if verb == b"start".as_slice() {
+        start(alloc, words)
+    } else if verb == b"stop".as_slice() {
+        nothing(words)?;
+        Ok(Line::Happens(Event::Stop))
+    } else if verb == b"hello".as_slice() {
+        let tab = tab_alone(words)?;
+        Ok(Line::Happens(Event::Hello { tab }))
+    } else if verb == b"kill".as_slice() {
+        let tab = tab_alone(words)?;
+        Ok(Line::Happens(Event::Kill { tab }))
+    } else if verb == b"tell".as_slice() {
+        let tab = tab_alone(words)?;
+        Ok(Line::Happens(Event::Tell { tab }))
+    } else if verb == b"ask".as_slice() {
+        let (tab, mode, name) = tab_mode_name(alloc, words)?;
+        Ok(Line::Happens(Event::Ask { tab, mode, name }))
+    } else if verb == b"probe".as_slice() {
+        let (tab, mode, name) = tab_mode_name(alloc, words)?;
+        Ok(Line::Happens(Event::Probe { tab, mode, name }))
+    } else if verb == b"query".as_slice() {
+        let tab = tab_alone(words)?;
+        Ok(Line::Happens(Event::Query { tab }))
+    } else if verb == b"abort".as_slice() {
+        let (tab, number) = tab_and_command(words)?;
+        Ok(Line::Happens(Event::Abort { tab, number }))
+    } else if verb == b"release".as_slice() {
+        let (tab, number) = tab_and_command(words)?;
+        Ok(Line::Happens(Event::Release { tab, number }))
+    } else if verb == b"resend".as_slice() {
+        let tab = tab_alone(words)?;
+        Ok(Line::Happens(Event::Resend { tab }))
+    } else if verb == b"deliver".as_slice() {
+        Ok(Line::Deliver {
             name: message_name(one(words)?)?,
-        }),
-        Verb::Channel => {
-            let (tab, name) = tab_and_name(alloc, words)?;
-            Ok(Line::Happens(Event::Channel { tab, name }))
-        }
-        Verb::Post => {
-            let (tab, channel, bytes) = tab_channel_data(alloc, words)?;
-            Ok(Line::Happens(Event::Post {
-                tab,
-                channel,
-                bytes,
-            }))
-        }
-        Verb::Read => {
-            let (tab, channel) = tab_and_channel(words)?;
-            Ok(Line::Happens(Event::Read { tab, channel }))
-        }
-        Verb::Close => {
-            let (tab, channel) = tab_and_channel(words)?;
-            Ok(Line::Happens(Event::Close { tab, channel }))
-        }
-        Verb::Corrupt => {
-            let tab = tab_alone(words)?;
-            Ok(Line::Happens(Event::Corrupt { tab }))
-        }
-        Verb::Forge => {
-            let (tab, forged) = tab_and_forged(alloc, words)?;
-            Ok(Line::Happens(Event::Forge { tab, forged }))
-        }
-        Verb::Show => {
-            nothing(words)?;
-            Ok(Line::Show)
-        }
+        })
+    } else if verb == b"channel".as_slice() {
+        let (tab, name) = tab_and_name(alloc, words)?;
+        Ok(Line::Happens(Event::Channel { tab, name }))
+    } else if verb == b"post".as_slice() {
+        let (tab, channel, bytes) = tab_channel_data(alloc, words)?;
+        Ok(Line::Happens(Event::Post {
+            tab,
+            channel,
+            bytes,
+        }))
+    } else if verb == b"read".as_slice() {
+        let (tab, channel) = tab_and_channel(words)?;
+        Ok(Line::Happens(Event::Read { tab, channel }))
+    } else if verb == b"close".as_slice() {
+        let (tab, channel) = tab_and_channel(words)?;
+        Ok(Line::Happens(Event::Close { tab, channel }))
+    } else if verb == b"corrupt".as_slice() {
+        let tab = tab_alone(words)?;
+        Ok(Line::Happens(Event::Corrupt { tab }))
+    } else if verb == b"forge".as_slice() {
+        let (tab, forged) = tab_and_forged(alloc, words)?;
+        Ok(Line::Happens(Event::Forge { tab, forged }))
+    } else if verb == b"show".as_slice() {
+        nothing(words)?;
+        Ok(Line::Show)
+    } else {
+        Err(Unread::Form)
     }
 }
 

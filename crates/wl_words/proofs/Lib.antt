@@ -1,5 +1,4 @@
 pub mod Decimals
 pub mod Numbers
-pub mod Tables
 pub mod Texts
 pub mod WordLemmas

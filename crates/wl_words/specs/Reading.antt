@@ -53,17 +53,6 @@ abbrev pub none : List (List ℕ) → Option ℕ
 none [] = Some 0
 none words = None
 
--- ---- tables
-
--- the value of a word, in a table
-abbrev pub value_of : {V : Type 0} → List (List ℕ × V) → List ℕ → Option V
-value_of [] word = None
-value_of (row ∷ rows) word = if bytes_eq row.0 word then Some row.1 else value_of rows word
-
--- the table as the code has it
-abbrev pub shown : {V : Type 0} → List (Bor (List ℕ) × V) → List (List ℕ × V)
-shown rows = map (λ row. (row.0.now, row.1)) rows
-
 -- ---- numbers
 
 abbrev pub has_leading_zero : List ℕ → Bool

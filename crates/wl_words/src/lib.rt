@@ -4,7 +4,6 @@
 pub mod laws;
 pub mod printing;
 pub mod reading;
-pub mod table;
 pub mod unread;
 pub mod words;
 
