@@ -17,7 +17,7 @@ use wl_broker::Outs;
 use wl_frames::{Addressed, Answer, Downward, Mode, Operation, Outcome};
 use wl_locked::{
     BookEvent, Generation, LANE_LIMIT, Lane, LockedBroker, NotStepped, Receipt, Reply, STEP_LIMIT,
-    Step,
+    SharedEvent, Step,
 };
 
 /// Compares two values. Where they differ, both are printed.
@@ -57,22 +57,20 @@ fn two(alloc: Global, first: Addressed, second: Addressed) -> Result<Reply, Allo
 }
 
 /// A step of an event, if its reply could be made.
-fn step(event: BookEvent, reply: Result<Reply, AllocError>) -> Result<Step, AllocError> {
-    match reply {
-        Ok(reply) => Ok(Step { event, reply }),
-        Err(refused) => {
-            drop(event);
-            Err(refused)
-        }
-    }
+fn step(
+    alloc: Global,
+    event: BookEvent,
+    reply: Result<Reply, AllocError>,
+) -> Result<Step, AllocError> {
+    Ok(Step {
+        event: SharedEvent::new(alloc, event)?,
+        reply: reply?,
+    })
 }
 
 /// A tab's first report.
-fn reports(alloc: Global, tab: u16) -> Step {
-    Step {
-        event: report(alloc, tab),
-        reply: nothing(alloc),
-    }
+fn reports(alloc: Global, tab: u16) -> Result<Step, AllocError> {
+    step(alloc, report(alloc, tab), Ok(nothing(alloc)))
 }
 
 /// A tab's request of the exclusive lock `a`, and what becomes of it.
@@ -80,7 +78,7 @@ fn asks(alloc: Global, tab: u16, number: u32, outcome: Outcome) -> Result<Step, 
     let lock = request(alloc, Mode::Exclusive, false, "a")?;
     let event = command(tab, number, lock);
     let upto = number.wrapping_add(1);
-    step(event, one(alloc, answer(tab, upto, number, outcome)))
+    step(alloc, event, one(alloc, answer(tab, upto, number, outcome)))
 }
 
 /// The release of a tab's lock, which is the tab's next command.
@@ -96,7 +94,11 @@ fn released(tab: u16, number: u32) -> Addressed {
 
 /// A tab's release of its lock, for which no other tab waits.
 fn releases(alloc: Global, tab: u16, number: u32) -> Result<Step, AllocError> {
-    step(release(tab, number), one(alloc, released(tab, number)))
+    step(
+        alloc,
+        release(tab, number),
+        one(alloc, released(tab, number)),
+    )
 }
 
 /// A tab's release of its lock, for which another tab's request waits that is that tab's last command.
@@ -109,17 +111,15 @@ fn hands_over(
 ) -> Result<Step, AllocError> {
     let granted = answer(other, request.wrapping_add(1), request, Outcome::Granted);
     step(
+        alloc,
         release(tab, number),
         two(alloc, released(tab, number), granted),
     )
 }
 
 /// A tab's death after which nothing is sent.
-fn dies(alloc: Global, tab: u16) -> Step {
-    Step {
-        event: BookEvent::Dead(tab),
-        reply: nothing(alloc),
-    }
+fn dies(alloc: Global, tab: u16) -> Result<Step, AllocError> {
+    step(alloc, BookEvent::Dead(tab), Ok(nothing(alloc)))
 }
 
 // ---- rows
@@ -133,8 +133,8 @@ fn add(steps: &mut Vec<Step>, step: Result<Step, AllocError>) -> Result<(), Allo
 /// Two tabs' reports, and a request.
 fn three_steps(alloc: Global) -> Result<Vec<Step>, AllocError> {
     let mut steps = Vec::new(alloc);
-    add(&mut steps, Ok(reports(alloc, 1)))?;
-    add(&mut steps, Ok(reports(alloc, 2)))?;
+    add(&mut steps, reports(alloc, 1))?;
+    add(&mut steps, reports(alloc, 2))?;
     add(&mut steps, asks(alloc, 1, 0, Outcome::Granted))?;
     Ok(steps)
 }
@@ -142,10 +142,10 @@ fn three_steps(alloc: Global) -> Result<Vec<Step>, AllocError> {
 /// A tab's report, its request, and its death twice.
 fn four_steps(alloc: Global) -> Result<Vec<Step>, AllocError> {
     let mut steps = Vec::new(alloc);
-    add(&mut steps, Ok(reports(alloc, 1)))?;
+    add(&mut steps, reports(alloc, 1))?;
     add(&mut steps, asks(alloc, 1, 0, Outcome::Granted))?;
-    add(&mut steps, Ok(dies(alloc, 1)))?;
-    add(&mut steps, Ok(dies(alloc, 1)))?;
+    add(&mut steps, dies(alloc, 1))?;
+    add(&mut steps, dies(alloc, 1))?;
     Ok(steps)
 }
 
@@ -224,7 +224,7 @@ fn take_step<J: Generation, R: Wait + Abort>(
     place: usize,
 ) {
     let step = row.get(place).expect(rt, "a step of the row");
-    let receipt = take(rt, alloc, broker, lane, &step.event).expect(rt, "a step");
+    let receipt = take(rt, alloc, broker, lane, step.event.get()).expect(rt, "a step");
     assert!(rt;
         receipt.place as usize == place && is_of(&receipt, row),
         "at {place}"
@@ -254,7 +254,7 @@ fn take_row<J: Generation, R: Wait + Abort>(
     row: &[Step],
 ) {
     for (place, step) in row.iter().enumerate() {
-        let number = lane_of(&step.event, lanes.len());
+        let number = lane_of(step.event.get(), lanes.len());
         let lane = lanes.get_mut(number).expect(rt, "a lane");
         take_step(rt, alloc, broker, lane, row, place);
     }

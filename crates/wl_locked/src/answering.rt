@@ -8,6 +8,7 @@ ghost use Rattle.wl_locked.specs.declared.event.Reply.{Reply};
 
 use crate::event::{BookEvent, Reply};
 use crate::receipt::NotStepped;
+use crate::shared_event::SharedEvent;
 use wl_broker::{Broker, Dropped, Outs};
 use wl_table::IndexedTable;
 
@@ -48,7 +49,7 @@ impl Replies {
 /// Steps the broker, and answers equal replies. Otherwise it is as before.
 pub(crate) fn answer(
     broker: &mut Broker<IndexedTable>,
-    event: &BookEvent,
+    event: &SharedEvent,
 ) -> Result<Replies, NotStepped>
     ensures replies { IfOk result (λ r. AreReplies COPIES (stepped broker.old event.now).1 r) }
     ensures cause { OnOk result ((stepped broker.old event.now).1 ≢ Reply.Dropped Dropped.Memory) }
@@ -56,7 +57,7 @@ pub(crate) fn answer(
     ensures err { OnErr result (broker.new ≡ broker.old) }
     ensures unspent { result ≢ Err NotStepped.GenerationSpent }
 {
-    match event {
+    match event.get() {
         BookEvent::Take(stamped) => match broker.take_copies(stamped, COPIES) {
             Ok(all) => Ok(Replies::Sent(all)),
             Err(Dropped::Memory) => Err(NotStepped::Memory),

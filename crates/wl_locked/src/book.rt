@@ -15,6 +15,7 @@ use crate::lane::{Generation, Kept, Lane, gather};
 use crate::marking::compare;
 use crate::receipt::{CloseFault, History, NotStepped, Receipt, Step};
 use crate::room;
+use crate::shared_event::{EventCopies, SharedEvent, copies};
 use std::alloc::{AllocError, Global};
 use std::marker::Model;
 use std::sync::ledger;
@@ -49,25 +50,18 @@ impl<J: Generation> Model for Book<J> {
     ghost invariant = { λ b. IsKept J.opening b.broker b.steps.items b.marks.items b.limit b.calls.total × (b.limit ≡ J.limit) × (b.spare.parts ≡ 0) × (b.spare.amount ≡ 0) };
 }
 
-/// Two copies of an event, one for each receipt.
-pub(crate) fn copies(alloc: Global, event: &BookEvent) -> Result<(BookEvent, BookEvent), AllocError>
-    ensures first { IfOk result (λ c. c.0 ≡ event.now) }
-    ensures second { IfOk result (λ c. c.1 ≡ event.now) }
-{
-    Ok((event.copy(alloc)?, event.copy(alloc)?))
-}
-
-/// Two copies of an event, and room for one receipt more among these, which make room for so many at once.
+/// An event for a step and its receipts, and room for one receipt more among these, which make room for so many at once.
 pub(crate) fn copies_with_room(
     alloc: Global,
     receipts: &mut Vec<Receipt>,
     at_once: usize,
-    event: &BookEvent,
-) -> Result<(BookEvent, BookEvent), AllocError>
+    event: BookEvent,
+) -> Result<EventCopies, AllocError>
     ensures receipts { receipts.new.items ≡ receipts.old.items }
     ensures room { OnOk result (vec_len receipts.new < vec_capacity receipts.new) }
-    ensures first { IfOk result (λ c. c.0 ≡ event.now) }
-    ensures second { IfOk result (λ c. c.1 ≡ event.now) }
+    ensures stored { IfOk result (λ c. c.stored ≡ event) }
+    ensures first { IfOk result (λ c. c.first ≡ event) }
+    ensures second { IfOk result (λ c. c.second ≡ event) }
 {
     room::for_one(receipts, at_once)?;
     copies(alloc, event)
@@ -128,25 +122,18 @@ impl<J: Generation> Book<J> {
         ensures spent { (result ≡ Err NotStepped.GenerationSpent) ↔ (length self.old ≡ J.limit) }
         ensures err { OnErr result ((self.new ≡ self.old) × (share.new.amount ≡ share.old.amount)) }
     {
-        let Ok((first, second)) = copies(self.alloc, &event) else {
-            drop(event);
+        let Ok(event) = copies(self.alloc, event) else {
             return Err(self.without_memory());
         };
-        let (place, mut replies) = match self.store(share, event) {
-            Ok(stored) => stored,
-            Err(fault) => {
-                drop((first, second));
-                return Err(fault);
-            }
-        };
+        let (place, mut replies) = self.store(share, event.stored)?;
         let one = Receipt {
             place,
-            event: first,
+            event: event.first,
             reply: replies.next(),
         };
         let other = Receipt {
             place,
-            event: second,
+            event: event.second,
             reply: replies.last(),
         };
         Ok((one, other))
@@ -168,7 +155,7 @@ impl<J: Generation> Book<J> {
     pub(crate) fn store(
         &mut self,
         share: &mut Share<J>,
-        event: BookEvent,
+        event: SharedEvent,
     ) -> Result<(u32, Replies), NotStepped>
         requires share { 0 < share.old.parts }
         ensures place { IfOk result (λ r. r.0 ≡ length self.old) }

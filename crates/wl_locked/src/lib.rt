@@ -17,6 +17,7 @@ mod room;
 pub mod shard_lane;
 pub mod sharded;
 pub mod shards;
+pub mod shared_event;
 pub mod work;
 
 pub use book::Book;
@@ -27,5 +28,6 @@ pub use receipt::{CloseFault, History, NotStepped, Receipt, Step};
 pub use shard_lane::ShardLane;
 pub use sharded::Sharded;
 pub use shards::{Blanks, SHARD_LIMIT, Shards};
+pub use shared_event::SharedEvent;
 pub use wl_broker::{Dropped, Frames, Memory, Outs};
 pub use work::{Work, deal, shard_of};

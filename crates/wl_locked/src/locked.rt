@@ -113,8 +113,8 @@ impl<J: Generation> LockedBroker<J> {
         Ok((locked, share, hellos))
     }
 
-    /// Steps the broker once, and gives a receipt of that step, of which the lane keeps a copy. The event is copied, and the
-    /// lane's list grows, before the lock is taken.
+    /// Steps the broker once, and gives a receipt of that step, of which the lane keeps a copy. The event is put where both share
+    /// it, and the lane's list grows, before the lock is taken.
     pub fn take<R: Wait>(
         &self,
         rt: &R,
@@ -129,32 +129,21 @@ impl<J: Generation> LockedBroker<J> {
         ensures kept { IfOk result (λ r. lane.new ≡ lane.old ++ r ∷ []) }
         ensures err { OnErr result (lane.new ≡ lane.old) }
     {
-        let Ok((first, second)) = copies_with_room(
-            self.alloc,
-            &mut lane.receipts,
-            self.at_once,
-            &event,
-        ) else {
-            drop(event);
+        let Ok(event) = copies_with_room(self.alloc, &mut lane.receipts, self.at_once, event) else {
             return Err(lock(&self.book, rt).without_memory());
         };
-        let (place, mut replies) = match lock(&self.book, rt).store(&mut lane.share, event) {
-            Ok(stored) => stored,
-            Err(fault) => {
-                drop((first, second));
-                return Err(fault);
-            }
-        };
-        // The receipts need no lock.
+        let answered = lock(&self.book, rt).store(&mut lane.share, event.stored);
+        // The receipts need no lock, and nor does the event of a refused step.
+        let (place, mut replies) = answered?;
         let kept = Receipt {
             place,
-            event: second,
+            event: event.second,
             reply: replies.next(),
         };
         lane.receipts.push_reserved(kept);
         Ok(Receipt {
             place,
-            event: first,
+            event: event.first,
             reply: replies.last(),
         })
     }

@@ -5,11 +5,12 @@ ghost use Rattle.wl_locked.specs.Receipts.{IsMadeOf, IsMismatch, total};
 ghost use Rattle.wl_locked.specs.declared.shards.TheConstants.{SHARD_LIMIT};
 ghost use Rattle.wl_locked.specs.Marks.{IsFree, IsMarked, IsRefused, AreMarked, AreRefused};
 
-use crate::event::{BookEvent, Reply};
+use crate::event::Reply;
 use crate::lane::Kept;
 use crate::receipt::{Receipt, Step};
+use crate::shared_event::SharedEvent;
 
-fn is_event(one: &BookEvent, other: &BookEvent) -> bool
+fn is_event(one: &SharedEvent, other: &SharedEvent) -> bool
     ensures { IsTrue result ↔ (one.now ≡ other.now) }
 {
     one == other

@@ -3,7 +3,8 @@
 ghost use Rattle.std.specs.Prelude.{◌≡◌};
 ghost use Rattle.wl_locked.specs.declared.receipt.NotStepped.TheVariants.{Memory};
 
-use crate::event::{BookEvent, Reply};
+use crate::event::Reply;
+use crate::shared_event::SharedEvent;
 use std::alloc::AllocError;
 use std::marker::Model;
 use thiserror::Error;
@@ -11,7 +12,7 @@ use thiserror::Error;
 /// One step of the broker: what it was told, and what it answered.
 #[derive(Drop)]
 pub struct Step {
-    pub event: BookEvent,
+    pub event: SharedEvent,
     pub reply: Reply,
 }
 
@@ -20,7 +21,7 @@ pub struct Step {
 pub struct Receipt {
     /// Counted from 0.
     pub place: u32,
-    pub event: BookEvent,
+    pub event: SharedEvent,
     pub reply: Reply,
 }
 

@@ -9,7 +9,7 @@ use std::process::Abort;
 use std::rt::Clock;
 use std::sync::Wait;
 use wl_frames::Frame;
-use wl_locked::{BookEvent, NotStepped, Receipt, Reply, Work};
+use wl_locked::{BookEvent, NotStepped, Receipt, Reply, SharedEvent, Work};
 use wl_workers::{Cause, Desk, EVENT_LIMIT, Gate, Intake, Outlet, OutletFault, lane};
 
 /// Gives deaths without an end.
@@ -73,12 +73,12 @@ fn add(desk: &mut Answers, answer: Result<Receipt, NotStepped>) -> Result<(), Al
 }
 
 /// The receipt of tab 1's death, with this reply.
-fn receipt(reply: Reply) -> Receipt {
-    Receipt {
+fn receipt(alloc: Global, reply: Reply) -> Result<Receipt, AllocError> {
+    Ok(Receipt {
         place: 0,
-        event: BookEvent::Dead(1),
+        event: SharedEvent::new(alloc, BookEvent::Dead(1))?,
         reply,
-    }
+    })
 }
 
 /// Memory is refused once, and then tab 1 has a lock.
@@ -87,7 +87,7 @@ fn lost_and_granted(alloc: Global) -> Result<Answers, AllocError> {
         left: VecDeque::new(alloc),
     };
     add(&mut desk, Err(NotStepped::Memory))?;
-    add(&mut desk, Ok(receipt(granted(alloc)?)))?;
+    add(&mut desk, Ok(receipt(alloc, granted(alloc)?)?))?;
     Ok(desk)
 }
 

@@ -307,7 +307,7 @@ fn answer(broker: &mut Broker<IndexedTable>, event: &BookEvent) -> Result<Reply,
 pub fn replay(rt: &impl Abort, alloc: Global, history: &History) -> Result<(), AllocError> {
     let (mut broker, _hellos) = Broker::<IndexedTable>::start(alloc, 1, &[])?;
     for step in history.steps() {
-        let reply = answer(&mut broker, &step.event)?;
+        let reply = answer(&mut broker, step.event.get())?;
         assert!(rt; reply == step.reply);
         drop(reply);
     }
