@@ -1,7 +1,7 @@
 //! A tab's channels.
 
 ghost use Rattle.std.specs.Prelude.{◌≡◌, ◌==◌, ◌<◌, ◌^◌, ◌++◌, length, filter, not, true, None, Some, Err, IfOk, OnOk, IfErr, OnErr, IsTrue};
-ghost use Rattle.wl_draft.specs.Refusals.{RefusesBy};
+ghost use Rattle.wl_draft.specs.Refusals.{RefusesBy, RefusesOnlyBy};
 ghost use Rattle.wl_draft.specs.Tables.{put};
 ghost use Rattle.wl_grammar.specs.Grammar.{IsWellFormed};
 ghost use Rattle.wl_broadcast.specs.OpenObjects.{all_seen, open_from, AreChannels};
@@ -67,11 +67,9 @@ impl Channels {
 
     /// Opens a channel object of the name, behind the others.
     pub fn open(&mut self, name: &str) -> Result<Channel, ChannelFault>
-        ensures ok { OnOk result ((self.new ≡ opened name.now self.old)
-            × (open_refusal name.now self.old ≡ None)) }
+        ensures ok { OnOk result (self.new ≡ opened name.now self.old) }
         ensures channel { IfOk result (λ c. (c.tab ≡ self.old.tab) × (c.number ≡ length self.old.objects)) }
         ensures refused { RefusesBy result (open_refusal name.now self.old) ChannelFault.Memory }
-        ensures memory { result ≡ Err ChannelFault.Memory → open_refusal name.now self.old ≡ None }
         ensures err { OnErr result (self.new ≡ self.old) }
     {
         if let Some(fault) = self.open_refusal(name) {
@@ -105,8 +103,6 @@ impl Channels {
     /// Posts data on a channel: the tab's other open objects of its name get it at once, oldest first.
     pub fn post(&mut self, channel: &Channel, bytes: &[u8]) -> Result<Posted, ChannelFault>
         ensures ok { OnOk result (self.new ≡ posted channel.now.number bytes.now self.old) }
-        ensures allowed { OnOk result (post_refusal channel.now.tab channel.now.number bytes.now self.old
-            ≡ None) }
         ensures posted { IfOk result (λ p.
             (p.frame ≡ post_frame self.old.posts (name_at self.old.objects channel.now.number) bytes.now)
             × (p.took ≡ taking (Some channel.now.number)
@@ -115,8 +111,6 @@ impl Channels {
             (name_at self.old.objects channel.now.number) self.old.objects)) }
         ensures refused { RefusesBy result
             (post_refusal channel.now.tab channel.now.number bytes.now self.old) ChannelFault.Memory }
-        ensures memory { result ≡ Err ChannelFault.Memory
-            → post_refusal channel.now.tab channel.now.number bytes.now self.old ≡ None }
         ensures well_formed { IfOk result (λ p. IsWellFormed p.frame) }
         ensures err { OnErr result (self.new ≡ self.old) }
     {
@@ -157,11 +151,9 @@ impl Channels {
 
     /// Takes another tab's post in. An old one changes nothing.
     pub fn heard(&mut self, frame: &Frame) -> Result<Hearing, ChannelFault>
-        ensures ok { OnOk result ((self.new ≡ after_hearing frame.now self.old)
-            × (heard_refusal frame.now ≡ None)) }
+        ensures ok { OnOk result (self.new ≡ after_hearing frame.now self.old) }
         ensures hearing { IfOk result (λ h. h ≡ hearing_of frame.now self.old) }
         ensures refused { RefusesBy result (heard_refusal frame.now) ChannelFault.Memory }
-        ensures memory { result ≡ Err ChannelFault.Memory → heard_refusal frame.now ≡ None }
         ensures growth { result ≡ Err ChannelFault.Memory → is_news frame.now self.old ≡ true }
         ensures err { OnErr result (self.new ≡ self.old) }
     {
@@ -199,9 +191,7 @@ impl Channels {
     /// How many posts wait in the channel's inbox.
     pub fn inbox(&self, channel: &Channel) -> Result<usize, ChannelFault>
         ensures ok { IfOk result (λ n. n ≡ length (inbox_at self.now.objects channel.now.number)) }
-        ensures allowed { OnOk result (own_refusal channel.now.tab channel.now.number self.now ≡ None) }
-        ensures refused { IfErr result (λ e.
-            own_refusal channel.now.tab channel.now.number self.now ≡ Some e) }
+        ensures refused { RefusesOnlyBy result (own_refusal channel.now.tab channel.now.number self.now) }
     {
         if !self.is_own(channel) {
             return Err(ChannelFault::ForeignChannel);
@@ -214,9 +204,7 @@ impl Channels {
         ensures ok { OnOk result (self.new ≡ read_at channel.now.number self.old) }
         ensures letter { IfOk result (λ letter.
             letter ≡ first_of (inbox_at self.old.objects channel.now.number)) }
-        ensures allowed { OnOk result (own_refusal channel.now.tab channel.now.number self.old ≡ None) }
-        ensures refused { IfErr result (λ e.
-            own_refusal channel.now.tab channel.now.number self.old ≡ Some e) }
+        ensures refused { RefusesOnlyBy result (own_refusal channel.now.tab channel.now.number self.old) }
         ensures err { OnErr result (self.new ≡ self.old) }
     {
         if !self.is_own(channel) {

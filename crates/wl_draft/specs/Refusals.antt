@@ -1,6 +1,11 @@
 -- How a call refuses.
-use Rattle.std.specs.Prelude.{◌≡◌, ◌≢◌, Option, Some, Result, IfErr}
+use Rattle.std.specs.Prelude.{◌≡◌, ◌≢◌, Option, Some, None, Result, Err, OnOk, IfErr}
 
--- its error is the one that the definition names, or out of memory
+-- by this alone: it succeeds only where nothing is refused, and its error is what the definition names
+abbrev pub RefusesOnlyBy : {T E : Type 0} → Result T E → Option E → Type 0
+RefusesOnlyBy result refusal = OnOk result (refusal ≡ None) × IfErr result (λ e. refusal ≡ Some e)
+
+-- or for want of memory, but only where nothing else is refused
 abbrev pub RefusesBy : {T E : Type 0} → Result T E → Option E → E → Type 0
-RefusesBy result refusal memory = IfErr result (λ e. e ≢ memory → refusal ≡ Some e)
+RefusesBy result refusal memory =
+    OnOk result (refusal ≡ None) × IfErr result (λ e. e ≢ memory → refusal ≡ Some e) × (result ≡ Err memory → refusal ≡ None)

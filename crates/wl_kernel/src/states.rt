@@ -2,6 +2,7 @@
 
 ghost use Rattle.std.specs.Prelude.{◌≡◌, ◌≢◌, ◌<◌, ◌≤◌, length, None, Some, Err, IfOk, OnOk, IfErr, OnErr, IsTrue, false};
 ghost use Rattle.std.specs.Borrow.{sem};
+ghost use Rattle.wl_draft.specs.Refusals.{RefusesOnlyBy};
 ghost use Rattle.wl_grammar.specs.Grammar.{IsTab, IsWellFormed};
 ghost use Rattle.wl_kernel.specs.Kernel.{no_tabs, start_refusal, start_frame, may_stop, stopped};
 ghost use Rattle.wl_kernel.specs.Routes.{route_down_refusal, routed_down};
@@ -117,8 +118,7 @@ impl Up {
     /// Passes on what the broker behind a link says to a living tab. It takes no memory.
     pub fn route_down(&self, link: u32, frame: Frame) -> Result<(u16, Frame), RouteFault>
         ensures routed { IfOk result (λ r. routed_down frame ≡ Some r) }
-        ensures allowed { OnOk result (route_down_refusal link frame self.now ≡ None) }
-        ensures refused { IfErr result (λ e. route_down_refusal link frame self.now ≡ Some e) }
+        ensures refused { RefusesOnlyBy result (route_down_refusal link frame self.now) }
         ensures well_formed { IfOk result (λ r. IsWellFormed frame → IsTab r.0 × IsWellFormed r.1) }
     {
         self.tabs.route_down(link, frame)

@@ -3,7 +3,7 @@
 ghost use Rattle.std.specs.Prelude.{◌≡◌, ◌≢◌, ◌<◌, ◌≤◌, [], length, None, Some, Err, IfOk, OnOk, IfErr, OnErr, IfSome, IsTrue, true, false, option_map, if◌then◌else◌, vec_len, vec_capacity};
 ghost use Rattle.std.specs.BTreeMap.{insert_entry};
 ghost use Rattle.std.specs.Ordering.{nat_cmp};
-ghost use Rattle.wl_draft.specs.Refusals.{RefusesBy};
+ghost use Rattle.wl_draft.specs.Refusals.{RefusesBy, RefusesOnlyBy};
 ghost use Rattle.wl_grammar.specs.Grammar.{IsTab, IsUpward, IsPost, IsWellFormed};
 ghost use Rattle.wl_grammar.specs.declared.frame.Frame.TheVariants as frame;
 ghost use Rattle.wl_kernel.specs.declared.routes.Routed.TheVariants.{Broker};
@@ -106,11 +106,9 @@ impl Tabs {
 
     /// Opens a tab in a partition, whose number is answered.
     pub fn open(&mut self, tab: u16, partition: Partition) -> Result<u16, OpenFault>
-        ensures ok { OnOk result ((self.new ≡ opened tab partition self.old)
-            × (open_refusal tab partition self.old ≡ None)) }
+        ensures ok { OnOk result (self.new ≡ opened tab partition self.old) }
         ensures number { IfOk result (λ n. n ≡ number_for tab partition self.old) }
         ensures refused { RefusesBy result (open_refusal tab partition self.old) OpenFault.Memory }
-        ensures memory { result ≡ Err OpenFault.Memory → open_refusal tab partition self.old ≡ None }
         ensures err { OnErr result (self.new ≡ self.old) }
     {
         if let Some(fault) = self.open_fault(tab, &partition) {
@@ -140,8 +138,8 @@ impl Tabs {
 
     /// A tab is dead from now on. It takes no memory.
     pub fn kill(&mut self, tab: u16) -> Result<(), KillFault>
-        ensures ok { OnOk result ((self.new ≡ killed tab self.old) × (kill_refusal tab self.old ≡ None)) }
-        ensures refused { IfErr result (λ e. kill_refusal tab self.old ≡ Some e) }
+        ensures ok { OnOk result (self.new ≡ killed tab self.old) }
+        ensures refused { RefusesOnlyBy result (kill_refusal tab self.old) }
         ensures err { OnErr result (self.new ≡ self.old) }
     {
         let place = self.living_place(tab)?;
@@ -156,9 +154,7 @@ impl Tabs {
     /// partition.
     pub fn route_up(&self, tab: u16, frame: Frame) -> Result<Routed, RouteFault>
         ensures routed { IfOk result (λ routed. routed ≡ routed_up tab frame self.now) }
-        ensures allowed { OnOk result (route_up_refusal tab frame self.now ≡ None) }
         ensures refused { RefusesBy result (route_up_refusal tab frame self.now) RouteFault.Memory }
-        ensures memory { result ≡ Err RouteFault.Memory → route_up_refusal tab frame self.now ≡ None }
         ensures growth { result ≡ Err RouteFault.Memory → TakesMemory tab frame self.now }
         ensures well_formed { IfOk result (λ routed. IsWellFormed frame → IsWellRouted routed) }
     {
@@ -174,8 +170,7 @@ impl Tabs {
     /// Passes on what a broker says to a living tab. It takes no memory.
     pub(crate) fn route_down(&self, link: u32, frame: Frame) -> Result<(u16, Frame), RouteFault>
         ensures routed { IfOk result (λ r. routed_down frame ≡ Some r) }
-        ensures allowed { OnOk result (route_down_refusal link frame self.now ≡ None) }
-        ensures refused { IfErr result (λ e. route_down_refusal link frame self.now ≡ Some e) }
+        ensures refused { RefusesOnlyBy result (route_down_refusal link frame self.now) }
         ensures well_formed { IfOk result (λ r. IsWellFormed frame → IsTab r.0 × IsWellFormed r.1) }
     {
         if link != self.generation {
@@ -200,9 +195,7 @@ impl Tabs {
     pub(crate) fn listed(&self, listed: &[u16]) -> Result<Sequence<(u16, u16)>, StartFault>
         ensures placed { IfOk result (λ list. list ≡ placed listed.now self.now) }
         ensures well_formed { IfOk result IsList }
-        ensures allowed { OnOk result (start_refusal listed.now self.now ≡ None) }
         ensures refused { RefusesBy result (start_refusal listed.now self.now) StartFault.Memory }
-        ensures memory { result ≡ Err StartFault.Memory → start_refusal listed.now self.now ≡ None }
         ensures growth { result ≡ Err StartFault.Memory → 0 < length listed.now }
     {
         if listed.len() > LIST_LIMIT {
@@ -259,8 +252,7 @@ impl Tabs {
     /// Where the row of a living tab stands.
     fn living_place(&self, tab: u16) -> Result<usize, KillFault>
         ensures place { IfOk result (λ place. place_in self.now.opened tab ≡ Some place) }
-        ensures allowed { OnOk result (kill_refusal tab self.now ≡ None) }
-        ensures refused { IfErr result (λ e. kill_refusal tab self.now ≡ Some e) }
+        ensures refused { RefusesOnlyBy result (kill_refusal tab self.now) }
     {
         let Some(place) = self.places.get(&tab) else {
             return Err(KillFault::NoTab);
@@ -292,8 +284,7 @@ impl Tabs {
             tab_of self.now tab ≡ Some (seen_in (partition_of self.now tab) found.row.now)) }
         ensures home { IfOk result (λ found. found.home.now
             ≡ (partition_number self.now tab, living_of self.now (partition_of self.now tab))) }
-        ensures allowed { OnOk result (tab_refusal self.now tab ≡ None) }
-        ensures refused { IfErr result (λ e. tab_refusal self.now tab ≡ Some e) }
+        ensures refused { RefusesOnlyBy result (tab_refusal self.now tab) }
         ensures no_memory { IfErr result (λ e. e ≢ RouteFault.Memory) }
         ensures from_one { (o : OpenedTab) → tab_of self.now tab ≡ Some o
             → (1 ≤ tab) × (1 ≤ partition_number self.now tab) }
@@ -308,8 +299,7 @@ impl Tabs {
     /// What a living tab says to the broker, stamped.
     fn to_broker(&self, tab: u16, inner: Upward) -> Result<Routed, RouteFault>
         ensures routed { IfOk result (λ routed. routed ≡ Broker (stamped self.now tab inner)) }
-        ensures allowed { OnOk result (tab_refusal self.now tab ≡ None) }
-        ensures refused { IfErr result (λ e. tab_refusal self.now tab ≡ Some e) }
+        ensures refused { RefusesOnlyBy result (tab_refusal self.now tab) }
         ensures no_memory { IfErr result (λ e. e ≢ RouteFault.Memory) }
         ensures well_formed { IfOk result (λ routed. IsUpward inner → IsWellRouted routed) }
     {
@@ -325,9 +315,7 @@ impl Tabs {
     /// A living tab's post as the others of its partition hear it.
     fn to_others(&self, tab: u16, post: Post) -> Result<Routed, RouteFault>
         ensures routed { IfOk result (λ routed. routed ≡ routed_up tab (frame.Post post) self.now) }
-        ensures allowed { OnOk result (tab_refusal self.now tab ≡ None) }
         ensures refused { RefusesBy result (tab_refusal self.now tab) RouteFault.Memory }
-        ensures memory { result ≡ Err RouteFault.Memory → tab_refusal self.now tab ≡ None }
         ensures growth { result ≡ Err RouteFault.Memory → hearers tab self.now ≢ [] }
         ensures well_formed { IfOk result (λ routed. IsPost post → IsWellRouted routed) }
     {

@@ -1,7 +1,7 @@
 //! The kernel's table of tabs, whether a broker runs or none.
 
-ghost use Rattle.std.specs.Prelude.{◌≡◌, ◌≢◌, ◌≤◌, [], None, Some, Err, IfOk, OnOk, IfErr, OnErr, true, false, is_some, if◌then◌else◌};
-ghost use Rattle.wl_draft.specs.Refusals.{RefusesBy};
+ghost use Rattle.std.specs.Prelude.{◌≡◌, ◌≢◌, ◌≤◌, [], None, Some, Err, IfOk, OnOk, IfErr, OnErr, true, is_some, if◌then◌else◌};
+ghost use Rattle.wl_draft.specs.Refusals.{RefusesBy, RefusesOnlyBy};
 ghost use Rattle.wl_grammar.specs.Grammar.{IsTab, IsWellFormed};
 ghost use Rattle.wl_kernel.specs.Kernel.{no_tabs, living_tabs, partition_number, number_for, open_refusal, opened, kill_refusal, killed, start_refusal};
 ghost use Rattle.wl_kernel.specs.Routes.{route_up_refusal, routed_up, TakesMemory, IsWellRouted, routed_down};
@@ -59,8 +59,7 @@ impl State {
         requires { IsReached (seen self).kernel }
         ensures ok { OnOk result.1 (seen result.0 ≡ halted (seen self)) }
         ensures generation { IfOk result.1 (λ g. g ≡ (seen self).kernel.generation) }
-        ensures allowed { OnOk result.1 (stop_refusal (seen self) ≡ None) }
-        ensures refused { IfErr result.1 (λ e. stop_refusal (seen self) ≡ Some e) }
+        ensures refused { RefusesOnlyBy result.1 (stop_refusal (seen self)) }
         ensures err { OnErr result.1 (seen result.0 ≡ seen self) }
         ensures reached { IsReached (seen result.0).kernel }
     {
@@ -232,10 +231,8 @@ impl Supervisor {
     #[tactic(auto, using(crate::proofs::Reaching::opens_reached))]
     pub fn open(&mut self, tab: u16, partition: Partition) -> Result<u16, OpenFault>
         ensures ok { OnOk result (self.new ≡ with_kernel (opened tab partition self.old.kernel) self.old) }
-        ensures allowed { OnOk result (open_refusal tab partition self.old.kernel ≡ None) }
         ensures number { IfOk result (λ n. n ≡ number_for tab partition self.old.kernel) }
         ensures refused { RefusesBy result (open_refusal tab partition self.old.kernel) OpenFault.Memory }
-        ensures memory { result ≡ Err OpenFault.Memory → open_refusal tab partition self.old.kernel ≡ None }
         ensures err { OnErr result (self.new ≡ self.old) }
     {
         match &mut self.state {
@@ -262,10 +259,7 @@ impl Supervisor {
         ensures routed { IfOk result (λ s. s.routed ≡ routed_up tab frame self.now.kernel) }
         ensures partition { IfOk result (λ s. s.partition ≡ partition_number self.now.kernel tab) }
         ensures current { IfOk result (λ s. s.current ≡ current self.now) }
-        ensures allowed { OnOk result (route_up_refusal tab frame self.now.kernel ≡ None) }
         ensures refused { RefusesBy result (route_up_refusal tab frame self.now.kernel) RouteFault.Memory }
-        ensures memory { result ≡ Err RouteFault.Memory
-            → route_up_refusal tab frame self.now.kernel ≡ None }
         ensures growth { result ≡ Err RouteFault.Memory → TakesMemory tab frame self.now.kernel }
         ensures well_formed { IfOk result (λ s. IsWellFormed frame → IsWellRouted s.routed) }
         ensures reached { IsReached self.now.kernel }
@@ -282,8 +276,7 @@ impl Supervisor {
     pub fn deliver(&self, link: u32, frame: Frame) -> Result<Delivery, RouteFault>
         ensures routed { IfOk result (λ d. routed_down frame ≡ Some (d.tab, d.frame)) }
         ensures partition { IfOk result (λ d. d.partition ≡ partition_number self.now.kernel d.tab) }
-        ensures allowed { OnOk result (down_refusal link frame self.now ≡ None) }
-        ensures refused { IfErr result (λ e. down_refusal link frame self.now ≡ Some e) }
+        ensures refused { RefusesOnlyBy result (down_refusal link frame self.now) }
         ensures well_formed { IfOk result (λ d. IsWellFormed frame → IsTab d.tab × IsWellFormed d.frame) }
     {
         let (tab, frame) = match &self.state {
@@ -329,8 +322,7 @@ impl Supervisor {
     pub fn stop(&mut self) -> Result<u32, NotStopped>
         ensures ok { OnOk result (self.new ≡ halted self.old) }
         ensures generation { IfOk result (λ g. g ≡ self.old.kernel.generation) }
-        ensures allowed { OnOk result (stop_refusal self.old ≡ None) }
-        ensures refused { IfErr result (λ e. stop_refusal self.old ≡ Some e) }
+        ensures refused { RefusesOnlyBy result (stop_refusal self.old) }
         ensures err { OnErr result (self.new ≡ self.old) }
     {
         let (state, stopped) = self.take_state().stop();

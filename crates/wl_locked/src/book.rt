@@ -15,7 +15,7 @@ use crate::lane::{Generation, Kept, Lane, gather};
 use crate::marking::compare;
 use crate::receipt::{CloseFault, History, NotStepped, Receipt, Step};
 use crate::room;
-use crate::shared_event::{EventCopies, SharedEvent, copies};
+use crate::shared_event::{EventHandles, SharedEvent, handles_of};
 use std::alloc::{AllocError, Global};
 use std::marker::Model;
 use std::sync::ledger;
@@ -50,21 +50,22 @@ impl<J: Generation> Model for Book<J> {
     ghost invariant = { λ b. IsKept J.opening b.broker b.steps.items b.marks.items b.limit b.calls.total × (b.limit ≡ J.limit) × (b.spare.parts ≡ 0) × (b.spare.amount ≡ 0) };
 }
 
-/// An event for a step and its receipts, and room for one receipt more among these, which make room for so many at once.
-pub(crate) fn copies_with_room(
+/// Handles of an event, for a step and its receipts, and room for one receipt more among these, which make room for so many at
+/// once.
+pub(crate) fn handles_with_room(
     alloc: Global,
     receipts: &mut Vec<Receipt>,
     at_once: usize,
     event: BookEvent,
-) -> Result<EventCopies, AllocError>
+) -> Result<EventHandles, AllocError>
     ensures receipts { receipts.new.items ≡ receipts.old.items }
     ensures room { OnOk result (vec_len receipts.new < vec_capacity receipts.new) }
-    ensures stored { IfOk result (λ c. c.stored ≡ event) }
-    ensures first { IfOk result (λ c. c.first ≡ event) }
-    ensures second { IfOk result (λ c. c.second ≡ event) }
+    ensures stored { IfOk result (λ h. h.stored ≡ event) }
+    ensures first { IfOk result (λ h. h.first ≡ event) }
+    ensures second { IfOk result (λ h. h.second ≡ event) }
 {
     room::for_one(receipts, at_once)?;
-    copies(alloc, event)
+    handles_of(alloc, event)
 }
 
 impl<J: Generation> Book<J> {
@@ -122,7 +123,7 @@ impl<J: Generation> Book<J> {
         ensures spent { (result ≡ Err NotStepped.GenerationSpent) ↔ (length self.old ≡ J.limit) }
         ensures err { OnErr result ((self.new ≡ self.old) × (share.new.amount ≡ share.old.amount)) }
     {
-        let Ok(event) = copies(self.alloc, event) else {
+        let Ok(event) = handles_of(self.alloc, event) else {
             return Err(self.without_memory());
         };
         let (place, mut replies) = self.store(share, event.stored)?;

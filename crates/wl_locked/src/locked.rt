@@ -9,7 +9,7 @@ ghost use Rattle.wl_locked.specs.Receipts.{total, IsMadeOf, IsMismatch};
 ghost use Rattle.wl_locked.specs.Closing.{IsCompared};
 ghost use Rattle.wl_locked.specs.declared.shards.TheConstants.{SHARD_LIMIT};
 
-use crate::book::{Book, Ending, copies_with_room};
+use crate::book::{Book, Ending, handles_with_room};
 use crate::event::{BookEvent, Reply};
 use crate::lane::{Generation, Kept, Lane};
 use crate::locking::lock;
@@ -129,7 +129,8 @@ impl<J: Generation> LockedBroker<J> {
         ensures kept { IfOk result (λ r. lane.new ≡ lane.old ++ r ∷ []) }
         ensures err { OnErr result (lane.new ≡ lane.old) }
     {
-        let Ok(event) = copies_with_room(self.alloc, &mut lane.receipts, self.at_once, event) else {
+        let Ok(event) = handles_with_room(self.alloc, &mut lane.receipts, self.at_once, event)
+        else {
             return Err(lock(&self.book, rt).without_memory());
         };
         let answered = lock(&self.book, rt).store(&mut lane.share, event.stored);

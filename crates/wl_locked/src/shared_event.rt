@@ -33,7 +33,7 @@ impl SharedEvent {
         })
     }
 
-    /// The same event for one more. It takes no memory.
+    /// The same event for one more. It takes no memory, and is refused where as many share it as can be counted.
     pub(crate) fn share(&self) -> Result<SharedEvent, AllocError>
         ensures { IfOk result (λ shared. shared ≡ self.now) }
     {
@@ -42,6 +42,7 @@ impl SharedEvent {
         })
     }
 
+    /// The event itself.
     pub fn get(&self) -> &BookEvent
         ensures { result.now ≡ self.now }
     {
@@ -67,24 +68,24 @@ impl Eq for SharedEvent {
     ghost laws = { laws-law };
 }
 
-/// An event for the step of it, and for its two receipts.
+/// Handles of one event: for the step of it and for its two receipts.
 #[derive(Drop)]
-pub(crate) struct EventCopies {
+pub(crate) struct EventHandles {
     pub(crate) stored: SharedEvent,
     pub(crate) first: SharedEvent,
     pub(crate) second: SharedEvent,
 }
 
-/// An event for the step of it, and for its two receipts, which share it.
-pub(crate) fn copies(alloc: Global, event: BookEvent) -> Result<EventCopies, AllocError>
-    ensures stored { IfOk result (λ c. c.stored ≡ event) }
-    ensures first { IfOk result (λ c. c.first ≡ event) }
-    ensures second { IfOk result (λ c. c.second ≡ event) }
+/// Handles of an event, for the step of it and for its two receipts.
+pub(crate) fn handles_of(alloc: Global, event: BookEvent) -> Result<EventHandles, AllocError>
+    ensures stored { IfOk result (λ h. h.stored ≡ event) }
+    ensures first { IfOk result (λ h. h.first ≡ event) }
+    ensures second { IfOk result (λ h. h.second ≡ event) }
 {
     let stored = SharedEvent::new(alloc, event)?;
     let first = stored.share()?;
     let second = stored.share()?;
-    Ok(EventCopies {
+    Ok(EventHandles {
         stored,
         first,
         second,

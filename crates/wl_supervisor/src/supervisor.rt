@@ -1,6 +1,6 @@
 //! The supervisor, with the broker that is up.
 
-ghost use Rattle.std.specs.Prelude.{◌≡◌, ◌≢◌, [], None, Err, IfOk, OnOk, OnErr, is_some, if◌then◌else◌};
+ghost use Rattle.std.specs.Prelude.{◌≡◌, ◌≢◌, [], IfOk, OnOk, OnErr, is_some, if◌then◌else◌};
 ghost use Rattle.wl_draft.specs.Refusals.{RefusesBy};
 ghost use Rattle.wl_grammar.specs.Grammar.{TabsRiseFrom};
 ghost use Rattle.wl_broker.specs.Broker.{started, hellos};
@@ -76,11 +76,8 @@ impl Supervisor {
         ensures ok { OnOk result (self.new
             ≡ with_kernel (opened tab partition (kernel_of self.old)) self.old) }
         ensures number { IfOk result (λ number. number ≡ number_for tab partition (kernel_of self.old)) }
-        ensures allowed { OnOk result (open_refusal tab partition (kernel_of self.old) ≡ None) }
         ensures refused { RefusesBy result
             (open_refusal tab partition (kernel_of self.old)) OpenFault.Memory }
-        ensures memory { result ≡ Err OpenFault.Memory
-            → open_refusal tab partition (kernel_of self.old) ≡ None }
         ensures err { OnErr result (self.new ≡ self.old) }
     {
         match self {

@@ -170,9 +170,9 @@ numbered-heard_frame c d latest kept (frame.Heard x) n e is =
     subst (λ s. IsNumbered s latest kept) (sym is) (numbered-hearing c latest kept x (is_old c x.source x.number) n)
 numbered-heard_frame c d latest kept f n e is = cc
 
-pub numbered-heard : (c d : ChannelState) (latest : Option ℕ) (kept : List Owned) (f : Frame) (r : Result Hearing ChannelFault) → IsNumbered c latest kept → OnOk r ((d ≡ after_hearing f c) × (heard_refusal f ≡ None)) → OnErr r (d ≡ c) → IsNumbered d latest kept
-numbered-heard c d latest kept f (Ok h) n ok err = numbered-heard_frame c d latest kept f n ok.1 ok.0
-numbered-heard c d latest kept f (Err e) n ok err = subst (λ s. IsNumbered s latest kept) (sym err) n
+pub numbered-heard : (c d : ChannelState) (latest : Option ℕ) (kept : List Owned) (f : Frame) (r : Result Hearing ChannelFault) → IsNumbered c latest kept → OnOk r (d ≡ after_hearing f c) → OnOk r (heard_refusal f ≡ None) → OnErr r (d ≡ c) → IsNumbered d latest kept
+numbered-heard c d latest kept f (Ok h) n ok allowed err = numbered-heard_frame c d latest kept f n allowed ok
+numbered-heard c d latest kept f (Err e) n ok allowed err = subst (λ s. IsNumbered s latest kept) (sym err) n
 
 pub numbered-read : (c d : ChannelState) (latest : Option ℕ) (kept : List Owned) (k : ℕ) → IsNumbered c latest kept → d ≡ read_at k c → IsNumbered d latest kept
 numbered-read c d latest kept k n is =

@@ -1,7 +1,7 @@
 //! The table of the tabs' channels: each tab has a row from its opening on.
 
-ghost use Rattle.std.specs.Prelude.{◌≡◌, nat_lt, length, true, is_some, Some, None, Ok, Err, IfOk, OnOk, IfErr, OnErr, if◌then◌else◌};
-ghost use Rattle.wl_draft.specs.Refusals.{RefusesBy};
+ghost use Rattle.std.specs.Prelude.{◌≡◌, nat_lt, length, true, is_some, Some, None, Ok, Err, IfOk, OnOk, OnErr, if◌then◌else◌};
+ghost use Rattle.wl_draft.specs.Refusals.{RefusesBy, RefusesOnlyBy};
 ghost use Rattle.wl_draft.specs.Tables.{find, put};
 ghost use Rattle.wl_broadcast.specs.Channels.{opened, open_refusal, posted, post_frame, name_at, taking, full, after_hearing, hearing_of, heard_refusal, read_at, closed_at, first_of, inbox_at, is_open_at};
 ghost use Rattle.wl_tab.specs.Tabs.{channels_in};
@@ -24,12 +24,8 @@ pub fn open_at(
     ensures ok { let c = channels_in tab (find rows.old.entries tab) in
         OnOk result (rows.new.entries ≡ put tab (opened name.now c) rows.old.entries) }
     ensures number { IfOk result (λ n. n ≡ length (channels_in tab (find rows.old.entries tab)).objects) }
-    ensures allowed { OnOk result (open_refusal name.now (channels_in tab (find rows.old.entries tab))
-        ≡ None) }
     ensures refused { RefusesBy result
         (open_refusal name.now (channels_in tab (find rows.old.entries tab))) ChannelFault.Memory }
-    ensures memory { result ≡ Err ChannelFault.Memory
-        → open_refusal name.now (channels_in tab (find rows.old.entries tab)) ≡ None }
     ensures err { OnErr result (rows.new.entries ≡ rows.old.entries) }
 {
     let Some(channels) = rows.get_mut(&tab) else {
@@ -68,8 +64,6 @@ pub fn post_at(
     requires there { is_some (find rows.old.entries tab) ≡ true }
     ensures ok { let c = channels_in tab (find rows.old.entries tab) in
         OnOk result (rows.new.entries ≡ put tab (posted number bytes.now c) rows.old.entries) }
-    ensures allowed { OnOk result
-        (posting_refusal number bytes.now (channels_in tab (find rows.old.entries tab)) ≡ None) }
     ensures posted { let c = channels_in tab (find rows.old.entries tab) in IfOk result (λ p.
         (p.frame ≡ post_frame c.posts (name_at c.objects number) bytes.now)
         × (p.took ≡ taking (Some number) (name_at c.objects number) c.objects)
@@ -77,8 +71,6 @@ pub fn post_at(
     ensures refused { RefusesBy result
         (posting_refusal number bytes.now (channels_in tab (find rows.old.entries tab)))
         (ChannelRefusal.Fault ChannelFault.Memory) }
-    ensures memory { result ≡ Err (ChannelRefusal.Fault ChannelFault.Memory)
-        → posting_refusal number bytes.now (channels_in tab (find rows.old.entries tab)) ≡ None }
     ensures err { OnErr result (rows.new.entries ≡ rows.old.entries) }
 {
     let Some(channels) = rows.get_mut(&tab) else {
@@ -96,12 +88,10 @@ pub fn read_at(
     requires there { is_some (find rows.old.entries tab) ≡ true }
     ensures ok { let c = channels_in tab (find rows.old.entries tab) in
         OnOk result (rows.new.entries ≡ put tab (read_at number c) rows.old.entries) }
-    ensures allowed { OnOk result (number_refusal number (channels_in tab (find rows.old.entries tab))
-        ≡ None) }
     ensures letter { IfOk result (λ letter.
         letter ≡ first_of (inbox_at (channels_in tab (find rows.old.entries tab)).objects number)) }
-    ensures refused { IfErr result (λ e.
-        number_refusal number (channels_in tab (find rows.old.entries tab)) ≡ Some e) }
+    ensures refused { RefusesOnlyBy result
+        (number_refusal number (channels_in tab (find rows.old.entries tab))) }
     ensures err { OnErr result (rows.new.entries ≡ rows.old.entries) }
 {
     let Some(channels) = rows.get_mut(&tab) else {

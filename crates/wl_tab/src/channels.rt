@@ -1,7 +1,7 @@
 //! A tab's channels by their numbers, with the open ones' tokens.
 
-ghost use Rattle.std.specs.Prelude.{◌≡◌, ◌==◌, nat_lt, length, position, Some, None, Ok, Err, IfOk, OnOk, IfErr, OnErr, if◌then◌else◌};
-ghost use Rattle.wl_draft.specs.Refusals.{RefusesBy};
+ghost use Rattle.std.specs.Prelude.{◌≡◌, ◌==◌, nat_lt, length, position, Some, None, Ok, Err, IfOk, OnOk, OnErr, if◌then◌else◌};
+ghost use Rattle.wl_draft.specs.Refusals.{RefusesBy, RefusesOnlyBy};
 ghost use Rattle.wl_broadcast.specs.Channels.{no_channels, opened, posted, post_frame, name_at, taking, full, after_hearing, hearing_of, read_at, closed_at, inbox_at, first_of, is_open_at, open_refusal, heard_refusal};
 ghost use Rattle.wl_tab.specs.TabChannels.{number_refusal, posting_refusal, place_in};
 ghost use Rattle.wl_tab.specs.declared.channels.ChannelRefusal.TheVariants.{Fault as refused_for};
@@ -74,11 +74,9 @@ impl TabChannels {
 
     /// Opens a channel, and gives its number. The room for its token is made before it is opened.
     pub(crate) fn open(&mut self, name: &Name) -> Result<usize, ChannelFault>
-        ensures ok { OnOk result ((self.new ≡ opened name.now self.old)
-            × (open_refusal name.now self.old ≡ None)) }
+        ensures ok { OnOk result (self.new ≡ opened name.now self.old) }
         ensures number { IfOk result (λ n. n ≡ length self.old.objects) }
         ensures refused { RefusesBy result (open_refusal name.now self.old) ChannelFault.Memory }
-        ensures memory { result ≡ Err ChannelFault.Memory → open_refusal name.now self.old ≡ None }
         ensures err { OnErr result (self.new ≡ self.old) }
     {
         let text = name.as_str();
@@ -95,16 +93,13 @@ impl TabChannels {
 
     /// Posts data on a channel.
     pub(crate) fn post(&mut self, number: usize, bytes: &[u8]) -> Result<Posted, ChannelRefusal>
-        ensures ok { OnOk result ((self.new ≡ posted number bytes.now self.old)
-            × (posting_refusal number bytes.now self.old ≡ None)) }
+        ensures ok { OnOk result (self.new ≡ posted number bytes.now self.old) }
         ensures posted { IfOk result (λ p.
             (p.frame ≡ post_frame self.old.posts (name_at self.old.objects number) bytes.now)
             × (p.took ≡ taking (Some number) (name_at self.old.objects number) self.old.objects)
             × (p.full ≡ full (Some number) (name_at self.old.objects number) self.old.objects)) }
         ensures refused { RefusesBy result (posting_refusal number bytes.now self.old)
             (ChannelRefusal.Fault ChannelFault.Memory) }
-        ensures memory { result ≡ Err (ChannelRefusal.Fault ChannelFault.Memory)
-            → posting_refusal number bytes.now self.old ≡ None }
         ensures err { OnErr result (self.new ≡ self.old) }
     {
         let place = place_of(&self.kept, self.latest, number)?;
@@ -126,10 +121,9 @@ impl TabChannels {
 
     /// Takes the oldest post out of a channel's inbox. It takes no memory.
     pub(crate) fn read(&mut self, number: usize) -> Result<Option<Letter>, ChannelRefusal>
-        ensures ok { OnOk result ((self.new ≡ read_at number self.old)
-            × (number_refusal number self.old ≡ None)) }
+        ensures ok { OnOk result (self.new ≡ read_at number self.old) }
         ensures letter { IfOk result (λ letter. letter ≡ first_of (inbox_at self.old.objects number)) }
-        ensures refused { IfErr result (λ e. number_refusal number self.old ≡ Some e) }
+        ensures refused { RefusesOnlyBy result (number_refusal number self.old) }
         ensures err { OnErr result (self.new ≡ self.old) }
     {
         let place = place_of(&self.kept, self.latest, number)?;

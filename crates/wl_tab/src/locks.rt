@@ -1,6 +1,6 @@
 //! A tab's locks: its agent, with the tokens of those who asked.
 
-ghost use Rattle.std.specs.Prelude.{◌≡◌, ◌++◌, Some, None, Err, IfOk, OnOk};
+ghost use Rattle.std.specs.Prelude.{◌≡◌, ◌++◌, IfOk, OnOk};
 ghost use Rattle.wl_draft.specs.Refusals.{RefusesBy};
 ghost use Rattle.wl_agent.specs.Tab.{newborn, newborn_two, report_frames, command_frame, message_refusal, report_refusal, due, is_report_due};
 ghost use Rattle.wl_limits.specs.declared.tabs.TheConstants.{COMMAND_LIMIT};
@@ -112,9 +112,7 @@ impl TabLocks {
     /// The message of a command, for the broker of the entered generation.
     pub fn message(&self, number: u32) -> Result<Frame, MessageFault>
         ensures message { IfOk result (λ f. f ≡ command_frame self.now number) }
-        ensures allowed { OnOk result (message_refusal self.now number ≡ None) }
         ensures refused { RefusesBy result (message_refusal self.now number) MessageFault.Memory }
-        ensures memory { result ≡ Err MessageFault.Memory → message_refusal self.now number ≡ None }
     {
         self.agent.message(number)
     }
@@ -122,9 +120,7 @@ impl TabLocks {
     /// The report of the entered generation, in its parts.
     pub fn report_frames(&self) -> Result<Sequence<Frame>, MessageFault>
         ensures report { IfOk result (λ frames. frames ≡ report_frames self.now) }
-        ensures allowed { OnOk result (report_refusal self.now ≡ None) }
         ensures refused { RefusesBy result (report_refusal self.now) MessageFault.Memory }
-        ensures memory { result ≡ Err MessageFault.Memory → report_refusal self.now ≡ None }
     {
         self.agent.report_frames()
     }

@@ -1,6 +1,6 @@
 //! The table of the tabs' locks: each tab has a row from its opening on.
 
-ghost use Rattle.std.specs.Prelude.{◌≡◌, ◌&&◌, ℕ, length, true, is_some, Some, None, Err, IfOk, OnOk, OnErr, if◌then◌else◌};
+ghost use Rattle.std.specs.Prelude.{◌≡◌, ◌&&◌, ℕ, length, true, is_some, Some, None, IfOk, OnOk, OnErr, if◌then◌else◌};
 ghost use Rattle.wl_draft.specs.Refusals.{RefusesBy};
 ghost use Rattle.wl_draft.specs.Tables.{find, put};
 ghost use Rattle.wl_agent.specs.Tab.{asked, queried, aborted, released, ask_refusal, query_refusal, status_of, is_asked};
@@ -39,11 +39,8 @@ pub fn ask_at(
     ensures ok { let a = tab_in tab (find tabs.old.entries tab) in
         OnOk result (tabs.new.entries ≡ put tab (asked mode if_available name.now a) tabs.old.entries) }
     ensures number { IfOk result (λ n. n ≡ length (tab_in tab (find tabs.old.entries tab)).issued) }
-    ensures allowed { OnOk result (ask_refusal (tab_in tab (find tabs.old.entries tab)) name.now ≡ None) }
     ensures refused { RefusesBy result
         (ask_refusal (tab_in tab (find tabs.old.entries tab)) name.now) AgentFault.Memory }
-    ensures memory { result ≡ Err AgentFault.Memory
-        → ask_refusal (tab_in tab (find tabs.old.entries tab)) name.now ≡ None }
     ensures err { OnErr result (tabs.new.entries ≡ tabs.old.entries) }
 {
     let Some(locks) = tabs.get_mut(&tab) else {
@@ -54,10 +51,8 @@ pub fn ask_at(
 
 fn ask(locks: &mut TabLocks, mode: Mode, if_available: bool, name: &Name) -> Result<u32, AgentFault>
     ensures ok { OnOk result (locks.new ≡ asked mode if_available name.now locks.old) }
-    ensures allowed { OnOk result (ask_refusal locks.old name.now ≡ None) }
     ensures number { IfOk result (λ n. n ≡ length locks.old.issued) }
     ensures refused { RefusesBy result (ask_refusal locks.old name.now) AgentFault.Memory }
-    ensures memory { result ≡ Err AgentFault.Memory → ask_refusal locks.old name.now ≡ None }
     ensures err { OnErr result (locks.new ≡ locks.old) }
 {
     if if_available {
@@ -73,11 +68,8 @@ pub fn query_at(tabs: &mut BTreeMap<u16, TabLocks>, tab: u16) -> Result<u32, Age
     ensures ok { let a = tab_in tab (find tabs.old.entries tab) in
         OnOk result (tabs.new.entries ≡ put tab (queried a) tabs.old.entries) }
     ensures number { IfOk result (λ n. n ≡ length (tab_in tab (find tabs.old.entries tab)).issued) }
-    ensures allowed { OnOk result (query_refusal (tab_in tab (find tabs.old.entries tab)) ≡ None) }
     ensures refused { RefusesBy result
         (query_refusal (tab_in tab (find tabs.old.entries tab))) AgentFault.Memory }
-    ensures memory { result ≡ Err AgentFault.Memory
-        → query_refusal (tab_in tab (find tabs.old.entries tab)) ≡ None }
     ensures err { OnErr result (tabs.new.entries ≡ tabs.old.entries) }
 {
     let Some(locks) = tabs.get_mut(&tab) else {

@@ -1,6 +1,6 @@
 //! Requests, probes and queries.
 
-ghost use Rattle.std.specs.Prelude.{◌≡◌, ◌<◌, ◌≤◌, ◌+◌, true, false, length, Some, None, Err, IfOk, OnOk, OnErr, if◌then◌else◌};
+ghost use Rattle.std.specs.Prelude.{◌≡◌, ◌<◌, ◌≤◌, ◌+◌, true, false, length, Some, IfOk, OnOk, OnErr, if◌then◌else◌};
 ghost use Rattle.wl_draft.specs.Refusals.{RefusesBy};
 ghost use Rattle.wl_grammar.specs.Grammar.{IsOperation};
 ghost use Rattle.wl_agent.specs.Tab.{asked, queried, issue, ask_refusal, query_refusal, live_refusal, is_supported, keeps_number, kept_numbers, live_numbers, live_limit};
@@ -18,11 +18,9 @@ use wl_limits::texts::NAME_LIMIT;
 impl Agent {
     /// Asks for a lock.
     pub fn request(&mut self, name: &str, mode: Mode) -> Result<Pending, AgentFault>
-        ensures ok { OnOk result ((self.new ≡ asked mode false name.now self.old)
-            × (ask_refusal self.old name.now ≡ None)) }
+        ensures ok { OnOk result (self.new ≡ asked mode false name.now self.old) }
         ensures pending { IfOk result (λ p. (p.tab ≡ self.old.tab) × (p.number ≡ length self.old.issued)) }
         ensures refused { RefusesBy result (ask_refusal self.old name.now) AgentFault.Memory }
-        ensures memory { result ≡ Err AgentFault.Memory → ask_refusal self.old name.now ≡ None }
         ensures err { OnErr result (self.new ≡ self.old) }
     {
         let tab = self.tab;
@@ -32,11 +30,9 @@ impl Agent {
 
     /// Asks for a lock that is to be had at once or not at all.
     pub fn probe(&mut self, name: &str, mode: Mode) -> Result<Probe, AgentFault>
-        ensures ok { OnOk result ((self.new ≡ asked mode true name.now self.old)
-            × (ask_refusal self.old name.now ≡ None)) }
+        ensures ok { OnOk result (self.new ≡ asked mode true name.now self.old) }
         ensures probe { IfOk result (λ p. (p.tab ≡ self.old.tab) × (p.number ≡ length self.old.issued)) }
         ensures refused { RefusesBy result (ask_refusal self.old name.now) AgentFault.Memory }
-        ensures memory { result ≡ Err AgentFault.Memory → ask_refusal self.old name.now ≡ None }
         ensures err { OnErr result (self.new ≡ self.old) }
     {
         let tab = self.tab;
@@ -46,10 +42,9 @@ impl Agent {
 
     /// Asks for a snapshot of the partition's locks.
     pub fn query(&mut self) -> Result<Asking, AgentFault>
-        ensures ok { OnOk result ((self.new ≡ queried self.old) × (query_refusal self.old ≡ None)) }
+        ensures ok { OnOk result (self.new ≡ queried self.old) }
         ensures asking { IfOk result (λ q. (q.tab ≡ self.old.tab) × (q.number ≡ length self.old.issued)) }
         ensures refused { RefusesBy result (query_refusal self.old) AgentFault.Memory }
-        ensures memory { result ≡ Err AgentFault.Memory → query_refusal self.old ≡ None }
         ensures err { OnErr result (self.new ≡ self.old) }
     {
         if let Some(fault) = self.query_refusal() {
@@ -63,11 +58,9 @@ impl Agent {
 
     /// Issues a request or a probe.
     fn ask(&mut self, name: &str, mode: Mode, if_available: bool) -> Result<u32, AgentFault>
-        ensures ok { OnOk result ((self.new ≡ asked mode if_available name.now self.old)
-            × (ask_refusal self.old name.now ≡ None)) }
+        ensures ok { OnOk result (self.new ≡ asked mode if_available name.now self.old) }
         ensures number { IfOk result (λ n. n ≡ length self.old.issued) }
         ensures refused { RefusesBy result (ask_refusal self.old name.now) AgentFault.Memory }
-        ensures memory { result ≡ Err AgentFault.Memory → ask_refusal self.old name.now ≡ None }
         ensures err { OnErr result (self.new ≡ self.old) }
     {
         if let Some(fault) = self.ask_refusal(name) {

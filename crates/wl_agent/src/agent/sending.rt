@@ -1,6 +1,6 @@
 //! What the tab sends.
 
-ghost use Rattle.std.specs.Prelude.{◌≡◌, ◌≢◌, Some, None, Err, IfOk, OnOk, OnErr};
+ghost use Rattle.std.specs.Prelude.{◌≡◌, ◌≢◌, IfOk, OnErr};
 ghost use Rattle.wl_draft.specs.Refusals.{RefusesBy};
 ghost use Rattle.std.specs.List.{AllByRecursion};
 ghost use Rattle.wl_grammar.specs.Grammar.{IsWellFormed};
@@ -26,9 +26,7 @@ impl Agent {
     pub fn message(&self, number: u32) -> Result<Frame, MessageFault>
         ensures message { IfOk result (λ f. f ≡ command_frame self.now number) }
         ensures spoken { IfOk result IsWellFormed }
-        ensures allowed { OnOk result (message_refusal self.now number ≡ None) }
         ensures refused { RefusesBy result (message_refusal self.now number) MessageFault.Memory }
-        ensures memory { result ≡ Err MessageFault.Memory → message_refusal self.now number ≡ None }
     {
         if self.entered == 0 {
             return Err(MessageFault::NotEntered);
@@ -47,9 +45,7 @@ impl Agent {
     pub fn report_frames(&self) -> Result<Sequence<Frame>, MessageFault>
         ensures report { IfOk result (λ frames. frames ≡ report_frames self.now) }
         ensures spoken { IfOk result (λ frames. AllByRecursion IsWellFormed frames) }
-        ensures allowed { OnOk result (report_refusal self.now ≡ None) }
         ensures refused { RefusesBy result (report_refusal self.now) MessageFault.Memory }
-        ensures memory { result ≡ Err MessageFault.Memory → report_refusal self.now ≡ None }
     {
         if self.entered == 0 {
             return Err(MessageFault::NotEntered);

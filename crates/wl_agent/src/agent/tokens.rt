@@ -1,6 +1,7 @@
 //! What tokens are told, and how they are spent.
 
-ghost use Rattle.std.specs.Prelude.{◌≡◌, true, false, length, Some, None, IfOk, OnOk, IfErr, OnErr};
+ghost use Rattle.std.specs.Prelude.{◌≡◌, true, false, length, IfOk, OnOk, IfErr, OnErr};
+ghost use Rattle.wl_draft.specs.Refusals.{RefusesOnlyBy};
 ghost use Rattle.wl_grammar.specs.Grammar.{IsOperation};
 ghost use Rattle.wl_agent.specs.Tab.{released, aborted, finish, keeps_number, status_of};
 ghost use Rattle.wl_agent.specs.Tokens.{is_pending, is_probing, is_holding, is_asking, is_own, told_pending, told_probe, told_query, after_query, abort_refusal};
@@ -77,10 +78,9 @@ impl Agent {
 
     /// Takes a request back, by a command whose number it answers. It takes no memory.
     pub fn abort(&mut self, pending: Pending) -> Result<u32, AbortFault>
-        ensures ok { OnOk result ((self.new ≡ aborted pending.number self.old)
-            × (abort_refusal self.old pending ≡ None)) }
+        ensures ok { OnOk result (self.new ≡ aborted pending.number self.old) }
         ensures number { IfOk result (λ n. n ≡ length self.old.issued) }
-        ensures refused { IfErr result (λ e. abort_refusal self.old pending ≡ Some e) }
+        ensures refused { RefusesOnlyBy result (abort_refusal self.old pending) }
         ensures err { OnErr result (self.new ≡ self.old) }
     {
         if !self.is_pending(&pending) {

@@ -1,6 +1,6 @@
 //! Requests, probes and queries, whose tokens are kept.
 
-ghost use Rattle.std.specs.Prelude.{◌≡◌, ◌<◌, true, false, length, None, Err, IfOk, OnOk, OnErr, vec_len, vec_capacity};
+ghost use Rattle.std.specs.Prelude.{◌≡◌, ◌<◌, true, false, length, IfOk, OnOk, OnErr, vec_len, vec_capacity};
 ghost use Rattle.wl_draft.specs.Refusals.{RefusesBy};
 ghost use Rattle.wl_grammar.specs.declared.frame.Operation.TheVariants.{Request};
 ghost use Rattle.wl_agent.specs.Tab.{asked, queried, ask_refusal, query_refusal};
@@ -15,11 +15,9 @@ use wl_grammar::Operation;
 impl TabLocks {
     /// Asks for a lock, and gives the command's number. The room for its token is made before the agent asks.
     pub fn request(&mut self, name: &Name, mode: Mode) -> Result<u32, AgentFault>
-        ensures ok { OnOk result ((self.new ≡ asked mode false name.now self.old)
-            × (ask_refusal self.old name.now ≡ None)) }
+        ensures ok { OnOk result (self.new ≡ asked mode false name.now self.old) }
         ensures number { IfOk result (λ n. n ≡ length self.old.issued) }
         ensures refused { RefusesBy result (ask_refusal self.old name.now) AgentFault.Memory }
-        ensures memory { result ≡ Err AgentFault.Memory → ask_refusal self.old name.now ≡ None }
         ensures err { OnErr result (self.new ≡ self.old) }
     {
         let operation = prepared(self.alloc, &self.agent, &mut self.kept, name, mode, false)?;
@@ -34,11 +32,9 @@ impl TabLocks {
 
     /// Asks for a lock that is to be had at once or not at all, and gives the command's number.
     pub fn probe(&mut self, name: &Name, mode: Mode) -> Result<u32, AgentFault>
-        ensures ok { OnOk result ((self.new ≡ asked mode true name.now self.old)
-            × (ask_refusal self.old name.now ≡ None)) }
+        ensures ok { OnOk result (self.new ≡ asked mode true name.now self.old) }
         ensures number { IfOk result (λ n. n ≡ length self.old.issued) }
         ensures refused { RefusesBy result (ask_refusal self.old name.now) AgentFault.Memory }
-        ensures memory { result ≡ Err AgentFault.Memory → ask_refusal self.old name.now ≡ None }
         ensures err { OnErr result (self.new ≡ self.old) }
     {
         let operation = prepared(self.alloc, &self.agent, &mut self.kept, name, mode, true)?;
@@ -53,10 +49,9 @@ impl TabLocks {
 
     /// Asks for a snapshot of the partition's locks, and gives the command's number.
     pub fn query(&mut self) -> Result<u32, AgentFault>
-        ensures ok { OnOk result ((self.new ≡ queried self.old) × (query_refusal self.old ≡ None)) }
+        ensures ok { OnOk result (self.new ≡ queried self.old) }
         ensures number { IfOk result (λ n. n ≡ length self.old.issued) }
         ensures refused { RefusesBy result (query_refusal self.old) AgentFault.Memory }
-        ensures memory { result ≡ Err AgentFault.Memory → query_refusal self.old ≡ None }
         ensures err { OnErr result (self.new ≡ self.old) }
     {
         if let Some(fault) = self.agent.query_refusal() {
@@ -86,7 +81,6 @@ fn prepared(
     ensures room { OnOk result (vec_len kept.new < vec_capacity kept.new) }
     ensures kept { kept.new.items ≡ kept.old.items }
     ensures refused { RefusesBy result (ask_refusal agent.now name.now) AgentFault.Memory }
-    ensures memory { result ≡ Err AgentFault.Memory → ask_refusal agent.now name.now ≡ None }
 {
     if let Some(fault) = agent.ask_refusal(name.as_str()) {
         return Err(fault);

@@ -10,19 +10,13 @@ pub unreachable-requires : goal.unreachable-requires
 unreachable-requires c = false≢true (sym (ap is_some (find_absent c.args.tab c.args.rows.now.entries c.in_default.ensures.value)) ∙ c.requires.there)
 
 pub returns-clause-ok : goal.returns-clause-ok
-returns-clause-ok c = rw (find_there c.args.tab c.args.rows.now.entries c.in-Some.ensures.value) (IfOk-weaker c.post.result _ _ (λ x e. written_as c.args.tab _ c.args.rows.now.entries c.in-Some.ensures.ordered c.in-Some.ensures.value (c.get_mut.follows.holds _).0 e.0) c.post.ensures.ok)
-
-pub returns-clause-allowed : goal.returns-clause-allowed
-returns-clause-allowed c = rw (find_there c.args.tab c.args.rows.now.entries c.in-Some.ensures.value) (IfOk-weaker c.post.result _ _ (λ x e. e.1) c.post.ensures.ok)
+returns-clause-ok c = rw (find_there c.args.tab c.args.rows.now.entries c.in-Some.ensures.value) (IfOk-weaker c.post.result _ _ (λ x e. written_as c.args.tab _ c.args.rows.now.entries c.in-Some.ensures.ordered c.in-Some.ensures.value (c.get_mut.follows.holds _).0 e) c.post.ensures.ok)
 
 pub returns-clause-posted : goal.returns-clause-posted
 returns-clause-posted c = rw (find_there c.args.tab c.args.rows.now.entries c.in-Some.ensures.value) c.post.ensures.posted
 
 pub returns-clause-refused : goal.returns-clause-refused
 returns-clause-refused c = rw (find_there c.args.tab c.args.rows.now.entries c.in-Some.ensures.value) c.post.ensures.refused
-
-pub returns-clause-memory : goal.returns-clause-memory
-returns-clause-memory c = rw (find_there c.args.tab c.args.rows.now.entries c.in-Some.ensures.value) c.post.ensures.memory
 
 pub returns-clause-err : goal.returns-clause-err
 returns-clause-err c = on_err_weaker c.post.result (λ e. written_same _ _ _ _ _ c.in-Some.ensures.value (c.get_mut.follows.holds _).0 e) c.post.ensures.err

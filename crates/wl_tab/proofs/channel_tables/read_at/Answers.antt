@@ -10,10 +10,7 @@ pub unreachable-requires : goal.unreachable-requires
 unreachable-requires c = false≢true (sym (ap is_some (find_absent c.args.tab c.args.rows.now.entries c.in_default.ensures.value)) ∙ c.requires.there)
 
 pub returns-clause-ok : goal.returns-clause-ok
-returns-clause-ok c = rw (find_there c.args.tab c.args.rows.now.entries c.in-Some.ensures.value) (IfOk-weaker c.read.result _ _ (λ x e. written_as c.args.tab _ c.args.rows.now.entries c.in-Some.ensures.ordered c.in-Some.ensures.value (c.get_mut.follows.holds _).0 e.0) c.read.ensures.ok)
-
-pub returns-clause-allowed : goal.returns-clause-allowed
-returns-clause-allowed c = rw (find_there c.args.tab c.args.rows.now.entries c.in-Some.ensures.value) (IfOk-weaker c.read.result _ _ (λ x e. e.1) c.read.ensures.ok)
+returns-clause-ok c = rw (find_there c.args.tab c.args.rows.now.entries c.in-Some.ensures.value) (IfOk-weaker c.read.result _ _ (λ x e. written_as c.args.tab _ c.args.rows.now.entries c.in-Some.ensures.ordered c.in-Some.ensures.value (c.get_mut.follows.holds _).0 e) c.read.ensures.ok)
 
 pub returns-clause-letter : goal.returns-clause-letter
 returns-clause-letter c = rw (find_there c.args.tab c.args.rows.now.entries c.in-Some.ensures.value) c.read.ensures.letter

@@ -15,14 +15,8 @@ returns-clause-ok c = rw (find_there c.args.tab c.args.tabs.now.entries c.in-Som
 pub returns-clause-number : goal.returns-clause-number
 returns-clause-number c = rw (find_there c.args.tab c.args.tabs.now.entries c.in-Some.ensures.value) c.ask.ensures.number
 
-pub returns-clause-allowed : goal.returns-clause-allowed
-returns-clause-allowed c = rw (find_there c.args.tab c.args.tabs.now.entries c.in-Some.ensures.value) c.ask.ensures.allowed
-
 pub returns-clause-refused : goal.returns-clause-refused
 returns-clause-refused c = rw (find_there c.args.tab c.args.tabs.now.entries c.in-Some.ensures.value) c.ask.ensures.refused
-
-pub returns-clause-memory : goal.returns-clause-memory
-returns-clause-memory c = rw (find_there c.args.tab c.args.tabs.now.entries c.in-Some.ensures.value) c.ask.ensures.memory
 
 pub returns-clause-err : goal.returns-clause-err
 returns-clause-err c = on_err_weaker c.ask.result (λ e. written_same _ _ _ _ _ c.in-Some.ensures.value (c.get_mut.follows.holds _).0 e) c.ask.ensures.err

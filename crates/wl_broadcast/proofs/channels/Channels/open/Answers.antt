@@ -18,4 +18,4 @@ pub returns-clause-ok : goal.returns-clause-ok
 returns-clause-ok c =
     let named = c.new-object.ensures ∙ ap new_object (c.new-name.ensures ∙ c.in_ok-from_str.ensures.ok) in
     let objects = seen_opened c.self.inside.objects.items c.push.new.self.items c.new-object.result c.args.name.now c.in_ok-push.ensures.items named in
-    (ap (λ os. record { tab = c.self.inside.tab; objects = os; posts = c.self.inside.posts; last = c.self.inside.last.entries }) objects ∙ ap (opened c.args.name.now) c.self.view_is, sym c.in_default.ensures)
+    ap (λ os. record { tab = c.self.inside.tab; objects = os; posts = c.self.inside.posts; last = c.self.inside.last.entries }) objects ∙ ap (opened c.args.name.now) c.self.view_is

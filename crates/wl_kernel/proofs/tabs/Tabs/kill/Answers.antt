@@ -49,4 +49,4 @@ returns-clause-ok c =
     let buried : IsBuried rows h t i r c.leave.new.self =
     record { placed = place; there = (row_read h rows t i r place c.index_mut-row.ensures.value).0; leaves = c.leave.ensures.left; kept = c.leave.ensures.kept } in
     let state : List OpenedTab → KernelState = λ os. record { opened = os; generation = c.self.inside.generation; last = c.self.inside.last } in
-    (ap state (seen-ended rows h t i r c.leave.new.self c.self.invariant.tabs c.self.invariant.have_homes buried) ∙ ap (killed t) c.self.view_is, c.in_ok-place.ensures.allowed)
+    ap state (seen-ended rows h t i r c.leave.new.self c.self.invariant.tabs c.self.invariant.have_homes buried) ∙ ap (killed t) c.self.view_is

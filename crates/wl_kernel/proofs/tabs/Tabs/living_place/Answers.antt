@@ -17,7 +17,7 @@ pub returns-in_default-clause-refused : goal.returns-in_default-clause-refused
 returns-in_default-clause-refused c =
     let os = all_seen c.self.inside.homes c.self.inside.rows.items in
     let place = place_got os c.self.inside.places.entries c.args.tab None c.self.invariant.placed (sym c.in_default.ensures.value) in
-    ap (λ (k : KernelState). fault_of (tab_in k.opened c.args.tab)) (sym c.self.view_is) ∙ ap fault_of (not_placed os c.args.tab place)
+    (tt, ap (λ (k : KernelState). fault_of (tab_in k.opened c.args.tab)) (sym c.self.view_is) ∙ ap fault_of (not_placed os c.args.tab place))
 
 pub index-requires : goal.index-requires
 index-requires c =
@@ -33,7 +33,7 @@ returns-then-not-index-clause-refused c =
     let rows = c.self.inside.rows.items in
     let place = place_got (all_seen h rows) c.self.inside.places.entries c.args.tab (Some c.in-Some.place.now) c.self.invariant.placed (sym c.in-Some.ensures.value) in
     let row = row_read h rows c.args.tab c.in-Some.place.now c.index.result.now place c.index.ensures in
-    ap (λ (k : KernelState). fault_of (tab_in k.opened c.args.tab)) (sym c.self.view_is) ∙ ap fault_of row.1 ∙ ap by_life c.if-not-index.true
+    (tt, ap (λ (k : KernelState). fault_of (tab_in k.opened c.args.tab)) (sym c.self.view_is) ∙ ap fault_of row.1 ∙ ap by_life c.if-not-index.true)
 
 pub returns-clause-place : goal.returns-clause-place
 returns-clause-place c =
@@ -42,10 +42,10 @@ returns-clause-place c =
     let place = place_got (all_seen h rows) c.self.inside.places.entries c.args.tab (Some c.in-Some.place.now) c.self.invariant.placed (sym c.in-Some.ensures.value) in
     ap (λ (k : KernelState). place_in k.opened c.args.tab) (sym c.self.view_is) ∙ place
 
-pub returns-clause-allowed : goal.returns-clause-allowed
-returns-clause-allowed c =
+pub returns-clause-refused : goal.returns-clause-refused
+returns-clause-refused c =
     let h = c.self.inside.homes in
     let rows = c.self.inside.rows.items in
     let place = place_got (all_seen h rows) c.self.inside.places.entries c.args.tab (Some c.in-Some.place.now) c.self.invariant.placed (sym c.in-Some.ensures.value) in
     let row = row_read h rows c.args.tab c.in-Some.place.now c.index.result.now place c.index.ensures in
-    ap (λ (k : KernelState). fault_of (tab_in k.opened c.args.tab)) (sym c.self.view_is) ∙ ap fault_of row.1 ∙ ap by_life c.if-not-index.false
+    (ap (λ (k : KernelState). fault_of (tab_in k.opened c.args.tab)) (sym c.self.view_is) ∙ ap fault_of row.1 ∙ ap by_life c.if-not-index.false, tt)

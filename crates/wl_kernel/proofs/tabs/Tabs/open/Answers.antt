@@ -76,7 +76,7 @@ returns-clause-ok c =
     let seen_more : all_seen c.join.new.self c.push_reserved.new.self.items ≡ os ++ new_tab t c.args.partition c.self.inside.generation ∷ [] =
     ap (all_seen c.join.new.self) behind ∙ seen-push rows h r c.join.new.self c.self.invariant.have_homes c.in-Ok.ensures.kept
     ∙ ap (λ p. os ++ new_tab t p c.self.inside.generation ∷ []) c.in-Ok.ensures.place.1 in
-    (ap state seen_more ∙ ap (opened t c.args.partition) c.self.view_is, sym c.in_default.ensures)
+    ap state seen_more ∙ ap (opened t c.args.partition) c.self.view_is
 
 pub returns-clause-number : goal.returns-clause-number
 returns-clause-number c =

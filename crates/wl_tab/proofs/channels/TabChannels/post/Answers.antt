@@ -13,7 +13,8 @@ returns-in_err-place-clause-refused c =
     let p = err_from_is_err_and c.from_residual.result c.from_residual.ensures.1 in
     let n : IsNumbered c.args.self.now c.self.inside.latest c.self.inside.kept.items = subst (λ (s : ChannelState). IsNumbered s c.self.inside.latest c.self.inside.kept.items) c.self.view_is c.self.invariant in
     let refused = refused_in c.args.self.now c.self.inside.latest c.self.inside.kept.items c.deref.result.now c.args.number c.in_err-place.field-0.0 c.place_of.result n c.deref.ensures.value c.place_of.ensures c.in_err-place.was in
-    rw (p.1, p.2) (λ other. posting-number c.args.self.now c.args.number c.args.bytes.now c.in_err-place.field-0.0 refused)
+    let never = number-no-fault c.args.self.now c.args.number Memory in
+    rw (p.1, p.2) (tt, λ other. posting-number c.args.self.now c.args.number c.args.bytes.now c.in_err-place.field-0.0 refused, λ same. absurd (never (refused ∙ ap Some (refusal-told _ _ _ _ refl refl same))))
 
 pub returns-in_err-post-clause-refused : goal.returns-in_err-post-clause-refused
 returns-in_err-post-clause-refused c =
@@ -22,23 +23,12 @@ returns-in_err-post-clause-refused c =
     let f = found_in c.args.self.now c.self.inside.latest c.self.inside.kept.items c.deref.result.now c.args.number c.in_ok-place.place c.place_of.result n c.deref.ensures.value c.place_of.ensures c.in_ok-place.was in
     let channel = c.index.ensures ∙ f.channel c.index.result.now in
     let at = ap (λ (s : ChannelState). post_refusal c.index.result.now.tab c.index.result.now.number c.args.bytes.now s) (sym c.self.view_is) in
-    rw (p.1, p.2) (λ other. posting-refused c.args.self.now c.args.number c.args.bytes.now (Some c.in_err-post.field-0.0) c.index.result.now f.allowed channel (at ∙ c.in_err-post.ensures.refused (λ same. other (ap Fault same))))
-
-pub returns-in_err-place-clause-memory : goal.returns-in_err-place-clause-memory
-returns-in_err-place-clause-memory c =
-    let p = err_from_is_err_and c.from_residual.result c.from_residual.ensures.1 in
-    let n : IsNumbered c.args.self.now c.self.inside.latest c.self.inside.kept.items = subst (λ (s : ChannelState). IsNumbered s c.self.inside.latest c.self.inside.kept.items) c.self.view_is c.self.invariant in
-    let refused = refused_in c.args.self.now c.self.inside.latest c.self.inside.kept.items c.deref.result.now c.args.number c.in_err-place.field-0.0 c.place_of.result n c.deref.ensures.value c.place_of.ensures c.in_err-place.was in
-    rw (p.1, p.2) (λ same. absurd (number-no-fault c.args.self.now c.args.number Memory (refused ∙ ap Some (refusal-told _ _ _ _ refl refl same))))
-
-pub returns-in_err-post-clause-memory : goal.returns-in_err-post-clause-memory
-returns-in_err-post-clause-memory c =
-    let p = err_from_is_err_and c.from_residual-in_err-post.result c.from_residual-in_err-post.ensures.1 in
-    let n : IsNumbered c.args.self.now c.self.inside.latest c.self.inside.kept.items = subst (λ (s : ChannelState). IsNumbered s c.self.inside.latest c.self.inside.kept.items) c.self.view_is c.self.invariant in
-    let f = found_in c.args.self.now c.self.inside.latest c.self.inside.kept.items c.deref.result.now c.args.number c.in_ok-place.place c.place_of.result n c.deref.ensures.value c.place_of.ensures c.in_ok-place.was in
-    let channel = c.index.ensures ∙ f.channel c.index.result.now in
-    let at = ap (λ (s : ChannelState). post_refusal c.index.result.now.tab c.index.result.now.number c.args.bytes.now s) (sym c.self.view_is) in
-    rw (p.1, p.2) (λ same. posting-refused c.args.self.now c.args.number c.args.bytes.now None c.index.result.now f.allowed channel (at ∙ c.in_err-post.ensures.memory (ap Err (fault-told _ _ _ _ refl refl same))))
+    let refused = c.in_err-post.ensures.refused in
+    rw (p.1, p.2) (
+      tt,
+      λ other. posting-refused c.args.self.now c.args.number c.args.bytes.now (Some c.in_err-post.field-0.0) c.index.result.now f.allowed channel (at ∙ refused.1 (λ same. other (ap Fault same))),
+      λ same. posting-refused c.args.self.now c.args.number c.args.bytes.now None c.index.result.now f.allowed channel (at ∙ refused.2 (ap Err (fault-told _ _ _ _ refl refl same))),
+    )
 
 pub invariant_of-self-2 : goal.invariant_of-self-2
 invariant_of-self-2 c =
@@ -48,10 +38,17 @@ pub returns-clause-ok : goal.returns-clause-ok
 returns-clause-ok c =
     let n : IsNumbered c.args.self.now c.self.inside.latest c.self.inside.kept.items = subst (λ (s : ChannelState). IsNumbered s c.self.inside.latest c.self.inside.kept.items) c.self.view_is c.self.invariant in
     let f = found_in c.args.self.now c.self.inside.latest c.self.inside.kept.items c.deref.result.now c.args.number c.in_ok-place.place c.place_of.result n c.deref.ensures.value c.place_of.ensures c.in_ok-place.was in
+    let number = ap (λ (x : Owned). x.number) (c.index.ensures ∙ f.channel c.index.result.now) in
+    c.in_ok-post.ensures.ok ∙ ap (λ k. posted k c.args.bytes.now c.self.inside.channels) number ∙ ap (posted c.args.number c.args.bytes.now) c.self.view_is
+
+pub returns-clause-refused : goal.returns-clause-refused
+returns-clause-refused c =
+    let n : IsNumbered c.args.self.now c.self.inside.latest c.self.inside.kept.items = subst (λ (s : ChannelState). IsNumbered s c.self.inside.latest c.self.inside.kept.items) c.self.view_is c.self.invariant in
+    let f = found_in c.args.self.now c.self.inside.latest c.self.inside.kept.items c.deref.result.now c.args.number c.in_ok-place.place c.place_of.result n c.deref.ensures.value c.place_of.ensures c.in_ok-place.was in
     let channel = c.index.ensures ∙ f.channel c.index.result.now in
-    let number = ap (λ (x : Owned). x.number) channel in
     let at = ap (λ (s : ChannelState). post_refusal c.index.result.now.tab c.index.result.now.number c.args.bytes.now s) (sym c.self.view_is) in
-    (c.in_ok-post.ensures.ok ∙ ap (λ k. posted k c.args.bytes.now c.self.inside.channels) number ∙ ap (posted c.args.number c.args.bytes.now) c.self.view_is, posting-refused c.args.self.now c.args.number c.args.bytes.now None c.index.result.now f.allowed channel (at ∙ c.in_ok-post.ensures.allowed))
+    let allowed = posting-refused c.args.self.now c.args.number c.args.bytes.now None c.index.result.now f.allowed channel (at ∙ c.in_ok-post.ensures.refused.0) in
+    (allowed, tt, λ same. allowed)
 
 pub returns-clause-posted : goal.returns-clause-posted
 returns-clause-posted c =

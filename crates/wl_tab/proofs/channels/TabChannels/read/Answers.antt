@@ -10,13 +10,13 @@ pub returns-in_err-place-clause-refused : goal.returns-in_err-place-clause-refus
 returns-in_err-place-clause-refused c =
     let p = err_from_is_err_and c.from_residual.result c.from_residual.ensures.1 in
     let n : IsNumbered c.args.self.now c.self.inside.latest c.self.inside.kept.items = subst (λ (s : ChannelState). IsNumbered s c.self.inside.latest c.self.inside.kept.items) c.self.view_is c.self.invariant in
-    rw (p.1, p.2) (refused_in c.args.self.now c.self.inside.latest c.self.inside.kept.items c.deref.result.now c.args.number c.in_err-place.field-0.0 c.place_of.result n c.deref.ensures.value c.place_of.ensures c.in_err-place.was)
+    rw (p.1, p.2) (tt, refused_in c.args.self.now c.self.inside.latest c.self.inside.kept.items c.deref.result.now c.args.number c.in_err-place.field-0.0 c.place_of.result n c.deref.ensures.value c.place_of.ensures c.in_err-place.was)
 
 pub returns-in_err-read-clause-refused : goal.returns-in_err-read-clause-refused
 returns-in_err-read-clause-refused c =
     let f = found_in c.self.inside.channels c.self.inside.latest c.self.inside.kept.items c.deref.result.now c.args.number c.in_ok-place.place c.place_of.result c.self.invariant c.deref.ensures.value c.place_of.ensures c.in_ok-place.was in
     let allowed = owned c.self.inside.channels c.args.number c.index.result.now f.opened (c.index.ensures ∙ f.channel c.index.result.now) in
-    never _ c.in_err-read.field-0.0 allowed c.in_err-read.ensures.refused
+    never _ c.in_err-read.field-0.0 allowed c.in_err-read.ensures.refused.1
 
 pub invariant_of-self-2 : goal.invariant_of-self-2
 invariant_of-self-2 c =
@@ -27,7 +27,13 @@ returns-clause-ok c =
     let n : IsNumbered c.args.self.now c.self.inside.latest c.self.inside.kept.items = subst (λ (s : ChannelState). IsNumbered s c.self.inside.latest c.self.inside.kept.items) c.self.view_is c.self.invariant in
     let f = found_in c.args.self.now c.self.inside.latest c.self.inside.kept.items c.deref.result.now c.args.number c.in_ok-place.place c.place_of.result n c.deref.ensures.value c.place_of.ensures c.in_ok-place.was in
     let number = ap (λ (x : Owned). x.number) (c.index.ensures ∙ f.channel c.index.result.now) in
-    (c.in_ok-read.ensures.ok ∙ ap (λ k. read_at k c.self.inside.channels) number ∙ ap (read_at c.args.number) c.self.view_is, f.allowed)
+    c.in_ok-read.ensures.ok ∙ ap (λ k. read_at k c.self.inside.channels) number ∙ ap (read_at c.args.number) c.self.view_is
+
+pub returns-clause-refused : goal.returns-clause-refused
+returns-clause-refused c =
+    let n : IsNumbered c.args.self.now c.self.inside.latest c.self.inside.kept.items = subst (λ (s : ChannelState). IsNumbered s c.self.inside.latest c.self.inside.kept.items) c.self.view_is c.self.invariant in
+    let f = found_in c.args.self.now c.self.inside.latest c.self.inside.kept.items c.deref.result.now c.args.number c.in_ok-place.place c.place_of.result n c.deref.ensures.value c.place_of.ensures c.in_ok-place.was in
+    (f.allowed, tt)
 
 pub returns-clause-letter : goal.returns-clause-letter
 returns-clause-letter c =

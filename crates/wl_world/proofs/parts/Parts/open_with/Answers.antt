@@ -12,7 +12,7 @@ invariant_of-parts c =
     elim c.match-open.branch [
       | in-Ok+in_ok-put_row-in-Ok+in_ok-put_row-in-Ok-2 w ↦
           let channels = w.in_ok-put_row-in-Ok-2.ensures.ok ∙ ap (λ (x : ChannelState). put c.args.tab x p.channels.entries) w.new.ensures in
-          rw (w.tabs-is, w.channels-is) (opens-rowed p.supervisor c.open.new.self c.args.tab c.in_ok-copy.copy c.args.locks p.tabs.entries _ p.channels.entries _ w.in-Ok.ensures.ok w.in-Ok.ensures.allowed w.in_ok-put_row-in-Ok.ensures.ok channels c.self.invariant)
+          rw (w.tabs-is, w.channels-is) (opens-rowed p.supervisor c.open.new.self c.args.tab c.in_ok-copy.copy c.args.locks p.tabs.entries _ p.channels.entries _ w.in-Ok.ensures.ok w.in-Ok.ensures.refused.0 w.in_ok-put_row-in-Ok.ensures.ok channels c.self.invariant)
       | in-Err+in_ok-open_refusal-in-Err w ↦
           rw (w.tabs-is, w.channels-is) (kernel-rowed (kernel_of p.supervisor) (kernel_of c.open.new.self) p.tabs.entries p.channels.entries (ap kernel_of w.in-Err.ensures.err) c.self.invariant)
     ]

@@ -32,9 +32,9 @@ returns-clause-world c =
     let p = c.self.inside in
     rw (← c.as_slice.ensures) (elim c.match-post_at.branch [
       | in-Ok w ↦
-          always c.match-post_at.result (posted-world p.tabs.entries p.channels.entries p.supervisor p.bag p.corrupt.items c.args.self.now c.self.view_is c.args.tab c.args.channel c.as_slice.result.now live c.self.invariant.own c.post_at.new.rows.entries w.in-Ok.ensures.ok w.in-Ok.ensures.allowed)
+          always c.match-post_at.result (posted-world p.tabs.entries p.channels.entries p.supervisor p.bag p.corrupt.items c.args.self.now c.self.view_is c.args.tab c.args.channel c.as_slice.result.now live c.self.invariant.own c.post_at.new.rows.entries w.in-Ok.ensures.ok w.in-Ok.ensures.refused.0)
       | in-Err+in_ok-post_refusal-in-Err w ↦
-          let refusal = w.in-Err.ensures.refused w.in_ok-post_refusal-in-Err.ensures.fault in
+          let refusal = w.in-Err.ensures.refused.1 w.in_ok-post_refusal-in-Err.ensures.fault in
           always c.match-post_at.result (unposted-world p.tabs.entries p.channels.entries p.supervisor p.bag p.corrupt.items c.args.self.now c.self.view_is c.args.tab c.args.channel c.as_slice.result.now live c.self.invariant.own c.post_at.new.rows.entries w.in-Err.ensures.err w.in-Err.refusal refusal)
     ])
 
@@ -48,10 +48,10 @@ returns-clause-said c =
           let is : IsPostOf c.args.channel c.as_slice.result.now (row_of c.args.tab p.channels.entries) posted = record { frame = w.in-Ok.ensures.posted.0; took = w.in-Ok.ensures.posted.1; full = w.in-Ok.ensures.posted.2 } in
           let said : posted_said c.args.tab c.args.bytes.now posted ≡ posting c.args.self.now c.args.tab c.args.channel c.args.bytes.now =
           subst (λ (bytes : List ℕ). posted_said c.args.tab bytes posted ≡ posting c.args.self.now c.args.tab c.args.channel bytes) c.as_slice.ensures
-          (posted-said p.tabs.entries p.channels.entries p.supervisor p.bag p.corrupt.items c.args.self.now c.self.view_is c.args.tab c.args.channel c.as_slice.result.now live c.self.invariant.own w.in-Ok.ensures.allowed posted is) in
+          (posted-said p.tabs.entries p.channels.entries p.supervisor p.bag p.corrupt.items c.args.self.now c.self.view_is c.args.tab c.args.channel c.as_slice.result.now live c.self.invariant.own w.in-Ok.ensures.refused.0 posted is) in
           rw w.result-is (IfOk-weaker w.posting.result _ _ (λ d e. e ∙ said) w.posting.ensures.said)
       | in-Err+in_ok-post_refusal-in-Err w ↦
-          let refusal = w.in-Err.ensures.refused w.in_ok-post_refusal-in-Err.ensures.fault in
+          let refusal = w.in-Err.ensures.refused.1 w.in_ok-post_refusal-in-Err.ensures.fault in
           let said : refused w.in_ok-post_refusal-in-Err.field-0 ≡ posting c.args.self.now c.args.tab c.args.channel c.args.bytes.now =
           ap (λ (r : Refusal). refused r) w.in_ok-post_refusal-in-Err.ensures.refusal
           ∙ rw (← c.as_slice.ensures) (unposted-said p.tabs.entries p.channels.entries p.supervisor p.bag p.corrupt.items c.args.self.now c.self.view_is c.args.tab c.args.channel c.as_slice.result.now live c.self.invariant.own w.in-Err.refusal refusal) in
@@ -65,9 +65,9 @@ returns-clause-sends c =
     rw (← c.as_slice.ensures) (elim c.match-post_at.branch [
       | in-Ok w ↦
           let frame = w.in-Ok.posted.frame in
-          let sends = posted-sends p.tabs.entries p.channels.entries p.supervisor p.bag p.corrupt.items c.args.self.now c.self.view_is c.args.tab c.args.channel c.as_slice.result.now live c.self.invariant.own w.in-Ok.ensures.allowed frame w.in-Ok.ensures.posted.0 in
+          let sends = posted-sends p.tabs.entries p.channels.entries p.supervisor p.bag p.corrupt.items c.args.self.now c.self.view_is c.args.tab c.args.channel c.as_slice.result.now live c.self.invariant.own w.in-Ok.ensures.refused.0 frame w.in-Ok.ensures.posted.0 in
           rw w.result-is (IfOk-weaker w.posting.result _ _ (λ d e. e ∙ ap (λ (k : KernelState). crossed k c.args.tab frame) w.tabs.ensures ∙ sends) w.posting.ensures.sends)
       | in-Err+in_ok-post_refusal-in-Err w ↦
-          let refusal = w.in-Err.ensures.refused w.in_ok-post_refusal-in-Err.ensures.fault in
+          let refusal = w.in-Err.ensures.refused.1 w.in_ok-post_refusal-in-Err.ensures.fault in
           rw w.result-is (w.refused-in-Err.ensures.sends ∙ unposted-sends p.tabs.entries p.channels.entries p.supervisor p.bag p.corrupt.items c.args.self.now c.self.view_is c.args.tab c.args.channel c.as_slice.result.now live c.self.invariant.own w.in-Err.refusal refusal)
     ])

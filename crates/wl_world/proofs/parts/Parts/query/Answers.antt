@@ -30,4 +30,4 @@ invariant_of-self-in_err-agent_refusal-in-Err c =
 pub returns-in-Ok-clause-sends : goal.returns-in-Ok-clause-sends
 returns-in-Ok-clause-sends c =
     let live : lives c.args.self.now c.args.tab ≡ true = grind (arith, common_steps) in
-    IfOk-weaker c.issued.result _ _ (λ d e. e ∙ queried-sends c.self.inside.tabs.entries c.self.inside.channels.entries c.self.inside.supervisor c.self.inside.bag c.self.inside.corrupt.items c.args.self.now c.self.view_is c.args.tab _ _ live c.in-Ok.ensures.ok c.in-Ok.ensures.allowed c.in-Ok.ensures.number) c.issued.ensures.sends
+    IfOk-weaker c.issued.result _ _ (λ d e. e ∙ queried-sends c.self.inside.tabs.entries c.self.inside.channels.entries c.self.inside.supervisor c.self.inside.bag c.self.inside.corrupt.items c.args.self.now c.self.view_is c.args.tab _ _ live c.in-Ok.ensures.ok c.in-Ok.ensures.refused.0 c.in-Ok.ensures.number) c.issued.ensures.sends

@@ -23,4 +23,4 @@ invariant_of-self-2 c =
 pub returns-clause-world : goal.returns-clause-world
 returns-clause-world c =
     let live : lives c.args.self.now c.args.tab ≡ true = grind (arith, common_steps) in
-    always c.match-read_at.result (reads-world c.read_at.result c.self.inside.tabs.entries c.self.inside.channels.entries _ c.self.inside.supervisor c.self.inside.bag c.self.inside.corrupt.items c.args.self.now c.self.view_is c.args.tab c.args.channel live c.self.invariant.own c.read_at.ensures.ok c.read_at.ensures.allowed c.read_at.ensures.refused c.read_at.ensures.err)
+    always c.match-read_at.result (reads-world c.read_at.result c.self.inside.tabs.entries c.self.inside.channels.entries _ c.self.inside.supervisor c.self.inside.bag c.self.inside.corrupt.items c.args.self.now c.self.view_is c.args.tab c.args.channel live c.self.invariant.own c.read_at.ensures.ok c.read_at.ensures.refused.0 c.read_at.ensures.refused.1 c.read_at.ensures.err)
