@@ -97,7 +97,31 @@ start_at (word ∷ words) =
 
 -- ---- lines
 
--- by the first word
+-- by the first word: channels, tabs that were taken over, and what is held
+unfoldable pub said_of_channels : List ℕ → List (List ℕ) → Option Line
+said_of_channels verb words =
+    if bytes_eq verb (codes "channel") then (tab_and_name words >>= λ x. Some (line.Happens (event.Channel x.0 x.1)))
+    else if bytes_eq verb (codes "post") then (tab_channel_data words >>= λ x. Some (line.Happens (event.Post x.0 x.1 x.2)))
+    else if bytes_eq verb (codes "read") then (tab_and_number most_number words >>= λ x. Some (line.Happens (event.Read x.0 x.1)))
+    else if bytes_eq verb (codes "close") then (tab_and_number most_number words >>= λ x. Some (line.Happens (event.Close x.0 x.1)))
+    else if bytes_eq verb (codes "corrupt") then (tab_alone words >>= λ t. Some (line.Happens (event.Corrupt t)))
+    else if bytes_eq verb (codes "forge") then (tab_and_forged words >>= λ x. Some (line.Happens (event.Forge x.0 x.1)))
+    else if bytes_eq verb (codes "show") then (none words >>= λ x. Some line.Show)
+    else None
+
+-- locks and messages, or one of those above
+unfoldable pub said_of_locks : List ℕ → List (List ℕ) → Option Line
+said_of_locks verb words =
+    if bytes_eq verb (codes "ask") then (tab_mode_name words >>= λ x. Some (line.Happens (event.Ask x.0 x.1 x.2)))
+    else if bytes_eq verb (codes "probe") then (tab_mode_name words >>= λ x. Some (line.Happens (event.Probe x.0 x.1 x.2)))
+    else if bytes_eq verb (codes "query") then (tab_alone words >>= λ t. Some (line.Happens (event.Query t)))
+    else if bytes_eq verb (codes "abort") then (tab_and_number LAST_NUMBER words >>= λ x. Some (line.Happens (event.Abort x.0 x.1)))
+    else if bytes_eq verb (codes "release") then (tab_and_number LAST_NUMBER words >>= λ x. Some (line.Happens (event.Release x.0 x.1)))
+    else if bytes_eq verb (codes "resend") then (tab_alone words >>= λ t. Some (line.Happens (event.Resend t)))
+    else if bytes_eq verb (codes "deliver") then (one words >>= message_name_at >>= λ n. Some (line.Deliver n))
+    else said_of_channels verb words
+
+-- tabs and brokers, or one of those above
 unfoldable pub said_by : List ℕ → List (List ℕ) → Option Line
 said_by verb words =
     if bytes_eq verb (codes "open") then (tab_and_url words >>= λ x. Some (line.Open x.0 x.1))
@@ -107,21 +131,7 @@ said_by verb words =
     else if bytes_eq verb (codes "hello") then (tab_alone words >>= λ t. Some (line.Happens (event.Hello t)))
     else if bytes_eq verb (codes "kill") then (tab_alone words >>= λ t. Some (line.Happens (event.Kill t)))
     else if bytes_eq verb (codes "tell") then (tab_alone words >>= λ t. Some (line.Happens (event.Tell t)))
-    else if bytes_eq verb (codes "ask") then (tab_mode_name words >>= λ x. Some (line.Happens (event.Ask x.0 x.1 x.2)))
-    else if bytes_eq verb (codes "probe") then (tab_mode_name words >>= λ x. Some (line.Happens (event.Probe x.0 x.1 x.2)))
-    else if bytes_eq verb (codes "query") then (tab_alone words >>= λ t. Some (line.Happens (event.Query t)))
-    else if bytes_eq verb (codes "abort") then (tab_and_number LAST_NUMBER words >>= λ x. Some (line.Happens (event.Abort x.0 x.1)))
-    else if bytes_eq verb (codes "release") then (tab_and_number LAST_NUMBER words >>= λ x. Some (line.Happens (event.Release x.0 x.1)))
-    else if bytes_eq verb (codes "resend") then (tab_alone words >>= λ t. Some (line.Happens (event.Resend t)))
-    else if bytes_eq verb (codes "deliver") then (one words >>= message_name_at >>= λ n. Some (line.Deliver n))
-    else if bytes_eq verb (codes "channel") then (tab_and_name words >>= λ x. Some (line.Happens (event.Channel x.0 x.1)))
-    else if bytes_eq verb (codes "post") then (tab_channel_data words >>= λ x. Some (line.Happens (event.Post x.0 x.1 x.2)))
-    else if bytes_eq verb (codes "read") then (tab_and_number most_number words >>= λ x. Some (line.Happens (event.Read x.0 x.1)))
-    else if bytes_eq verb (codes "close") then (tab_and_number most_number words >>= λ x. Some (line.Happens (event.Close x.0 x.1)))
-    else if bytes_eq verb (codes "corrupt") then (tab_alone words >>= λ t. Some (line.Happens (event.Corrupt t)))
-    else if bytes_eq verb (codes "forge") then (tab_and_forged words >>= λ x. Some (line.Happens (event.Forge x.0 x.1)))
-    else if bytes_eq verb (codes "show") then (none words >>= λ x. Some line.Show)
-    else None
+    else said_of_locks verb words
 
 -- a line without words says nothing
 unfoldable pub said_in : List (List ℕ) → Option Line

@@ -2,7 +2,7 @@
 
 ghost use Rattle.wl_words.specs.Reading.{most_number, texts};
 ghost use Rattle.wl_words.specs.Words.{Gives};
-ghost use Rattle.wl_script.specs.Lines.{message_name_at, tab_alone, tab_and_url, tab_and_urls, tab_mode_name, tab_and_name, tab_and_number, tab_channel_data, tab_and_forged, tabs_at, start_at, said_by, said_in, line_at};
+ghost use Rattle.wl_script.specs.Lines.{message_name_at, tab_alone, tab_and_url, tab_and_urls, tab_mode_name, tab_and_name, tab_and_number, tab_channel_data, tab_and_forged, tabs_at, start_at, said_by, said_of_locks, said_of_channels, said_in, line_at};
 ghost use Rattle.wl_limits.specs.declared.tabs.TheConstants.{LAST_NUMBER};
 
 use crate::forgery::forged_of;
@@ -36,6 +36,7 @@ fn read_words(alloc: Global, words: &[&[u8]]) -> Result<Line, Unread>
     }
 }
 
+/// By the first word: of tabs and brokers, or else of the rest.
 #[tactic(auto, unfolding(crate::specs::Lines::said_by))]
 fn said(alloc: Global, verb: &[u8], words: &[&[u8]]) -> Result<Line, Unread>
     ensures { Gives (λ line. line) result (said_by verb.now (texts words.now)) }
@@ -60,7 +61,17 @@ fn said(alloc: Global, verb: &[u8], words: &[&[u8]]) -> Result<Line, Unread>
     } else if verb == b"tell".as_slice() {
         let tab = tab_alone(words)?;
         Ok(Line::Happens(Event::Tell { tab }))
-    } else if verb == b"ask".as_slice() {
+    } else {
+        said_of_locks(alloc, verb, words)
+    }
+}
+
+/// Of locks and messages, or else of the rest.
+#[tactic(auto, unfolding(crate::specs::Lines::said_of_locks))]
+fn said_of_locks(alloc: Global, verb: &[u8], words: &[&[u8]]) -> Result<Line, Unread>
+    ensures { Gives (λ line. line) result (said_of_locks verb.now (texts words.now)) }
+{
+    if verb == b"ask".as_slice() {
         let (tab, mode, name) = tab_mode_name(alloc, words)?;
         Ok(Line::Happens(Event::Ask { tab, mode, name }))
     } else if verb == b"probe".as_slice() {
@@ -82,7 +93,17 @@ fn said(alloc: Global, verb: &[u8], words: &[&[u8]]) -> Result<Line, Unread>
         Ok(Line::Deliver {
             name: message_name(one(words)?)?,
         })
-    } else if verb == b"channel".as_slice() {
+    } else {
+        said_of_channels(alloc, verb, words)
+    }
+}
+
+/// Of channels, tabs that were taken over, and what is held.
+#[tactic(auto, unfolding(crate::specs::Lines::said_of_channels))]
+fn said_of_channels(alloc: Global, verb: &[u8], words: &[&[u8]]) -> Result<Line, Unread>
+    ensures { Gives (λ line. line) result (said_of_channels verb.now (texts words.now)) }
+{
+    if verb == b"channel".as_slice() {
         let (tab, name) = tab_and_name(alloc, words)?;
         Ok(Line::Happens(Event::Channel { tab, name }))
     } else if verb == b"post".as_slice() {
