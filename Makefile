@@ -36,7 +36,7 @@ crates/locked_speed/out/locked_speed: crates.txt $(wildcard crates/wl_*/src/*.rt
 
 test:
 	@python3 tools/try_edits.py --fit
-	rt ci
+	RT_JOBS=$${RT_JOBS:-$$(python3 tools/lanes.py)} rt ci
 	@python3 tools/try_edits.py --gate
 	@python3 tools/check_program.py crates/wlb/out/wlb
 

@@ -11,7 +11,7 @@ then, and of the loops and the program what stood then, the desk and the sim. Fi
 proves what is not counted, and with it most of what is; for the narrow count `rt ci wl_locked wl_process_script` does. `rt` keeps
 that beside the kit; so what it keeps there of the counted crates, which this prints, has to be removed. Then, in the copy,
 
-    time (rt ci; python3 tools/try_edits.py --gate)
+    time (RT_JOBS=$(python3 tools/lanes.py) rt ci; python3 tools/try_edits.py --gate)
 
 tells what the gate costs of what stood then, from nothing.
 """

@@ -1,6 +1,6 @@
 """Tries the must-fail edits, those of a crate at once.
 
-usage: try_edits.py [--gate] [CRATE ..]
+usage: try_edits.py [--gate | --control] [CRATE ..]
        try_edits.py --fit
 
 An edit stands in `edits/CRATE`, in the form that `rt` has for edits in `crates/CRATE/must-fail`, of which it tries one after
@@ -9,15 +9,18 @@ check of the crate at least. But the proof of a function knows of the others wha
 So edits of the code of different functions are tried together here: a copy of the crate gets one for each function, and the
 prover has to refuse each of these functions, and no other one that they call. A further edit of one of them is made in a twin:
 the same function under another name, with its clauses and its proof. The prover is asked for these functions alone (`--only`),
-which proves what they call too. An edit of anything else, as of a definition, is tried alone, and a line `refused: PATH` in it
-names the function that has to refuse it, as the prover names it, by a goal of its own or by a lemma. A second edit of a trait's
-function, which has no twin, comes after the others. Beside each edit stands the first goal that is not proved with it.
+which looks at what they call too; so each function that no edit is of gets an empty loop as its body there, and a hole as its
+proof, which stands for what its contract says. An edit of anything else, as of a definition, is tried alone, and a line `refused:
+PATH` in it names the function that has to refuse it, as the prover names it, by a goal of its own or by a lemma. A second edit of
+a trait's function, which has no twin, comes after the others. Beside each edit stands the first goal that is not proved with it.
 
 Without CRATE the edits of all crates are tried, as many crates at a time as there are processors and memory. The libraries that
 a crate stands on are built first, by `rt lib`. The status is 0 where the prover refuses every edit, and the last line counts an
 edit that it refuses as passed, as `rt ci` does.
 With `--gate` it takes the libraries as `rt ci` has just left them, where it has, and leaves seven crates out, and of the
 others each edit with a line `gate: no`.
+With `--control` no edit is made, over such libraries likewise, and the prover has to prove each function that one changes, beside
+the same loops and holes.
 With `--fit` none is tried: the status is 0, and nothing is printed, where each edit still fits its file.
 """
 
@@ -31,13 +34,12 @@ import subprocess
 import sys
 import tempfile
 
+from lanes import lanes, text_of
+
 ROOT = os.path.dirname(os.path.dirname(os.path.abspath(__file__)))
 EDITS = os.path.join(ROOT, "edits")
 # What the gate leaves out: a check of these takes longest, or very long for the few edits that they have.
 LEFT_OUT = {"wl_bag", "wl_command_line", "wl_encoding", "wl_kernel_process", "wl_replies", "wl_script", "wl_world"}
-
-# What a check of a large crate may take of memory, in bytes.
-MEMORY = 4 << 30
 
 FUNCTION = re.compile(r"(?:pub(?:\(\w+\))? )?(?:const )?(?:unsafe )?fn (\w+)")
 # A goal of code, with its name; one of a function's proof files, or of a file of lemmas, with what the prover says of it.
@@ -48,7 +50,7 @@ IN_LEMMA = re.compile(r"(?:\./)?(proofs/\S+\.antt):\d+:\d+: error: (.*)")
 UNREAD = re.compile(r"(?:\./)?(?:src|specs)/\S+?:\d+:\d+: error: ")
 # What a proof file says where an edit took a name away that it cites. That shows little.
 NAME_LOST = re.compile(r"has no field|is not in scope|has no `|was not admitted")
-VERDICT = re.compile(r"^(logic=(proved|not-proved)|only=\d+ proved=\d+)", re.M)
+VERDICT = re.compile(r"^(logic=(proved|not-proved)|only=\d+ (proved|holes)=\d+)", re.M)
 
 
 @dataclasses.dataclass(frozen=True)
@@ -63,6 +65,8 @@ class Function:
     first: int
     body: int
     last: int
+    # Whether it stands in something else: in an impl, or in a trait or another function.
+    is_inside: bool
 
     def fits(self, folder):
         """How well its proof fits in this folder below proofs/, as 0 for not at all: a method's stands with its type."""
@@ -76,7 +80,15 @@ class Function:
 
     @property
     def module(self):
-        return re.sub(r"^src/|/?(?:lib|main|mod)?\.rt$", "", self.path)
+        return module_of(self.path)
+
+    @property
+    def is_plain(self):
+        """Whether it is one of a module, or a method of a type that is not a trait's."""
+        return not self.trait and self.is_inside == bool(self.owner)
+
+    def is_called_in(self, body):
+        return re.search(rf"(?:\bself\.|\bSelf::){self.name}\(" if self.owner else rf"(?<![\w.:]){self.name}\(", body)
 
     @property
     def key(self):
@@ -87,6 +99,10 @@ class Function:
         """How the prover names it, or the end of that: a method stands with its type, wherever the impl is."""
         home = [self.owner + self.trait] if self.owner else self.module.split("/")
         return "::".join(filter(None, [*home, self.name]))
+
+
+def module_of(path):
+    return re.sub(r"^src/|/?(?:lib|main|mod)?\.rt$", "", path)
 
 
 def proved_in(folder, functions):
@@ -165,11 +181,6 @@ class Edit:
         return goal.function[1] in self.asked
 
 
-def text_of(path):
-    with open(path, encoding="utf-8") as file:
-        return file.read()
-
-
 def functions_of(path, text):
     """The functions of a file that `rt fmt` has laid out: each ends at the next brace that is as far in as it begins."""
     lines, found, owner, trait = text.split("\n"), [], "", ""
@@ -193,7 +204,7 @@ def functions_of(path, text):
             first -= 1
         if body < last or lines[last].endswith("{}"):
             home = (owner, trait) if indent else ("", "")
-            found.append(Function(path, *home, named[1], first + 1, body + 1, last + 1))
+            found.append(Function(path, *home, named[1], first + 1, body + 1, last + 1, bool(indent)))
     return found
 
 
@@ -236,12 +247,17 @@ def read_edit(crate, name):
     return edit
 
 
-def functions_in(crate, texts=None):
-    """The functions of a crate, where some of its files have these texts."""
+def source_of(crate, texts):
+    """The texts of a crate's source by path, where some of its files have these texts."""
     home = os.path.join(ROOT, "crates", crate)
     files = [os.path.join(at, it) for at, _, names in os.walk(os.path.join(home, "src")) for it in names]
     paths = {os.path.relpath(it, home): it for it in files}
-    return [it for path, file in paths.items() for it in functions_of(path, (texts or {}).get(path) or text_of(file))]
+    return {path: texts.get(path) or text_of(file) for path, file in paths.items()}
+
+
+def functions_in(crate, texts=None):
+    """The functions of a crate, where some of its files have these texts."""
+    return [it for path, text in source_of(crate, texts or {}).items() for it in functions_of(path, text)]
 
 
 def edits_of(crate):
@@ -279,15 +295,37 @@ def twin_of(edit, number):
     body = edited[begins : len(edited) - behind]
     name = f"{of.name}{TWIN}{number}"
     body = re.sub(rf"\bfn {of.name}\b", f"fn {name}", body, count=1)
-    is_inside = lines[of.body - 1].startswith(" ")
-    calls_itself = re.search(rf"(?:\bself\.|\bSelf::){of.name}\(" if of.owner else rf"(?<![\w.:]){of.name}\(", body)
-    if of.trait or calls_itself or is_inside and not of.owner:
+    if not of.is_plain or of.is_called_in(body):
         return None
-    if is_inside:
+    if of.is_inside:
         begin = max(n for n in range(of.first) if re.match(r"(?:unsafe )?impl\b", lines[n]))
         end = next(n for n in range(begin, of.first) if lines[n].endswith("{"))
         body = "\n".join([*lines[begin : end + 1], body, "}"])
     return Twin(of, dataclasses.replace(of, name=name), f"\n{body}\n")
+
+
+def hollow(crate, texts, asked):
+    """What of a crate's files gets other texts, by path, so that what is not asked for costs next to nothing: functions with an
+    empty loop for a body, on as many lines, and their proofs, which are a hole. What a trait's function does, one that calls
+    itself or another one in a circle, or one that runs as the crate is compiled, is left as it is."""
+    source, proofs = source_of(crate, texts), {}
+    types = re.compile(r"^(?:pub(?:\(\w+\))? )?(?:struct|enum|union) (\w+)", re.M)
+    modules = {name: module_of(path) for path, text in source.items() for name in types.findall(text)}
+    for path, text in source.items():
+        lines = text.split("\n")
+        for of in functions_of(path, text):
+            above, body = "\n".join(lines[of.first - 1 : of.body]), "\n".join(lines[of.body : of.last - 1])
+            is_bound = of.named in asked or of.name == "main" or of.is_called_in(body) or re.search(r"#\[cycle|\bconst fn\b", above)
+            if is_bound or not of.is_plain or not body or of.owner and of.owner not in modules:
+                continue
+            lines[of.body : of.last - 1] = ["loop {}", *[""] * (of.last - of.body - 2)]
+            home = [modules[of.owner], of.owner] if of.owner else [of.module]
+            place = [*"/".join(filter(None, home)).split("/"), of.name]
+            use = f"use Rattle.{crate}.proofs.{'.'.join(place)}.Statement.{{statement}}"
+            hole = f"{use}\n\npub {of.name}_spec : {{M : Type 1}} → statement M\n{of.name}_spec = ?\n"
+            proofs[os.path.join("proofs", *place, "Proof.antt")] = hole
+        source[path] = "\n".join(lines)
+    return texts | source | proofs
 
 
 def fits_in(edit, group):
@@ -352,7 +390,7 @@ def command_of(crate, named):
 
 
 class Trial:
-    """The edits of one crate, each tried over what the ones before have left proved."""
+    """The edits of one crate, those of a group at once."""
 
     def __init__(self, crate, named, groups):
         self.crate, self.groups = crate, groups
@@ -361,38 +399,53 @@ class Trial:
 
     def run(self):
         with tempfile.TemporaryDirectory(prefix="try-edits-") as room:
-            self.room = room
-            for part in filter(os.path.isdir, folders_of(self.crate)):
-                shutil.copytree(part, os.path.join(room, "crate", os.path.basename(part)))
+            self.folder = os.path.join(room, "crate")
             for group in self.groups:
                 self.judge(group)
+        return self
+
+    def control(self):
+        """Tells of each function that edits change whether it is proved as it is."""
+        asked = {path: key for it in edits_of(self.crate) for path, key in zip(it.asked, it.functions)}
+        with tempfile.TemporaryDirectory(prefix="try-edits-") as room:
+            self.folder = os.path.join(room, "crate")
+            proved = self.proved_by(self.said([], hollow(self.crate, {}, {*asked}), [*asked]), {})
+        for path, key in asked.items():
+            told, said = (self.refused, "proved as it is") if key in proved else (self.failed, "NOT PROVED, with no edit made")
+            told.append(f"{self.crate}::{path}: {said}")
         return self
 
     def said_of(self, edits):
         """What the prover says of the functions that have to refuse these edits, or of the whole crate where one names none."""
         texts = changed(edits)
-        folder = os.path.join(self.room, "crate")
-        for path, text in texts.items():
-            with open(os.path.join(folder, path), "w", encoding="utf-8") as file:
-                file.write(text)
-        proofs = [it for edit in edits if edit.twin for it in self.twin_proofs(edit.twin)]
-        words = [*self.command, "--incremental", os.path.join(self.room, "kept")]
-        paths = [it for edit in edits for it in edit.asked] if all(it.asked for it in edits) else []
-        asked = [word for it in paths for word in ("--only", it)]
-        how = {"stdin": subprocess.DEVNULL, "stdout": subprocess.PIPE, "stderr": subprocess.STDOUT, "errors": "replace"}
-        ran = subprocess.run([*words, *asked], cwd=folder, check=False, **how)
-        if asked and not VERDICT.search(ran.stdout):
+        asked = [it for edit in edits for it in edit.asked] if all(it.asked for it in edits) else []
+        said = self.said(edits, hollow(self.crate, texts, {*asked}), asked) if asked else ""
+        if not VERDICT.search(said):
             # (a name that fits nothing, say)
-            ran = subprocess.run(words, cwd=folder, check=False, **how)
-        for path in texts:
-            shutil.copy(os.path.join(ROOT, "crates", self.crate, path), os.path.join(folder, path))
-        for made in proofs:
-            shutil.rmtree(made)
-        return ran.stdout, texts
+            said = self.said(edits, texts, [])
+        return said, texts
 
-    def twin_proofs(self, twin):
-        """Copies what is written of the proof of a function for its twin, and returns where."""
-        top = os.path.join(self.room, "crate", "proofs")
+    def said(self, edits, texts, asked):
+        """What the prover says of the functions that are asked for, or of all, in a copy of the crate with these texts."""
+        shutil.rmtree(self.folder, ignore_errors=True)
+        for part in filter(os.path.isdir, folders_of(self.crate)):
+            shutil.copytree(part, os.path.join(self.folder, os.path.basename(part)))
+        for twin in filter(None, (it.twin for it in edits)):
+            self.copy_proof(twin)
+        for path, text in texts.items():
+            place = os.path.join(self.folder, path)
+            if os.path.basename(path) == "Proof.antt":
+                shutil.rmtree(os.path.dirname(place), ignore_errors=True)
+            os.makedirs(os.path.dirname(place), exist_ok=True)
+            with open(place, "w", encoding="utf-8") as file:
+                file.write(text)
+        words = ["--allow-holes", *(word for it in asked for word in ("--only", it))] if asked else []
+        how = {"stdin": subprocess.DEVNULL, "stdout": subprocess.PIPE, "stderr": subprocess.STDOUT, "errors": "replace"}
+        return subprocess.run([*self.command, *words], cwd=self.folder, check=False, **how).stdout
+
+    def copy_proof(self, twin):
+        """Copies what is written of the proof of a function for its twin."""
+        top = os.path.join(self.folder, "proofs")
         found = [os.path.join(at, it) for at, names, _ in os.walk(top) for it in names if it == twin.of.name]
         for folder in [it for it in found if twin.of.fits(os.path.relpath(it, top)) == (2 if twin.of.owner else 1)]:
             made = os.path.join(os.path.dirname(folder), twin.function.name)
@@ -402,7 +455,6 @@ class Trial:
                 text = text_of(os.path.join(made, name))
                 with open(os.path.join(made, name), "w", encoding="utf-8") as file:
                     file.write(text.replace(f".proofs.{old}.", f".proofs.{new}."))
-            yield made
 
     def judge(self, group):
         said, texts = self.said_of(group)
@@ -437,9 +489,9 @@ class Trial:
         self.refused.append(f"{edit}: refused by `{goal.home.partition(TWIN)[0]}`, `{goal.clause}`{least}")
 
     def proved_by(self, said, texts):
-        """The functions that the prover tells as proved, by file and name."""
+        """The functions that the prover tells as proved, given those with a hole, by file and name."""
         functions = functions_in(self.crate, texts)
-        names = re.findall(rf"^fn {self.crate}::(\S+): proved", said, re.M)
+        names = re.findall(rf"^fn {self.crate}::(\S+): (?:proved|no holes|depends on a hole)", said, re.M)
         found = [proved_in(it.replace("::", "/"), functions) for it in names]
         return {it.key for it in found if it}
 
@@ -475,12 +527,6 @@ def unfit():
     return said
 
 
-def lanes():
-    """How many crates are tried at a time."""
-    free = re.search(r"MemAvailable:\s+(\d+)", text_of("/proc/meminfo"))
-    return max(1, min(len(os.sched_getaffinity(0)), int(free[1]) * 1024 // MEMORY))
-
-
 def folders_of(crate):
     """What a check of a crate reads."""
     return [os.path.join(ROOT, "crates", crate, part) for part in ("src", "specs", "proofs")]
@@ -498,11 +544,11 @@ def main():
         said = unfit()
         print("\n".join(said), end="\n" if said else "")
         return 1 if said else 0
-    is_gate = "--gate" in words
+    is_gate, is_control = "--gate" in words, "--control" in words
     named = libraries()
-    crates = [it for it in words if it != "--gate"] or sorted({*os.listdir(EDITS)} - (LEFT_OUT if is_gate else set()))
+    crates = [it for it in words if not it.startswith("--")] or sorted({*os.listdir(EDITS)} - (LEFT_OUT if is_gate else set()))
     needed = {dep for crate in crates for dep in below(crate, named)}
-    if not is_gate or not all(is_of_gate(it) for it in needed):
+    if not (is_gate or is_control) or not all(is_of_gate(it) for it in needed):
         for dep in sorted(needed, key=lambda it: len(below(it, named))):
             subprocess.run(["rt", "lib"], cwd=os.path.join(ROOT, "crates", dep), stdout=subprocess.DEVNULL, check=True)
     trials = []
@@ -510,11 +556,11 @@ def main():
         trials.append(Trial(crate, named, together([it for it in edits_of(crate) if it.is_of_gate or not is_gate])))
     refused = failed = 0
     with concurrent.futures.ThreadPoolExecutor(lanes()) as pool:
-        for trial in concurrent.futures.as_completed([pool.submit(it.run) for it in trials]):
+        for trial in concurrent.futures.as_completed([pool.submit(it.control if is_control else it.run) for it in trials]):
             ended = trial.result()
             print("\n".join([*ended.refused, *ended.failed]), flush=True)
             refused, failed = refused + len(ended.refused), failed + len(ended.failed)
-    print(f"edits: {refused} passed, {failed} failed")
+    print(f"{'controls' if is_control else 'edits'}: {refused} passed, {failed} failed")
     return 1 if failed else 0
 
 
