@@ -46,8 +46,8 @@ FUNCTION = re.compile(r"(?:pub(?:\(\w+\))? )?(?:const )?(?:unsafe )?fn (\w+)")
 IN_CODE = re.compile(r"note: (?:\./)?(src/\S+?):(\d+):\d+: it is not proved .*?\(`([^`]+)`\)")
 IN_PROOF = re.compile(r"(?:\./)?proofs/(\S+)/(?:Answers|Invariants|Proof)\.antt:\d+:\d+: error: (.*)")
 IN_LEMMA = re.compile(r"(?:\./)?(proofs/\S+\.antt):\d+:\d+: error: (.*)")
-# A text that cannot be read or typed any more: no contract was tried then.
-UNREAD = re.compile(r"(?:\./)?(?:src|specs)/\S+?:\d+:\d+: error: ")
+# A text that cannot be read or typed any more, or a hole that is no function's: no contract was tried then.
+UNREAD = re.compile(r"^(?:\./)?(?:(?:src|specs)/\S+?:\d+:\d+|proofs/\S+/Proof\.antt\S*): error: .*", re.M)
 # What a proof file says where an edit took a name away that it cites. That shows little.
 NAME_LOST = re.compile(r"has no field|is not in scope|has no `|was not admitted")
 VERDICT = re.compile(r"^(logic=(proved|not-proved)|only=\d+ (proved|holes)=\d+)", re.M)
@@ -409,7 +409,10 @@ class Trial:
         asked = {path: key for it in edits_of(self.crate) for path, key in zip(it.asked, it.functions)}
         with tempfile.TemporaryDirectory(prefix="try-edits-") as room:
             self.folder = os.path.join(room, "crate")
-            proved = self.proved_by(self.said([], hollow(self.crate, {}, {*asked}), [*asked]), {})
+            said = self.said([], hollow(self.crate, {}, {*asked}), [*asked])
+        if unread := UNREAD.search(said):
+            self.failed.append(f"{self.crate}: {unread[0]}")
+        proved = self.proved_by(said, {})
         for path, key in asked.items():
             told, said = (self.refused, "proved as it is") if key in proved else (self.failed, "NOT PROVED, with no edit made")
             told.append(f"{self.crate}::{path}: {said}")
@@ -458,7 +461,7 @@ class Trial:
 
     def judge(self, group):
         said, texts = self.said_of(group)
-        unread = next((it for it in said.split("\n") if UNREAD.match(it)), None)
+        unread = UNREAD.search(said)
         goals = self.goals_of(said, texts)
         taken = {it for edit in group for it in edit.functions}
         is_lost = unread or not VERDICT.search(said)
@@ -471,7 +474,7 @@ class Trial:
             for edit in group:
                 self.judge([edit])
         elif is_lost or waiting == group:
-            why = unread or ("its function has no goal that was tried" if waiting else said[-300:])
+            why = unread[0] if unread else ("its function has no goal that was tried" if waiting else said[-300:])
             self.failed.append(f"{group[0]}: BAD EDIT: it did not reach the prover: {why}")
         else:
             for edit in group:
