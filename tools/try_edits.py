@@ -19,8 +19,8 @@ a crate stands on are built first, by `rt lib`. The status is 0 where the prover
 edit that it refuses as passed, as `rt ci` does.
 With `--gate` it takes the libraries as `rt ci` has just left them, where it has, and leaves seven crates out, and of the
 others each edit with a line `gate: no`.
-With `--control` no edit is made, over such libraries likewise, and the prover has to prove each function that one changes, beside
-the same loops and holes.
+With `--control` no edit is made, over such libraries likewise, and the prover has to prove each function that has to refuse one,
+beside the same loops and holes.
 With `--fit` none is tried: the status is 0, and nothing is printed, where each edit still fits its file.
 """
 
@@ -305,9 +305,9 @@ def twin_of(edit, number):
 
 
 def hollow(crate, texts, asked):
-    """What of a crate's files gets other texts, by path, so that what is not asked for costs next to nothing: functions with an
-    empty loop for a body, on as many lines, and their proofs, which are a hole. What a trait's function does, one that calls
-    itself or another one in a circle, or one that runs as the crate is compiled, is left as it is."""
+    """The texts of the crate's source, and of holes, by path: each function that is not asked for has an empty loop for its body,
+    on as many lines, and a hole for its proof. Left as they are: those of traits, those that call themselves or one another, and
+    those that run as the crate is compiled."""
     source, proofs = source_of(crate, texts), {}
     types = re.compile(r"^(?:pub(?:\(\w+\))? )?(?:struct|enum|union) (\w+)", re.M)
     modules = {name: module_of(path) for path, text in source.items() for name in types.findall(text)}
@@ -315,8 +315,8 @@ def hollow(crate, texts, asked):
         lines = text.split("\n")
         for of in functions_of(path, text):
             above, body = "\n".join(lines[of.first - 1 : of.body]), "\n".join(lines[of.body : of.last - 1])
-            is_bound = of.named in asked or of.name == "main" or of.is_called_in(body) or re.search(r"#\[cycle|\bconst fn\b", above)
-            if is_bound or not of.is_plain or not body or of.owner and of.owner not in modules:
+            is_needed = of.named in asked or of.is_called_in(body) or re.search(r"#\[cycle|\bconst fn\b|\bfn main\b", above)
+            if is_needed or not of.is_plain or not body or of.owner and of.owner not in modules:
                 continue
             lines[of.body : of.last - 1] = ["loop {}", *[""] * (of.last - of.body - 2)]
             home = [modules[of.owner], of.owner] if of.owner else [of.module]
@@ -395,7 +395,7 @@ class Trial:
     def __init__(self, crate, named, groups):
         self.crate, self.groups = crate, groups
         self.command = command_of(crate, named)
-        self.refused, self.failed = [], []
+        self.passed, self.failed = [], []
 
     def run(self):
         with tempfile.TemporaryDirectory(prefix="try-edits-") as room:
@@ -405,17 +405,19 @@ class Trial:
         return self
 
     def control(self):
-        """Tells of each function that edits change whether it is proved as it is."""
-        asked = {path: key for it in edits_of(self.crate) for path, key in zip(it.asked, it.functions)}
+        """Tells of each function that has to refuse an edit whether it is proved as it is."""
+        asked = {path for it in edits_of(self.crate) for path in it.asked}
         with tempfile.TemporaryDirectory(prefix="try-edits-") as room:
             self.folder = os.path.join(room, "crate")
-            said = self.said([], hollow(self.crate, {}, {*asked}), [*asked])
+            said = self.said([], hollow(self.crate, {}, asked), sorted(asked))
         if unread := UNREAD.search(said):
             self.failed.append(f"{self.crate}: {unread[0]}")
         proved = self.proved_by(said, {})
-        for path, key in asked.items():
-            told, said = (self.refused, "proved as it is") if key in proved else (self.failed, "NOT PROVED, with no edit made")
-            told.append(f"{self.crate}::{path}: {said}")
+        for it in (it for it in functions_in(self.crate) if it.named in asked):
+            if it.key in proved:
+                self.passed.append(f"{self.crate}::{it.named}: proved as it is")
+            else:
+                self.failed.append(f"{self.crate}::{it.named}: NOT PROVED, with no edit made")
         return self
 
     def said_of(self, edits):
@@ -489,7 +491,7 @@ class Trial:
             return
         goal = min(goals, key=lambda it: it.is_lost)
         least = ", which only names what the edit took away, so this says little of the contract" if goal.is_lost else ""
-        self.refused.append(f"{edit}: refused by `{goal.home.partition(TWIN)[0]}`, `{goal.clause}`{least}")
+        self.passed.append(f"{edit}: refused by `{goal.home.partition(TWIN)[0]}`, `{goal.clause}`{least}")
 
     def proved_by(self, said, texts):
         """The functions that the prover tells as proved, given those with a hole, by file and name."""
@@ -557,13 +559,13 @@ def main():
     trials = []
     for crate in sorted(crates, key=size, reverse=True):
         trials.append(Trial(crate, named, together([it for it in edits_of(crate) if it.is_of_gate or not is_gate])))
-    refused = failed = 0
+    passed = failed = 0
     with concurrent.futures.ThreadPoolExecutor(lanes()) as pool:
         for trial in concurrent.futures.as_completed([pool.submit(it.control if is_control else it.run) for it in trials]):
             ended = trial.result()
-            print("\n".join([*ended.refused, *ended.failed]), flush=True)
-            refused, failed = refused + len(ended.refused), failed + len(ended.failed)
-    print(f"{'controls' if is_control else 'edits'}: {refused} passed, {failed} failed")
+            print("\n".join([*ended.passed, *ended.failed]), flush=True)
+            passed, failed = passed + len(ended.passed), failed + len(ended.failed)
+    print(f"{'controls' if is_control else 'edits'}: {passed} passed, {failed} failed")
     return 1 if failed else 0
 
 
