@@ -76,7 +76,9 @@ class Function:
         is_home = owner.startswith(self.owner) if self.owner else above.strip("/") == self.module
         if last.removeprefix("+") != self.name or not is_home:
             return 0
-        return 2 if owner == self.owner else 1
+        # (the prover leaves out what the trait's argument is of)
+        whole = self.owner + self.trait
+        return 2 if owner == whole or owner != self.owner and whole.startswith(owner) else 1
 
     @property
     def module(self):
