@@ -1,7 +1,7 @@
 """Prints how many proofs run at a time here, one a processor and as many as memory holds: python3 tools/lanes.py
 
 `make test` gives the number to `rt ci` as RT_JOBS, which then proves each crate with one job. Without it a proof that no others
-wait beside gets up to four jobs, and takes a fifth more of the processors' time with them, for an earlier end.
+wait beside gets up to four jobs, and takes more of the processors' time with them, for an earlier end (docs/GATE.md).
 """
 import contextlib
 import os

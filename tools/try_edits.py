@@ -317,8 +317,8 @@ def hollow(crate, texts, asked):
         lines = text.split("\n")
         for of in functions_of(path, text):
             above, body = "\n".join(lines[of.first - 1 : of.body]), "\n".join(lines[of.body : of.last - 1])
-            is_needed = of.named in asked or of.is_called_in(body) or re.search(r"#\[cycle|\bconst fn\b|\bfn main\b", above)
-            if is_needed or not of.is_plain or not body or of.owner and of.owner not in modules:
+            is_kept = of.named in asked or of.is_called_in(body) or re.search(r"#\[cycle|\bconst fn\b|\bfn main\b", above)
+            if is_kept or not of.is_plain or not body or of.owner and of.owner not in modules:
                 continue
             lines[of.body : of.last - 1] = ["loop {}", *[""] * (of.last - of.body - 2)]
             home = [modules[of.owner], of.owner] if of.owner else [of.module]
@@ -551,9 +551,12 @@ def main():
         said = unfit()
         print("\n".join(said), end="\n" if said else "")
         return 1 if said else 0
-    is_gate, is_control = "--gate" in words, "--control" in words
+    flags = {it for it in words if it.startswith("-")}
+    if len(flags) > 1 or flags - {"--gate", "--control"}:
+        sys.exit(__doc__)
+    is_gate, is_control = "--gate" in flags, "--control" in flags
     named = libraries()
-    crates = [it for it in words if not it.startswith("--")] or sorted({*os.listdir(EDITS)} - (LEFT_OUT if is_gate else set()))
+    crates = [it for it in words if it not in flags] or sorted({*os.listdir(EDITS)} - (LEFT_OUT if is_gate else set()))
     needed = {dep for crate in crates for dep in below(crate, named)}
     if not (is_gate or is_control) or not all(is_of_gate(it) for it in needed):
         for dep in sorted(needed, key=lambda it: len(below(it, named))):
