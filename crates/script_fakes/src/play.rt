@@ -22,16 +22,7 @@ impl Play {
         }
     }
 
-    /// One more line, and what is written for it.
-    pub fn line(&mut self, line: &str, replies: &[&str]) -> Result<(), AllocError> {
-        self.say(line)?;
-        for reply in replies {
-            self.hear(reply)?;
-        }
-        Ok(())
-    }
-
-    /// The lines of a part of a row, and what is written for them.
+    /// More lines, as a row has them: one that begins with `> ` is of the script, and any other is written for those before it.
     pub fn part(&mut self, part: &str) -> Result<(), AllocError> {
         for line in part.lines() {
             match line.strip_prefix("> ") {
@@ -133,19 +124,29 @@ m3 1>b gen 1 #0 request exclusive %
 /// A name of 255 letters, which is asked for, and one of 256, which is too long.
 fn long_names(alloc: Global, play: &mut Play) -> Result<(), AllocError> {
     let name = letters(alloc, 255)?;
-    let line = format!(in alloc; "ask 1 shared {name}")?;
-    let message = format!(in alloc; "m4 1>b gen 1 #1 request shared {name}")?;
-    play.line(line.as_str(), &["1#1", message.as_str()])?;
-    let line = format!(in alloc; "ask 1 shared {name}n")?;
-    play.line(line.as_str(), &["NameTooLong"])
+    let lines = format!(in alloc;
+        "\
+> ask 1 shared {name}
+1#1
+m4 1>b gen 1 #1 request shared {name}
+> ask 1 shared {name}n
+NameTooLong
+"
+    )?;
+    play.part(lines.as_str())
 }
 
 /// The request of this number.
 pub fn asks(alloc: Global, play: &mut Play, number: u32) -> Result<(), AllocError> {
     let place = number.saturating_add(3);
-    let issued = format!(in alloc; "1#{number}")?;
-    let message = format!(in alloc; "m{place} 1>b gen 1 #{number} request shared b")?;
-    play.line("ask 1 shared b", &[issued.as_str(), message.as_str()])
+    let lines = format!(in alloc;
+        "\
+> ask 1 shared b
+1#{number}
+m{place} 1>b gen 1 #{number} request shared b
+"
+    )?;
+    play.part(lines.as_str())
 }
 
 const TOO_MANY: &str = "\

@@ -259,12 +259,16 @@ channel 0
 /// The post of this number, and its delivery.
 fn posts(alloc: Global, play: &mut Play, number: u32) -> Result<(), AllocError> {
     let place = number.saturating_add(1);
-    let posted = format!(in alloc; "post {number}")?;
-    let message = format!(in alloc; "m{place} 1>2 post {number} n x")?;
-    play.line("post 1 0 x", &[posted.as_str(), message.as_str()])?;
-    let line = format!(in alloc; "deliver m{place}")?;
-    let heard = format!(in alloc; "2*0 heard 1#{number} x")?;
-    play.line(line.as_str(), &[heard.as_str()])
+    let lines = format!(in alloc;
+        "\
+> post 1 0 x
+post {number}
+m{place} 1>2 post {number} n x
+> deliver m{place}
+2*0 heard 1#{number} x
+"
+    )?;
+    play.part(lines.as_str())
 }
 
 const INBOX_IS_FULL: &str = "\

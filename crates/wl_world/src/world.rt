@@ -57,8 +57,8 @@ impl World {
         ensures moves { IfOk result (λ r. MovesOwnAloneBetween self.world event r.0.world) }
     {
         let World { mut events, parts } = self;
-        let (parts, reply) = parts.happen(&event)?;
-        events.push(event)?;
+        // Kept first, so that no exit drops an event or a reply, which would be a match over all its kinds.
+        let (parts, reply) = parts.happen(events.push_mut(event)?)?;
         Ok((World { events, parts }, reply))
     }
 

@@ -46,11 +46,16 @@ pub fn up_to(alloc: Global, limit: Limit) -> Result<Play, AllocError> {
 
 // ---- channels and posts
 
+const OPENED: &str = "\
+> open 1 https://a.test/
+opened 1 https://a.test
+";
+
 /// The 64 open channels of a tab.
 fn open_channels(alloc: Global, play: &mut Play) -> Result<(), AllocError> {
     for channel in 0..64_u32 {
-        let opened = format!(in alloc; "channel {channel}")?;
-        play.line("channel 1 n", &[opened.as_str()])?;
+        let lines = format!(in alloc; "> channel 1 n\nchannel {channel}")?;
+        play.part(lines.as_str())?;
     }
     Ok(())
 }
@@ -71,24 +76,29 @@ TooManyChannels
 
 fn channels(alloc: Global) -> Result<Play, AllocError> {
     let mut play = Play::new(alloc);
-    play.line("open 1 https://a.test/", &["opened 1 https://a.test"])?;
+    play.part(OPENED)?;
     open_channels(alloc, &mut play)?;
     let name = letters(alloc, 256)?;
-    let line = format!(in alloc; "channel 1 {name}")?;
-    play.line(line.as_str(), &["NameTooLong"])?;
+    let lines = format!(in alloc; "> channel 1 {name}\nNameTooLong")?;
+    play.part(lines.as_str())?;
     play.part(TOO_MANY_CHANNELS)?;
     Ok(play)
 }
 
 /// A post of these data goes from tab 1 to tab 2.
 fn post(alloc: Global, play: &mut Play, data: &str) -> Result<(), AllocError> {
-    let line = format!(in alloc; "post 1 0 {data}")?;
-    let message = format!(in alloc; "m1 1>2 post 0 n {data}")?;
-    play.line(line.as_str(), &["post 0", message.as_str()])?;
-    let heard = format!(in alloc; "2*0 heard 1#0 {data}")?;
-    play.line("deliver m1", &[heard.as_str()])?;
-    let read = format!(in alloc; "read 1#0 {data}")?;
-    play.line("read 2 0", &[read.as_str()])
+    let lines = format!(in alloc;
+        "\
+> post 1 0 {data}
+post 0
+m1 1>2 post 0 n {data}
+> deliver m1
+2*0 heard 1#0 {data}
+> read 2 0
+read 1#0 {data}
+"
+    )?;
+    play.part(lines.as_str())
 }
 
 /// Data of 16,384 bytes, and of one more, on a channel that is open and on one that is closed. A word is longer than its bytes.
@@ -96,11 +106,18 @@ fn data(alloc: Global) -> Result<Play, AllocError> {
     let mut play = Play::new(alloc);
     play.part(TWO_CHANNELS)?;
     let data = repeated(alloc, "%FF", 16_384)?;
-    let too_long = format!(in alloc; "post 1 0 {data}x")?;
-    play.line(too_long.as_str(), &["DataTooLong"])?;
     post(alloc, &mut play, data.as_str())?;
-    play.line("close 1 0", &["closed 0"])?;
-    play.line(too_long.as_str(), &["InvalidStateError"])?;
+    let lines = format!(in alloc;
+        "\
+> post 1 0 {data}x
+DataTooLong
+> close 1 0
+closed 0
+> post 1 0 {data}x
+InvalidStateError
+"
+    )?;
+    play.part(lines.as_str())?;
     Ok(play)
 }
 
@@ -132,9 +149,8 @@ fn inbox(alloc: Global) -> Result<Play, AllocError> {
     let mut play = Play::new(alloc);
     play.part(TWO_OF_ONE_TAB)?;
     for number in 0..256_u32 {
-        let posted = format!(in alloc; "post {number}")?;
-        let heard = format!(in alloc; "1*1 heard 1#{number} x")?;
-        play.line("post 1 0 x", &[posted.as_str(), heard.as_str()])?;
+        let lines = format!(in alloc; "> post 1 0 x\npost {number}\n1*1 heard 1#{number} x")?;
+        play.part(lines.as_str())?;
     }
     play.part(FULL_INBOX)?;
     Ok(play)
@@ -144,10 +160,9 @@ fn inbox(alloc: Global) -> Result<Play, AllocError> {
 
 /// A tab's queries from its first command on. No generation is there, so nothing is sent.
 fn queries(alloc: Global, play: &mut Play, tab: u32, count: u32) -> Result<(), AllocError> {
-    let line = format!(in alloc; "query {tab}")?;
     for number in 0..count {
-        let issued = format!(in alloc; "{tab}#{number}")?;
-        play.line(line.as_str(), &[issued.as_str()])?;
+        let lines = format!(in alloc; "> query {tab}\n{tab}#{number}")?;
+        play.part(lines.as_str())?;
     }
     Ok(())
 }
@@ -181,11 +196,11 @@ opened 2 https://t.test https://a.test
 /// A tab that tells its reports in parts may have 1,024 of them.
 fn numbers(alloc: Global) -> Result<Play, AllocError> {
     let mut play = Play::new(alloc);
-    play.line("open 1 https://a.test/", &["opened 1 https://a.test"])?;
+    play.part(OPENED)?;
     queries(alloc, &mut play, 1, 62)?;
     play.part(TOO_MANY_NUMBERS)?;
     queries(alloc, &mut play, 2, 1_024)?;
-    play.line("query 2", &["TooMany"])?;
+    play.part("> query 2\nTooMany")?;
     Ok(play)
 }
 
@@ -193,9 +208,13 @@ fn numbers(alloc: Global) -> Result<Play, AllocError> {
 
 /// A tab is opened, in the partition of this number.
 fn open(alloc: Global, play: &mut Play, tab: u32, partition: u32) -> Result<(), AllocError> {
-    let line = format!(in alloc; "open {tab} https://p{partition}.test/")?;
-    let opened = format!(in alloc; "opened {tab} https://p{partition}.test")?;
-    play.line(line.as_str(), &[opened.as_str()])
+    let lines = format!(in alloc;
+        "\
+> open {tab} https://p{partition}.test/
+opened {tab} https://p{partition}.test
+"
+    )?;
+    play.part(lines.as_str())
 }
 
 /// There are 16 partitions of 64 tabs each. One that is dead makes room for another one in its own partition, under a number
@@ -239,11 +258,20 @@ fn start(alloc: Global, count: u32) -> Result<String, AllocError> {
 /// None of the tabs was ever opened.
 fn listed_tabs(alloc: Global) -> Result<Play, AllocError> {
     let mut play = Play::new(alloc);
-    let too_many = start(alloc, 1_025)?;
-    play.line(too_many.as_str(), &["too many"])?;
-    play.line(start(alloc, 1_024)?.as_str(), &["stranger 1"])?;
-    play.line("start -", &["up 1"])?;
-    play.line(too_many.as_str(), &["already up"])?;
+    let (allowed, too_many) = (start(alloc, 1_024)?, start(alloc, 1_025)?);
+    let lines = format!(in alloc;
+        "\
+> {too_many}
+too many
+> {allowed}
+stranger 1
+> start -
+up 1
+> {too_many}
+already up
+"
+    )?;
+    play.part(lines.as_str())?;
     Ok(play)
 }
 
@@ -315,28 +343,29 @@ fn locks(alloc: Global) -> Result<Play, AllocError> {
     let mut play = Play::new(alloc);
     play.part(TAKEN_OVER)?;
     let (digits, entries) = (digits_of(alloc, 0)?, entries_of(alloc, 0)?);
-    let line = format!(in alloc; "forge 1 010200000001000000400040{digits}")?;
-    let message = format!(in alloc; "m2 1>b report 1 base 64{entries}")?;
-    play.line(line.as_str(), &[message.as_str()])?;
+    let lines = format!(in alloc;
+        "\
+> forge 1 010200000001000000400040{digits}
+m2 1>b report 1 base 64{entries}
+"
+    )?;
+    play.part(lines.as_str())?;
     play.part(TOO_MANY_LOCKS)?;
     Ok(play)
 }
 
-/// One of 16 parts of a report, and its delivery.
+/// One of 16 parts of a report, and its delivery, but not what is said of that.
 fn part(alloc: Global, play: &mut Play, part: u32) -> Result<(), AllocError> {
     let (first, place) = (part.saturating_mul(64), part.saturating_add(2));
     let (digits, entries) = (digits_of(alloc, first)?, entries_of(alloc, first)?);
-    let line = format!(in alloc; "forge 1 02020000000100000400{part:04X}00100040{digits}")?;
-    let message = format!(in alloc; "m{place} 1>b report2 1 base 1024 part {part} of 16{entries}")?;
-    play.line(line.as_str(), &[message.as_str()])?;
-    let line = format!(in alloc; "deliver m{place}")?;
-    let taken = format!(in alloc; "part {part} of 16")?;
-    let said = if part == 15 {
-        "joined 1"
-    } else {
-        taken.as_str()
-    };
-    play.line(line.as_str(), &[said])
+    let lines = format!(in alloc;
+        "\
+> forge 1 02020000000100000400{part:04X}00100040{digits}
+m{place} 1>b report2 1 base 1024 part {part} of 16{entries}
+> deliver m{place}
+"
+    )?;
+    play.part(lines.as_str())
 }
 
 const TOO_MANY_LOCKS_IN_PARTS: &str = "\
@@ -361,9 +390,13 @@ dropped too many
 fn locks_in_parts(alloc: Global) -> Result<Play, AllocError> {
     let mut play = Play::new(alloc);
     play.part(TAKEN_OVER)?;
-    for number in 0..16 {
+    for number in 0..15 {
         part(alloc, &mut play, number)?;
+        let said = format!(in alloc; "part {number} of 16")?;
+        play.part(said.as_str())?;
     }
+    part(alloc, &mut play, 15)?;
+    play.part("joined 1")?;
     play.part(TOO_MANY_LOCKS_IN_PARTS)?;
     Ok(play)
 }

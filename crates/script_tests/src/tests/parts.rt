@@ -28,21 +28,35 @@ fn first_part(alloc: Global) -> Result<String, AllocError> {
 }
 
 /// The next broker starts, and the second part of the report comes twice.
-fn reports(play: &mut Play, first: &str) -> Result<(), AllocError> {
-    play.line("stop", &["stopped 1"])?;
-    play.line("start", &["up 2", "m68 b>1 hello 2"])?;
-    let second = "m70 1>b report2 2 base 65 part 1 of 2 #64 waiting shared b";
-    play.line("deliver m68", &["entered 2", first, second])?;
-    play.line("deliver m70", &["part 1 of 2"])?;
-    play.line("deliver m70", &["dropped part twice"])?;
-    play.line("deliver m69", &["joined 1"])
+fn reports(alloc: Global, play: &mut Play) -> Result<(), AllocError> {
+    let first = first_part(alloc)?;
+    let lines = format!(in alloc;
+        "\
+> stop
+stopped 1
+> start
+up 2
+m68 b>1 hello 2
+> deliver m68
+entered 2
+{first}
+m70 1>b report2 2 base 65 part 1 of 2 #64 waiting shared b
+> deliver m70
+part 1 of 2
+> deliver m70
+dropped part twice
+> deliver m69
+joined 1
+"
+    )?;
+    play.part(lines.as_str())
 }
 
 /// What grants the request of this number.
 fn granted(alloc: Global, play: &mut Play, number: u32) -> Result<(), AllocError> {
     let place = number.saturating_add(71);
-    let granted = format!(in alloc; "m{place} b>1 gen 2 #{number} granted upto 65\n")?;
-    play.output.extend_from_slice(granted.as_str().as_bytes())
+    let granted = format!(in alloc; "m{place} b>1 gen 2 #{number} granted upto 65")?;
+    play.part(granted.as_str())
 }
 
 /// A page of a.test in a frame of t.test, with 65 requests; after a stop its report comes in two parts, the second one first.
@@ -52,7 +66,7 @@ pub fn in_two_parts(alloc: Global) -> Result<Play, AllocError> {
     for number in 0..65 {
         asks(alloc, &mut play, number)?;
     }
-    reports(&mut play, first_part(alloc)?.as_str())?;
+    reports(alloc, &mut play)?;
     for number in 0..65 {
         granted(alloc, &mut play, number)?;
     }
@@ -63,11 +77,11 @@ pub fn in_two_parts(alloc: Global) -> Result<Play, AllocError> {
 fn whole(alloc: Global) -> Result<String, AllocError> {
     let lock = "{\"clientId\":\"1\",\"mode\":\"shared\",\"name\":\"b\"}";
     let mut text = String::from_str(alloc, "{\"held\":[")?;
-    for _ in 0..64 {
-        text.push_str(lock)?;
-        text.push(',')?;
-    }
     text.push_str(lock)?;
+    for _ in 1..65_u32 {
+        text.push(',')?;
+        text.push_str(lock)?;
+    }
     text.push_str("],\"pending\":[]}")?;
     Ok(text)
 }
@@ -75,16 +89,28 @@ fn whole(alloc: Global) -> Result<String, AllocError> {
 /// The tab with 65 locks asks for a snapshot, which comes in two parts, and the first of them comes again.
 pub fn snapshot_in_two_parts(alloc: Global) -> Result<Play, AllocError> {
     let mut play = in_two_parts(alloc)?;
-    play.line("query 1", &["1#65", "m136 1>b gen 2 #65 query"])?;
     let locks = repeated(alloc, " held 1 shared b", 64)?;
-    let first = format!(in alloc; "m137 b>1 gen 2 #65 part 0 of 2{locks}")?;
-    let second = "m138 b>1 gen 2 #65 part 1 of 2 held 1 shared b";
-    play.line("deliver m136", &[first.as_str(), second])?;
-    play.line("deliver m137", &["part 0 of 2"])?;
-    play.line("deliver m137", &["dropped twice"])?;
     let whole = whole(alloc)?;
-    play.line("deliver m138", &["whole 65", whole.as_str()])?;
-    play.line("deliver m137", &["dropped over"])?;
+    let lines = format!(in alloc;
+        "\
+> query 1
+1#65
+m136 1>b gen 2 #65 query
+> deliver m136
+m137 b>1 gen 2 #65 part 0 of 2{locks}
+m138 b>1 gen 2 #65 part 1 of 2 held 1 shared b
+> deliver m137
+part 0 of 2
+> deliver m137
+dropped twice
+> deliver m138
+whole 65
+{whole}
+> deliver m137
+dropped over
+"
+    )?;
+    play.part(lines.as_str())?;
     Ok(play)
 }
 

@@ -1,8 +1,8 @@
 use Rattle.std.proofs.Common.{List, sym, ap, subst, ◌∙◌}
+use Rattle.std.specs.Prelude.{is_ok}
 use Rattle.wl_world.specs.declared.event.Event.{Event}
 use Rattle.wl_world.specs.Machine.{Machine}
 use Rattle.wl_world.specs.World.{WorldState, empty_world, happens, run}
-use Rattle.wl_world.specs.Replies.{reply_of}
 use Rattle.wl_world.specs.Hostile.{MovesOwnAloneBetween}
 use Rattle.wl_world.proofs.order.OwnLocksMove.{event-moves_own_alone}
 use Rattle.wl_world.proofs.calls.StepsAndSends.{run-push}
@@ -10,20 +10,16 @@ use Rattle.wl_world.proofs.world.World.step.Goals as goal
 
 pub invariant_of-result : goal.invariant_of-result
 invariant_of-result c =
+    let pushed = c.in_ok-push_mut.field-0.now in
     c.in_ok-parts.ensures.world
-    ∙ ap (λ (w : WorldState). happens w c.args.event) c.self.invariant
-    ∙ sym (run-push c.self.inside.events.items c.args.event empty_world)
-    ∙ ap (λ (es : List Event). run es empty_world) (sym c.in_ok-push.ensures.items)
-
-pub returns-clause-world : goal.returns-clause-world
-returns-clause-world c =
-    c.in_ok-parts.ensures.world ∙ ap (λ (m : Machine). happens m.world c.args.event) c.self.view_is
-
-pub returns-clause-reply : goal.returns-clause-reply
-returns-clause-reply c =
-    c.in_ok-parts.ensures.reply ∙ ap (λ (m : Machine). reply_of m.world c.args.event) c.self.view_is
+    ∙ ap (λ (w : WorldState). happens w pushed) c.self.invariant
+    ∙ sym (run-push c.self.inside.events.items pushed empty_world)
+    ∙ ap (λ (es : List Event). run es empty_world) (sym (c.push_mut.follows.holds pushed (ap is_ok c.in_ok-push_mut.was)).0)
 
 pub returns-clause-moves : goal.returns-clause-moves
 returns-clause-moves c =
-    subst (MovesOwnAloneBetween c.args.self.world c.args.event) (sym (returns-clause-world c))
+    subst (MovesOwnAloneBetween c.args.self.world c.args.event)
+    (sym (c.in_ok-parts.ensures.world
+    ∙ ap (λ (e : Event). happens c.self.inside.parts e) c.in_ok-push_mut.ensures.value
+    ∙ ap (λ (m : Machine). happens m.world c.args.event) c.self.view_is))
     (event-moves_own_alone c.args.self.world c.args.event)
