@@ -563,7 +563,8 @@ def main():
             subprocess.run(["rt", "lib"], cwd=os.path.join(ROOT, "crates", dep), stdout=subprocess.DEVNULL, check=True)
     trials = []
     for crate in sorted(crates, key=size, reverse=True):
-        trials.append(Trial(crate, named, together([it for it in edits_of(crate) if it.is_of_gate or not is_gate])))
+        edits = [] if is_control else [it for it in edits_of(crate) if it.is_of_gate or not is_gate]
+        trials.append(Trial(crate, named, together(edits)))
     passed = failed = 0
     with concurrent.futures.ThreadPoolExecutor(lanes()) as pool:
         for trial in concurrent.futures.as_completed([pool.submit(it.control if is_control else it.run) for it in trials]):
