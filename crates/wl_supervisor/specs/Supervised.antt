@@ -1,12 +1,12 @@
 -- The supervisor as the code has it, with the broker that is up.
-use Rattle.std.specs.Prelude.{ℕ, List, [], Bool, not, ◌&&◌, Option, Some, None, is_some, if◌then◌else◌}
+use Rattle.std.specs.Prelude.{ℕ, List, [], Option, Some, None}
 use Rattle.wl_grammar.specs.declared.frame.Stamped.{Stamped}
 use Rattle.wl_grammar.specs.declared.frame.Addressed.{Addressed}
-use Rattle.wl_broker.specs.Broker.{BrokerState, started, hellos, Taking, Drops, Does, taking, burial}
-use Rattle.wl_broker.specs.Events.{broker_after}
-use Rattle.wl_kernel.specs.Kernel.{KernelState, is_opened, is_living, may_stop, stopped, start_refusal, placed}
+use Rattle.wl_broker.specs.Broker.{BrokerState}
+use Rattle.wl_kernel.specs.Kernel.{KernelState}
 use Rattle.wl_supervisor.specs.declared.supervisor.Supervisor.{Supervisor}
 use Rattle.wl_supervisor.specs.declared.supervisor.Supervisor.TheVariants.{Down, Up}
+use Rattle.wl_supervisor.specs.Changes.{Makes, by_start, by_stop, by_message, by_death}
 
 abbrev pub kernel_of : Supervisor → KernelState
 kernel_of (Down kernel) = kernel
@@ -20,45 +20,35 @@ abbrev pub with_kernel : KernelState → Supervisor → Supervisor
 with_kernel k (Down kernel) = Down k
 with_kernel k (Up kernel broker) = Up k broker
 
--- ---- starting and stopping
+abbrev pub with_broker : KernelState → Option BrokerState → Supervisor
+with_broker k None = Down k
+with_broker k (Some b) = Up k b
 
-abbrev pub begins : List ℕ → KernelState → Bool
-begins ts k = not (is_some (start_refusal ts k))
+-- what becomes of it
+abbrev pub becomes : Makes Supervisor
+becomes k b outs = with_broker k b
 
-abbrev pub begun : List ℕ → Supervisor → Supervisor
-begun ts (Down k) = if begins ts k then Up k (started k.generation (placed ts k)) else Down k
-begun ts (Up k b) = Up k b
+-- what the broker says
+abbrev pub says : Makes (List Addressed)
+says k b outs = outs
 
-abbrev pub greeted : List ℕ → Supervisor → List Addressed
-greeted ts (Down k) = if begins ts k then hellos k.generation (placed ts k) else []
-greeted ts (Up k b) = []
+abbrev pub after_stop : Supervisor → Supervisor
+after_stop s = by_stop (kernel_of s) (broker_of s) s becomes
 
-abbrev pub halted : Supervisor → Supervisor
-halted (Down k) = Down k
-halted (Up k b) = if may_stop k then Down (stopped k) else Up k b
+abbrev pub after_start : List ℕ → Supervisor → Supervisor
+after_start ts s = by_start ts (kernel_of s) (broker_of s) s becomes
 
--- ---- what comes to the broker
+abbrev pub said_at_start : List ℕ → Supervisor → List Addressed
+said_at_start ts s = by_start ts (kernel_of s) (broker_of s) [] says
 
-abbrev pub outs_of : Taking → List Addressed
-outs_of (Drops reason) = []
-outs_of (Does after outs) = outs
+abbrev pub after_message : Stamped → Supervisor → Supervisor
+after_message x s = by_message x (kernel_of s) (broker_of s) s becomes
 
-abbrev pub after_taking : Stamped → Supervisor → Supervisor
-after_taking s (Down k) = Down k
-after_taking s (Up k b) = Up k (broker_after b (taking b s))
+abbrev pub said_to_message : Stamped → Supervisor → List Addressed
+said_to_message x s = by_message x (kernel_of s) (broker_of s) [] says
 
-abbrev pub outs_by_taking : Stamped → Supervisor → List Addressed
-outs_by_taking s (Down k) = []
-outs_by_taking s (Up k b) = outs_of (taking b s)
+abbrev pub after_death : ℕ → Supervisor → Supervisor
+after_death t s = by_death t (kernel_of s) (broker_of s) s becomes
 
--- a tab that was opened and is dead
-abbrev pub is_dead : KernelState → ℕ → Bool
-is_dead k t = is_opened k t && not (is_living k t)
-
-abbrev pub after_burial : ℕ → Supervisor → Supervisor
-after_burial t (Down k) = Down k
-after_burial t (Up k b) = if is_dead k t then Up k (burial b t).0 else Up k b
-
-abbrev pub outs_by_burial : ℕ → Supervisor → List Addressed
-outs_by_burial t (Down k) = []
-outs_by_burial t (Up k b) = if is_dead k t then (burial b t).1 else []
+abbrev pub said_at_death : ℕ → Supervisor → List Addressed
+said_at_death t s = by_death t (kernel_of s) (broker_of s) [] says

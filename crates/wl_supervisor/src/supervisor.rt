@@ -8,7 +8,7 @@ ghost use Rattle.wl_kernel.specs.Kernel.{no_tabs, number_for, open_refusal, open
 ghost use Rattle.wl_said.specs.declared.said.Said.TheVariants as said;
 ghost use Rattle.wl_supervisor.specs.declared.supervisor.Supervisor.TheVariants.{Down as down_state, Up as up_with};
 ghost use Rattle.wl_supervisor.specs.Supervising.{killing, stopping, starting, brought, telling, taken_said};
-ghost use Rattle.wl_supervisor.specs.Supervised.{kernel_of, broker_of, with_kernel, begun, greeted, halted, after_taking, outs_by_taking, after_burial, outs_by_burial};
+ghost use Rattle.wl_supervisor.specs.Supervised.{kernel_of, broker_of, with_kernel, after_stop, after_start, said_at_start, after_message, said_to_message, after_death, said_at_death};
 ghost use Rattle.wl_limits.specs.declared.brokers.TheConstants.{LAST_GENERATION};
 
 use std::alloc::{AllocError, Global};
@@ -106,9 +106,9 @@ impl Supervisor {
 
     /// Starts the broker of the generation, with these tabs listed, which it greets.
     pub fn start(self, alloc: Global, listed: &[u16]) -> Result<(Supervisor, Outcome), AllocError>
-        ensures supervisor { IfOk result (λ r. r.0 ≡ begun listed.now self) }
+        ensures supervisor { IfOk result (λ r. r.0 ≡ after_start listed.now self) }
         ensures said { IfOk result (λ r. r.1.said ≡ starting (kernel_of self) listed.now (broker_of self)) }
-        ensures outs { IfOk result (λ r. r.1.outs ≡ greeted listed.now self) }
+        ensures outs { IfOk result (λ r. r.1.outs ≡ said_at_start listed.now self) }
     {
         match self {
             Supervisor::Down(down) => match down.start(listed) {
@@ -130,7 +130,7 @@ impl Supervisor {
 
     /// Stops the broker.
     pub fn stop(self) -> (Supervisor, Said)
-        ensures supervisor { result.0 ≡ halted self }
+        ensures supervisor { result.0 ≡ after_stop self }
         ensures said { result.1 ≡ stopping (kernel_of self) (broker_of self) }
     {
         match self {
@@ -150,10 +150,10 @@ impl Supervisor {
 
     /// A command or a report comes to the broker.
     pub fn take(&mut self, alloc: Global, stamped: &Stamped) -> Result<Outcome, AllocError>
-        ensures supervisor { OnOk result (self.new ≡ after_taking stamped.now self.old) }
+        ensures supervisor { OnOk result (self.new ≡ after_message stamped.now self.old) }
         ensures kernel { kernel_of self.new ≡ kernel_of self.old }
         ensures said { IfOk result (λ r. r.said ≡ brought stamped.now (broker_of self.old)) }
-        ensures outs { IfOk result (λ r. r.outs ≡ outs_by_taking stamped.now self.old) }
+        ensures outs { IfOk result (λ r. r.outs ≡ said_to_message stamped.now self.old) }
     {
         let broker = match self {
             Supervisor::Down(_) => return Ok(silent(alloc, Said::Dropped(Reason::Down))),
@@ -171,10 +171,10 @@ impl Supervisor {
 
     /// The broker is told that a tab is dead.
     pub fn tell(&mut self, alloc: Global, tab: u16) -> Result<Outcome, AllocError>
-        ensures supervisor { OnOk result (self.new ≡ after_burial tab self.old) }
+        ensures supervisor { OnOk result (self.new ≡ after_death tab self.old) }
         ensures kernel { kernel_of self.new ≡ kernel_of self.old }
         ensures said { IfOk result (λ r. r.said ≡ telling (kernel_of self.old) tab (broker_of self.old)) }
-        ensures outs { IfOk result (λ r. r.outs ≡ outs_by_burial tab self.old) }
+        ensures outs { IfOk result (λ r. r.outs ≡ said_at_death tab self.old) }
     {
         let tabs = self.tabs();
         if tabs.partition_number(tab).is_none() {

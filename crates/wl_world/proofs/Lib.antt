@@ -1,4 +1,5 @@
 pub mod Tables
+pub mod AtBroker
 pub mod exclusion
 pub mod own
 pub mod order

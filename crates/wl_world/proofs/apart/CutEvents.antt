@@ -19,7 +19,8 @@ use Rattle.wl_bag.specs.Messages.{sent_all}
 use Rattle.wl_draft.specs.Membership.{In, Here, Later}
 use Rattle.wl_draft.proofs.Membership.{apart, either, In-nil, In-one, In-cons_cases, In-map_cases, In-filter_cases, In-append_cases, by_test, map-same}
 use Rattle.wl_bag.proofs.Same.{sent_all-cases}
-use Rattle.wl_world.specs.World.{WorldState, Deed, nothing, where_allowed, lives, from_broker, comes_up, follows, buries as buries_tab, tells, stops, begins, starts, greets, taken_over, corrupts}
+use Rattle.wl_world.specs.World.{WorldState, Deed, nothing, where_allowed, lives, from_broker, comes_up, tells, stops, starts, greets, taken_over, corrupts}
+use Rattle.wl_world.proofs.AtBroker.{follows, buries as buries_tab, begins}
 use Rattle.wl_world.specs.Apart.{is_in, only, tab_at, mail, kernel_for, broker_for, up_for, part, stops_now, starts_now}
 use Rattle.wl_world.proofs.exclusion.ActsWithinAGeneration.{after}
 use Rattle.wl_world.proofs.apart.Cuts.{any-filter, filter-map}

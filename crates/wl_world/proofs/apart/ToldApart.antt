@@ -19,7 +19,8 @@ use Rattle.wl_draft.specs.Membership.{In}
 use Rattle.wl_draft.proofs.Membership.{apart, either, In-map_cases, by_test}
 use Rattle.wl_bag.proofs.Same.{sent_all-cases}
 use Rattle.wl_tab.specs.Tabs.{tab_in, channels_in}
-use Rattle.wl_world.specs.World.{WorldState, tab_of, channels_of, lives, is_corrupt, partition_of, Deed, nothing, where_allowed, acts, becomes, from_broker, follows}
+use Rattle.wl_world.specs.World.{WorldState, tab_of, channels_of, lives, is_corrupt, partition_of, Deed, nothing, where_allowed, acts, becomes, from_broker}
+use Rattle.wl_world.proofs.AtBroker.{follows}
 use Rattle.wl_world.specs.Apart.{was_opened_in, is_in, mail, tab_at, broker_for, up_for, part}
 use Rattle.wl_world.proofs.exclusion.CoverExcludes.{living_opened}
 use Rattle.wl_world.proofs.exclusion.ActsWithinAGeneration.{after}

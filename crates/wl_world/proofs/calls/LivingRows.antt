@@ -1,5 +1,5 @@
 -- Each living tab has its rows, whatever happens.
-use Rattle.std.proofs.Common.{◌≡◌, ℕ, Bool, true, false, cond, List, None, Result, Ok, Err, OnOk, OnErr, is_some, refl, sym, ap, ◌∙◌, subst}
+use Rattle.std.proofs.Common.{◌≡◌, ℕ, Bool, true, false, not, cond, List, None, Result, Ok, Err, OnOk, OnErr, is_some, refl, sym, ap, ◌∙◌, subst}
 use Rattle.wl_origin.specs.Order.{Pair}
 use Rattle.wl_draft.specs.Tables.{Table, find, put}
 use Rattle.wl_draft.proofs.Membership.{either}
@@ -7,10 +7,10 @@ use Rattle.wl_draft.proofs.TableLemmas.{find-put_same}
 use Rattle.wl_broker.specs.Broker.{started}
 use Rattle.wl_broadcast.specs.Channels.{ChannelState, no_channels}
 use Rattle.wl_agent.specs.Tab.{TabState}
-use Rattle.wl_kernel.specs.Kernel.{KernelState, lives as lives_in, is_living, open_refusal, opened, killed, placed}
+use Rattle.wl_kernel.specs.Kernel.{KernelState, lives as lives_in, is_living, open_refusal, opened, killed, may_stop, stopped, start_refusal, placed}
 use Rattle.wl_supervisor.specs.declared.supervisor.Supervisor.{Supervisor}
 use Rattle.wl_supervisor.specs.declared.supervisor.Supervisor.TheVariants.{Down, Up}
-use Rattle.wl_supervisor.specs.Supervised.{kernel_of, with_kernel, begins, begun}
+use Rattle.wl_supervisor.specs.Supervised.{kernel_of, with_kernel, after_stop, after_start}
 use Rattle.wl_bag.specs.declared.message.Message.{Message}
 use Rattle.wl_world.specs.World.{WorldState, lives}
 use Rattle.wl_world.specs.Parts.{OwnRows, HasRows, IsRowed, world_of}
@@ -98,12 +98,22 @@ kills-rowed s n t ts cs is r =
     (fewer-rowed k m ts cs (λ u. either (λ z. is_living z u ≡ true → is_living k u ≡ true) (is_living k t) (killed t k) k (λ _ l. ended-lives t k.opened u l) (λ _ l. l)) r)
 
 -- a start and a stop kill nobody
-begun-living : (ts : List ℕ) (s : Supervisor) (u : ℕ) → is_living (kernel_of (begun ts s)) u ≡ is_living (kernel_of s) u
-begun-living ts (Up k b) u = refl
-begun-living ts (Down k) u = elim (begins ts k) as (λ b. is_living (kernel_of (cond b (Up k (started k.generation (placed ts k))) (Down k))) u ≡ is_living k u) [ true ↦ refl | false ↦ refl ]
+start-living : (ts : List ℕ) (s : Supervisor) (u : ℕ) → is_living (kernel_of (after_start ts s)) u ≡ is_living (kernel_of s) u
+start-living ts (Up k b) u = refl
+start-living ts (Down k) u = elim (not (is_some (start_refusal ts k))) as (λ b. is_living (kernel_of (cond b (Up k (started k.generation (placed ts k))) (Down k))) u ≡ is_living k u) [ true ↦ refl | false ↦ refl ]
 
-pub starts-rowed : (ts : List ℕ) (s n : Supervisor) (tabs : Table TabState) (cs : Table ChannelState) → n ≡ begun ts s → IsRowed (kernel_of s) tabs cs → IsRowed (kernel_of n) tabs cs
-starts-rowed ts s n tabs cs is r = fewer-rowed (kernel_of s) (kernel_of n) tabs cs (λ u l. sym (begun-living ts s u) ∙ subst (λ z. is_living (kernel_of z) u ≡ true) is l) r
+stop-living : (s : Supervisor) (u : ℕ) → is_living (kernel_of (after_stop s)) u ≡ is_living (kernel_of s) u
+stop-living (Down k) u = refl
+stop-living (Up k b) u = elim (may_stop k) as (λ m. is_living (kernel_of (cond m (Down (stopped k)) (Up k b))) u ≡ is_living k u) [ true ↦ refl | false ↦ refl ]
+
+kept-rowed : (s m n : Supervisor) (tabs : Table TabState) (cs : Table ChannelState) → ((u : ℕ) → is_living (kernel_of m) u ≡ is_living (kernel_of s) u) → n ≡ m → IsRowed (kernel_of s) tabs cs → IsRowed (kernel_of n) tabs cs
+kept-rowed s m n tabs cs same is r = fewer-rowed (kernel_of s) (kernel_of n) tabs cs (λ u l. sym (same u) ∙ subst (λ z. is_living (kernel_of z) u ≡ true) is l) r
+
+pub starts-rowed : (ts : List ℕ) (s n : Supervisor) (tabs : Table TabState) (cs : Table ChannelState) → n ≡ after_start ts s → IsRowed (kernel_of s) tabs cs → IsRowed (kernel_of n) tabs cs
+starts-rowed ts s n tabs cs = kept-rowed s (after_start ts s) n tabs cs (start-living ts s)
+
+pub stops-rowed : (s n : Supervisor) (tabs : Table TabState) (cs : Table ChannelState) → n ≡ after_stop s → IsRowed (kernel_of s) tabs cs → IsRowed (kernel_of n) tabs cs
+stops-rowed s n tabs cs = kept-rowed s (after_stop s) n tabs cs (stop-living s)
 
 -- ---- the rows of a tab that lives
 

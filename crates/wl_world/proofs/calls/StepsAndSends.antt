@@ -8,7 +8,8 @@ use Rattle.wl_bag.specs.declared.message.Message.TheVariants.{Up, Down, Across}
 use Rattle.wl_bag.specs.Messages.{sent_all}
 use Rattle.wl_world.specs.declared.event.Event.{Event}
 use Rattle.wl_world.specs.declared.event.Event.TheVariants as event
-use Rattle.wl_world.specs.World.{WorldState, Deed, where_allowed, acts, becomes, follows, comes_up, comes, tells, stops, starts, greets, deed, happens, run}
+use Rattle.wl_world.specs.World.{WorldState, Deed, where_allowed, acts, becomes, comes_up, comes, tells, stops, starts, greets, deed, happens, run}
+use Rattle.wl_world.proofs.AtBroker.{follows}
 use Rattle.wl_world.specs.Replies.{said_of, sendings, reply_of}
 
 pub run-push : (es : List Event) (e : Event) (w : WorldState) → run (es ++ e ∷ []) w ≡ happens (run es w) e

@@ -15,7 +15,8 @@ use Rattle.wl_bag.specs.Messages.{sent_all}
 use Rattle.wl_draft.specs.Membership.{In}
 use Rattle.wl_draft.proofs.Membership.{either, In-append_cases, In-one, In-map_cases}
 use Rattle.wl_grammar.specs.PartCount.{part_count}
-use Rattle.wl_world.specs.World.{WorldState, with_broker, from_broker, follows}
+use Rattle.wl_world.specs.World.{WorldState, from_broker}
+use Rattle.wl_world.proofs.AtBroker.{with_broker, follows}
 use Rattle.wl_world.proofs.exclusion.HeldAfterSettling.{has_pair-true}
 use Rattle.wl_world.proofs.exclusion.Invariant.{Sound, generation}
 use Rattle.wl_world.proofs.exclusion.ActsWithinAGeneration.{after}

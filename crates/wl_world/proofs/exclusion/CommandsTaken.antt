@@ -19,7 +19,8 @@ use Rattle.wl_broker.specs.Broker.{BrokerState, seat_of, manager_of, is_joined, 
 use Rattle.wl_agent.specs.Tab.{operation_of}
 use Rattle.wl_draft.specs.Membership.{In}
 use Rattle.wl_draft.proofs.Membership.{apart, either, In-append_left, In-append_cases, In-one, In-get_or}
-use Rattle.wl_world.specs.World.{WorldState, tab_of, partition_of, with_broker}
+use Rattle.wl_world.specs.World.{WorldState, tab_of, partition_of}
+use Rattle.wl_world.proofs.AtBroker.{with_broker}
 use Rattle.wl_world.specs.Holdings.{IsHonest}
 use Rattle.wl_world.proofs.Tables.{each_found}
 use Rattle.wl_world.proofs.exclusion.HeldAfterSettling.{Compatible-fewer, Compatible-push, is_grantable-free, without-fewer, without-keeps}

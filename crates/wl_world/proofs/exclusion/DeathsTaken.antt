@@ -8,7 +8,8 @@ use Rattle.wl_broker.specs.declared.seat.Seat.TheVariants.{Dead}
 use Rattle.wl_broker.specs.Broker.{BrokerState, seat_of, manager_of, is_joined, is_dead, has_come, place_of, with_seat, newly_at, buried_at, burial}
 use Rattle.wl_bag.specs.Messages.{sent_all}
 use Rattle.wl_draft.proofs.Membership.{apart, either, In-nil}
-use Rattle.wl_world.specs.World.{WorldState, tab_of, lives, with_broker, from_broker, buries}
+use Rattle.wl_world.specs.World.{WorldState, tab_of, lives, from_broker}
+use Rattle.wl_world.proofs.AtBroker.{with_broker, buries}
 use Rattle.wl_world.specs.Holdings.{IsHonest}
 use Rattle.wl_world.proofs.Tables.{each_found}
 use Rattle.wl_world.proofs.exclusion.ToldParts.{find-without}

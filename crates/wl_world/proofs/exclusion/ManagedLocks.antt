@@ -9,7 +9,8 @@ use Rattle.wl_draft.proofs.TableLemmas.{at-put_same, at-put_other}
 use Rattle.wl_broker.specs.Broker.{BrokerState, seat_of, has_come, manager_of, is_active, settled_at, newly_at}
 use Rattle.wl_draft.specs.Membership.{In}
 use Rattle.wl_draft.proofs.Membership.{apart, either, In-nil, list_all-In}
-use Rattle.wl_world.specs.World.{WorldState, tab_of, lives, partition_of, with_broker}
+use Rattle.wl_world.specs.World.{WorldState, tab_of, lives, partition_of}
+use Rattle.wl_world.proofs.AtBroker.{with_broker}
 use Rattle.wl_world.specs.Holdings.{IsHonest}
 use Rattle.wl_world.proofs.exclusion.HeldAfterSettling.{Compatible, Compatible-fewer, HeldOf, Stands, settle-Compatible, settle-keeps, settle-newly, settle-stands}
 use Rattle.wl_world.proofs.exclusion.Invariant.{Sound, Covered, Claim, Counts, stands, reported, carried, generation, came, opening, row_at, Fits}

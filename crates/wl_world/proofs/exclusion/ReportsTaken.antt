@@ -13,7 +13,8 @@ use Rattle.wl_broker.specs.declared.dropped.Dropped.TheVariants.{AlreadyJoined, 
 use Rattle.wl_broker.specs.Broker.{BrokerState, seat_of, manager_of, is_joined, is_dead, has_come, listed_at, is_listed, with_seat, newly_at, Drops, Does, partial_of, join, keeping, join_if, take_told, generation_of}
 use Rattle.wl_draft.specs.Membership.{In}
 use Rattle.wl_draft.proofs.Membership.{apart, either, In-nil, In-append_left, In-append_right, In-append_cases, In-map_cases}
-use Rattle.wl_world.specs.World.{WorldState, tab_of, lives, partition_of, with_broker}
+use Rattle.wl_world.specs.World.{WorldState, tab_of, lives, partition_of}
+use Rattle.wl_world.proofs.AtBroker.{with_broker}
 use Rattle.wl_world.specs.Holdings.{IsHonest}
 use Rattle.wl_world.proofs.Tables.{each_found}
 use Rattle.wl_world.proofs.exclusion.ToldParts.{IsPartOf, HasParts, body-told, with_told-HasParts, whole-entries, find-without}

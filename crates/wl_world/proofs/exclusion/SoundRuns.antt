@@ -18,7 +18,8 @@ use Rattle.wl_bag.proofs.Same.{is_sent-In}
 use Rattle.wl_limits.specs.declared.tabs.TheConstants.{COMMAND_LIMIT}
 use Rattle.wl_world.specs.declared.event.Event.{Event}
 use Rattle.wl_world.specs.declared.event.Event.TheVariants as event
-use Rattle.wl_world.specs.World.{WorldState, empty_world, lives, channels_of, becomes, hears, comes_up, comes, buries, tells, deed, happens, run}
+use Rattle.wl_world.specs.World.{WorldState, empty_world, lives, channels_of, becomes, hears, comes_up, comes, tells, deed, happens, run}
+use Rattle.wl_world.proofs.AtBroker.{buries}
 use Rattle.wl_world.proofs.exclusion.Invariant.{Sound, Claim, stands, reported, carried}
 use Rattle.wl_world.proofs.exclusion.ActsWithinAGeneration.{after, allowed-sound, asks-sound, queries-sound, aborts-sound, releases-sound, resends-sound, forges-sound}
 use Rattle.wl_world.proofs.exclusion.OpeningAndKilling.{born-sound, opens-sound, kills-sound}

@@ -17,7 +17,8 @@ use Rattle.wl_bag.specs.Messages.{sent_all}
 use Rattle.wl_draft.specs.Membership.{In, Here, Later}
 use Rattle.wl_draft.proofs.Membership.{apart, either, In-nil, In-cons_cases, In-head, In-one, In-map, In-map_cases, list_any-In}
 use Rattle.wl_bag.proofs.Same.{sent_all-keeps, sent_all-cases, down-same, hellos-same, answer-no_hello}
-use Rattle.wl_world.specs.World.{WorldState, tab_of, lives, partition_of, nothing, from_broker, with_broker, stops, begins, starts, greets}
+use Rattle.wl_world.specs.World.{WorldState, tab_of, lives, partition_of, nothing, from_broker, stops, starts, greets}
+use Rattle.wl_world.proofs.AtBroker.{with_broker, begins}
 use Rattle.wl_world.specs.Holdings.{IsHonest}
 use Rattle.wl_world.proofs.exclusion.HeldAfterSettling.{Compatible-fewer}
 use Rattle.wl_world.proofs.exclusion.Invariant.{Sound, Covered, Claim, Counts, stands, reported, carried, generation, limit, limit_in, was_opened, opening_in, opening, HasGrant, Cause, row_at, Lists, up_message, down_message}

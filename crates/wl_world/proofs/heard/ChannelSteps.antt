@@ -30,7 +30,8 @@ use Rattle.wl_world.specs.declared.event.Event.{Event}
 use Rattle.wl_world.specs.declared.event.Event.TheVariants as event
 use Rattle.wl_world.specs.declared.event.Forged.{Forged}
 use Rattle.wl_world.specs.declared.event.Forged.TheVariants as forged
-use Rattle.wl_world.specs.World.{WorldState, tab_of, channels_of, lives, Deed, nothing, where_allowed, acts, issues, becomes, hears, from_broker, follows, comes_up, comes, with_kernel, with_rows, opens_as, buries, tells, stops, begins, starts, greets, is_corrupt, taken_over, deed, happens, post_of}
+use Rattle.wl_world.specs.World.{WorldState, tab_of, channels_of, lives, Deed, nothing, where_allowed, acts, issues, becomes, hears, from_broker, comes_up, comes, with_kernel, with_rows, opens_as, tells, stops, starts, greets, is_corrupt, taken_over, deed, happens, post_of}
+use Rattle.wl_world.proofs.AtBroker.{follows, buries, begins}
 use Rattle.wl_world.specs.Sends.{across, command_message, forgery, report_if_entered, report_messages, resent, stamped}
 use Rattle.wl_world.specs.Heard.{may_post}
 use Rattle.wl_world.proofs.Tables.{each_found}

@@ -12,7 +12,8 @@ use Rattle.wl_draft.specs.Membership.{In, Here, Later}
 use Rattle.wl_draft.proofs.Membership.{either}
 use Rattle.wl_world.specs.declared.event.Event.{Event}
 use Rattle.wl_world.specs.declared.event.Event.TheVariants as event
-use Rattle.wl_world.specs.World.{WorldState, empty_world, lives, Deed, nothing, where_allowed, acts, becomes, follows, comes_up, comes, tells, stops, starts, greets, taken_over, deed, happens, run}
+use Rattle.wl_world.specs.World.{WorldState, empty_world, lives, Deed, nothing, where_allowed, acts, becomes, comes_up, comes, tells, stops, starts, greets, taken_over, deed, happens, run}
+use Rattle.wl_world.proofs.AtBroker.{follows}
 use Rattle.wl_world.specs.Holdings.{IsHonest}
 use Rattle.wl_world.specs.Hostile.{HonestUnlessNamed, HonestBefore}
 use Rattle.wl_world.proofs.exclusion.Corrupting.{honest-before, honest-after}

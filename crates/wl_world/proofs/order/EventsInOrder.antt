@@ -20,7 +20,8 @@ use Rattle.wl_draft.proofs.Membership.{apart, In-nil, In-map_cases}
 use Rattle.wl_bag.proofs.Same.{is_sent-In, sent_all-keeps, sent_all-cases, down-same, answer-no_hello}
 use Rattle.wl_world.specs.declared.event.Event.{Event}
 use Rattle.wl_world.specs.declared.event.Event.TheVariants as event
-use Rattle.wl_world.specs.World.{WorldState, empty_world, tab_of, lives, partition_of, nothing, where_allowed, from_broker, follows, comes_up, comes, buries, tells, stops, begins, starts, greets, deed, happens, run}
+use Rattle.wl_world.specs.World.{WorldState, empty_world, tab_of, lives, partition_of, nothing, where_allowed, from_broker, comes_up, comes, tells, stops, starts, greets, deed, happens, run}
+use Rattle.wl_world.proofs.AtBroker.{follows, buries, begins}
 use Rattle.wl_world.specs.Holdings.{IsHonest}
 use Rattle.wl_world.specs.Orders.{Dies, Item, Picked, of_partition, of_tab, has_death, commands_of, base_of, adds, is_up, takes_death, begins_now, picks_message, picks, picked_from, picked, IsPrefix, numbered, WasHeld, CommandsInOrderForAll, ManagerIsFoldForAll, GrantedWereHeldForAll, GrantsWereSentForAll}
 use Rattle.wl_world.proofs.exclusion.Invariant.{Sound, limit_in, broker_in, was_opened, HasGrant, up_message}

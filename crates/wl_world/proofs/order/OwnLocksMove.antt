@@ -10,7 +10,8 @@ use Rattle.wl_bag.specs.declared.message.Message.TheVariants.{Up}
 use Rattle.wl_bag.specs.Messages.{is_sent}
 use Rattle.wl_draft.proofs.Membership.{either}
 use Rattle.wl_world.specs.declared.event.Event.{Event}
-use Rattle.wl_world.specs.World.{WorldState, Deed, nothing, follows, comes_up, deed, happens}
+use Rattle.wl_world.specs.World.{WorldState, Deed, nothing, comes_up, deed, happens}
+use Rattle.wl_world.proofs.AtBroker.{follows}
 use Rattle.wl_world.specs.Hostile.{MovesOwnAlone, TakesOwnAlone, MovesOwnAloneBetween}
 use Rattle.wl_world.proofs.order.TakenIsPicked.{set-else}
 

@@ -23,7 +23,8 @@ use Rattle.wl_limits.specs.declared.tabs.TheConstants.{COMMAND_LIMIT}
 use Rattle.wl_tab.specs.Tabs.{told}
 use Rattle.wl_world.specs.declared.event.Event.{Event}
 use Rattle.wl_world.specs.declared.event.Event.TheVariants as event
-use Rattle.wl_world.specs.World.{WorldState, empty_world, with_rows, tab_of, lives, Deed, nothing, where_allowed, acts, issues, asks, queries, aborts, releases, resends, becomes, hears, follows, comes_up, comes, tells, stops, starts, greets, deed, happens, run}
+use Rattle.wl_world.specs.World.{WorldState, empty_world, with_rows, tab_of, lives, Deed, nothing, where_allowed, acts, issues, asks, queries, aborts, releases, resends, becomes, hears, comes_up, comes, tells, stops, starts, greets, deed, happens, run}
+use Rattle.wl_world.proofs.AtBroker.{follows}
 use Rattle.wl_world.specs.Sends.{report_if_entered}
 use Rattle.wl_world.specs.Holdings.{asking, WasAsked, Own}
 use Rattle.wl_world.proofs.calls.StepsAndSends.{run-push}
