@@ -17,7 +17,7 @@ use Rattle.wl_agent.specs.declared.status.Status.{Status}
 use Rattle.wl_agent.specs.declared.status.Status.TheVariants.{Asked, Held, Querying, Whole, Lost}
 use Rattle.wl_draft.specs.Tables.{Table, find, put, has_row}
 use Rattle.wl_agent.proofs.TabSteps.{step-becomes}
-use Rattle.wl_agent.specs.Parts.{PartsState, fits, with_part, is_whole}
+use Rattle.wl_agent.specs.SnapshotParts.{PartsState, fits, with_part, is_whole}
 use Rattle.wl_agent.specs.Tab.{TabState, report_frames, enter, status_of, operation_of, is_issued, is_query, is_querying}
 use Rattle.wl_agent.specs.Delivery.{delivery, noted, becomes, has_entered, of_other, told_by_answer, told_by_part, told_command, told_lock, told_asked, told_end, told_query, told_asked_query, told_unless, told_by_come, parts_refusal, asking_refusal, part_refusal, parts_of, with_part_come, after_answer, after_part, takes_memory, IsSendable}
 

@@ -7,7 +7,7 @@ use Rattle.wl_grammar.specs.declared.frame.SnapshotEntry.{SnapshotEntry}
 use Rattle.wl_grammar.specs.declared.frame.Snapshot.{Snapshot as Part}
 use Rattle.wl_agent.specs.declared.snapshot.LockInfo.{LockInfo}
 use Rattle.wl_agent.specs.declared.snapshot.Snapshot.{Snapshot}
-use Rattle.wl_agent.specs.Parts.{PartsState, with_part, is_whole, whole_of, snapshot_of, all_entries, held_in, pending_in}
+use Rattle.wl_agent.specs.SnapshotParts.{PartsState, with_part, is_whole, whole_of, snapshot_of, all_entries, held_in, pending_in}
 
 -- the lists of the rows, taken by their values or by their rows
 flat_values_as : {X : Type 0} (p : ℕ × List X) (ps : Table (List X)) → flat_map (λ es. es) (map (λ row. row.1) ps) ≡ flat_map (λ row. row.1) ps → flat_map (λ es. es) (map (λ row. row.1) (p ∷ ps)) ≡ flat_map (λ row. row.1) (p ∷ ps)

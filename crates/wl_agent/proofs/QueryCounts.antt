@@ -6,7 +6,7 @@ use Rattle.wl_draft.proofs.RisingTables.{Rises-put}
 use Rattle.wl_grammar.specs.declared.frame.Snapshot.{Snapshot as Part}
 use Rattle.wl_agent.specs.declared.status.Status.{Status}
 use Rattle.wl_agent.specs.declared.status.Status.TheVariants.{Asked, Held, Querying, Whole, Lost}
-use Rattle.wl_agent.specs.Parts.{PartsState, with_part, is_whole}
+use Rattle.wl_agent.specs.SnapshotParts.{PartsState, with_part, is_whole}
 use Rattle.wl_agent.specs.Tab.{is_live, keeps_number, is_querying}
 use Rattle.wl_agent.specs.Delivery.{parts_of, with_part_come}
 use Rattle.wl_agent.specs.Kept.{IsCounted}

@@ -15,7 +15,7 @@ use Rattle.wl_agent.specs.declared.delivered.Unheard.{Unheard}
 use Rattle.wl_agent.specs.declared.delivered.Unheard.TheVariants as unheard
 use Rattle.wl_agent.specs.declared.status.Status.{Status}
 use Rattle.wl_agent.specs.declared.status.Status.TheVariants.{Asked, Held, Querying, Whole, Lost}
-use Rattle.wl_agent.specs.Parts.{PartsState, no_parts, fits, with_part, is_whole, snapshot_of}
+use Rattle.wl_agent.specs.SnapshotParts.{PartsState, no_parts, fits, with_part, is_whole, snapshot_of}
 use Rattle.wl_agent.specs.Tab.{TabState, born, status_of, operation_of, is_issued, is_query, is_querying, is_asked, enter, enter_first, enter_later, report_frames, carried, is_asked_probe, unless_asked, issue, ended, finish, asked, queried, aborted, released, ask_refusal, query_refusal}
 use Rattle.wl_agent.specs.Tokens.{is_pending, is_holding, is_asking, after_query}
 use Rattle.wl_agent.specs.Delivery.{delivery, noted, becomes, has_entered, of_other, told_by_answer, told_by_part, after_answer, after_part, asking_refusal, part_refusal, parts_of, with_part_come}

@@ -2,7 +2,7 @@
 
 ghost use Rattle.std.specs.Prelude.{◌≡◌, ◌++◌, false, IfOk, OnOk, OnErr};
 ghost use Rattle.wl_draft.specs.Tables.{has_row};
-ghost use Rattle.wl_agent.specs.Parts.{no_parts, fits, with_part, whole_of, all_entries, held_in, pending_in, info_of};
+ghost use Rattle.wl_agent.specs.SnapshotParts.{no_parts, fits, with_part, whole_of, all_entries, held_in, pending_in, info_of};
 ghost use Rattle.wl_agent.specs.Delivery.{parts_refusal};
 
 use crate::delivered::Unheard;
@@ -21,7 +21,7 @@ pub struct Parts {
 }
 
 impl Model for Parts {
-    ghost use Rattle.wl_agent.specs.Parts.{PartsState};
+    ghost use Rattle.wl_agent.specs.SnapshotParts.{PartsState};
 
     ghost Value = { PartsState };
 

@@ -1,6 +1,6 @@
 ghost use Rattle.std.specs.Prelude.{◌≡◌, true, false, Some, IfOk, OnOk, OnErr};
 ghost use Rattle.wl_draft.specs.Tables.{has_row};
-ghost use Rattle.wl_agent.specs.Parts.{with_part, is_whole};
+ghost use Rattle.wl_agent.specs.SnapshotParts.{with_part, is_whole};
 ghost use Rattle.wl_agent.specs.Tab.{keeps_number, is_live, is_querying, unless_asked};
 ghost use Rattle.wl_agent.specs.Delivery.{parts_of, with_part_come};
 

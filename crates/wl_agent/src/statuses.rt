@@ -3,7 +3,7 @@
 ghost use Rattle.std.specs.Prelude.{◌≡◌, ◌<◌, ◌≤◌, [], true, false, None, IsSome, IfOk, OnOk, OnErr};
 ghost use Rattle.std.specs.Option.{option_copied};
 ghost use Rattle.wl_draft.specs.Tables.{find, put, has_row, without_row};
-ghost use Rattle.wl_agent.specs.Parts.{with_part, is_whole};
+ghost use Rattle.wl_agent.specs.SnapshotParts.{with_part, is_whole};
 ghost use Rattle.wl_agent.specs.Tab.{is_live, keeps_number, is_asked, is_held, is_querying, count_of, carried};
 ghost use Rattle.wl_agent.specs.Delivery.{parts_of, with_part_come};
 ghost use Rattle.wl_agent.specs.Kept.{RowsFit, entries_of, due_below};

@@ -10,7 +10,7 @@ use Rattle.wl_grammar.specs.declared.frame.Operation.{Operation}
 use Rattle.wl_grammar.specs.declared.frame.Operation.TheVariants.{Request, Release, Abort, Query}
 use Rattle.wl_grammar.specs.declared.frame.Outcome.TheVariants.{Granted}
 use Rattle.wl_grammar.specs.declared.frame.Addressed.{Addressed}
-use Rattle.wl_parts.specs.Parts.{Partial, Whole, without_partial}
+use Rattle.wl_parts.specs.ReportParts.{Partial, Whole, without_partial}
 use Rattle.wl_broker.specs.declared.seat.Seat.{Seat}
 use Rattle.wl_broker.specs.declared.seat.Seat.TheVariants.{Joined, Dead}
 use Rattle.wl_broker.specs.Broker.{BrokerState, seat_of, limit_of, limit_in, is_dead, listed_at, place_of, burial, Does, is_active, settled_at, newly_at, join, perform, drafted, first_answer, later_answer, answer_to, grants_to, has_come, next_in, buried_at, with_seat, manager_of, snapshot_to, snapshot_entries, answer_of, outcome_at, snapshot_of, snapshot_entry_of}

@@ -10,7 +10,7 @@ use Rattle.wl_draft.proofs.RisingTables.{Rises-put}
 use Rattle.wl_grammar.specs.Grammar.{TabsRiseFrom}
 use Rattle.wl_grammar.specs.declared.frame.Operation.{Operation}
 use Rattle.wl_grammar.specs.declared.frame.Operation.TheVariants.{Query}
-use Rattle.wl_parts.specs.Parts.{Partial, all_below}
+use Rattle.wl_parts.specs.ReportParts.{Partial, all_below}
 use Rattle.wl_broker.specs.declared.seat.Seat.{Seat}
 use Rattle.wl_broker.specs.declared.seat.Seat.TheVariants.{Joined, Dead}
 use Rattle.wl_broker.specs.Broker.{has_come, listed_at, elsewhere, drafted}

@@ -15,7 +15,7 @@ use Rattle.wl_draft.proofs.TableLemmas.{find-put_same, insert_entry-put, remove_
 use Rattle.wl_grammar.specs.declared.frame.Operation.{Operation}
 use Rattle.wl_grammar.specs.declared.frame.Outcome.{Outcome}
 use Rattle.wl_grammar.specs.declared.frame.Addressed.{Addressed}
-use Rattle.wl_parts.specs.Parts.{Partial, kept_at, has_held}
+use Rattle.wl_parts.specs.ReportParts.{Partial, kept_at, has_held}
 use Rattle.wl_broker.specs.declared.seat.Seat.{Seat}
 use Rattle.wl_broker.specs.declared.seat.Seat.TheVariants.{Joined, Dead}
 use Rattle.wl_broker.specs.Broker.{BrokerState, seat_of, limit_in, limit_of, is_joined, is_dead, is_active, is_misplaced, listed_at, elsewhere, seated_at, next_of, is_lock, is_listed, manager_of, later_answer, next_in, answer_of, outcome_at}

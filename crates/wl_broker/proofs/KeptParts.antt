@@ -6,7 +6,7 @@ use Rattle.wl_draft.specs.Tables.{Table, find, put}
 use Rattle.wl_draft.proofs.TableLemmas.{find-put_other}
 use Rattle.wl_draft.proofs.RisingTables.{Rises-put, Rises-without, find-without, without_none}
 use Rattle.wl_parts.specs.declared.heading.Heading.{Heading}
-use Rattle.wl_parts.specs.Parts.{Partial, all_below, fits, is_there, is_whole, whole_of, without_partial}
+use Rattle.wl_parts.specs.ReportParts.{Partial, all_below, fits, is_there, is_whole, whole_of, without_partial}
 use Rattle.wl_parts.specs.Kept.{told, is_kept}
 use Rattle.wl_parts.proofs.KeptParts.{there-kept}
 use Rattle.wl_broker.specs.declared.seat.Seat.{Seat}

@@ -14,7 +14,7 @@ use Rattle.wl_draft.proofs.Settled.{settle-MovesGrants}
 use Rattle.wl_draft.proofs.TableLemmas.{find-put_same, find-put_other}
 use Rattle.wl_grammar.specs.declared.frame.Operation.{Operation}
 use Rattle.wl_grammar.specs.declared.frame.Operation.TheVariants.{Request, Release, Abort, Query}
-use Rattle.wl_parts.specs.Parts.{all_below}
+use Rattle.wl_parts.specs.ReportParts.{all_below}
 use Rattle.wl_broker.specs.declared.seat.Seat.{Seat}
 use Rattle.wl_broker.specs.Broker.{drafted}
 use Rattle.wl_broker.specs.Kept.{taken_in, was_taken, AllRows}

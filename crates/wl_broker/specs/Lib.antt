@@ -1,7 +1,7 @@
 pub use Rattle.wl_draft.specs.Tables
 pub use Rattle.wl_draft.specs.Locks
 pub use Rattle.wl_grammar.specs.Grammar
-pub use Rattle.wl_parts.specs.Parts
+pub use Rattle.wl_parts.specs.ReportParts
 pub mod Broker
 pub mod Events
 pub mod Grants

@@ -5,7 +5,7 @@ ghost use Rattle.wl_limits.specs.declared.tabs.TheConstants.{LAST_NUMBER};
 ghost use Rattle.wl_grammar.specs.declared.frame.Addressed.{Addressed};
 ghost use Rattle.wl_grammar.specs.declared.frame.Operation.TheVariants.{Query};
 ghost use Rattle.wl_grammar.specs.Grammar.{TabsRiseFrom};
-ghost use Rattle.wl_parts.specs.Parts.{fits, is_there, with_told, all_below};
+ghost use Rattle.wl_parts.specs.ReportParts.{fits, is_there, with_told, all_below};
 ghost use Rattle.wl_parts.specs.Kept.{told, joining};
 ghost use Rattle.wl_broker.specs.declared.seat.Seat.TheVariants.{Joined, Dead};
 ghost use Rattle.wl_broker.specs.Broker.{started, hellos, taking, burial, Does, Drops, copied, repeated, IsTaken, is_active, is_dead, is_joined, seat_of, listed_at, elsewhere, is_misplaced, take_told, take_command, partial_of, join_if, keeping, join, perform, later_answer, next_of, buried_at, with_seat, manager_of};

@@ -2,7 +2,7 @@
 
 ghost use Rattle.std.specs.Prelude.{◌≡◌, ◌&&◌, ◌||◌, ◌==◌, not, nat_lt};
 ghost use Rattle.wl_draft.specs.Tables.{find};
-ghost use Rattle.wl_parts.specs.Parts.{kept_at, has_held, all_below, fits};
+ghost use Rattle.wl_parts.specs.ReportParts.{kept_at, has_held, all_below, fits};
 ghost use Rattle.wl_parts.specs.Kept.{told};
 ghost use Rattle.wl_broker.specs.Broker.{generation_of, elsewhere, seated_at, is_listed, is_lock};
 ghost use Rattle.wl_limits.specs.declared.tabs.TheConstants.{LAST_NUMBER};

@@ -3,7 +3,7 @@ use Rattle.std.proofs.Common.{◌≡◌, ℕ, ◌+◌, Bool, ◌&&◌, nat_lt, n
 use Rattle.std.specs.List.{list_all}
 use Rattle.std.proofs.lemmas.Bool.Decides.{nat_tests}
 use Rattle.wl_draft.specs.declared.row.Entry.{Entry}
-use Rattle.wl_parts.specs.Parts.{all_above}
+use Rattle.wl_parts.specs.ReportParts.{all_above}
 use Rattle.wl_parts.specs.Kept.{end_of}
 
 end_of_step : (e : Entry) (n end : ℕ) (rest : Bool) → nat_le end n ≡ rest → nat_le (max (e.number + 1) end) n ≡ (nat_lt e.number n && rest)

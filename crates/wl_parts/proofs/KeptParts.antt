@@ -7,7 +7,7 @@ use Rattle.std.proofs.lemmas.List.Folds.{list_all-append}
 use Rattle.wl_draft.specs.declared.row.Entry.{Entry}
 use Rattle.wl_draft.specs.Tables.{Table, has_row, put}
 use Rattle.wl_parts.specs.declared.heading.Heading.{Heading}
-use Rattle.wl_parts.specs.Parts.{Partial, Told, all_below, fits, is_there, came_in, with_told, is_whole, whole_of}
+use Rattle.wl_parts.specs.ReportParts.{Partial, Told, all_below, fits, is_there, came_in, with_told, is_whole, whole_of}
 use Rattle.wl_parts.specs.Kept.{told, joining, is_kept, all_in_below}
 
 -- ---- one part more

@@ -4,7 +4,7 @@ use Rattle.std.specs.List.{list_all}
 use Rattle.wl_draft.specs.declared.row.Entry.{Entry}
 use Rattle.wl_draft.specs.Tables.{Table, has_row}
 use Rattle.wl_parts.specs.declared.heading.Heading.{Heading}
-use Rattle.wl_parts.specs.Parts.{Told, Partial, Whole, all_below}
+use Rattle.wl_parts.specs.ReportParts.{Told, Partial, Whole, all_below}
 
 -- what is told under a heading
 abbrev pub told : Heading → List Entry → Told

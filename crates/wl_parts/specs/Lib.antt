@@ -1,3 +1,3 @@
 pub use Rattle.wl_draft.specs.Tables
 pub mod Kept
-pub mod Parts
+pub mod ReportParts

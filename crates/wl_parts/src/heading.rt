@@ -1,7 +1,7 @@
 //! What stands above the entries of a report.
 
 ghost use Rattle.std.specs.Prelude.{◌≡◌};
-ghost use Rattle.wl_parts.specs.Parts.{at_once, in_part};
+ghost use Rattle.wl_parts.specs.ReportParts.{at_once, in_part};
 ghost use Rattle.wl_parts.specs.Kept.{told};
 
 use wl_grammar::{Report, ReportPart};

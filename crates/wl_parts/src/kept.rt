@@ -4,7 +4,7 @@ ghost use Rattle.std.specs.Prelude.{◌≡◌, ◌<◌, ◌++◌, ◌==◌, ◌+
 ghost use Rattle.std.specs.List.{list_all, flat_map};
 ghost use Rattle.std.specs.Option.{option_copied};
 ghost use Rattle.wl_draft.specs.Tables.{find, put, has_row, Rises};
-ghost use Rattle.wl_parts.specs.Parts.{all_above, all_below, is_in_order, fits, kept_at, came_in, with_told, without_partial};
+ghost use Rattle.wl_parts.specs.ReportParts.{all_above, all_below, is_in_order, fits, kept_at, came_in, with_told, without_partial};
 ghost use Rattle.wl_parts.specs.Kept.{told, is_kept, all_in_below, end_of};
 
 use crate::heading::Heading;
@@ -28,7 +28,7 @@ pub struct Kept {
 
 impl Model for Kept {
     ghost use Rattle.std.specs.Prelude.{◌≡◌, true};
-    ghost use Rattle.wl_parts.specs.Parts.{Partial};
+    ghost use Rattle.wl_parts.specs.ReportParts.{Partial};
     ghost use Rattle.wl_parts.specs.Kept.{all_in_below};
 
     ghost Value = { Partial };

@@ -20,13 +20,10 @@ abbrev pub with_kernel : KernelState → Supervisor → Supervisor
 with_kernel k (Down kernel) = Down k
 with_kernel k (Up kernel broker) = Up k broker
 
-abbrev pub with_broker : KernelState → Option BrokerState → Supervisor
-with_broker k None = Down k
-with_broker k (Some b) = Up k b
-
 -- what becomes of it
 abbrev pub becomes : Makes Supervisor
-becomes k b outs = with_broker k b
+becomes k None outs = Down k
+becomes k (Some b) outs = Up k b
 
 -- what the broker says
 abbrev pub says : Makes (List Addressed)

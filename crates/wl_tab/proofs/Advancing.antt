@@ -12,7 +12,7 @@ use Rattle.wl_agent.specs.declared.status.Status.{Status}
 use Rattle.wl_agent.specs.declared.status.Status.TheVariants.{Asked, Held, Querying, Whole, Lost}
 use Rattle.wl_agent.specs.declared.token.Token.TheVariants as token
 use Rattle.wl_agent.specs.Issued.{Issued}
-use Rattle.wl_agent.specs.Parts.{PartsState}
+use Rattle.wl_agent.specs.SnapshotParts.{PartsState}
 use Rattle.wl_agent.specs.Tab.{TabState, status_of, operation_of, is_probe, ended, is_querying}
 use Rattle.wl_agent.specs.Tokens.{is_own, is_asking, told_query, told_by_status, after_query}
 use Rattle.wl_agent.specs.Kept.{RowsFit, Stands, can_become}

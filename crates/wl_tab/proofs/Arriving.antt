@@ -17,7 +17,7 @@ use Rattle.wl_agent.specs.declared.delivered.Unheard.TheVariants as unheard
 use Rattle.wl_agent.specs.declared.snapshot.Snapshot.{Snapshot}
 use Rattle.wl_agent.specs.declared.status.Status.{Status}
 use Rattle.wl_agent.specs.declared.status.Status.TheVariants.{Asked, Held, Querying, Whole, Lost}
-use Rattle.wl_agent.specs.Parts.{PartsState, with_part, is_whole, snapshot_of}
+use Rattle.wl_agent.specs.SnapshotParts.{PartsState, with_part, is_whole, snapshot_of}
 use Rattle.wl_agent.specs.Tab.{TabState, status_of, operation_of, is_issued, is_querying, is_probe, is_asked_probe, unless_asked, carried, ended, enter_first, enter_later}
 use Rattle.wl_agent.specs.Delivery.{delivery, noted, becomes, told_by_answer, told_command, told_lock, told_asked, told_end, told_query, told_asked_query, after_answer, after_part, part_refusal, parts_of, with_part_come}
 use Rattle.wl_agent.proofs.Cases.{delivered_as, Fits, told_fits}

@@ -18,7 +18,7 @@ use Rattle.wl_agent.specs.declared.delivered.Unheard.TheVariants as unheard
 use Rattle.wl_agent.specs.declared.snapshot.Snapshot.{Snapshot}
 use Rattle.wl_agent.specs.declared.status.Status.{Status}
 use Rattle.wl_agent.specs.declared.status.Status.TheVariants.{Asked, Held, Querying, Whole, Lost}
-use Rattle.wl_agent.specs.Parts.{with_part, is_whole, snapshot_of}
+use Rattle.wl_agent.specs.SnapshotParts.{with_part, is_whole, snapshot_of}
 use Rattle.wl_agent.specs.Tab.{report_frames, TabState, status_of, is_probe, is_asked_probe, is_querying, enter, enter_first, enter_later, ended}
 use Rattle.wl_agent.specs.Delivery.{delivery, noted, becomes, has_entered, of_other, told_by_answer, told_by_part, told_unless, after_answer, after_part, part_refusal, parts_of, with_part_come}
 use Rattle.wl_agent.specs.Kept.{RowsFit, Stands}

@@ -14,7 +14,7 @@ use Rattle.wl_agent.specs.declared.status.Status.{Status}
 use Rattle.wl_agent.specs.declared.status.Status.TheVariants.{Asked, Held, Querying, Whole, Lost}
 use Rattle.wl_agent.specs.declared.token.Token.TheVariants as token
 use Rattle.wl_agent.specs.Issued.{Issued}
-use Rattle.wl_agent.specs.Parts.{no_parts}
+use Rattle.wl_agent.specs.SnapshotParts.{no_parts}
 use Rattle.wl_draft.specs.declared.mode.Mode.{Mode}
 use Rattle.wl_agent.specs.Tab.{TabState, asked, queried, status_of, is_probe, issue, finish, operation_of, is_held, mode_of, name_of}
 use Rattle.wl_agent.specs.Kept.{RowsFit, Stands, can_become}

@@ -9,7 +9,7 @@ use Rattle.wl_agent.specs.declared.delivered.Delivered.TheVariants as told
 use Rattle.wl_agent.specs.declared.snapshot.Snapshot.{Snapshot}
 use Rattle.wl_agent.specs.declared.status.Status.{Status}
 use Rattle.wl_agent.specs.declared.status.Status.TheVariants.{Whole}
-use Rattle.wl_agent.specs.Parts.{no_parts, snapshot_of}
+use Rattle.wl_agent.specs.SnapshotParts.{no_parts, snapshot_of}
 use Rattle.wl_agent.specs.Tab.{TabState, status_of, is_querying, is_asked_probe}
 use Rattle.wl_agent.specs.Delivery.{delivery}
 use Rattle.wl_said.specs.declared.said.Said.{Said}

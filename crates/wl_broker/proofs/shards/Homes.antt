@@ -10,7 +10,7 @@ use Rattle.wl_draft.proofs.RisingTables.{Rises-put, Rises-filter, find-In, put-c
 use Rattle.wl_broker.proofs.Clients.{Own, Stands, newly-Own, settle-Stands, restored-Stands, drafted-Stands, ended-Stands}
 use Rattle.wl_grammar.specs.declared.frame.Addressed.{Addressed}
 use Rattle.wl_grammar.specs.declared.frame.Upward.{Upward}
-use Rattle.wl_parts.specs.Parts.{Partial, Told, with_told, whole_of}
+use Rattle.wl_parts.specs.ReportParts.{Partial, Told, with_told, whole_of}
 use Rattle.wl_broker.specs.declared.seat.Seat.{Seat}
 use Rattle.wl_broker.specs.declared.seat.Seat.TheVariants.{Joined, Dead}
 use Rattle.wl_broker.specs.Broker.{BrokerState, started, seat_of, manager_of, is_active, with_seat, settled_at, newly_at, listed_at, seated_at, or_else, limit_of, place_of, partial_of, keeping, burial}

@@ -20,7 +20,7 @@ use Rattle.wl_grammar.specs.declared.frame.Addressed.{Addressed}
 use Rattle.wl_grammar.specs.declared.frame.Stamped.{Stamped}
 use Rattle.wl_grammar.specs.declared.frame.Upward.{Upward}
 use Rattle.wl_grammar.specs.declared.frame.Upward.TheVariants as up
-use Rattle.wl_parts.specs.Parts.{Told, at_once, in_part, has_held, all_below, fits, is_there, is_whole, with_told}
+use Rattle.wl_parts.specs.ReportParts.{Told, at_once, in_part, has_held, all_below, fits, is_there, is_whole, with_told}
 use Rattle.wl_broker.specs.Broker.{BrokerState, Does, join, join_if, take_told, perform, take_command, take_inner, taking, seat_of, is_joined, is_dead, is_misplaced, is_listed, listed_at, partial_of, is_active, next_of, is_lock, limit_of, manager_of, generation_of}
 use Rattle.wl_broadcast.specs.declared.letter.Letter.{Letter}
 use Rattle.wl_broadcast.specs.declared.fault.ChannelFault.{ChannelFault}
@@ -30,7 +30,7 @@ use Rattle.wl_agent.specs.declared.delivered.Unheard.{Unheard}
 use Rattle.wl_agent.specs.declared.delivered.Delivered.{Delivered}
 use Rattle.wl_agent.specs.declared.status.Status.{Status}
 use Rattle.wl_agent.specs.declared.status.Status.TheVariants.{Asked, Held, Querying}
-use Rattle.wl_agent.specs.Parts.{PartsState, with_part, is_whole as all_came, fits as fits_in}
+use Rattle.wl_agent.specs.SnapshotParts.{PartsState, with_part, is_whole as all_came, fits as fits_in}
 use Rattle.wl_agent.specs.Tab.{TabState, status_of, live_refusal, ask_refusal, operation_of, is_supported, live_limit, live_numbers, has_numbers, is_issued, is_query, is_asked}
 use Rattle.wl_agent.specs.Delivery.{told_asked, told_lock, told_end, told_asked_query, told_query, told_command, told_by_answer, parts_refusal, asking_refusal, part_refusal, parts_of, told_unless, told_by_come, told_by_part, of_other, delivery, has_entered, noted, after_answer, after_part}
 use Rattle.wl_kernel.specs.declared.fault.OpenFault.{OpenFault}

@@ -13,7 +13,7 @@ use Rattle.wl_grammar.specs.declared.frame.Operation.TheVariants.{Request, Relea
 use Rattle.wl_broker.specs.Broker.{is_lock}
 use Rattle.wl_agent.specs.declared.status.Status.{Status}
 use Rattle.wl_agent.specs.declared.status.Status.TheVariants.{Asked, Querying}
-use Rattle.wl_agent.specs.Parts.{no_parts}
+use Rattle.wl_agent.specs.SnapshotParts.{no_parts}
 use Rattle.wl_agent.specs.Tab.{TabState, report_bodies, status_of, operation_of, numbers_of, is_asked, is_held, issue, finish, asked, queried, aborted, released, ask_refusal, query_refusal, due, is_due, is_report_due}
 use Rattle.wl_agent.specs.Tokens.{is_pending, is_holding}
 use Rattle.wl_kernel.specs.Routes.{hearers}

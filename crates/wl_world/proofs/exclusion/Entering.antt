@@ -14,7 +14,7 @@ use Rattle.wl_grammar.specs.declared.frame.Frame.TheVariants as frame
 use Rattle.wl_grammar.specs.declared.frame.Upward.TheVariants as up
 use Rattle.wl_grammar.specs.declared.frame.Downward.{Downward}
 use Rattle.wl_grammar.specs.declared.frame.Downward.TheVariants as down
-use Rattle.wl_parts.specs.Parts.{Partial, Told, told_of}
+use Rattle.wl_parts.specs.ReportParts.{Partial, Told, told_of}
 use Rattle.wl_broker.specs.Broker.{BrokerState, manager_of, partial_of, generation_of}
 use Rattle.wl_agent.specs.declared.delivered.Unheard.TheVariants as unheard
 use Rattle.wl_agent.specs.declared.delivered.Delivered.{Delivered}

@@ -14,7 +14,7 @@ use Rattle.wl_agent.specs.declared.delivered.Unheard.TheVariants as unheard
 use Rattle.wl_agent.specs.declared.delivered.Delivered.TheVariants as heard
 use Rattle.wl_agent.specs.declared.status.Status.{Status}
 use Rattle.wl_agent.specs.declared.status.Status.TheVariants.{Asked, Held, Querying, Whole, Lost}
-use Rattle.wl_agent.specs.Parts.{PartsState, with_part, is_whole, snapshot_of}
+use Rattle.wl_agent.specs.SnapshotParts.{PartsState, with_part, is_whole, snapshot_of}
 use Rattle.wl_agent.specs.Tab.{TabState, status_of, operation_of, is_issued, is_held, keeps_number, ended, is_asked_probe, unless_asked, carried}
 use Rattle.wl_agent.specs.Delivery.{noted, becomes, told_asked, told_lock, told_end, told_asked_query, told_query, told_command, told_by_answer, part_refusal, parts_of, with_part_come, after_answer, after_part}
 use Rattle.wl_draft.proofs.Membership.{apart, either, In-map_cases, In-filter_cases}

@@ -20,7 +20,7 @@ use Rattle.wl_agent.specs.declared.delivered.Delivered.{Delivered}
 use Rattle.wl_agent.specs.declared.delivered.Delivered.TheVariants as heard
 use Rattle.wl_agent.specs.declared.status.Status.{Status}
 use Rattle.wl_agent.specs.declared.status.Status.TheVariants.{Asked, Held, Querying}
-use Rattle.wl_agent.specs.Parts.{PartsState, with_part, is_whole}
+use Rattle.wl_agent.specs.SnapshotParts.{PartsState, with_part, is_whole}
 use Rattle.wl_agent.specs.Tab.{TabState, status_of, operation_of, is_issued}
 use Rattle.wl_agent.specs.Delivery.{noted, told_asked, told_lock, told_end, told_asked_query, told_query, told_command, told_by_answer, part_refusal, parts_of, told_by_come, told_unless, told_by_part, after_answer, after_part, has_entered, of_other, delivery}
 use Rattle.wl_kernel.specs.Routes.{hearers, frame_of}

@@ -8,7 +8,7 @@ use Rattle.wl_grammar.specs.declared.frame.Command.{Command}
 use Rattle.wl_grammar.specs.declared.frame.Upward.{Upward}
 use Rattle.wl_grammar.specs.declared.frame.Upward.TheVariants as up
 use Rattle.wl_grammar.specs.declared.frame.Downward.TheVariants as down
-use Rattle.wl_parts.specs.Parts.{Partial, Told, told_of}
+use Rattle.wl_parts.specs.ReportParts.{Partial, Told, told_of}
 use Rattle.wl_broker.specs.Broker.{BrokerState, manager_of, partial_of, generation_of}
 use Rattle.wl_broadcast.specs.Channels.{no_channels}
 use Rattle.wl_draft.specs.Tables.{put}

@@ -6,7 +6,7 @@ use Rattle.wl_draft.specs.declared.row.Entry.{Entry}
 use Rattle.wl_draft.specs.Locks.{Locks, row_of, rows_of, held_of, waiting_of, restored}
 use Rattle.wl_draft.specs.Tables.{Table, find, put}
 use Rattle.wl_grammar.specs.declared.frame.Upward.{Upward}
-use Rattle.wl_parts.specs.Parts.{has_held, all_below, Partial, Told, Whole, told_of, fits, is_there, with_told, is_whole, whole_of}
+use Rattle.wl_parts.specs.ReportParts.{has_held, all_below, Partial, Told, Whole, told_of, fits, is_there, with_told, is_whole, whole_of}
 use Rattle.wl_broker.specs.declared.seat.Seat.{Seat}
 use Rattle.wl_broker.specs.declared.seat.Seat.TheVariants.{Joined}
 use Rattle.wl_broker.specs.declared.dropped.Dropped.TheVariants.{AlreadyJoined, HeldByNewcomer, BadReport, PartTwice}

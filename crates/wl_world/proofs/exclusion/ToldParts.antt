@@ -15,7 +15,7 @@ use Rattle.wl_grammar.specs.declared.frame.Command.{Command}
 use Rattle.wl_grammar.specs.declared.frame.Report.{Report}
 use Rattle.wl_grammar.specs.declared.frame.Upward.{Upward}
 use Rattle.wl_grammar.specs.declared.frame.Upward.TheVariants as up
-use Rattle.wl_parts.specs.Parts.{Partial, Told, all_below, fits, at_once, in_part, told_of, came_in, with_told, is_whole, whole_of}
+use Rattle.wl_parts.specs.ReportParts.{Partial, Told, all_below, fits, at_once, in_part, told_of, came_in, with_told, is_whole, whole_of}
 use Rattle.wl_broker.specs.Broker.{generation_of}
 use Rattle.wl_agent.specs.Tab.{part_of, report_bodies}
 use Rattle.wl_draft.specs.Membership.{In, Here, Later}

@@ -9,7 +9,7 @@ use Rattle.wl_grammar.specs.declared.frame.Operation.{Operation}
 use Rattle.wl_broker.specs.declared.seat.Seat.{Seat}
 use Rattle.wl_broker.specs.declared.seat.Seat.TheVariants.{Joined, Dead}
 use Rattle.wl_draft.specs.Tables.{find}
-use Rattle.wl_parts.specs.Parts.{Partial, without_partial}
+use Rattle.wl_parts.specs.ReportParts.{Partial, without_partial}
 use Rattle.wl_broker.specs.Broker.{BrokerState, seat_of, manager_of, has_come as seat_has_come, is_active}
 use Rattle.wl_bag.specs.declared.message.Message.{Message}
 use Rattle.wl_bag.specs.Messages.{sent_all}

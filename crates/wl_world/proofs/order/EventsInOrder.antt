@@ -9,7 +9,7 @@ use Rattle.wl_grammar.specs.declared.frame.Addressed.{Addressed}
 use Rattle.wl_grammar.specs.declared.frame.Upward.{Upward}
 use Rattle.wl_grammar.specs.declared.frame.Upward.TheVariants as up
 use Rattle.wl_grammar.specs.declared.frame.Downward.TheVariants as down
-use Rattle.wl_parts.specs.Parts.{at_once, in_part}
+use Rattle.wl_parts.specs.ReportParts.{at_once, in_part}
 use Rattle.wl_broker.specs.Broker.{BrokerState, started, hellos, Taking, Drops, Does, taking, burial}
 use Rattle.wl_kernel.specs.Kernel.{is_opened, start_refusal, stranger, placed, partition_number, may_stop, stopped}
 use Rattle.wl_bag.specs.declared.message.Message.{Message}

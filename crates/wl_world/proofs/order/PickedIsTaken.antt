@@ -13,7 +13,7 @@ use Rattle.wl_grammar.specs.declared.frame.Outcome.TheVariants.{Granted}
 use Rattle.wl_grammar.specs.declared.frame.Addressed.{Addressed}
 use Rattle.wl_grammar.specs.declared.frame.Upward.{Upward}
 use Rattle.wl_grammar.specs.declared.frame.Upward.TheVariants as up
-use Rattle.wl_parts.specs.Parts.{Partial, kept_at, Told, at_once, in_part, fits, is_there, with_told, is_whole, whole_of, has_held, all_below}
+use Rattle.wl_parts.specs.ReportParts.{Partial, kept_at, Told, at_once, in_part, fits, is_there, with_told, is_whole, whole_of, has_held, all_below}
 use Rattle.wl_broker.specs.declared.seat.Seat.{Seat}
 use Rattle.wl_broker.specs.declared.seat.Seat.TheVariants.{Joined, Dead}
 use Rattle.wl_broker.specs.declared.dropped.Dropped.{Dropped}

@@ -4,7 +4,7 @@ use Rattle.std.proofs.lemmas.Bool.{or_parts}
 use Rattle.std.proofs.lemmas.List.{drop_more}
 use Rattle.wl_grammar.specs.declared.frame.Operation.{Operation}
 use Rattle.wl_grammar.specs.declared.frame.Operation.TheVariants.{Query}
-use Rattle.wl_parts.specs.Parts.{Whole}
+use Rattle.wl_parts.specs.ReportParts.{Whole}
 use Rattle.wl_draft.proofs.Membership.{apart}
 use Rattle.wl_world.specs.Orders.{Act, Dies, Reports, Commands, Item, is_report, has_report, base_or, base_of, limit_or, limit_of, commands_of, next_of, IsPrefix, numbered}
 use Rattle.wl_world.proofs.exclusion.GrownTabs.{Grows}

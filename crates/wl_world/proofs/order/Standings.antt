@@ -10,7 +10,7 @@ use Rattle.wl_draft.specs.Locks.{Locks, is_grantable, has_pair, is_pair, row_of,
 use Rattle.wl_grammar.specs.declared.frame.Operation.{Operation}
 use Rattle.wl_grammar.specs.declared.frame.Operation.TheVariants.{Request, Release, Abort, Query}
 use Rattle.wl_grammar.specs.declared.frame.Outcome.TheVariants.{Granted}
-use Rattle.wl_parts.specs.Parts.{Whole, all_below}
+use Rattle.wl_parts.specs.ReportParts.{Whole, all_below}
 use Rattle.wl_broker.specs.declared.seat.Seat.TheVariants.{Joined, Dead}
 use Rattle.wl_broker.specs.Broker.{BrokerState, manager_of, is_joined, is_dead, is_lock, drafted, outcome_of, answer_to, first_answer}
 use Rattle.wl_draft.specs.Membership.{In, Here, Later}

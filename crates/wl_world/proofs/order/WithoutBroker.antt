@@ -12,7 +12,7 @@ use Rattle.wl_grammar.specs.declared.frame.Upward.TheVariants as up
 use Rattle.wl_grammar.specs.declared.frame.Downward.{Downward}
 use Rattle.wl_grammar.specs.declared.frame.Downward.TheVariants as down
 use Rattle.wl_broadcast.specs.Channels.{ChannelState, open_refusal as channel_refusal, opened as channel_opened, post_refusal, posted, is_own as is_own_channel, read_at, closed_at}
-use Rattle.wl_parts.specs.Parts.{Told, at_once, in_part, told_of}
+use Rattle.wl_parts.specs.ReportParts.{Told, at_once, in_part, told_of}
 use Rattle.wl_broker.specs.Broker.{hello_to}
 use Rattle.wl_agent.specs.declared.delivered.Delivered.{Delivered}
 use Rattle.wl_agent.specs.declared.delivered.Delivered.TheVariants as heard

@@ -1,4 +1,4 @@
-use Rattle.wl_agent.specs.Parts.{held_in, pending_in}
+use Rattle.wl_agent.specs.SnapshotParts.{held_in, pending_in}
 use Rattle.wl_agent.proofs.PartsTogether.{gathers}
 use Rattle.wl_agent.proofs.parts.assemble.Goals as goal
 

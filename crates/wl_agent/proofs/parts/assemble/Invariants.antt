@@ -1,6 +1,6 @@
 use Rattle.std.proofs.Common.{◌≡◌, ◌++◌}
 use Rattle.std.specs.List.{flat_map}
-use Rattle.wl_agent.specs.Parts.{held_in, pending_in, all_entries}
+use Rattle.wl_agent.specs.SnapshotParts.{held_in, pending_in, all_entries}
 use Rattle.wl_agent.proofs.parts.assemble.Given as goal
 
 -- what is to come of the parts that are left

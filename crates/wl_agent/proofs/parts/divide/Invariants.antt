@@ -1,5 +1,5 @@
 use Rattle.std.proofs.Common.{◌≡◌, ◌++◌, take}
-use Rattle.wl_agent.specs.Parts.{held_in, pending_in}
+use Rattle.wl_agent.specs.SnapshotParts.{held_in, pending_in}
 use Rattle.wl_agent.proofs.parts.divide.Given as goal
 
 abbrev pub invariant-loop-entry : goal.invariant-loop-entry

@@ -1,7 +1,7 @@
 -- Each row computes.
 use Rattle.std.specs.Prelude.{refl}
 use Rattle.wl_draft.specs.Locks.{is_grantable, newly, settle, queued, probed, released, aborted, ended, restored}
-use Rattle.wl_parts.specs.Parts.{with_told}
+use Rattle.wl_parts.specs.ReportParts.{with_told}
 use Rattle.wl_broker.specs.Broker.{is_active, place_of, is_misplaced, settled_at, newly_at, join, join_if, take_told, perform, take_command, taking, burial}
 use Rattle.wl_broker.proofs.rows.law_shard_rows.Goals as goal
 

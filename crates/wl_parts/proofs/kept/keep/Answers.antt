@@ -4,7 +4,7 @@ use Rattle.std.proofs.lemmas.Result.{IfOk-weaker, on_err_weaker}
 use Rattle.wl_draft.specs.Tables.{put}
 use Rattle.wl_draft.proofs.TableLemmas.{lookup-find}
 use Rattle.wl_draft.proofs.RisingTables.{written_same}
-use Rattle.wl_parts.specs.Parts.{Partial, all_below, fits, with_told}
+use Rattle.wl_parts.specs.ReportParts.{Partial, all_below, fits, with_told}
 use Rattle.wl_parts.specs.Kept.{told}
 use Rattle.wl_parts.proofs.WrittenRows.{inserted, written}
 use Rattle.wl_parts.proofs.KeptParts.{with_told-more, with_told-first, same_base}

@@ -7,7 +7,7 @@ use Rattle.wl_draft.specs.Tables.{Table, put, has_row}
 use Rattle.wl_draft.proofs.TableLemmas.{insert_entry-put, remove_entry-put}
 use Rattle.wl_grammar.specs.declared.frame.Snapshot.{Snapshot as Part}
 use Rattle.wl_grammar.specs.declared.frame.SnapshotEntry.{SnapshotEntry}
-use Rattle.wl_agent.specs.Parts.{PartsState, with_part}
+use Rattle.wl_agent.specs.SnapshotParts.{PartsState, with_part}
 use Rattle.wl_agent.proofs.PartsTogether.{whole_none, whole_some}
 use Rattle.wl_agent.proofs.parts.Parts.take.Goals as goal
 

@@ -3,7 +3,7 @@ use Rattle.wl_draft.specs.Tables.{Table, find, put, has_row}
 use Rattle.wl_draft.proofs.TableLemmas.{lookup-find}
 use Rattle.wl_draft.proofs.RisingTables.{written_same}
 use Rattle.wl_agent.specs.declared.status.Status.{Status}
-use Rattle.wl_agent.specs.Parts.{with_part, is_whole}
+use Rattle.wl_agent.specs.SnapshotParts.{with_part, is_whole}
 use Rattle.wl_agent.specs.Tab.{is_querying}
 use Rattle.wl_agent.specs.Delivery.{parts_of, with_part_come}
 use Rattle.wl_agent.specs.Kept.{IsCounted}

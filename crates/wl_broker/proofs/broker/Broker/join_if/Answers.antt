@@ -1,6 +1,6 @@
 use Rattle.std.proofs.Common.{◌≡◌, ◌+◌, true, Option, eqb, length, sym, ap, ◌∙◌, subst}
 use Rattle.std.proofs.lemmas.Result.{IfOk-weaker}
-use Rattle.wl_parts.specs.Parts.{Partial, whole_of, fits, came_in, with_told}
+use Rattle.wl_parts.specs.ReportParts.{Partial, whole_of, fits, came_in, with_told}
 use Rattle.wl_parts.specs.Kept.{told}
 use Rattle.wl_parts.proofs.KeptParts.{last-whole, whole-one, whole-more, below-more}
 use Rattle.wl_broker.specs.Broker.{copied, partial_of, join}

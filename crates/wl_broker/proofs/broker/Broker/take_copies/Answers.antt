@@ -2,7 +2,7 @@ use Rattle.std.proofs.Common.{List, ◌≤◌, sym, ap, ◌∙◌, subst, arith}
 use Rattle.std.proofs.lemmas.Result.{IfOk-weaker, IfErr-weaker}
 use Rattle.wl_draft.specs.declared.row.Entry.{Entry}
 use Rattle.wl_grammar.specs.declared.frame.Upward.{Upward}
-use Rattle.wl_parts.specs.Parts.{Told}
+use Rattle.wl_parts.specs.ReportParts.{Told}
 use Rattle.wl_parts.specs.Kept.{told}
 use Rattle.wl_broker.specs.Broker.{BrokerState, copied, seat_of, Taking, IsTaken, generation_of, take_inner, take_told}
 use Rattle.wl_broker.proofs.Drops.{old_generation, later_generation, dead_tab, misplaced, inner_taken}

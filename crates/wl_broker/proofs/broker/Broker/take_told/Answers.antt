@@ -1,6 +1,6 @@
 use Rattle.std.proofs.Common.{sym, ap, ◌∙◌, subst}
 use Rattle.std.proofs.lemmas.Result.{IfOk-weaker}
-use Rattle.wl_parts.specs.Parts.{with_told}
+use Rattle.wl_parts.specs.ReportParts.{with_told}
 use Rattle.wl_parts.specs.Kept.{told}
 use Rattle.wl_broker.specs.Broker.{Taking, copied, IsTaken, seat_of, partial_of}
 use Rattle.wl_broker.proofs.Drops.{already_joined, held_by_newcomer, bad_report, part_twice, told_taken, join_if_taken}

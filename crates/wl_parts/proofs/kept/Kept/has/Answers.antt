@@ -3,7 +3,7 @@ use Rattle.std.proofs.Common.{List, []}
 use Rattle.wl_draft.specs.declared.row.Entry.{Entry}
 use Rattle.wl_draft.specs.Tables.{has_row}
 use Rattle.wl_draft.proofs.TableLemmas.{is_some-lookup}
-use Rattle.wl_parts.specs.Parts.{Partial}
+use Rattle.wl_parts.specs.ReportParts.{Partial}
 use Rattle.wl_parts.proofs.kept.Kept.has.Goals as goal
 
 pub returns : goal.returns

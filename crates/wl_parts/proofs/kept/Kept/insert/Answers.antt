@@ -2,7 +2,7 @@ use Rattle.std.proofs.Common.{◌≡◌, List, ◌++◌, true, ap, ◌∙◌}
 use Rattle.wl_draft.specs.declared.row.Entry.{Entry}
 use Rattle.wl_draft.specs.Tables.{Table, put}
 use Rattle.wl_draft.proofs.TableLemmas.{insert_entry-put}
-use Rattle.wl_parts.specs.Parts.{Partial, all_below}
+use Rattle.wl_parts.specs.ReportParts.{Partial, all_below}
 use Rattle.wl_parts.specs.Kept.{all_in_below}
 use Rattle.wl_parts.proofs.KeptParts.{all_in_below-put}
 use Rattle.wl_parts.proofs.kept.Kept.insert.Goals as goal

@@ -1,6 +1,6 @@
 use Rattle.std.proofs.Common.{◌≡◌}
 use Rattle.std.specs.List.{list_all}
-use Rattle.wl_parts.specs.Parts.{is_in_order}
+use Rattle.wl_parts.specs.ReportParts.{is_in_order}
 use Rattle.wl_parts.specs.Kept.{told}
 use Rattle.wl_parts.proofs.kept.Kept.is_in_order.Given as goal
 
