@@ -17,8 +17,8 @@ a trait's function, which has no twin, comes after the others. Beside each edit 
 Without CRATE the edits of all crates are tried, as many crates at a time as there are processors and memory. The libraries that
 a crate stands on are built first, by `rt lib`. The status is 0 where the prover refuses every edit, and the last line counts an
 edit that it refuses as passed, as `rt ci` does.
-With `--gate` it takes the libraries as `rt ci` has just left them, where it has, and leaves seven crates out, and of the
-others each edit with a line `gate: no`.
+With `--gate` it takes the libraries as `rt ci` has just left them, where it has all of them, and else says that it builds them.
+It leaves seven crates out, and of the others each edit with a line `gate: no`.
 With `--control` no edit is made, over such libraries likewise, and the prover has to prove each function that has to refuse one,
 beside the same loops and holes.
 With `--fit` none is tried: the status is 0, and nothing is printed, where each edit still fits its file.
@@ -558,7 +558,10 @@ def main():
     named = libraries()
     crates = [it for it in words if it not in flags] or sorted({*os.listdir(EDITS)} - (LEFT_OUT if is_gate else set()))
     needed = {dep for crate in crates for dep in below(crate, named)}
-    if not (is_gate or is_control) or not all(is_of_gate(it) for it in needed):
+    lacking = sorted(it for it in needed if not is_of_gate(it))
+    if lacking or not (is_gate or is_control):
+        if is_gate or is_control:
+            print(f"builds {len(needed)} libraries first, since `rt ci` has not left {' '.join(lacking)}", file=sys.stderr)
         for dep in sorted(needed, key=lambda it: len(below(it, named))):
             subprocess.run(["rt", "lib"], cwd=os.path.join(ROOT, "crates", dep), stdout=subprocess.DEVNULL, check=True)
     trials = []
