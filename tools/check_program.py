@@ -3,11 +3,13 @@
 usage: check_program.py PROGRAM
 
 The last part of the gate: `main`, the exit statuses and what stands on standard error are what no test of a crate can call. It
-plays the desk with whole, cut and refused input, each example in `examples/` with the output beside it, refused scripts and
-what `explain.py` finds wrong with them, devices that fail, wrong command lines, and kernels with real children. It prints
-nothing where all is as it has to be, and else each difference; the status is then 1.
+plays the desk with whole, cut and refused input, desk and sim by turns with who waits for each answer, each example in
+`examples/` with the output beside it, refused scripts and what `explain.py` finds wrong with them, devices that fail, wrong
+command lines, and kernels with real children. It prints nothing where all is as it has to be, and else each difference; the
+status is then 1.
 """
 
+import contextlib
 import os
 import pathlib
 import signal
@@ -26,6 +28,14 @@ START = "00000008 01 21 00000001 0000"
 REPORT = "00000012 01 20 0001 0001 01 02 00000001 00000000 0000"
 REQUEST = "00000015 01 20 0001 0001 01 01 00000001 00000000 01 02 00 01 61"
 GRANT = "00000013 01 22 0001 01 11 00000001 00000001 00000000 02"
+# A second tab asks for the same lock and has to wait, until the first one gives it up.
+SECOND = [it.replace("0001 0001", "0002 0001", 1) for it in (REPORT, REQUEST)]
+WAITING = "00000013 01 22 0002 01 11 00000001 00000001 00000000 01"
+RELEASE = "00000015 01 20 0001 0001 01 01 00000001 00000001 02 00000000"
+HANDED_OVER = [
+    "00000013 01 22 0001 01 11 00000001 00000002 00000001 04",
+    "00000013 01 22 0002 01 11 00000001 00000001 00000000 02",
+]
 
 SIZE = ["--lanes", "1", "--shards", "1", "--limit", "8"]
 KERNEL = ["kernel", "--dir", ".", "--lanes", "2", "--shards", "1", "--limit", "65536", "KERNEL"]
@@ -79,17 +89,11 @@ def ends(name, ended, stdout, stderr, status):
 
 
 def check_desk(program):
-    second = [REPORT.replace("0001 0001", "0002 0001", 1), REQUEST.replace("0001 0001", "0002 0001", 1)]
-    release = "00000015 01 20 0001 0001 01 01 00000001 00000001 02 00000000"
     first_grant, grant = bytes_of(START, REPORT, REQUEST), bytes_of(GRANT)
-    handed_over = bytes_of(
-        "00000013 01 22 0002 01 11 00000001 00000001 00000000 01",
-        "00000013 01 22 0001 01 11 00000001 00000002 00000001 04",
-        "00000013 01 22 0002 01 11 00000001 00000001 00000000 02",
-    )
+    handed_over = bytes_of(WAITING, *HANDED_OVER)
     for words in ([], ["desk"]):
         ends(f"first-grant {words}", Ended(program, words, first_grant), grant, [], 0)
-    ends("two tabs", Ended(program, ["desk"], first_grant + bytes_of(*second, release)), grant + handed_over, [], 0)
+    ends("two tabs", Ended(program, ["desk"], first_grant + bytes_of(*SECOND, RELEASE)), grant + handed_over, [], 0)
     ends("empty", Ended(program, ["desk"]), b"", ["wlb: Unexpected"], 1)
     ends("a second start", Ended(program, ["desk"], first_grant + bytes_of(START)), grant, ["wlb: Unexpected"], 1)
     newcomer = bytes_of(START, "0000001A 01 20 0001 0001 01 02 00000001 00000001 0001 00000000 01 02 01 61")
@@ -110,6 +114,25 @@ def check_desk(program):
         ended = Ended(program, ["desk"], first_grant, stdout=full)
     ends("a full device", ended, None, ["wlb: Write"], 3)
     ends("a device that can't be read", read_nothing(program, "desk"), b"", ["wlb: Read"], 3)
+
+
+def check_at_once(program):
+    """Desk and sim answer what they have read before they read on: who waits for an answer before it sends the next has it."""
+    frames = [([START, REPORT, REQUEST], [GRANT]), (SECOND, [WAITING]), ([RELEASE], HANDED_OVER)]
+    frames = [(bytes_of(*sent), bytes_of(*answer)) for sent, answer in frames]
+    lines = [(b"start -\n", b"up 1\n"), (b"stop\n", b"stopped 1\n"), (b"stop\n", b"already down\n")]
+    for word, turns in [("desk", frames), ("sim", lines)]:
+        ran = subprocess.Popen([program, word], stdin=subprocess.PIPE, stdout=subprocess.PIPE)
+        guard = threading.Timer(SECONDS, ran.kill)
+        guard.start()
+        with contextlib.suppress(BrokenPipeError):
+            for number, (text, answer) in enumerate(turns):
+                ran.stdin.write(text)
+                ran.stdin.flush()
+                same(f"{word}, turn {number}", "the answer", ran.stdout.read(len(answer)), answer)
+            ran.stdin.close()
+        same(f"{word} by turns", "what is left, and the status", (ran.stdout.read(), ran.wait()), (b"", 0))
+        guard.cancel()
 
 
 def read_nothing(program, word):
@@ -255,6 +278,7 @@ def main():
     program = sys.argv[1]
     check_desk(program)
     check_sim(program)
+    check_at_once(program)
     check_explained(program)
     check_words(program)
     check_processes(program)

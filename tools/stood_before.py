@@ -28,9 +28,9 @@ THEN = "5aa0eea"
 EDITS_THEN = 200
 # What has come of the crates of then, from below.
 COUNTED = """wl_limits wl_origin wl_draft wl_ordered wl_index wl_table wl_grammar wl_encoding wl_frames wl_broadcast wl_agent wl_kernel
-    wl_parts wl_broker wl_bag wl_said wl_tab wl_supervisor wl_world wl_words wl_replies wl_script wl_workers wl_command_line wlb
-    wl_fakes script_fakes frame_tests table_tests agent_tests channel_tests kernel_tests desk_tests script_tests world_tests
-    line_tests""".split()
+    wl_parts wl_broker wl_bag wl_said wl_tab wl_supervisor wl_world wl_words wl_snapshots wl_replies wl_script wl_workers
+    wl_command_line wlb wl_fakes script_fakes frame_tests table_tests agent_tests channel_tests kernel_tests desk_tests script_tests
+    world_tests line_tests""".split()
 # What some of these stand on today, and did not then.
 PROVED_BEFORE = """wl_locked wl_outbox wl_board wl_process wl_process_rules wl_process_script wl_kernel_rules wl_kernel_process
     wl_broker_process wl_tab_process""".split()

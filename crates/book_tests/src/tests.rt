@@ -370,7 +370,7 @@ fn plays_row<R: Wait + Abort>(
 }
 
 #[test]
-fn steps_used_up(rt: HostRuntime) {
+fn generation_spent(rt: HostRuntime) {
     plays_row(&rt, rt.alloc(), 1, 3, Row::Three, 3);
 }
 

@@ -4,6 +4,7 @@
 use bytes::Bytes;
 use std::alloc::{AllocError, Global};
 use std::process::Abort;
+use wl_broadcast::channels::POST_LIMIT;
 use wl_broadcast::{Channel, ChannelFault, Channels, Foreign, Hearing, Letter, Posted};
 use wl_fakes::again::{BACK, bytes, letters, name};
 use wl_frames::{Frame, Heard};
@@ -331,6 +332,7 @@ fn broadcast_to_all(rt: HostRuntime) {
     close_last(&rt, channels, third);
 }
 
+/// Posts that come out of order are heard from the later one on.
 #[test]
 fn broadcast_1(rt: HostRuntime) {
     let alloc = rt.alloc();
@@ -342,6 +344,7 @@ fn broadcast_1(rt: HostRuntime) {
     close_last(&rt, channels, channel);
 }
 
+/// A post that finds the inbox full is lost, and not heard later.
 #[test]
 fn broadcast_2(rt: HostRuntime) {
     let alloc = rt.alloc();
@@ -437,6 +440,11 @@ fn close_one(rt: &impl Abort, channels: &mut Channels, held: &mut Vec<Channel>) 
 fn has_no_channel(rt: &impl Abort, channels: &mut Channels, held: &[Channel]) {
     assert!(rt; held.len() == 64);
     assert!(rt; refuses_name(rt, channels, "n", ChannelFault::TooManyChannels));
+}
+
+#[test]
+fn limit_of_posts(rt: HostRuntime) {
+    assert_eq!(&rt; POST_LIMIT, 1_000_000);
 }
 
 #[test]

@@ -59,18 +59,19 @@ fn are_forty(rt: &impl Abort, made: io::Result<(Played, String)>) {
     assert_eq!(rt; counter.as_str(), "40\n");
 }
 
+/// Four tabs make ten rounds each over two stops of the broker, and none is lost.
 #[test]
-fn four_tabs_make_forty_rounds(rt: HostRuntime) {
+fn counter(rt: HostRuntime) {
     are_forty(&rt, make_forty_rounds(&rt, "forty", "2", "1"));
 }
 
 #[test]
-fn four_tabs_make_forty_rounds_over_two_shards(rt: HostRuntime) {
+fn counter_over_two_shards(rt: HostRuntime) {
     are_forty(&rt, make_forty_rounds(&rt, "forty_over_two", "2", "2"));
 }
 
 #[test]
-fn four_tabs_make_forty_rounds_over_sixteen_shards(rt: HostRuntime) {
+fn counter_over_sixteen_shards(rt: HostRuntime) {
     are_forty(&rt, make_forty_rounds(&rt, "forty_over_sixteen", "4", "16"));
 }
 

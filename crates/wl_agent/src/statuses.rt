@@ -1,6 +1,6 @@
 //! What became of a tab's numbers.
 
-ghost use Rattle.std.specs.Prelude.{◌≡◌, ◌<◌, ◌≤◌, [], true, false, None, IsSome, IfOk, OnOk, OnErr};
+ghost use Rattle.std.specs.Prelude.{◌≡◌, ◌≢◌, ◌<◌, ◌≤◌, [], true, false, None, IsSome, IfOk, OnOk, OnErr};
 ghost use Rattle.std.specs.Option.{option_copied};
 ghost use Rattle.wl_draft.specs.Tables.{find, put, has_row, without_row};
 ghost use Rattle.wl_agent.specs.SnapshotParts.{with_part, is_whole};
@@ -196,7 +196,8 @@ impl Statuses {
 
     /// The numbers below this one that are asked, by rising number.
     pub(crate) fn due_below(&self, alloc: Global, bound: u32) -> Result<Vec<u32>, AllocError>
-        ensures { IfOk result (λ numbers. numbers.items ≡ due_below bound self.now) }
+        ensures numbers { IfOk result (λ numbers. numbers.items ≡ due_below bound self.now) }
+        ensures growth { OnErr result (due_below bound self.now ≢ []) }
     {
         let mut numbers = Vec::new(alloc);
         for (number, status) in &self.rows {

@@ -49,8 +49,3 @@ sending m bag = record { message = m; place = unwrap_or (place_of m bag) (length
 abbrev pub sent_all : List Message → List Message → List Message
 sent_all [] bag = bag
 sent_all (m ∷ ms) bag = sent_all ms (sent m bag)
-
--- these messages as they are sent, each with whether it is new
-abbrev pub marked : List Message → List Message → List (Message × Bool)
-marked [] bag = []
-marked (m ∷ ms) bag = (m, not (is_sent m bag)) ∷ marked ms (sent m bag)

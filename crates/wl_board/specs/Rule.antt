@@ -1,6 +1,6 @@
 -- The rule of a board, over its words and over what each seat knows.
 -- Word 0 is the generation, word 1 the counter, and word tab + 1 is the word of a tab: 0 for none, 1 for living, 2 for dead.
-use Rattle.std.specs.Prelude.{◌≡◌, ℕ, ◌+◌, ◌<◌, ◌≤◌, ◌==◌, ◌⊎◌, List, [], ◌∷◌, length, slice_index, cond, replicate}
+use Rattle.std.specs.Prelude.{◌≡◌, ◌-◌, ℕ, ◌+◌, ◌<◌, ◌≤◌, ◌==◌, ◌⊎◌, List, [], ◌∷◌, length, slice_index, cond, replicate}
 use mathlib.Core.Option.{some}
 use lib.ListN.{get_elem?}
 use Rattle.atomic_table.specs.Table.{State}
@@ -53,4 +53,4 @@ abbrev pub newcomer : ℕ → ℕ → View
 newcomer tabs others = record { seen = replicate (tabs + 2) 0; drawn = []; born = []; marked = []; draws = 0; bumps = 0; steps = 0; to_give = others }
 
 abbrev pub first_seat : ℕ → View
-first_seat tabs = newcomer tabs 15
+first_seat tabs = newcomer tabs (SEAT_LIMIT - 1)

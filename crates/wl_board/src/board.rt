@@ -2,7 +2,7 @@
 
 ghost use Rattle.std.specs.Prelude.{◌≡◌, ◌+◌, ◌<◌, ◌≤◌, Err, IfOk, OnOk, OnErr, All, vec_len};
 ghost use Rattle.wl_board.specs.declared.board.TheConstants.{SEAT_LIMIT, SEAT_STEP_LIMIT};
-ghost use Rattle.wl_board.specs.Rule.{Has, newcomer};
+ghost use Rattle.wl_board.specs.Rule.{Has, first_seat};
 ghost use Rattle.wl_board.specs.Steps.{sees, marks, draws_number, bears, bumps_to};
 ghost use Rattle.wl_board.specs.Calls.{IsOf, IsSameSeat, IsNew, HasMetEnd, MeetsEnd, counter_seen, generation_seen, tab_seen, word_of};
 
@@ -77,7 +77,7 @@ impl Board {
     /// Splits the first place into the seats asked for.
     fn deal(&self, alloc: Global, mut first: Place, seats: u16) -> Result<Vec<Seat>, Memory>
         requires count { (1 ≤ seats) × (seats ≤ SEAT_LIMIT) }
-        requires first { (first.table_id ≡ self.now.table) × (first.me.0 ≡ newcomer self.now.tabs 15) }
+        requires first { (first.table_id ≡ self.now.table) × (first.me.0 ≡ first_seat self.now.tabs) }
         ensures count { IfOk result (λ v. vec_len v ≡ seats) }
         ensures seats { IfOk result (λ v. All (λ s. IsOf s self.now × IsNew self.now.tabs s) v.items) }
     {

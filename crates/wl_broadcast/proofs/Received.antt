@@ -50,7 +50,7 @@ delivers_own c j k bytes allowed other alive named room =
 
 -- ---- readings
 
-changed_other : (f : Object → Object) (j k : ℕ) (os : List Object) → j ≢ k → inbox_at (changed_at j f os) k ≡ inbox_at os k
+pub changed_other : (f : Object → Object) (j k : ℕ) (os : List Object) → j ≢ k → inbox_at (changed_at j f os) k ≡ inbox_at os k
 changed_other f j k [] other = refl
 changed_other f zero zero (o ∷ os) other = absurd (other refl)
 changed_other f zero (suc k) (o ∷ os) other = inbox_at-suc (f o) os k ∙ sym (inbox_at-suc o os k)

@@ -7,7 +7,8 @@ use Rattle.wl_grammar.specs.declared.frame.Operation.{Operation}
 use Rattle.wl_grammar.specs.declared.frame.Stamped.{Stamped}
 use Rattle.wl_parts.specs.ReportParts.{Partial, Told, has_held, all_below, fits, is_there, with_told, is_whole, whole_of}
 use Rattle.wl_broker.specs.declared.dropped.Dropped.TheVariants.{OldGeneration, LaterGeneration, NotJoined, Recovering, OutOfTurn, DeadTab, AlreadyJoined, HeldByNewcomer, BadReport, Misplaced, TooMany, PartTwice}
-use Rattle.wl_broker.specs.Broker.{BrokerState, Does, Drops, IsTaken, seat_of, partial_of, manager_of, next_of, limit_of, is_joined, is_dead, is_active, is_listed, listed_at, is_misplaced, is_lock, generation_of, taking, take_inner, keeping, join_if, take_told, take_command, join, perform, later_answer}
+use Rattle.wl_grammar.specs.Generation.{generation_of}
+use Rattle.wl_broker.specs.Broker.{BrokerState, Does, Drops, IsTaken, seat_of, partial_of, manager_of, next_of, limit_of, is_joined, is_dead, is_active, is_listed, listed_at, is_misplaced, is_lock, taking, take_inner, keeping, join_if, take_told, take_command, join, perform, later_answer}
 
 -- ---- any message
 

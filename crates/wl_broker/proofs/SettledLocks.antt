@@ -1,14 +1,13 @@
 -- What settling leaves: nothing more is granted, and what cannot be granted stays so when more is held.
 use Rattle.std.proofs.Common.{◌≡◌, ℕ, ◌≤◌, Bool, true, false, not, cond, List, [], ◌∷◌, ◌++◌, length, refl, sym, ap, ◌∙◌, subst, append_assoc, append-nil, eq-eqb, arith, IsTrue, Result, Ok, Err, OnOk, OnErr}
 use Rattle.std.specs.List.{filter}
-use Rattle.std.proofs.lemmas.List.Folds.{list_all-append}
 use Rattle.wl_draft.specs.declared.mode.Mode.{Mode}
 use Rattle.wl_draft.specs.declared.row.Row.{Row}
 use Rattle.wl_draft.specs.declared.row.Grant.{Grant}
 use Rattle.wl_draft.specs.Locks.{Locks, is_grantable, newly, settle, settle_if, probed, without, grants, row_of}
 use Rattle.wl_draft.specs.Settling.{IsSettled, Merges, none, left, right}
 use Rattle.wl_broker.specs.Kept.{PartitionState, state_of, is_grant_of}
-use Rattle.wl_draft.proofs.Settled.{Settles, done, grant, pass, Settles-all, settle-IsSettled, settle-MovesGrants}
+use Rattle.wl_draft.proofs.Settled.{Settles, done, grant, pass, Settles-all, settle-IsSettled, settle-MovesGrants, grantable_later}
 
 -- where no request can be granted behind those ahead of it, none is
 Settles-none : {held ahead rs gs ws : List Row} → Settles held ahead rs gs ws → IsSettled (record { held = held; waiting = ahead ++ rs }) → gs ≡ []
@@ -42,10 +41,6 @@ newly-settle m = newly-IsSettled (settle m) (settle-IsSettled m)
 pub newly-settle_if : (b : Bool) (m : Locks) → IsTrue b → newly (settle_if b m) ≡ []
 newly-settle_if true m h = newly-settle m
 newly-settle_if false m h = cc
-
-grantable_later : (held more ahead : List Row) (r : Row) → is_grantable held ahead r ≡ false → is_grantable (held ++ more) ahead r ≡ false
-unfolding is_grantable
-grantable_later held more ahead r e = grind (arith, list_all-append {X = Row})
 
 -- nor after a probe, which only adds to what is held
 newly-held_more : (m : Locks) (more : List Row) → newly m ≡ [] → newly (record { held = m.held ++ more; waiting = m.waiting }) ≡ []

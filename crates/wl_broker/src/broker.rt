@@ -17,9 +17,7 @@ use crate::changes::{
     waiting_in,
 };
 use crate::dropped::Dropped;
-use crate::judging::{
-    generation_of, is_bad_report, is_held_by_newcomer, is_misplaced, is_out_of_turn,
-};
+use crate::judging::{is_bad_report, is_held_by_newcomer, is_misplaced, is_out_of_turn};
 use crate::listed::{awaited_at, count_arrival, listed_at, missing_at, missing_without, read_list};
 use crate::outs::Outs;
 use crate::partition::Partition;
@@ -116,7 +114,7 @@ impl<T: LockTable> Broker<T> {
         ensures memory { IfErr result (λ d. d ≡ Dropped.Memory → IsTaken (taking self.old stamped.now)) }
         ensures err { OnErr result (self.new ≡ self.old) }
     {
-        let generation = generation_of(&stamped.inner);
+        let generation = stamped.inner.generation();
         if generation < self.generation {
             return Err(Dropped::OldGeneration);
         }
@@ -217,7 +215,8 @@ impl<T: LockTable> Broker<T> {
         requires alive { is_dead (seat_of self.old tab) ≡ false }
         requires placed { is_misplaced self.old tab partition ≡ false }
         ensures taken { IfOk result (λ all.
-            copied copies (take_told self.old tab partition (told heading entries.now)) ≡ Some (self.new, all.items)) }
+            copied copies (take_told self.old tab partition (told heading entries.now))
+            ≡ Some (self.new, all.items)) }
         ensures dropped { IfErr result (λ d.
             d ≢ Dropped.Memory → take_told self.old tab partition (told heading entries.now) ≡ Drops d) }
         ensures memory { IfErr result (λ d.
@@ -253,7 +252,8 @@ impl<T: LockTable> Broker<T> {
         requires seat { seat ≡ seat_of self.old tab }
         requires placed { is_misplaced self.old tab partition ≡ false }
         ensures taken { IfOk result (λ all.
-            copied copies (take_command self.old tab partition number operation.now) ≡ Some (self.new, all.items)) }
+            copied copies (take_command self.old tab partition number operation.now)
+            ≡ Some (self.new, all.items)) }
         ensures dropped { IfErr result (λ d.
             d ≢ Dropped.Memory → take_command self.old tab partition number operation.now ≡ Drops d) }
         ensures memory { IfErr result (λ d.
@@ -357,7 +357,8 @@ impl<T: LockTable> Broker<T> {
         requires placed { elsewhere (listed_at tab self.old.listed) partition ≡ false }
         requires below { all_below heading.base entries.now ≡ true }
         ensures joined { IfOk result (λ all.
-            copied copies (join self.old tab partition (joining heading entries.now)) ≡ Some (self.new, all.items)) }
+            copied copies (join self.old tab partition (joining heading entries.now))
+            ≡ Some (self.new, all.items)) }
         ensures err { OnErr result (self.new ≡ self.old) }
     {
         let waiting = waiting_in(row_at(&self.partitions, partition));
@@ -401,7 +402,8 @@ impl<T: LockTable> Broker<T> {
     fn bury(&mut self, tab: u16, partition: u16, copies: usize) -> Result<Vec<Outs>, AllocError>
         requires { Had self.old tab partition }
         ensures buried { IfOk result (λ all.
-            repeated copies (buried_at (with_seat tab Dead self.old) tab (Some partition)) ≡ (self.new, all.items)) }
+            repeated copies (buried_at (with_seat tab Dead self.old) tab (Some partition))
+            ≡ (self.new, all.items)) }
         ensures err { OnErr result (self.new ≡ self.old) }
     {
         let before = seat_of(&self.seats, tab);
@@ -507,7 +509,8 @@ impl<T: LockTable> Broker<T> {
         requires active { is_active self.old partition ≡ true }
         requires more { number < LAST_NUMBER }
         ensures performed { IfOk result (λ all.
-            copied copies (perform self.old tab partition number operation.now) ≡ Some (self.new, all.items)) }
+            copied copies (perform self.old tab partition number operation.now)
+            ≡ Some (self.new, all.items)) }
         ensures err { OnErr result (self.new ≡ self.old) }
     {
         if let Operation::Query = operation {

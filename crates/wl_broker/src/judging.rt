@@ -4,27 +4,17 @@ ghost use Rattle.std.specs.Prelude.{◌≡◌, ◌&&◌, ◌||◌, ◌==◌, not
 ghost use Rattle.wl_draft.specs.Tables.{find};
 ghost use Rattle.wl_parts.specs.ReportParts.{kept_at, has_held, all_below, fits};
 ghost use Rattle.wl_parts.specs.Kept.{told};
-ghost use Rattle.wl_broker.specs.Broker.{generation_of, elsewhere, seated_at, is_listed, is_lock};
+ghost use Rattle.wl_broker.specs.Broker.{elsewhere, seated_at, is_listed, is_lock};
 ghost use Rattle.wl_limits.specs.declared.tabs.TheConstants.{LAST_NUMBER};
 
 use crate::seat::Seat;
 use crate::seats::seated_at;
 use std::collections::BTreeMap;
 use wl_draft::Entry;
-use wl_grammar::{Operation, Upward};
+use wl_grammar::Operation;
 use wl_limits::tabs::LAST_NUMBER;
 use wl_parts::Heading;
 use wl_parts::kept::{Kept, fits, kept_at};
-
-pub fn generation_of(inner: &Upward) -> u32
-    ensures { result ≡ generation_of inner.now }
-{
-    match inner {
-        Upward::Command(command) => command.generation,
-        Upward::Report(report) => report.generation,
-        Upward::ReportPart(part) => part.generation,
-    }
-}
 
 fn elsewhere(place: Option<u16>, partition: u16) -> bool
     ensures { result ≡ elsewhere place partition }

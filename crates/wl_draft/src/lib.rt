@@ -9,10 +9,11 @@ pub mod mode;
 pub mod name;
 pub mod row;
 
+pub use lists::rows_of;
 pub use manager::Manager;
 pub use mode::Mode;
 pub use name::Name;
 pub use row::{Entry, Grant, Row, Standing};
 
-/// Want of memory.
+/// Out of memory.
 pub type Memory = std::alloc::AllocError;

@@ -106,13 +106,13 @@ pub(crate) fn settle(held: &mut Vec<Row>, waiting: &mut Vec<Row>, newly: &mut Ve
     }
 }
 
-// The rows of a client's report: those that are held, and those that wait.
-pub(crate) fn rows_of(
+/// The rows of a client's report: those that are held, and those that wait.
+pub fn rows_of(
     alloc: Global,
     client: u16,
     entries: &[Entry],
 ) -> Result<(Vec<Row>, Vec<Row>), AllocError>
-    ensures { IfOk result
+    ensures rows { IfOk result
         (λ rows. (rows.0.items ≡ held_of client entries.now)
         × (rows.1.items ≡ waiting_of client entries.now)) }
 {

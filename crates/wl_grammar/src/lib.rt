@@ -4,6 +4,7 @@
 pub mod boxed;
 mod copy;
 pub mod frame;
+mod generation;
 pub mod kinds;
 pub mod origin;
 pub mod sequence;

@@ -310,7 +310,7 @@ pub record IsEarlier (name : List ℕ) (rows : Table Row) (order : ℕ) : Type 0
 not-both : false ≡ true → ⊥
 not-both e = cc
 
-rising-rest : (p : ℕ × Row) (ps : Table Row) → is_rising (p ∷ ps) ≡ true → is_rising ps ≡ true
+pub rising-rest : (p : ℕ × Row) (ps : Table Row) → is_rising (p ∷ ps) ≡ true → is_rising ps ≡ true
 rising-rest p ps r = grind (arith, nat_tests)
 
 earlier-step : (name : List ℕ) (order : ℕ) (r : Row) (f : ℕ × Row) (front back : Table Row) (b : Bool) → bytes_eq f.1.name name ≡ b → is_named name (values_in (f ∷ front)) ≡ true → is_rising ((f ∷ front) ++ (order, r) ∷ back) ≡ true → (is_named name (values_in front) ≡ true → is_rising (front ++ (order, r) ∷ back) ≡ true → IsEarlier name (front ++ (order, r) ∷ back) order) → IsEarlier name ((f ∷ front) ++ (order, r) ∷ back) order

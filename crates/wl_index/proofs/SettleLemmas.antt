@@ -1,20 +1,16 @@
 -- Settling one grant at a time: what can't be granted is passed over, and the first request that can be granted is the
 -- first that is granted.
-use Rattle.std.proofs.Common.{◌≡◌, true, false, List, [], ◌∷◌, ◌++◌, refl, sym, ap, ◌∙◌, append_assoc, append-nil, arith}
-use Rattle.std.proofs.lemmas.List.Folds.{list_all-append}
+use Rattle.std.proofs.Common.{◌≡◌, true, List, [], ◌∷◌, ◌++◌, refl, sym, ap, ◌∙◌, append_assoc, append-nil}
 use Rattle.wl_draft.specs.declared.row.Row.{Row}
 use Rattle.wl_draft.specs.Locks.{Locks, is_grantable, granted, left_waiting, newly, settle, queued, probed}
+use Rattle.wl_draft.proofs.Settled.{grantable_later}
 use Rattle.wl_index.proofs.Stuck.{AreStuck}
 
 -- more locks free nobody
-stuck-later_step : (held more ahead : List Row) (r : Row) → is_grantable held ahead r ≡ false → is_grantable (held ++ more) ahead r ≡ false
-unfolding is_grantable
-stuck-later_step held more ahead r e = grind (arith, list_all-append {X = Row})
-
 pub stuck-later : (held more ahead rs : List Row) → AreStuck held ahead rs → AreStuck (held ++ more) ahead rs
 stuck-later held more ahead [] s = s
 stuck-later held more ahead (r ∷ rs) s =
-    (stuck-later_step held more ahead r s.0, stuck-later held more (ahead ++ r ∷ []) rs s.1)
+    (grantable_later held more ahead r s.0, stuck-later held more (ahead ++ r ∷ []) rs s.1)
 
 -- what is stuck is passed over
 pub granted-stuck : (held ahead fs rs : List Row) → AreStuck held ahead fs → granted held ahead (fs ++ rs) ≡ granted held (ahead ++ fs) rs

@@ -14,6 +14,7 @@ use Rattle.wl_ordered.specs.Orders.{ordered, orders_in, values_in, is_above, is_
 use Rattle.wl_index.specs.Nexts.{is_among}
 use Rattle.wl_ordered.proofs.OrderLemmas.{table_ext, find-ordered, rising-ordered}
 use Rattle.wl_index.proofs.RemovalLemmas.{find-later}
+use Rattle.wl_index.proofs.NextLemmas.{rising-rest}
 use Rattle.wl_index.proofs.CandidateLemmas.{among-permutation}
 
 -- ---- numbers as a table
@@ -100,9 +101,6 @@ no_index i l = omega (arith, l)
 
 found-here : (p : ℕ × Row) (ps : Table Row) → find (p ∷ ps) p.0 ≡ Some p.1
 found-here p ps = grind (arith, nat_tests)
-
-rising-rest : (p : ℕ × Row) (ps : Table Row) → is_rising (p ∷ ps) ≡ true → is_rising ps ≡ true
-rising-rest p ps r = grind (arith, nat_tests)
 
 pub at-index : (rows : Table Row) (i : ℕ) → is_rising rows ≡ true → i < length (orders_in rows) → IsAt rows i
 at-index [] i r l = absurd (no_index i l)

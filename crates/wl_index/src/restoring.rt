@@ -1,15 +1,14 @@
 //! Puts the entries of a client's report into an index.
 
-ghost use Rattle.std.specs.Prelude.{◌≡◌, ◌+◌, ◌<◌, ◌≤◌, ◌^◌, ◌++◌, true, IfOk, OnOk, length};
-ghost use Rattle.wl_draft.specs.Locks.{held_of, waiting_of};
+ghost use Rattle.std.specs.Prelude.{◌≡◌, ◌+◌, ◌<◌, ◌≤◌, ◌^◌, ◌++◌, true, OnOk, length};
 ghost use Rattle.wl_ordered.specs.Orders.{values_in};
 ghost use Rattle.wl_index.specs.Index.{IsIndexed, HasRoom, are_of};
 ghost use Rattle.wl_index.specs.Nexts.{AreCandidates};
 
 use crate::candidates::Candidates;
 use crate::index::Index;
-use std::alloc::{AllocError, Global};
-use wl_draft::{Entry, Row};
+use std::alloc::AllocError;
+use wl_draft::Row;
 
 impl Index {
     /// Makes room for these locks and these requests of a client.
@@ -66,32 +65,4 @@ impl Index {
             self.queue(row);
         }
     }
-}
-
-/// A report's entries as the client's rows: those that are held, and those that wait.
-pub fn rows_of(
-    alloc: Global,
-    client: u16,
-    entries: &[Entry],
-) -> Result<(Vec<Row>, Vec<Row>), AllocError>
-    ensures rows { IfOk result
-        (λ rows. (rows.0.items ≡ held_of client entries.now)
-        × (rows.1.items ≡ waiting_of client entries.now)) }
-{
-    let mut held = Vec::new(alloc);
-    let mut waiting = Vec::new(alloc);
-    for entry in entries {
-        let row = Row {
-            client,
-            number: entry.number,
-            name: entry.name.copy(alloc)?,
-            mode: entry.mode,
-        };
-        if entry.held {
-            held.push(row)?;
-        } else {
-            waiting.push(row)?;
-        }
-    }
-    Ok((held, waiting))
 }

@@ -18,6 +18,7 @@ use std::net::Shutdown;
 use std::os::unix::net::UnixStream;
 use std::process::Child;
 use std::sync::{Arc, Condvar, Mutex, Wait};
+use wl_board::board::SEAT_LIMIT;
 use wl_board::{Birth, Board};
 use wl_frames::{Frame, Hello};
 use wl_kernel::{RouteFault, Routed};
@@ -30,9 +31,6 @@ use wl_origin::Partition;
 use wl_process::{Host, ProcessFault, append};
 use wl_process_rules::Ends;
 use wl_workers::BoardSeat;
-
-/// How many seats the board has.
-const SEATS: u16 = 16;
 
 /// The current broker's link, for writing.
 #[derive(Drop)]
@@ -111,7 +109,7 @@ pub(crate) struct Hub {
 
 impl Hub {
     pub(crate) fn new(alloc: Global) -> Result<Hub, AllocError> {
-        let Ok((board, places)) = Board::new(alloc, LAST_TAB, SEATS) else {
+        let Ok((board, places)) = Board::new(alloc, LAST_TAB, SEAT_LIMIT) else {
             return Err(AllocError);
         };
         let board = Arc::new(alloc, board)?;
@@ -136,7 +134,7 @@ impl Hub {
 
     /// The seat that threads take turns at who look at this tab.
     pub(crate) fn seat_of(&self, tab: u16) -> Result<Arc<Mutex<BoardSeat>>, AllocError> {
-        match self.seats.get(usize::from(tab % SEATS)) {
+        match self.seats.get(usize::from(tab % SEAT_LIMIT)) {
             Some(seat) => Arc::try_clone(seat),
             None => Err(AllocError),
         }

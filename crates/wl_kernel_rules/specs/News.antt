@@ -3,8 +3,7 @@ use Rattle.std.specs.Prelude.{◌≡◌, ℕ, List, Bool, true, false, nat_lt, O
 use Rattle.wl_origin.specs.Order.{Pair}
 use Rattle.wl_origin.specs.Partition.{origin_text}
 use Rattle.wl_grammar.specs.Grammar.{spelling}
-use Rattle.wl_grammar.specs.declared.frame.Upward.{Upward}
-use Rattle.wl_grammar.specs.declared.frame.Upward.TheVariants as up
+use Rattle.wl_grammar.specs.Generation.{generation_of}
 use Rattle.wl_grammar.specs.declared.frame.Downward.{Downward}
 use Rattle.wl_grammar.specs.declared.frame.Downward.TheVariants as down
 use Rattle.wl_grammar.specs.declared.frame.Frame.{Frame}
@@ -27,12 +26,7 @@ welcome tab (Some top) own = frame.PairWelcome (record { tab = tab; top = top; o
 abbrev pub IsDeathOf : ℕ → List ℕ → Type 0
 IsDeathOf tab bytes = bytes ≡ spelling (frame.Dead (record { tab = tab }))
 
--- the generation that a tab has sent something for
-abbrev pub generation_of : Upward → ℕ
-generation_of (up.Command c) = c.generation
-generation_of (up.Report r) = r.generation
-generation_of (up.ReportPart r) = r.generation
-
+-- the generation that a frame of a tab was sent for
 abbrev pub sent_for : Frame → Option ℕ
 sent_for (frame.Stamped s) = Some (generation_of s.inner)
 sent_for f = None

@@ -7,7 +7,7 @@ ghost use Rattle.wl_kernel_rules.specs.News.{IsDeathOf, texts_of, welcome, sent_
 
 use std::alloc::{AllocError, Global};
 use std::marker::Model;
-use wl_frames::{Dead, Downward, Frame, Hello, Origin, PairWelcome, Upward, Welcome};
+use wl_frames::{Dead, Downward, Frame, Hello, Origin, PairWelcome, Welcome};
 use wl_origin::Partition;
 use wl_process::append;
 
@@ -86,11 +86,7 @@ fn sent_for(frame: &Frame) -> Option<u32>
     ensures { result ≡ sent_for frame.now }
 {
     match frame {
-        Frame::Stamped(stamped) => Some(match &stamped.inner {
-            Upward::Command(command) => command.generation,
-            Upward::Report(report) => report.generation,
-            Upward::ReportPart(part) => part.generation,
-        }),
+        Frame::Stamped(stamped) => Some(stamped.inner.generation()),
         _ => None,
     }
 }

@@ -27,6 +27,11 @@ pub with_told-first : (p : ℕ) (x : Told) → record { partition = p; base = x.
 unfolding with_told
 with_told-first p x = refl
 
+-- what is kept has the base that was told
+pub with_told-base : (p : ℕ) (x : Told) (o : Option Partial) → (with_told p x o).base ≡ x.base
+unfolding with_told
+with_told-base p x o = refl
+
 pub same_base : (x : Told) (k : Partial) → fits x (Some k) ≡ true → x.base ≡ k.base
 same_base x k e = eqb-true _ _ (and_parts _ _ e).0
 

@@ -1,4 +1,4 @@
--- What is told under a heading, and what stays true of the parts that are kept. Helpers of the proofs.
+-- What is told under a heading, and what stays true of the parts that are kept.
 use Rattle.std.specs.Prelude.{ℕ, ◌+◌, List, [], ◌∷◌, Bool, false, Option, Some, None, max}
 use Rattle.std.specs.List.{list_all}
 use Rattle.wl_draft.specs.declared.row.Entry.{Entry}

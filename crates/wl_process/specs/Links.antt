@@ -49,12 +49,13 @@ pub record Brings {R : Type 0} (before after : Option (List ℕ)) (rest : List �
 abbrev pub Ended : Option (List ℕ) → Option (List ℕ) → List ℕ → Type 0
 Ended before after rest = Consumes before after [] × IsAtEnd after × (rest ≡ [])
 
--- why a read brings nothing: the input ended within a frame; the reader failed; or it was read as often as it may be
+-- why a read brings nothing: the input ended within a frame; the reader failed; or it was read as often as it may be. Nothing of the
+-- input is lost then but what was read of that frame
 abbrev pub Fails : {R : Type 0} → Option (List ℕ) → Option (List ℕ) → List ℕ → ProcessFault → Link R → Type 0
 Fails before after rest fault link =
-    ((fault ≡ process.Frame frame_fault.Truncated) × IsAtEnd after × (rest ≢ []))
+    ((fault ≡ process.Frame frame_fault.Truncated) × Consumes before after [] × IsAtEnd after × (rest ≢ []))
     ⊎ ((fault ≡ process.Read) × Keeps before after × (link.source.has_failed ≡ true))
-    ⊎ ((fault ≡ process.TooManyReads) × (link.source.reads ≡ READ_LIMIT))
+    ⊎ ((fault ≡ process.TooManyReads) × (after ≡ before) × (link.source.reads ≡ READ_LIMIT))
 
 -- ---- what a link keeps of its feed
 

@@ -82,7 +82,8 @@ impl<R: Read> Incoming<R> {
         ensures end { result ≡ Ok None → IfSome self.old.unread (λ rest.
             Ended (R.remaining self.old.source.reader) (R.remaining self.new.source.reader) rest) }
         ensures fault { IfErr result (λ fault. IfSome self.old.unread (λ rest.
-            Fails (R.remaining self.old.source.reader) (R.remaining self.new.source.reader) rest fault self.new)) }
+            Fails (R.remaining self.old.source.reader) (R.remaining self.new.source.reader)
+            rest fault self.new)) }
         ensures closed { IfErr result (λ fault. IsOver self.new (Err fault)) }
         ensures ended { result ≡ Ok None → IsOver self.new (Ok tt) }
         ensures over { self.old.unread ≡ None → (result ≡ told self.old.end) × (self.new ≡ self.old) }

@@ -1,6 +1,7 @@
 -- What a line of a kernel's script says.
 use Rattle.std.specs.Prelude.{ℕ, nat_le, List, [], ◌∷◌, Option, Some, None, bytes_eq, codes, if◌then◌else◌}
 use Rattle.wl_words.specs.Reading.{◌>>=◌, line_words_at, one, two, three, none, most_number, number_at, tab_at, url_at}
+use Rattle.wl_process_script.specs.declared.kernel_line.TheConstants.{PAUSE_LIMIT}
 use Rattle.wl_process_script.specs.declared.kernel_line.KernelLine.{KernelLine}
 use Rattle.wl_process_script.specs.declared.kernel_line.KernelLine.TheVariants as line
 
@@ -23,11 +24,11 @@ urls_and_file words = do
   file ← url_at w.2
   Some (top, url, file)
 
--- a pause lasts at most 10,000 milliseconds
+-- a pause lasts at most so many milliseconds
 unfoldable pub pause_at : List ℕ → Option ℕ
 pause_at word = do
   n ← number_at most_number word
-  if nat_le n 10000 then Some n else None
+  if nat_le n PAUSE_LIMIT then Some n else None
 
 -- ---- lines
 

@@ -1,16 +1,11 @@
 -- The text of replies: each line of it ends with a line feed.
-use Rattle.std.specs.Prelude.{ℕ, ◌+◌, List, [], ◌∷◌, ◌++◌, map, codes, decimal, if◌then◌else◌}
+use Rattle.std.specs.Prelude.{ℕ, ◌+◌, List, [], ◌∷◌, ◌++◌, codes, decimal, if◌then◌else◌}
 use Rattle.std.specs.List.{flat_map}
-use Rattle.serde_json.specs.Data.{Data, Items, string, array, object, no_members, member}
-use Rattle.serde_json.specs.View.{items_of}
-use Rattle.serde_json.specs.Written.{compact_text}
 use Rattle.wl_origin.specs.Partition.{origin_text}
 use Rattle.wl_agent.specs.declared.delivered.Unheard.{Unheard}
 use Rattle.wl_agent.specs.declared.delivered.Unheard.TheVariants as unheard
 use Rattle.wl_agent.specs.declared.fault.AgentFault.{AgentFault}
 use Rattle.wl_agent.specs.declared.fault.AgentFault.TheVariants as agent_fault
-use Rattle.wl_agent.specs.declared.snapshot.LockInfo.{LockInfo}
-use Rattle.wl_agent.specs.declared.snapshot.Snapshot.{Snapshot}
 use Rattle.wl_broadcast.specs.declared.fault.ChannelFault.{ChannelFault}
 use Rattle.wl_broadcast.specs.declared.fault.ChannelFault.TheVariants as channel_fault
 use Rattle.wl_broadcast.specs.declared.letter.Letter.{Letter}
@@ -36,9 +31,10 @@ use Rattle.wl_bag.specs.declared.message.Message.{Message}
 use Rattle.wl_bag.specs.declared.message.Message.TheVariants.{Up, Down, Across}
 use Rattle.wl_bag.specs.declared.sent.Sent.{Sent}
 use Rattle.wl_world.specs.declared.reply.Reply.{Reply}
+use Rattle.wl_snapshots.specs.Snapshots.{json_text}
 use Rattle.wl_words.specs.Words.{word_of}
 use Rattle.wl_words.specs.Printing.{line, numbered}
-use Rattle.wl_replies.specs.Texts.{mode_text, upward_text, downward_text, post_text, part_text}
+use Rattle.wl_replies.specs.Texts.{upward_text, downward_text, post_text, part_text}
 
 -- ---- messages
 
@@ -143,24 +139,6 @@ reason_text (reason.AtTab why) = unheard_text why
 reason_text reason.OldPost = codes "old post"
 reason_text reason.Down = codes "down"
 reason_text (reason.AtBroker why) = dropped_text why
-
--- ---- snapshots, in JSON
-
-abbrev pub info_data : LockInfo → Data
-info_data i =
-    object (member (codes "clientId") (string (decimal i.tab))
-    (member (codes "mode") (string (mode_text i.mode))
-    (member (codes "name") (string i.name) no_members)))
-
-abbrev pub infos_data : List LockInfo → Items
-infos_data is = items_of (map info_data is)
-
-abbrev pub snapshot_data : Snapshot → Data
-snapshot_data s =
-    object (member (codes "held") (array (infos_data s.held)) (member (codes "pending") (array (infos_data s.pending)) no_members))
-
-unfoldable pub json_text : Snapshot → List ℕ
-json_text s = compact_text (snapshot_data s)
 
 -- ---- what was said
 

@@ -2,7 +2,6 @@
 use Rattle.std.specs.Prelude.{ℕ, Bool, true, false, List, ◌++◌, codes, decimal}
 use Rattle.std.specs.List.{flat_map}
 use Rattle.wl_draft.specs.declared.mode.Mode.{Mode}
-use Rattle.wl_draft.specs.declared.mode.Mode.TheVariants.{Shared, Exclusive}
 use Rattle.wl_draft.specs.declared.row.Entry.{Entry}
 use Rattle.wl_grammar.specs.declared.frame.Operation.{Operation}
 use Rattle.wl_grammar.specs.declared.frame.Operation.TheVariants.{Request, Release, Abort, Query}
@@ -21,12 +20,9 @@ use Rattle.wl_grammar.specs.declared.frame.Upward.TheVariants as up
 use Rattle.wl_grammar.specs.declared.frame.Downward.{Downward}
 use Rattle.wl_grammar.specs.declared.frame.Downward.TheVariants as down
 use Rattle.wl_words.specs.Words.{word_of}
+use Rattle.wl_words.specs.Printing.{mode_text}
 
 -- ---- parts
-
-unfoldable pub mode_text : Mode → List ℕ
-mode_text Shared = codes "shared"
-mode_text Exclusive = codes "exclusive"
 
 unfoldable pub held_text : Bool → List ℕ
 held_text true = codes "held"

@@ -2,27 +2,17 @@
 
 ghost use Rattle.std.specs.Prelude.{◌≡◌, ◌++◌, OnOk};
 ghost use Rattle.std.specs.List.{flat_map};
-ghost use Rattle.wl_replies.specs.Texts.{mode_text, held_text, outcome_text, lock_text, command_number, operation_text, command_text, entry_text, report_text, report_part_text, upward_text, hello_text, answer_text, row_text, part_text, snapshot_text, downward_text, post_text};
+ghost use Rattle.wl_replies.specs.Texts.{held_text, outcome_text, lock_text, command_number, operation_text, command_text, entry_text, report_text, report_part_text, upward_text, hello_text, answer_text, row_text, part_text, snapshot_text, downward_text, post_text};
 
 use std::alloc::AllocError;
 use wl_frames::{
     Answer, Command, Downward, Entry, Heard, Hello, Mode, Name, Operation, Outcome, Report,
     ReportPart, Snapshot, SnapshotEntry, Upward,
 };
-use wl_words::printing::{put, put_number};
+use wl_words::printing::{mode_word, put, put_number};
 use wl_words::put_word;
 
 // ---- parts
-
-#[tactic(auto, unfolding(crate::specs::Texts::mode_text))]
-pub(crate) fn mode_word(mode: Mode) -> &'static str
-    ensures { result.now ≡ mode_text mode }
-{
-    match mode {
-        Mode::Shared => "shared",
-        Mode::Exclusive => "exclusive",
-    }
-}
 
 #[tactic(auto, unfolding(crate::specs::Texts::held_text))]
 fn held_word(held: bool) -> &'static str

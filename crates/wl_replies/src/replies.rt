@@ -6,13 +6,13 @@ ghost use Rattle.wl_replies.specs.ReplyTexts.{sender_text, message_text, name_te
 
 use crate::messages::{put_downward, put_part, put_post, put_upward};
 use crate::refusals::{put_refusal, reason_words};
-use crate::snapshots::snapshot_json;
 use bytes::Bytes;
 use itoa::Buffer;
 use std::alloc::{AllocError, Global};
 use wl_agent::Snapshot;
 use wl_broadcast::Letter;
 use wl_origin::Partition;
+use wl_snapshots::snapshot_json;
 use wl_words::printing::{put, put_number, put_numbered};
 use wl_words::put_word;
 use wl_world::message::{Message, Sender};

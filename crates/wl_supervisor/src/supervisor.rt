@@ -154,6 +154,7 @@ impl Supervisor {
         ensures kernel { kernel_of self.new ≡ kernel_of self.old }
         ensures said { IfOk result (λ r. r.said ≡ brought stamped.now (broker_of self.old)) }
         ensures outs { IfOk result (λ r. r.outs ≡ said_to_message stamped.now self.old) }
+        ensures err { OnErr result (self.new ≡ self.old) }
     {
         let broker = match self {
             Supervisor::Down(_) => return Ok(silent(alloc, Said::Dropped(Reason::Down))),
@@ -175,6 +176,7 @@ impl Supervisor {
         ensures kernel { kernel_of self.new ≡ kernel_of self.old }
         ensures said { IfOk result (λ r. r.said ≡ telling (kernel_of self.old) tab (broker_of self.old)) }
         ensures outs { IfOk result (λ r. r.outs ≡ said_at_death tab self.old) }
+        ensures err { OnErr result (self.new ≡ self.old) }
     {
         let tabs = self.tabs();
         if tabs.partition_number(tab).is_none() {

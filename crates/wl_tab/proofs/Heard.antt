@@ -28,8 +28,8 @@ use Rattle.wl_said.specs.declared.said.Ended.{Ended}
 use Rattle.wl_said.specs.declared.said.Ended.TheVariants as end
 use Rattle.wl_said.specs.declared.said.Said.TheVariants as said
 use Rattle.wl_tab.specs.Tabs.{is_told, told}
-use Rattle.wl_tab.specs.Arrivals.{arrival, told_said, snapshot_in, generation_in, ended_in, ended_by_entering}
-use Rattle.wl_tab.specs.TabTokens.{token_for, kept_for, kept_of, IsKept, whole_said, NoneTold, ended_by, ended_kept, has_snapshot, said_of_told, entered_by, ended_before}
+use Rattle.wl_tab.specs.Arrivals.{arrival, said_of_told, told_said, snapshot_in, generation_in, ended_in, ended_by_entering}
+use Rattle.wl_tab.specs.TabTokens.{token_for, kept_for, kept_of, IsKept, whole_said, NoneTold, ended_by, ended_kept, has_snapshot, entered_by, ended_before}
 use Rattle.wl_tab.specs.Telling.{Run, told_run}
 use Rattle.wl_tab.proofs.Advancing.{advance-rises, advance-fits, AllMove, run_with, last_whole, whole_or, untold, run-advanced}
 use Rattle.wl_tab.proofs.Arriving.{Advances, delivered-advances, AnswerFits, null_fits}
@@ -195,7 +195,7 @@ ends-kept a tab entered kept is = ap ended_kept is.tokens ∙ ends-in a.tab a.is
 
 -- ---- what is said
 
-said_as : (f : Frame) (a b : TabState) (d : Delivered) (ends : List Ended) → WholeIf (b, d) → ends ≡ ended_by_entering a → said_of_told f ends (last_whole b.statuses None) d ≡ told_said f a b d
+said_as : (f : Frame) (a b : TabState) (d : Delivered) (ends : List Ended) → WholeIf (b, d) → ends ≡ ended_by_entering a → said_of_told f ends (whole_said (last_whole b.statuses None)) d ≡ told_said f a b d
 said_as f a b (told_as.Entered report) ends whole e = ap (said.Entered (generation_in f)) e
 said_as f a b (told_as.Granted k) ends whole e = refl
 said_as f a b (told_as.Waiting k) ends whole e = refl
@@ -205,10 +205,10 @@ said_as f a b (told_as.Taken k) ends whole e = refl
 said_as f a b (told_as.Part k) ends whole e = refl
 said_as f a b (told_as.Whole k) ends whole e =
     let w = whole k refl in
-    ap (whole_said k) w.last ∙ sym (ap (λ s. said.Whole k (snapshot_in s)) w.status)
+    ap (λ (o : Option Snapshot). whole_said o k) w.last ∙ sym (ap (λ s. said.Whole k (snapshot_in s)) w.status)
 said_as f a b (told_as.Dropped u) ends whole e = refl
 
-pub said-arrival : (f : Frame) (a : TabState) (ends : List Ended) → NoneTold a.statuses → ends ≡ ended_by_entering a → said_of_told f ends (last_whole (delivery f a).0.statuses None) (delivery f a).1 ≡ arrival f a
+pub said-arrival : (f : Frame) (a : TabState) (ends : List Ended) → NoneTold a.statuses → ends ≡ ended_by_entering a → said_of_told f ends (whole_said (last_whole (delivery f a).0.statuses None)) (delivery f a).1 ≡ arrival f a
 unfolding arrival
 said-arrival f a ends none e = said_as f a (delivery f a).0 (delivery f a).1 ends (whole-comes f a none) e
 
@@ -219,7 +219,7 @@ pub record Comes (f : Frame) (a c : TabState) (d : Delivered) (tab g : ℕ) (kep
   pub keeps : IsKept c tab g kept
   pub left : c ≡ told (delivery f a).0
   pub whole : has_snapshot d w ≡ true
-  pub says : (ends : List Ended) → ends ≡ ended_by_entering a → said_of_told f ends w d ≡ arrival f a
+  pub says : (ends : List Ended) → ends ≡ ended_by_entering a → said_of_told f ends (whole_said w) d ≡ arrival f a
 
 pub comes : (f : Frame) (a b c : TabState) (d : Delivered) (tab entered g : ℕ) (kept ks : List Kept) (w : Option Snapshot) → IsKept a tab entered kept → (b, d) ≡ delivery f a → g ≡ entered_by f d entered → c ≡ (told_run b kept).agent → ks ≡ (told_run b kept).kept → w ≡ (told_run b kept).snapshot → Comes f a c d tab g ks w
 comes f a b c d tab entered g kept ks w is delivered g_is c_is ks_is w_is =
@@ -236,7 +236,7 @@ comes f a b c d tab entered g kept ks w is delivered g_is c_is ks_is w_is =
       keeps = subst (λ (t : TabState). IsKept t tab g ks) (sym left) (subst (IsKept (told b) tab g) (sym tokens) at_told);
       left = left ∙ ap told b_is;
       whole = ap (has_snapshot d) snapshot ∙ has-snapshot b d whole_if;
-      says = λ ends e. ap (λ (o : Option Snapshot). said_of_told f ends o d) snapshot ∙ ap (λ (t : TabState). said_of_told f ends (last_whole t.statuses None) d) b_is ∙ ap (said_of_told f ends (last_whole (delivery f a).0.statuses None)) d_is ∙ said-arrival f a ends is.untold e;
+      says = λ ends e. ap (λ (o : Option Snapshot). said_of_told f ends (whole_said o) d) snapshot ∙ ap (λ (t : TabState). said_of_told f ends (whole_said (last_whole t.statuses None)) d) b_is ∙ ap (said_of_told f ends (whole_said (last_whole (delivery f a).0.statuses None))) d_is ∙ said-arrival f a ends is.untold e;
     }
 
 pub ends-before : (a : TabState) (tab entered : ℕ) (kept : List Kept) → IsKept a tab entered kept → ended_before entered kept ≡ ended_by_entering a

@@ -47,17 +47,21 @@ abbrev pub parts_in : Frame → ℕ
 parts_in (frame.Snapshot x) = x.parts
 parts_in f = 0
 
--- what is said, for a frame that came to a tab: the tab before, the tab after, and what it was told
+-- what is said of what a frame told a tab, with the numbers that an entering ended, and what is said of a query that is whole
+abbrev pub said_of_told : Frame → List Ended → (ℕ → Said) → Delivered → Said
+said_of_told f ends whole (told.Entered reports) = said.Entered (generation_in f) ends
+said_of_told f ends whole (told.Granted k) = said.Granted k
+said_of_told f ends whole (told.Waiting k) = said.Waiting k
+said_of_told f ends whole (told.Null k) = said.Null k
+said_of_told f ends whole (told.Lost k) = said.Lost k
+said_of_told f ends whole (told.Taken k) = said.Taken k
+said_of_told f ends whole (told.Part k) = said.Part (part_in f) (parts_in f)
+said_of_told f ends whole (told.Whole k) = whole k
+said_of_told f ends whole (told.Dropped u) = said.Dropped (reason.AtTab u)
+
+-- the same by the rows of the tab before and of the tab after
 abbrev pub told_said : Frame → TabState → TabState → Delivered → Said
-told_said f before after (told.Entered reports) = said.Entered (generation_in f) (ended_by_entering before)
-told_said f before after (told.Granted k) = said.Granted k
-told_said f before after (told.Waiting k) = said.Waiting k
-told_said f before after (told.Null k) = said.Null k
-told_said f before after (told.Lost k) = said.Lost k
-told_said f before after (told.Taken k) = said.Taken k
-told_said f before after (told.Part k) = said.Part (part_in f) (parts_in f)
-told_said f before after (told.Whole k) = said.Whole k (snapshot_in (status_of after k))
-told_said f before after (told.Dropped u) = said.Dropped (reason.AtTab u)
+told_said f before after d = said_of_told f (ended_by_entering before) (λ k. said.Whole k (snapshot_in (status_of after k))) d
 
 unfoldable pub arrival : Frame → TabState → Said
 arrival f a = let d = delivery f a in told_said f a d.0 d.1

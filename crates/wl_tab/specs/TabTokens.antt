@@ -20,12 +20,11 @@ use Rattle.wl_said.specs.declared.said.Ended.{Ended}
 use Rattle.wl_said.specs.declared.said.Ended.TheVariants as ended
 use Rattle.wl_said.specs.declared.said.Said.{Said}
 use Rattle.wl_said.specs.declared.said.Said.TheVariants as said
-use Rattle.wl_said.specs.declared.said.Reason.TheVariants as reason
 use Rattle.wl_tab.specs.declared.locks.Abortion.{Abortion}
 use Rattle.wl_tab.specs.declared.locks.Abortion.TheVariants as became
 use Rattle.wl_tab.specs.declared.locks.kept.Kept.{Kept}
 use Rattle.wl_tab.specs.Tabs.{is_told}
-use Rattle.wl_tab.specs.Arrivals.{generation_in, part_in, parts_in}
+use Rattle.wl_tab.specs.Arrivals.{generation_in}
 
 -- ---- tokens
 
@@ -126,21 +125,10 @@ abbrev pub has_snapshot : Delivered → Option Snapshot → Bool
 has_snapshot (told.Whole k) snapshot = is_some snapshot
 has_snapshot d snapshot = true
 
-abbrev pub whole_said : ℕ → Option Snapshot → Said
-whole_said k (Some snapshot) = said.Whole k snapshot
-whole_said k None = said.Taken k
-
--- what is said, of what the agent was told, with what it ended and the snapshot that is whole
-abbrev pub said_of_told : Frame → List Ended → Option Snapshot → Delivered → Said
-said_of_told f numbers snapshot (told.Entered report) = said.Entered (generation_in f) numbers
-said_of_told f numbers snapshot (told.Granted k) = said.Granted k
-said_of_told f numbers snapshot (told.Waiting k) = said.Waiting k
-said_of_told f numbers snapshot (told.Null k) = said.Null k
-said_of_told f numbers snapshot (told.Lost k) = said.Lost k
-said_of_told f numbers snapshot (told.Taken k) = said.Taken k
-said_of_told f numbers snapshot (told.Part k) = said.Part (part_in f) (parts_in f)
-said_of_told f numbers snapshot (told.Whole k) = whole_said k snapshot
-said_of_told f numbers snapshot (told.Dropped u) = said.Dropped (reason.AtTab u)
+-- what is said of a query that is whole, of its snapshot
+abbrev pub whole_said : Option Snapshot → ℕ → Said
+whole_said (Some snapshot) k = said.Whole k snapshot
+whole_said None k = said.Taken k
 
 -- the generation that is entered then
 abbrev pub entered_by : Frame → Delivered → ℕ → ℕ

@@ -1,6 +1,6 @@
 //! A tab's locks: its agent, with the tokens of those who asked.
 
-ghost use Rattle.std.specs.Prelude.{◌≡◌, ◌++◌, IfOk, OnOk};
+ghost use Rattle.std.specs.Prelude.{◌≡◌, ◌≢◌, ◌++◌, [], IfOk, OnOk, OnErr};
 ghost use Rattle.wl_draft.specs.Refusals.{RefusesBy};
 ghost use Rattle.wl_agent.specs.Tab.{newborn, newborn_two, report_frames, command_frame, message_refusal, report_refusal, due, is_report_due};
 ghost use Rattle.wl_limits.specs.declared.tabs.TheConstants.{COMMAND_LIMIT};
@@ -129,6 +129,7 @@ impl TabLocks {
     pub fn resend(&self) -> Result<Resend, AllocError>
         ensures report { IfOk result (λ r. r.report ≡ is_report_due self.now) }
         ensures numbers { IfOk result (λ r. r.numbers.items ≡ due self.now) }
+        ensures growth { OnErr result (due self.now ≢ []) }
     {
         self.agent.resend()
     }

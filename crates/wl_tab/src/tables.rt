@@ -117,7 +117,8 @@ pub fn deliver_at(
     ensures tabs { let a = tab_in tab (find tabs.old.entries tab) in
         OnOk result (tabs.new.entries ≡ put tab (told (delivery frame.now a).0) tabs.old.entries) }
     ensures said { IfOk result (λ said. said ≡ arrival frame.now (tab_in tab (find tabs.old.entries tab))) }
-    // No row comes or goes, though memory be refused.
+    ensures err { OnErr result (tabs.new.entries ≡ tabs.old.entries) }
+    // No row comes or goes.
     ensures rows { (t : ℕ) → is_some (find tabs.new.entries t) ≡ is_some (find tabs.old.entries t) }
 {
     let Some(locks) = tabs.get_mut(&tab) else {

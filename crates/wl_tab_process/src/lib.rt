@@ -2,7 +2,6 @@
 #![tactic(auto)]
 
 mod page;
-mod snapshots;
 pub mod tab;
 
 pub use tab::run_tab;

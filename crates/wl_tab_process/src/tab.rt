@@ -1,7 +1,6 @@
 //! A tab's process: one thread reads its link and delivers what comes, another runs its script.
 
 use crate::page::{SharedPage, Undone};
-use crate::snapshots::snapshot_json;
 use std::alloc::{AllocError, Global};
 use std::io::{ErrorKind, Read};
 use std::net::Shutdown;
@@ -13,6 +12,7 @@ use wl_agent::Snapshot;
 use wl_frames::device::{PIECE_LEN, READ_LIMIT};
 use wl_process::{Host, Incoming, ProcessFault, line_number, read_script};
 use wl_process_script::{TabLine, count_of, put_count, read_tab_line};
+use wl_snapshots::snapshot_json;
 use wl_words::Unread;
 
 /// Runs one tab's script over a socket of the kernel, to its end or the end of the link.

@@ -5,8 +5,7 @@ use crate::lock_table::LockTable;
 use std::alloc::{AllocError, Global};
 use std::marker::Model;
 use std::mem;
-use wl_draft::{Entry, Grant, Mode, Name, Row, Standing};
-use wl_index::restoring::rows_of;
+use wl_draft::{Entry, Grant, Mode, Name, Row, Standing, rows_of};
 use wl_index::{Candidates, Index};
 
 /// A lock table with an index of its names and one of its clients: what a command costs does not grow with what others

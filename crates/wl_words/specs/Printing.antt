@@ -1,5 +1,7 @@
 -- What is printed.
 use Rattle.std.specs.Prelude.{ℕ, List, ◌++◌, codes, decimal}
+use Rattle.wl_draft.specs.declared.mode.Mode.{Mode}
+use Rattle.wl_draft.specs.declared.mode.Mode.TheVariants.{Shared, Exclusive}
 
 -- a line
 abbrev pub line : List ℕ → List ℕ
@@ -8,3 +10,8 @@ line text = text ++ codes "\n"
 -- a line of a word and a number
 abbrev pub numbered : List ℕ → ℕ → List ℕ
 numbered word number = line (word ++ codes " " ++ decimal number)
+
+-- the word of a mode
+unfoldable pub mode_text : Mode → List ℕ
+mode_text Shared = codes "shared"
+mode_text Exclusive = codes "exclusive"

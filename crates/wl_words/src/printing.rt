@@ -1,10 +1,22 @@
-//! Texts and numbers as they are printed. Each function appends to what was written before.
+//! Texts and numbers as they are printed. What is put is appended to what was written before.
 
 ghost use Rattle.std.specs.Prelude.{◌≡◌, ◌++◌, OnOk, decimal};
-ghost use Rattle.wl_words.specs.Printing.{numbered};
+ghost use Rattle.wl_words.specs.Printing.{numbered, mode_text};
 
 use itoa::Buffer;
 use std::alloc::AllocError;
+use wl_draft::Mode;
+
+/// The word of a mode.
+#[tactic(auto, unfolding(crate::specs::Printing::mode_text))]
+pub fn mode_word(mode: Mode) -> &'static str
+    ensures { result.now ≡ mode_text mode }
+{
+    match mode {
+        Mode::Shared => "shared",
+        Mode::Exclusive => "exclusive",
+    }
+}
 
 /// A text as it stands.
 pub fn put(out: &mut Vec<u8>, text: &str) -> Result<(), AllocError>

@@ -7,7 +7,7 @@ use Rattle.wl_agent.specs.declared.delivered.Delivered.{Delivered}
 use Rattle.wl_agent.specs.declared.delivered.Delivered.TheVariants.{Entered}
 use Rattle.wl_agent.specs.Tab.{TabState, report_bodies, operation_of, due, is_report_due}
 use Rattle.wl_kernel.specs.Kernel.{KernelState, partition_number}
-use Rattle.wl_kernel.specs.Routes.{hearers}
+use Rattle.wl_kernel.specs.Routes.{heard_post, hearers}
 use Rattle.wl_bag.specs.declared.message.Message.{Message}
 use Rattle.wl_bag.specs.declared.message.Message.TheVariants.{Up, Across}
 use Rattle.wl_world.specs.declared.event.Forged.{Forged}
@@ -41,9 +41,9 @@ report_if_due k t a = if is_report_due a then report_messages k t a else []
 abbrev pub resent : KernelState → ℕ → TabState → List Message
 resent k t a = report_if_due k t a ++ map (command_message k t a) (due a)
 
--- a post goes to a tab under its sender's own number
+-- a post goes to a tab as that one hears it
 abbrev pub across : ℕ → Post → ℕ → Message
-across t p u = Across u (record { source = t; number = p.number; channel = p.channel; bytes = p.bytes })
+across t p u = Across u (heard_post t p)
 
 -- a post goes to the other living tabs of the partition, by rising number
 abbrev pub to_hearers : KernelState → ℕ → Post → List Message

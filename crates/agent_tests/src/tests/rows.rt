@@ -16,6 +16,7 @@ use wl_agent::{
 use wl_fakes::again::name;
 use wl_frames::Outcome;
 
+/// Where two numbers may be issued, a request and a query have them, and no third is issued.
 #[test]
 fn agent_1(rt: HostRuntime) {
     let (agent, pending, asking) = full(&rt, rt.alloc());
@@ -24,6 +25,7 @@ fn agent_1(rt: HostRuntime) {
     dead.void(Token::Asking(asking));
 }
 
+/// The abort of a request whose numbers are used up is issued all the same; no message is given before a generation is entered.
 #[test]
 fn agent_2(rt: HostRuntime) {
     let (agent, asking) = used_up(&rt, rt.alloc());
@@ -32,6 +34,7 @@ fn agent_2(rt: HostRuntime) {
     agent.die().void(Token::Asking(asking));
 }
 
+/// A tab enters its first generation with nothing to report, and a grant that comes after the abort is dropped.
 #[test]
 fn agent_3(rt: HostRuntime) {
     let alloc = rt.alloc();
@@ -43,6 +46,7 @@ fn agent_3(rt: HostRuntime) {
     agent.die().void(Token::Asking(asking));
 }
 
+/// The token of one tab is handed back by the agent of another.
 #[test]
 fn agent_4(rt: HostRuntime) {
     let mut agent = Agent::new(rt.alloc(), 1, 3);
@@ -253,6 +257,7 @@ fn busy(rt: &impl Abort, alloc: Global) -> (Agent, Pending, Probe, Asking) {
     (agent, pending, probe, asking)
 }
 
+/// A tab that enters a later generation reports the lock that it holds; what it asked besides is over.
 #[test]
 fn generations_1(rt: HostRuntime) {
     let alloc = rt.alloc();

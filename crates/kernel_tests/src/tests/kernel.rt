@@ -324,6 +324,7 @@ fn two_tabs(rt: &impl Abort, alloc: Global) -> Up {
     up
 }
 
+/// Two tabs of one origin have one partition, that of the first; a number is given once.
 #[test]
 fn origins_1(rt: HostRuntime) {
     let alloc = rt.alloc();
@@ -352,6 +353,7 @@ fn origins_1(rt: HostRuntime) {
     down.end();
 }
 
+/// A start lists tabs that were opened, each once, by rising number.
 #[test]
 fn origins_2(rt: HostRuntime) {
     let alloc = rt.alloc();
@@ -387,6 +389,7 @@ fn fills(rt: &impl Abort, alloc: Global, tabs: &mut Tabs, port: u16, first: u16)
     }
 }
 
+/// So many tabs live at most, of one partition and in all.
 #[test]
 fn origins_3(rt: HostRuntime) {
     let alloc = rt.alloc();
@@ -416,6 +419,7 @@ fn origins_3(rt: HostRuntime) {
     down.end();
 }
 
+/// As many generations are started as may be; a frame of an earlier link is stale.
 #[test]
 fn origins_4(rt: HostRuntime) {
     let up = started(&rt, Down::new(rt.alloc(), 2), &[], 1, &[]);

@@ -262,6 +262,7 @@ fn refusals_of_pairs(rt: HostRuntime) {
     }
 }
 
+/// An opaque origin has no partition, and neither has a text that is no URL.
 #[test]
 fn origins_5(rt: HostRuntime) {
     refuses(&rt, rt.alloc(), "data:,x", OriginFault::Security);

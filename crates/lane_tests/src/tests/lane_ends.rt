@@ -10,7 +10,7 @@ use std::rt::Clock;
 use std::sync::Wait;
 use wl_frames::Frame;
 use wl_locked::{BookEvent, NotStepped, Receipt, Reply, SharedEvent, Work};
-use wl_workers::{Cause, Desk, EVENT_LIMIT, Gate, Intake, Outlet, OutletFault, lane};
+use wl_workers::{Cause, Desk, Gate, Intake, Outlet, OutletFault, lane};
 
 /// Gives deaths without an end.
 #[derive(Drop)]
@@ -120,7 +120,7 @@ fn end_lanes<R: Wait + Clock + Abort>(rt: &R, alloc: Global) -> Result<(), Alloc
     let spent = (1, Cause::Spent, 3);
     ends(rt, then_spent(alloc)?, &Open, &mut outlet, spent);
     same(rt, outlet.frames, 1);
-    let all_seen = (1, Cause::Spent, EVENT_LIMIT);
+    let all_seen = (1, Cause::Spent, 1_000_000);
     ends(rt, lost_and_granted(alloc)?, &Open, &mut outlet, all_seen);
     Ok(())
 }

@@ -155,7 +155,7 @@ fn use_up<R: Wait + Abort>(rt: &R, alloc: Global) -> Result<(), AllocError> {
 }
 
 #[test]
-fn steps_used_up(rt: HostRuntime) {
+fn generation_spent(rt: HostRuntime) {
     let alloc = rt.alloc();
     if use_up(&rt, alloc).is_err() {
         use_up(&rt, alloc).expect(&rt, "memory is back");

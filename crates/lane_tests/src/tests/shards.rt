@@ -177,7 +177,7 @@ fn use_up<R: Wait + Abort>(rt: &R, alloc: Global) -> Result<(), AllocError> {
 }
 
 #[test]
-fn steps_used_up_in_one_of_two_shards(rt: HostRuntime) {
+fn generation_spent_in_one_of_two_shards(rt: HostRuntime) {
     let alloc = rt.alloc();
     if use_up(&rt, alloc).is_err() {
         use_up(&rt, alloc).expect(&rt, "memory is back");

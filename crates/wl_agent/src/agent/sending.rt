@@ -1,6 +1,6 @@
 //! What the tab sends.
 
-ghost use Rattle.std.specs.Prelude.{◌≡◌, ◌≢◌, IfOk, OnErr};
+ghost use Rattle.std.specs.Prelude.{◌≡◌, ◌≢◌, [], IfOk, OnErr};
 ghost use Rattle.wl_draft.specs.Refusals.{RefusesBy};
 ghost use Rattle.std.specs.List.{AllByRecursion};
 ghost use Rattle.wl_grammar.specs.Grammar.{IsWellFormed};
@@ -57,7 +57,7 @@ impl Agent {
     pub fn resend(&self) -> Result<Resend, Memory>
         ensures report { IfOk result (λ r. r.report ≡ is_report_due self.now) }
         ensures numbers { IfOk result (λ r. r.numbers.items ≡ due self.now) }
-        ensures growth { OnErr result (self.now.entered ≢ 0) }
+        ensures growth { OnErr result (due self.now ≢ []) }
     {
         if self.entered == 0 {
             return Ok(Resend {

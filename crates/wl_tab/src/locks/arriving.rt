@@ -3,8 +3,8 @@
 ghost use Rattle.std.specs.Prelude.{◌≡◌, ◌≢◌, true, IfOk, OnOk, OnErr};
 ghost use Rattle.wl_agent.specs.Delivery.{delivery};
 ghost use Rattle.wl_tab.specs.Tabs.{told};
-ghost use Rattle.wl_tab.specs.Arrivals.{arrival, generation_in, part_in, parts_in};
-ghost use Rattle.wl_tab.specs.TabTokens.{ended_before, has_snapshot, said_of_told, entered_by};
+ghost use Rattle.wl_tab.specs.Arrivals.{arrival, said_of_told, generation_in, part_in, parts_in};
+ghost use Rattle.wl_tab.specs.TabTokens.{ended_before, has_snapshot, whole_said, entered_by};
 
 use crate::locks::TabLocks;
 use crate::locks::kept::Kept;
@@ -15,10 +15,11 @@ use wl_grammar::{Frame, Sequence};
 use wl_said::{Ended, Reason, Said};
 
 impl TabLocks {
-    /// Takes in a frame, tells the tokens what came of it, and says it.
+    /// Takes in a frame, tells the tokens what came of it, and says it. A frame for which memory was refused may come again.
     pub fn deliver(&mut self, frame: &Frame) -> Result<Said, AllocError>
         ensures new { OnOk result (self.new ≡ told (delivery frame.now self.old).0) }
         ensures said { IfOk result (λ said. said ≡ arrival frame.now self.old) }
+        ensures err { OnErr result (self.new ≡ self.old) }
     {
         let ended = ended_by_entering(self.alloc, self.entered, &self.kept)?;
         let delivered = taken(self.agent.deliver(frame))?;
@@ -60,7 +61,7 @@ fn said_of_told(
     delivered: Delivered,
 ) -> Said
     requires { has_snapshot delivered snapshot ≡ true }
-    ensures { result ≡ said_of_told frame.now ended.items snapshot delivered }
+    ensures { result ≡ said_of_told frame.now ended.items (whole_said snapshot) delivered }
 {
     match delivered {
         Delivered::Entered(_) => Said::Entered {

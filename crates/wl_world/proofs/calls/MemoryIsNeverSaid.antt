@@ -21,7 +21,8 @@ use Rattle.wl_grammar.specs.declared.frame.Stamped.{Stamped}
 use Rattle.wl_grammar.specs.declared.frame.Upward.{Upward}
 use Rattle.wl_grammar.specs.declared.frame.Upward.TheVariants as up
 use Rattle.wl_parts.specs.ReportParts.{Told, at_once, in_part, has_held, all_below, fits, is_there, is_whole, with_told}
-use Rattle.wl_broker.specs.Broker.{BrokerState, Does, join, join_if, take_told, perform, take_command, take_inner, taking, seat_of, is_joined, is_dead, is_misplaced, is_listed, listed_at, partial_of, is_active, next_of, is_lock, limit_of, manager_of, generation_of}
+use Rattle.wl_grammar.specs.Generation.{generation_of}
+use Rattle.wl_broker.specs.Broker.{BrokerState, Does, join, join_if, take_told, perform, take_command, take_inner, taking, seat_of, is_joined, is_dead, is_misplaced, is_listed, listed_at, partial_of, is_active, next_of, is_lock, limit_of, manager_of}
 use Rattle.wl_broadcast.specs.declared.letter.Letter.{Letter}
 use Rattle.wl_broadcast.specs.declared.fault.ChannelFault.{ChannelFault}
 use Rattle.wl_broadcast.specs.Channels.{ChannelState, open_refusal as channel_refusal, is_old, is_own as is_own_channel, first_of, inbox_at, post_limit, channel_limit, open_count}

@@ -15,15 +15,17 @@ use Rattle.wl_parts.specs.ReportParts.{without_partial, at_once, in_part}
 use Rattle.wl_broker.specs.declared.seat.Seat.{Seat}
 use Rattle.wl_broker.specs.declared.seat.Seat.TheVariants.{Joined, Dead}
 use Rattle.wl_broker.specs.declared.dropped.Dropped.TheVariants.{OldGeneration, LaterGeneration, NotJoined, Recovering, OutOfTurn, DeadTab, Misplaced, TooMany}
-use Rattle.wl_broker.specs.Broker.{BrokerState, seat_of, manager_of, is_joined, is_dead, has_come, next_of, limit_of, is_active, is_misplaced, is_lock, with_seat, settled_at, newly_at, Drops, Does, drafted, first_answer, later_answer, perform, take_command, take_inner, generation_of, taking}
+use Rattle.wl_grammar.specs.Generation.{generation_of}
+use Rattle.wl_broker.specs.Broker.{BrokerState, seat_of, manager_of, is_joined, is_dead, has_come, next_of, limit_of, is_active, is_misplaced, is_lock, with_seat, settled_at, newly_at, Drops, Does, drafted, first_answer, later_answer, perform, take_command, take_inner, taking}
 use Rattle.wl_agent.specs.Tab.{operation_of}
 use Rattle.wl_draft.specs.Membership.{In}
+use Rattle.wl_draft.proofs.Settled.{grantable_parts}
 use Rattle.wl_draft.proofs.Membership.{apart, either, In-append_left, In-append_cases, In-one, In-get_or}
 use Rattle.wl_world.specs.World.{WorldState, tab_of, partition_of}
 use Rattle.wl_world.proofs.AtBroker.{with_broker}
 use Rattle.wl_world.specs.Holdings.{IsHonest}
 use Rattle.wl_world.proofs.Tables.{each_found}
-use Rattle.wl_world.proofs.exclusion.HeldAfterSettling.{Compatible-fewer, Compatible-push, is_grantable-free, without-fewer, without-keeps}
+use Rattle.wl_world.proofs.exclusion.HeldAfterSettling.{Compatible-fewer, Compatible-push, without-fewer, without-keeps}
 use Rattle.wl_world.proofs.exclusion.Invariant.{Sound, Covered, Claim, Counts, stands, reported, carried, came, has_joined, is_named_dead, was_opened, lock, Ends, Fits, up_message}
 use Rattle.wl_world.proofs.exclusion.ManagedLocks.{managed, lower-sound, AllCame, active-came, higher-sound}
 use Rattle.wl_world.proofs.exclusion.BrokerAnswers.{Follows, SaysTo, settled-told, outs-sound, first-says, later-says}
@@ -86,7 +88,7 @@ module _ (w : WorldState) (b : BrokerState) (s : Sound (with_broker b w)) (t p n
       (λ g. higher-sound w b p m (record { held = m.held ++ lock t n c ∷ []; waiting = m.waiting }) (same-sound w b p s) all
       (λ r i. In-append_left (lock t n c ∷ []) i)
       (λ r i. ⊎_elim (λ a. ⊎_elim (λ y. s.known p r (inl y)) (λ y. subst (Fits (with_broker b w) p) (sym (In-one y)) asked-fits) (In-append_cases m.held (lock t n c ∷ []) a)) (λ a. s.known p r (inr a)) i)
-      (Compatible-push (λ r. IsHonest w r.client) m.held (lock t n c) (is_grantable-free m.held m.waiting (lock t n c) g)))
+      (Compatible-push (λ r. IsHonest w r.client) m.held (lock t n c) (grantable_parts m.held m.waiting (lock t n c) g).1))
       (λ _. same-sound w b p s)
 
   -- what is taken out by a release or an abort is not covered, where its tab is honest

@@ -9,7 +9,8 @@ use Rattle.wl_grammar.specs.declared.frame.Command.{Command}
 use Rattle.wl_grammar.specs.declared.frame.Upward.{Upward}
 use Rattle.wl_grammar.specs.declared.frame.Upward.TheVariants as up
 use Rattle.wl_parts.specs.ReportParts.{Partial, Told, told_of}
-use Rattle.wl_broker.specs.Broker.{BrokerState, manager_of, generation_of}
+use Rattle.wl_grammar.specs.Generation.{generation_of}
+use Rattle.wl_broker.specs.Broker.{BrokerState, manager_of}
 use Rattle.wl_agent.specs.Tab.{TabState, report_bodies, status_of, operation_of, is_held}
 use Rattle.wl_bag.specs.declared.message.Message.{Message}
 use Rattle.wl_bag.specs.declared.message.Message.TheVariants.{Up, Down, Across}

@@ -8,6 +8,7 @@ use Rattle.wl_draft.specs.declared.mode.Mode.TheVariants.{Shared, Exclusive}
 use Rattle.wl_draft.specs.declared.row.Row.{Row}
 use Rattle.wl_draft.specs.Locks.{Locks, conflict, is_free, is_grantable, granted, left_waiting, newly, settle, is_pair, has_pair, without, without_client}
 use Rattle.wl_draft.specs.Membership.{In, Later}
+use Rattle.wl_draft.proofs.Settled.{grantable_parts}
 use Rattle.wl_draft.proofs.Membership.{apart, either, In-nil, In-cons_cases, In-head, In-append_left, In-append_right, In-append_cases, In-one, In-filter, In-filter_cases, list_any-In, list_all-In}
 
 -- the rows are not of one number of one client
@@ -33,10 +34,6 @@ is_free-at name mode {q = q} rows free i same =
     let clear = not-true (bytes_eq q.name name && conflict q.mode mode) (list_all-In (λ r. not (bytes_eq r.name name && conflict r.mode mode)) rows free i) in
     conflict-false q.mode mode (⊎_elim (λ n. apart ((bytes_eq-Decides q.name name).1 same) n) (λ c. c) (and_cases _ _ clear))
 
-pub is_grantable-free : (held ahead : List Row) (r : Row) → is_grantable held ahead r ≡ true → is_free r.name r.mode held ≡ true
-unfolding is_grantable
-is_grantable-free held ahead r g = (and_parts _ _ g).1
-
 -- held rows that pass a test of their own
 abbrev pub HeldOf : (Row → Type 0) → List Row → Row → Type 0
 HeldOf H held x = H x × In x held
@@ -54,7 +51,7 @@ granted-Compatible : (H : Row → Type 0) (held ahead rows : List Row) → Compa
 granted-Compatible H held ahead [] c = subst (λ zs. Compatible (HeldOf H zs)) (sym (append-nil held)) c
 granted-Compatible H held ahead (r ∷ rs) c =
     either (λ zs. Compatible (HeldOf H (held ++ zs))) (is_grantable held ahead r) (r ∷ granted (held ++ r ∷ []) ahead rs) (granted held (ahead ++ r ∷ []) rs)
-    (λ g. subst (λ zs. Compatible (HeldOf H zs)) (append_assoc held (r ∷ []) (granted (held ++ r ∷ []) ahead rs)) (granted-Compatible H (held ++ r ∷ []) ahead rs (Compatible-push H held r (is_grantable-free held ahead r g) c)))
+    (λ g. subst (λ zs. Compatible (HeldOf H zs)) (append_assoc held (r ∷ []) (granted (held ++ r ∷ []) ahead rs)) (granted-Compatible H (held ++ r ∷ []) ahead rs (Compatible-push H held r (grantable_parts held ahead r g).1 c)))
     (λ g. granted-Compatible H held (ahead ++ r ∷ []) rs c)
 
 granted-waited : {x : Row} (held ahead rows : List Row) → In x (granted held ahead rows) → In x rows

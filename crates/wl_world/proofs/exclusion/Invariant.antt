@@ -14,7 +14,8 @@ use Rattle.wl_grammar.specs.declared.frame.Upward.TheVariants as up
 use Rattle.wl_grammar.specs.declared.frame.Downward.{Downward}
 use Rattle.wl_grammar.specs.declared.frame.Downward.TheVariants as down
 use Rattle.wl_parts.specs.ReportParts.{Partial, Told, told_of}
-use Rattle.wl_broker.specs.Broker.{BrokerState, started, seat_of, manager_of, partial_of, is_joined, is_dead, has_come, is_lock, generation_of}
+use Rattle.wl_grammar.specs.Generation.{generation_of}
+use Rattle.wl_broker.specs.Broker.{BrokerState, started, seat_of, manager_of, partial_of, is_joined, is_dead, has_come, is_lock}
 use Rattle.wl_agent.specs.declared.status.Status.{Status}
 use Rattle.wl_agent.specs.Tab.{TabState, born, report_bodies, status_of, operation_of, name_of, mode_of, is_held, keeps_number}
 use Rattle.wl_kernel.specs.Kernel.{OpenedTab, is_opened}

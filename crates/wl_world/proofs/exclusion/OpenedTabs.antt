@@ -1,10 +1,11 @@
 -- The kernel's tabs after an opening and after a killing.
-use Rattle.std.proofs.Common.{◌≡◌, ◌≢◌, ⊎_elim, ℕ, Bool, true, false, cond, List, [], ◌∷◌, ◌++◌, map, Option, Some, None, is_some, refl, sym, ap, ◌∙◌, subst}
+use Rattle.std.proofs.Common.{◌≡◌, ◌≢◌, ⊎_elim, ℕ, true, false, cond, List, [], ◌∷◌, ◌++◌, map, Option, Some, None, option_map, is_some, refl, sym, ap, ◌∙◌, subst}
 use Rattle.std.specs.Prelude.{◌==◌}
 use Rattle.std.proofs.lemmas.Bool.{cases_eq, eq-eqb, ne_eqb, cond-true, cond-false}
 use Rattle.wl_origin.specs.Order.{Pair}
 use Rattle.wl_origin.proofs.OrderLemmas.{pair_eq-decides}
 use Rattle.wl_kernel.specs.Kernel.{KernelState, OpenedTab, tab_in, tab_of, is_opened, lives, is_of, number_or, number_beside, partition_number, new_tab, opened, ended}
+use Rattle.wl_kernel.proofs.OpenedTabs.{ended_tab, ended_partition, ended_generation, tab_in-ended}
 use Rattle.wl_draft.proofs.Membership.{apart, either}
 use Rattle.wl_world.proofs.exclusion.Invariant.{opening_in}
 
@@ -53,64 +54,40 @@ each_opened P k t p unopened now elsewhere u =
 
 -- ---- a killing
 
-ended-tab : (t : ℕ) (o : OpenedTab) → (ended t o).tab ≡ o.tab
-ended-tab t o = either (λ x. x.tab ≡ o.tab) (o.tab == t) (record o { living = false }) o (λ _. refl) (λ _. refl)
-
-ended-partition : (t : ℕ) (o : OpenedTab) → (ended t o).partition ≡ o.partition
-ended-partition t o = either (λ x. x.partition ≡ o.partition) (o.tab == t) (record o { living = false }) o (λ _. refl) (λ _. refl)
-
-ended-generation : (t : ℕ) (o : OpenedTab) → (ended t o).generation ≡ o.generation
-ended-generation t o = either (λ x. x.generation ≡ o.generation) (o.tab == t) (record o { living = false }) o (λ _. refl) (λ _. refl)
-
 ended-lived : (t : ℕ) (o : OpenedTab) → (ended t o).living ≡ true → o.living ≡ true
 ended-lived t o = either (λ x. x.living ≡ true → o.living ≡ true) (o.tab == t) (record o { living = false }) o (λ _ e. apart e refl) (λ _ e. e)
-
-abbrev ended_in : ℕ → Option OpenedTab → Option OpenedTab
-ended_in t None = None
-ended_in t (Some o) = Some (ended t o)
-
-ended_in-cond : (t : ℕ) (b : Bool) (o : OpenedTab) (x : Option OpenedTab) → cond b (Some (ended t o)) (ended_in t x) ≡ ended_in t (cond b (Some o) x)
-ended_in-cond t true o x = refl
-ended_in-cond t false o x = refl
-
-tab_in-ended : (t : ℕ) (os : List OpenedTab) (u : ℕ) → tab_in (map (ended t) os) u ≡ ended_in t (tab_in os u)
-tab_in-ended t [] u = refl
-tab_in-ended t (o ∷ os) u =
-    ap (λ z. cond (z == u) (Some (ended t o)) (tab_in (map (ended t) os) u)) (ended-tab t o)
-    ∙ ap (λ z. cond (o.tab == u) (Some (ended t o)) z) (tab_in-ended t os u)
-    ∙ ended_in-cond t (o.tab == u) o (tab_in os u)
 
 number_or-ended : (m t : ℕ) (os : List OpenedTab) (p : Pair) → number_or m (map (ended t) os) p ≡ number_or m os p
 number_or-ended m t [] p = refl
 number_or-ended m t (o ∷ os) p =
-    ap (λ z. cond (is_of p (record o { partition = z })) (ended t o).tab (number_or m (map (ended t) os) p)) (ended-partition t o)
-    ∙ ap (λ z. cond (is_of p o) z (number_or m (map (ended t) os) p)) (ended-tab t o)
+    ap (λ z. cond (is_of p (record o { partition = z })) (ended t o).tab (number_or m (map (ended t) os) p)) (ended_partition t o)
+    ∙ ap (λ z. cond (is_of p o) z (number_or m (map (ended t) os) p)) (ended_tab t o)
     ∙ ap (λ z. cond (is_of p o) o.tab z) (number_or-ended m t os p)
 
 pub ended-opening : (t : ℕ) (os : List OpenedTab) (u : ℕ) → opening_in (tab_in (map (ended t) os) u) ≡ opening_in (tab_in os u)
 ended-opening t os u = ap opening_in (tab_in-ended t os u) ∙ go (tab_in os u)
   where
-    go : (x : Option OpenedTab) → opening_in (ended_in t x) ≡ opening_in x
+    go : (x : Option OpenedTab) → opening_in (option_map (ended t) x) ≡ opening_in x
     go None = refl
-    go (Some o) = ended-generation t o
+    go (Some o) = ended_generation t o
 
 pub ended-opened : (t : ℕ) (os : List OpenedTab) (u : ℕ) → is_some (tab_in (map (ended t) os) u) ≡ is_some (tab_in os u)
 ended-opened t os u = ap is_some (tab_in-ended t os u) ∙ go (tab_in os u)
   where
-    go : (x : Option OpenedTab) → is_some (ended_in t x) ≡ is_some x
+    go : (x : Option OpenedTab) → is_some (option_map (ended t) x) ≡ is_some x
     go None = refl
     go (Some o) = refl
 
 pub ended-lives : (t : ℕ) (os : List OpenedTab) (u : ℕ) → lives (tab_in (map (ended t) os) u) ≡ true → lives (tab_in os u) ≡ true
 ended-lives t os u l = go (tab_in os u) (sym (ap lives (tab_in-ended t os u)) ∙ l)
   where
-    go : (x : Option OpenedTab) → lives (ended_in t x) ≡ true → lives x ≡ true
+    go : (x : Option OpenedTab) → lives (option_map (ended t) x) ≡ true → lives x ≡ true
     go None e = e
     go (Some o) e = ended-lived t o e
 
 pub ended-number : (t : ℕ) (os : List OpenedTab) (u : ℕ) → number_beside (map (ended t) os) (tab_in (map (ended t) os) u) ≡ number_beside os (tab_in os u)
 ended-number t os u = ap (number_beside (map (ended t) os)) (tab_in-ended t os u) ∙ go (tab_in os u)
   where
-    go : (x : Option OpenedTab) → number_beside (map (ended t) os) (ended_in t x) ≡ number_beside os x
+    go : (x : Option OpenedTab) → number_beside (map (ended t) os) (option_map (ended t) x) ≡ number_beside os x
     go None = refl
-    go (Some o) = ap (number_or 0 (map (ended t) os)) (ended-partition t o) ∙ number_or-ended 0 t os o.partition
+    go (Some o) = ap (number_or 0 (map (ended t) os)) (ended_partition t o) ∙ number_or-ended 0 t os o.partition

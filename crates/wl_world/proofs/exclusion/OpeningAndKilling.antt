@@ -9,7 +9,8 @@ use Rattle.wl_grammar.specs.declared.frame.Upward.{Upward}
 use Rattle.wl_grammar.specs.declared.frame.Upward.TheVariants as up
 use Rattle.wl_grammar.specs.declared.frame.Downward.TheVariants as down
 use Rattle.wl_parts.specs.ReportParts.{Partial, Told, told_of}
-use Rattle.wl_broker.specs.Broker.{BrokerState, manager_of, partial_of, generation_of}
+use Rattle.wl_grammar.specs.Generation.{generation_of}
+use Rattle.wl_broker.specs.Broker.{BrokerState, manager_of, partial_of}
 use Rattle.wl_broadcast.specs.Channels.{no_channels}
 use Rattle.wl_draft.specs.Tables.{put}
 use Rattle.wl_agent.specs.Tab.{TabState, born, status_of, is_held, operation_of, keeps_number}

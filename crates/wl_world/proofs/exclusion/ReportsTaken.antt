@@ -10,7 +10,8 @@ use Rattle.wl_parts.specs.ReportParts.{has_held, all_below, Partial, Told, Whole
 use Rattle.wl_broker.specs.declared.seat.Seat.{Seat}
 use Rattle.wl_broker.specs.declared.seat.Seat.TheVariants.{Joined}
 use Rattle.wl_broker.specs.declared.dropped.Dropped.TheVariants.{AlreadyJoined, HeldByNewcomer, BadReport, PartTwice}
-use Rattle.wl_broker.specs.Broker.{BrokerState, seat_of, manager_of, is_joined, is_dead, has_come, listed_at, is_listed, with_seat, newly_at, Drops, Does, partial_of, join, keeping, join_if, take_told, generation_of}
+use Rattle.wl_grammar.specs.Generation.{generation_of}
+use Rattle.wl_broker.specs.Broker.{BrokerState, seat_of, manager_of, is_joined, is_dead, has_come, listed_at, is_listed, with_seat, newly_at, Drops, Does, partial_of, join, keeping, join_if, take_told}
 use Rattle.wl_draft.specs.Membership.{In}
 use Rattle.wl_draft.proofs.Membership.{apart, either, In-nil, In-append_left, In-append_right, In-append_cases, In-map_cases}
 use Rattle.wl_world.specs.World.{WorldState, tab_of, lives, partition_of}

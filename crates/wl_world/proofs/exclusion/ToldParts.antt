@@ -5,7 +5,7 @@ use Rattle.std.specs.List.{range_with_len, flat_map}
 use Rattle.std.proofs.Math.Nat.{lt-div-mul-add}
 use Rattle.std.proofs.Math.ListN.{drop_of_length-le}
 use Rattle.std.proofs.Math.Seq.{drop-nil}
-use Rattle.std.proofs.lemmas.Bool.{and_parts, and_from, eqb-true, ne_eqb, cond-false, cases_eq}
+use Rattle.std.proofs.lemmas.Bool.{and_from, eqb-true, ne_eqb, cond-false, cases_eq}
 use Rattle.std.proofs.lemmas.List.{take-append-drop}
 use Rattle.std.proofs.lemmas.List.Folds.{list_all-append}
 use Rattle.wl_draft.specs.declared.row.Entry.{Entry}
@@ -16,7 +16,8 @@ use Rattle.wl_grammar.specs.declared.frame.Report.{Report}
 use Rattle.wl_grammar.specs.declared.frame.Upward.{Upward}
 use Rattle.wl_grammar.specs.declared.frame.Upward.TheVariants as up
 use Rattle.wl_parts.specs.ReportParts.{Partial, Told, all_below, fits, at_once, in_part, told_of, came_in, with_told, is_whole, whole_of}
-use Rattle.wl_broker.specs.Broker.{generation_of}
+use Rattle.wl_parts.proofs.KeptParts.{same_base}
+use Rattle.wl_grammar.specs.Generation.{generation_of}
 use Rattle.wl_agent.specs.Tab.{part_of, report_bodies}
 use Rattle.wl_draft.specs.Membership.{In, Here, Later}
 use Rattle.wl_draft.proofs.Membership.{either, In-nil, In-cons_cases, In-head, In-one, In-map_cases}
@@ -109,12 +110,9 @@ with_told-HasParts i r p x o is f = record {
 abbrev pub AllBelow : ℕ → Table (List Entry) → Type 0
 AllBelow base rows = (n : ℕ) (es : List Entry) → In (n, es) rows → all_below base es ≡ true
 
-same-base : (x : Told) (k : Partial) → fits x (Some k) ≡ true → x.base ≡ k.base
-same-base x k e = eqb-true x.base k.base (and_parts _ _ e).0
-
 came-below : (x : Told) (o : Option Partial) → fits x o ≡ true → ((k : Partial) → o ≡ Some k → AllBelow k.base k.came) → AllBelow x.base (came_in o)
 came-below x None e f n es i = absurd (In-nil i)
-came-below x (Some k) e f n es i = subst (λ b. all_below b es ≡ true) (sym (same-base x k e)) (f k refl n es i)
+came-below x (Some k) e f n es i = subst (λ b. all_below b es ≡ true) (sym (same_base x k e)) (f k refl n es i)
 
 pub with_told-below : (p : ℕ) (x : Told) (o : Option Partial) → all_below x.base x.entries ≡ true → fits x o ≡ true → ((k : Partial) → o ≡ Some k → AllBelow k.base k.came) → AllBelow (with_told p x o).base (with_told p x o).came
 unfolding with_told
@@ -128,10 +126,6 @@ below-all base [] f = refl
 below-all base (row ∷ rows) f =
     list_all-append (λ (e : Entry). nat_lt e.number base) row.1 (flat_map (λ (r : ℕ × List Entry). r.1) rows)
     ∙ and_from _ _ (f row.0 row.1 Here) (below-all base rows (λ n es i. f n es (Later i)))
-
-pub with_told-base : (p : ℕ) (x : Told) (o : Option Partial) → (with_told p x o).base ≡ x.base
-unfolding with_told
-with_told-base p x o = refl
 
 -- ---- all parts together
 

@@ -10,6 +10,7 @@ use Rattle.wl_broadcast.specs.Channels.{ChannelState, Object, new_object, is_des
 use Rattle.wl_broadcast.specs.Heard.{Call, Opens, Posts, Hears, Reads, Closes, step}
 use Rattle.wl_broadcast.proofs.Numbered.{inbox_at-suc, is_open_at-suc, changed_at-suc}
 use Rattle.wl_broadcast.proofs.Gained.{step_stays}
+use Rattle.wl_broadcast.proofs.Received.{changed_other}
 use Rattle.wl_said.specs.declared.said.Said.{Said}
 use Rattle.wl_said.specs.declared.said.Refusal.TheVariants as refusal
 use Rattle.wl_said.specs.Refused.{refused}
@@ -46,14 +47,6 @@ opened-inbox [] name zero = refl
 opened-inbox [] name (suc k) = inbox_at-suc (new_object name) [] k
 opened-inbox (o ∷ os) name zero = refl
 opened-inbox (o ∷ os) name (suc k) = inbox_at-suc o (os ++ new_object name ∷ []) k ∙ opened-inbox os name k ∙ sym (inbox_at-suc o os k)
-
-changed-other : (f : Object → Object) (j k : ℕ) (os : List Object) → j ≢ k → inbox_at (changed_at j f os) k ≡ inbox_at os k
-changed-other f j k [] n = refl
-changed-other f zero zero (o ∷ os) n = absurd (n refl)
-changed-other f zero (suc k) (o ∷ os) n = inbox_at-suc (f o) os k ∙ sym (inbox_at-suc o os k)
-changed-other f (suc j) zero (o ∷ os) n = ap (λ z. inbox_at z zero) (changed_at-suc f o os j)
-changed-other f (suc j) (suc k) (o ∷ os) n =
-    ap (λ z. inbox_at z (suc k)) (changed_at-suc f o os j) ∙ inbox_at-suc o (changed_at j f os) k ∙ changed-other f j k os (λ e. n (ap suc e)) ∙ sym (inbox_at-suc o os k)
 
 abbrev one_read : Object → Object
 one_read o = record o { inbox = rest_of o.inbox }
@@ -98,7 +91,7 @@ called-grows w e t k unread (Closes j) cause still =
     either (λ (d : ChannelState). NotClosed k d → Grows (inbox_at c.objects k) (inbox_at d.objects k)) (is_own c c.tab j) (closed_at j c) c
     (λ own still. ⊎_elim
     (λ same. absurd (still_open c j k same own still))
-    (λ other. same-grows _ _ (changed-other one_closed j k c.objects other))
+    (λ other. same-grows _ _ (changed_other one_closed j k c.objects other))
     (cases_eq j k))
     (λ _ _. same-grows _ _ refl)
     still
@@ -176,7 +169,7 @@ own-tells w t j k = ⊎_elim
     (cases_Bool (may_read w t j)))
     (λ n. let none = cond-false ((t == t && j == k) && may_read w t k) (oldest (inbox_at (objects_of w t) k)) [] (and_left (t == t && j == k) (may_read w t k) (and_right (t == t) (j == k) (ne_eqb j k n))) in
     grown-tells _ _ (same-grows _ _ (ap (λ z. inbox_at z.objects k) (read-own w t j)
-    ∙ either (λ (d : ChannelState). inbox_at d.objects k ≡ inbox_at (objects_of w t) k) (may_read w t j) (read_at j (channels_of w t)) (channels_of w t) (λ _. changed-other one_read j k (objects_of w t) n) (λ _. refl)))
+    ∙ either (λ (d : ChannelState). inbox_at d.objects k ≡ inbox_at (objects_of w t) k) (may_read w t j) (read_at j (channels_of w t)) (channels_of w t) (λ _. changed_other one_read j k (objects_of w t) n) (λ _. refl)))
     ∙ ap (λ z. z ++ inbox_at (objects_of (happens w (event.Read t j)) t) k) (sym none))
     (cases_eq j k)
 

@@ -17,7 +17,8 @@ use Rattle.wl_grammar.specs.declared.frame.Downward.TheVariants as down
 use Rattle.wl_parts.specs.ReportParts.{has_held, all_below, Told, Whole, at_once, in_part, fits, is_there, with_told, is_whole, whole_of}
 use Rattle.wl_broker.specs.declared.seat.Seat.TheVariants.{Joined, Dead}
 use Rattle.wl_broker.specs.declared.dropped.Dropped.TheVariants.{OldGeneration, LaterGeneration, NotJoined, Recovering, OutOfTurn, DeadTab, AlreadyJoined, HeldByNewcomer, BadReport, Misplaced, TooMany, PartTwice}
-use Rattle.wl_broker.specs.Broker.{BrokerState, seat_of, manager_of, is_joined, is_dead, next_of, is_active, with_seat, settled_at, newly_at, answer_to, grants_to, snapshot_entries, snapshot_part, snapshot_to, first_answer, later_answer, listed_at, is_listed, is_lock, limit_of, is_misplaced, place_of, generation_of, drafted, Taking, Drops, Does, partial_of, keeping, join, join_if, perform, take_told, take_command, take_inner, taking, buried_at, burial}
+use Rattle.wl_grammar.specs.Generation.{generation_of}
+use Rattle.wl_broker.specs.Broker.{BrokerState, seat_of, manager_of, is_joined, is_dead, next_of, is_active, with_seat, settled_at, newly_at, answer_to, grants_to, snapshot_entries, snapshot_part, snapshot_to, first_answer, later_answer, listed_at, is_listed, is_lock, limit_of, is_misplaced, place_of, drafted, Taking, Drops, Does, partial_of, keeping, join, join_if, perform, take_told, take_command, take_inner, taking, buried_at, burial}
 use Rattle.wl_draft.specs.Membership.{In}
 use Rattle.wl_draft.proofs.Membership.{either, In-nil, In-one, In-append_cases, In-map_cases}
 use Rattle.wl_world.proofs.order.TakenIsPicked.{settled-fields}

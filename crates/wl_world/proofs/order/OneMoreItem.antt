@@ -53,7 +53,7 @@ pub commands_of-push : (xs : List Item) (x : Item) → commands_of (xs ++ x ∷ 
 commands_of-push [] x = append-nil (command_of x.act)
 commands_of-push (y ∷ xs) x = ap (λ zs. command_of y.act ++ zs) (commands_of-push xs x) ∙ sym (append_assoc (command_of y.act) (commands_of xs) (command_of x.act))
 
-base_or-none : (a : Act) (n : ℕ) → is_report a ≡ false → base_or a n ≡ n
+pub base_or-none : (a : Act) (n : ℕ) → is_report a ≡ false → base_or a n ≡ n
 base_or-none (Reports r) n e = apart refl e
 base_or-none a n e = refl
 

@@ -18,7 +18,8 @@ use Rattle.wl_broker.specs.declared.seat.Seat.{Seat}
 use Rattle.wl_broker.specs.declared.seat.Seat.TheVariants.{Joined, Dead}
 use Rattle.wl_broker.specs.declared.dropped.Dropped.{Dropped}
 use Rattle.wl_broker.specs.declared.dropped.Dropped.TheVariants.{OldGeneration, LaterGeneration, NotJoined, Recovering, OutOfTurn, DeadTab, AlreadyJoined, HeldByNewcomer, BadReport, Misplaced, TooMany, PartTwice}
-use Rattle.wl_broker.specs.Broker.{BrokerState, seat_of, manager_of, is_joined, is_dead, has_come, next_in, next_of as broker_next, limit_in, limit_of as broker_limit, partial_of, keeping, join_if, is_active, with_seat, settled_at, newly_at, answer_to, listed_at, is_listed, elsewhere, seated_at, or_else, place_of, is_misplaced, generation_of, later_answer, Taking, Drops, Does, join, perform, take_told, take_command, take_inner, taking, buried_at, burial}
+use Rattle.wl_grammar.specs.Generation.{generation_of}
+use Rattle.wl_broker.specs.Broker.{BrokerState, seat_of, manager_of, is_joined, is_dead, has_come, next_in, next_of as broker_next, limit_in, limit_of as broker_limit, partial_of, keeping, join_if, is_active, with_seat, settled_at, newly_at, answer_to, listed_at, is_listed, elsewhere, seated_at, or_else, place_of, is_misplaced, later_answer, Taking, Drops, Does, join, perform, take_told, take_command, take_inner, taking, buried_at, burial}
 use Rattle.wl_bag.specs.declared.message.Message.{Message}
 use Rattle.wl_bag.specs.declared.message.Message.TheVariants.{Up}
 use Rattle.wl_bag.specs.Messages.{sent_all}
@@ -27,8 +28,9 @@ use Rattle.wl_draft.proofs.Membership.{apart, either, In-nil, In-cons_cases, In-
 use Rattle.wl_bag.proofs.Same.{sent_all-keeps, sent_all-cases}
 use Rattle.wl_world.specs.World.{from_broker}
 use Rattle.wl_world.specs.Orders.{Dies, Reports, Commands, Item, Picked, of_partition, of_tab, has_death, has_report, next_of, limit_of, is_complete, adds, adds_report, is_placed_elsewhere, takes_told, has_too_many, takes_command, picks_upward, picks_message, WasHeld, HasAnswer}
+use Rattle.wl_parts.proofs.KeptParts.{with_told-base}
 use Rattle.wl_world.proofs.Tables.{each_found}
-use Rattle.wl_world.proofs.exclusion.ToldParts.{AllBelow, with_told-below, with_told-base, below-all}
+use Rattle.wl_world.proofs.exclusion.ToldParts.{AllBelow, with_told-below, below-all}
 use Rattle.wl_world.proofs.exclusion.Invariant.{HasGrant}
 use Rattle.wl_world.proofs.order.OneMoreItem.{no_report_elsewhere}
 use Rattle.wl_world.proofs.order.SettledStays.{Rested, managed-rested}

@@ -8,7 +8,7 @@ use Rattle.wl_parts.specs.ReportParts.{Whole}
 use Rattle.wl_draft.proofs.Membership.{apart}
 use Rattle.wl_world.specs.Orders.{Act, Dies, Reports, Commands, Item, is_report, has_report, base_or, base_of, limit_or, limit_of, commands_of, next_of, IsPrefix, numbered}
 use Rattle.wl_world.proofs.exclusion.GrownTabs.{Grows}
-use Rattle.wl_world.proofs.order.OneMoreItem.{item, has_report-push, commands_of-push, base_of-push_first}
+use Rattle.wl_world.proofs.order.OneMoreItem.{item, has_report-push, commands_of-push, base_or-none, base_of-push_first}
 
 -- n commands from number k on, with their numbers
 abbrev slice : List Operation → ℕ → ℕ → List (ℕ × Operation)
@@ -64,10 +64,6 @@ ordered-none H issued = record { runs = λ _. (omega arith, refl); unjoined = λ
 
 pub ordered-grows : (H L : Type 0) (xs ys : List Operation) (mine : List Item) → (L → H) → Grows xs ys → Ordered H xs mine → Ordered L ys mine
 ordered-grows H L xs ys mine f m o = record { runs = λ l. runs-grows xs ys (base_of mine) (commands_of mine) m (o.runs (f l)); unjoined = o.unjoined }
-
-base_or-none : (a : Act) (n : ℕ) → is_report a ≡ false → base_or a n ≡ n
-base_or-none (Reports r) n e = apart refl e
-base_or-none a n e = refl
 
 base_of-push : (xs : List Item) (x : Item) → is_report x.act ≡ false → base_of (xs ++ x ∷ []) ≡ base_of xs
 base_of-push [] x e = base_or-none x.act 0 e

@@ -96,7 +96,8 @@ impl Parts {
     pub fn hear_post(&mut self, tab: u16, heard: &Heard) -> Result<Done, AllocError>
         ensures world { OnOk result
             (self.new ≡ (where_allowed (lives self.old tab) self.old
-            (becomes self.old tab (after_hearing (frame.Heard heard.now) (channels_of self.old tab)) [])).world) }
+            (becomes self.old tab (after_hearing (frame.Heard heard.now)
+            (channels_of self.old tab)) [])).world) }
         ensures said { IfOk result (λ done.
             done.said ≡ alive_or self.old tab (hearing tab heard.now (channels_of self.old tab))) }
         ensures sends { IfOk result (λ done. done.sends.items ≡ []) }

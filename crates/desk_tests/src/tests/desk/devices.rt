@@ -3,7 +3,7 @@ use std::io::Read;
 use std::process::Abort;
 use wl_fakes::comparing::Text;
 use wl_fakes::devices::{FullWriter, SlowReader, SlowWriter};
-use wl_workers::{READ_LIMIT, ReadFault, Sink, Source, WriteFault};
+use wl_workers::{ReadFault, Sink, Source, WriteFault};
 
 /// Asserts what a source answers.
 fn answers<S: Read>(
@@ -37,7 +37,7 @@ fn source_fails_where_its_reader_does(rt: HostRuntime) {
 fn source_ends_at_its_limit(rt: HostRuntime) {
     let mut source = Source::new(b"".as_slice());
     let mut buffer = [0; 1];
-    for _ in 0..READ_LIMIT {
+    for _ in 0..1_000_000 {
         answers(&rt, &mut source, &mut buffer, Ok(0));
     }
     let too_many = Err(ReadFault::TooManyReads);

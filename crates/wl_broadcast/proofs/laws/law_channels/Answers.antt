@@ -1,5 +1,6 @@
 use Rattle.wl_broadcast.proofs.Gained.{step_stays, takes_posts, closed_takes_nothing}
 use Rattle.wl_broadcast.proofs.Rising.{takes_rising}
+use Rattle.wl_broadcast.proofs.OldPosts.{old_only_after}
 use Rattle.wl_broadcast.proofs.Received.{reads_in_order, delivers_new, delivers_own}
 use Rattle.wl_broadcast.proofs.Bounds.{never_too_many_open, never_too_many_wait, never_too_many_posts}
 use Rattle.wl_broadcast.proofs.laws.law_channels.Goals as goal
@@ -18,6 +19,9 @@ returns-clause-closed c = closed_takes_nothing
 
 pub returns-clause-reads : goal.returns-clause-reads
 returns-clause-reads c = reads_in_order
+
+pub returns-clause-old : goal.returns-clause-old
+returns-clause-old c = old_only_after
 
 pub returns-clause-delivers : goal.returns-clause-delivers
 returns-clause-delivers c = delivers_new

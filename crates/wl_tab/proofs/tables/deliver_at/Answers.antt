@@ -1,7 +1,8 @@
 use Rattle.std.proofs.Common.{sym, ap, ◌∙◌}
 use Rattle.std.specs.Option.{is_some}
 use Rattle.std.proofs.lemmas.Bool.{false≢true}
-use Rattle.std.proofs.lemmas.Result.{IfOk-weaker}
+use Rattle.std.proofs.lemmas.Result.{IfOk-weaker, on_err_weaker}
+use Rattle.wl_draft.proofs.RisingTables.{written_same}
 use Rattle.wl_tab.proofs.TabTables.{find_there, find_absent, written_as, written_rows}
 use Rattle.wl_tab.proofs.tables.deliver_at.Goals as goal
 
@@ -16,3 +17,6 @@ returns-clause-said c = rw (find_there c.args.tab c.args.tabs.now.entries c.in-S
 
 pub returns-clause-rows : goal.returns-clause-rows
 returns-clause-rows c = written_rows c.args.tab _ c.args.tabs.now.entries c.in-Some.ensures.ordered c.in-Some.ensures.value (c.get_mut.follows.holds _).0
+
+pub returns-clause-err : goal.returns-clause-err
+returns-clause-err c = on_err_weaker c.deliver.result (λ e. written_same _ _ _ _ _ c.in-Some.ensures.value (c.get_mut.follows.holds _).0 e) c.deliver.ensures.err

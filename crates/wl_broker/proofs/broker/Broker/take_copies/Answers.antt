@@ -4,7 +4,8 @@ use Rattle.wl_draft.specs.declared.row.Entry.{Entry}
 use Rattle.wl_grammar.specs.declared.frame.Upward.{Upward}
 use Rattle.wl_parts.specs.ReportParts.{Told}
 use Rattle.wl_parts.specs.Kept.{told}
-use Rattle.wl_broker.specs.Broker.{BrokerState, copied, seat_of, Taking, IsTaken, generation_of, take_inner, take_told}
+use Rattle.wl_grammar.specs.Generation.{generation_of}
+use Rattle.wl_broker.specs.Broker.{BrokerState, copied, seat_of, Taking, IsTaken, take_inner, take_told}
 use Rattle.wl_broker.proofs.Drops.{old_generation, later_generation, dead_tab, misplaced, inner_taken}
 use Rattle.wl_broker.proofs.Fields.{dead_seen, misplaced_seen}
 use Rattle.wl_broker.proofs.broker.Broker.take_copies.Goals as goal
@@ -13,29 +14,29 @@ pub returns-then-generation-self-clause-dropped : goal.returns-then-generation-s
 returns-then-generation-self-clause-dropped g c = λ _.
     let b = c.self.inside in
     let mine = ap (λ (x : BrokerState). x.generation) c.self.view_is in
-    old_generation c.args.self.now c.args.stamped.now (omega (arith, mine, c.generation_of-generation.ensures, c.if-generation-self.true))
+    old_generation c.args.self.now c.args.stamped.now (omega (arith, mine, c.generation-generation.ensures, c.if-generation-self.true))
 
 pub returns-then-generation-self-2-clause-dropped :
     goal.returns-then-generation-self-2-clause-dropped
 returns-then-generation-self-2-clause-dropped g c = λ _.
     let b = c.self.inside in
     let mine = ap (λ (x : BrokerState). x.generation) c.self.view_is in
-    later_generation c.args.self.now c.args.stamped.now (omega (arith, mine, c.generation_of-generation.ensures, c.if-generation-self-2.true))
+    later_generation c.args.self.now c.args.stamped.now (omega (arith, mine, c.generation-generation.ensures, c.if-generation-self-2.true))
 
 pub returns-then-is_dead-clause-dropped : goal.returns-then-is_dead-clause-dropped
 returns-then-is_dead-clause-dropped g c = λ _.
     let b = c.self.inside in
     let mine = ap (λ (x : BrokerState). x.generation) c.self.view_is in
-    let old : c.args.self.now.generation ≤ generation_of c.args.stamped.now.inner = omega (arith, mine, c.generation_of-generation.ensures, c.if-generation-self.false) in
-    let later : generation_of c.args.stamped.now.inner ≤ c.args.self.now.generation = omega (arith, mine, c.generation_of-generation.ensures, c.if-generation-self-2.false) in
+    let old : c.args.self.now.generation ≤ generation_of c.args.stamped.now.inner = omega (arith, mine, c.generation-generation.ensures, c.if-generation-self.false) in
+    let later : generation_of c.args.stamped.now.inner ≤ c.args.self.now.generation = omega (arith, mine, c.generation-generation.ensures, c.if-generation-self-2.false) in
     dead_tab c.args.self.now c.args.stamped.now old later (dead_seen b.generation b.listed.entries b.seats.entries b.partitions.entries b.kept.entries c.args.self.now c.args.stamped.now.tab _ _ c.self.view_is c.seat_of-seat.ensures c.is_dead.ensures ∙ c.if-is_dead.true)
 
 pub returns-then-is_misplaced-clause-dropped : goal.returns-then-is_misplaced-clause-dropped
 returns-then-is_misplaced-clause-dropped g c = λ _.
     let b = c.self.inside in
     let mine = ap (λ (x : BrokerState). x.generation) c.self.view_is in
-    let old : c.args.self.now.generation ≤ generation_of c.args.stamped.now.inner = omega (arith, mine, c.generation_of-generation.ensures, c.if-generation-self.false) in
-    let later : generation_of c.args.stamped.now.inner ≤ c.args.self.now.generation = omega (arith, mine, c.generation_of-generation.ensures, c.if-generation-self-2.false) in
+    let old : c.args.self.now.generation ≤ generation_of c.args.stamped.now.inner = omega (arith, mine, c.generation-generation.ensures, c.if-generation-self.false) in
+    let later : generation_of c.args.stamped.now.inner ≤ c.args.self.now.generation = omega (arith, mine, c.generation-generation.ensures, c.if-generation-self-2.false) in
     let alive = dead_seen b.generation b.listed.entries b.seats.entries b.partitions.entries b.kept.entries c.args.self.now c.args.stamped.now.tab _ _ c.self.view_is c.seat_of-seat.ensures c.is_dead.ensures ∙ c.if-is_dead.false in
     misplaced c.args.self.now c.args.stamped.now old later alive (misplaced_seen b.generation b.listed.entries b.seats.entries b.partitions.entries b.kept.entries c.args.self.now c.args.stamped.now.tab c.args.stamped.now.partition _ _ _ c.self.view_is c.listed_at-place.ensures c.seat_of-seat.ensures c.is_misplaced.ensures ∙ c.if-is_misplaced.true)
 
@@ -71,8 +72,8 @@ pub returns-in-Command-clause-taken : goal.returns-in-Command-clause-taken
 returns-in-Command-clause-taken g c =
     let b = c.self.inside in
     let mine = ap (λ (x : BrokerState). x.generation) c.self.view_is in
-    let old : c.args.self.now.generation ≤ generation_of c.args.stamped.now.inner = omega (arith, mine, c.generation_of-generation.ensures, c.if-generation-self.false) in
-    let later : generation_of c.args.stamped.now.inner ≤ c.args.self.now.generation = omega (arith, mine, c.generation_of-generation.ensures, c.if-generation-self-2.false) in
+    let old : c.args.self.now.generation ≤ generation_of c.args.stamped.now.inner = omega (arith, mine, c.generation-generation.ensures, c.if-generation-self.false) in
+    let later : generation_of c.args.stamped.now.inner ≤ c.args.self.now.generation = omega (arith, mine, c.generation-generation.ensures, c.if-generation-self-2.false) in
     let alive = dead_seen b.generation b.listed.entries b.seats.entries b.partitions.entries b.kept.entries c.args.self.now c.args.stamped.now.tab _ _ c.self.view_is c.seat_of-seat.ensures c.is_dead.ensures ∙ c.if-is_dead.false in
     let placed = misplaced_seen b.generation b.listed.entries b.seats.entries b.partitions.entries b.kept.entries c.args.self.now c.args.stamped.now.tab c.args.stamped.now.partition _ _ _ c.self.view_is c.listed_at-place.ensures c.seat_of-seat.ensures c.is_misplaced.ensures ∙ c.if-is_misplaced.false in
     let inner = inner_taken c.args.self.now c.args.stamped.now old later alive placed ∙ ap (λ (x : Upward). take_inner c.args.self.now c.args.stamped.now.tab c.args.stamped.now.partition x) c.in-Command.is in
@@ -82,8 +83,8 @@ pub returns-in-Command-clause-dropped : goal.returns-in-Command-clause-dropped
 returns-in-Command-clause-dropped g c =
     let b = c.self.inside in
     let mine = ap (λ (x : BrokerState). x.generation) c.self.view_is in
-    let old : c.args.self.now.generation ≤ generation_of c.args.stamped.now.inner = omega (arith, mine, c.generation_of-generation.ensures, c.if-generation-self.false) in
-    let later : generation_of c.args.stamped.now.inner ≤ c.args.self.now.generation = omega (arith, mine, c.generation_of-generation.ensures, c.if-generation-self-2.false) in
+    let old : c.args.self.now.generation ≤ generation_of c.args.stamped.now.inner = omega (arith, mine, c.generation-generation.ensures, c.if-generation-self.false) in
+    let later : generation_of c.args.stamped.now.inner ≤ c.args.self.now.generation = omega (arith, mine, c.generation-generation.ensures, c.if-generation-self-2.false) in
     let alive = dead_seen b.generation b.listed.entries b.seats.entries b.partitions.entries b.kept.entries c.args.self.now c.args.stamped.now.tab _ _ c.self.view_is c.seat_of-seat.ensures c.is_dead.ensures ∙ c.if-is_dead.false in
     let placed = misplaced_seen b.generation b.listed.entries b.seats.entries b.partitions.entries b.kept.entries c.args.self.now c.args.stamped.now.tab c.args.stamped.now.partition _ _ _ c.self.view_is c.listed_at-place.ensures c.seat_of-seat.ensures c.is_misplaced.ensures ∙ c.if-is_misplaced.false in
     let inner = inner_taken c.args.self.now c.args.stamped.now old later alive placed ∙ ap (λ (x : Upward). take_inner c.args.self.now c.args.stamped.now.tab c.args.stamped.now.partition x) c.in-Command.is in
@@ -93,8 +94,8 @@ pub returns-in-Command-clause-memory : goal.returns-in-Command-clause-memory
 returns-in-Command-clause-memory g c =
     let b = c.self.inside in
     let mine = ap (λ (x : BrokerState). x.generation) c.self.view_is in
-    let old : c.args.self.now.generation ≤ generation_of c.args.stamped.now.inner = omega (arith, mine, c.generation_of-generation.ensures, c.if-generation-self.false) in
-    let later : generation_of c.args.stamped.now.inner ≤ c.args.self.now.generation = omega (arith, mine, c.generation_of-generation.ensures, c.if-generation-self-2.false) in
+    let old : c.args.self.now.generation ≤ generation_of c.args.stamped.now.inner = omega (arith, mine, c.generation-generation.ensures, c.if-generation-self.false) in
+    let later : generation_of c.args.stamped.now.inner ≤ c.args.self.now.generation = omega (arith, mine, c.generation-generation.ensures, c.if-generation-self-2.false) in
     let alive = dead_seen b.generation b.listed.entries b.seats.entries b.partitions.entries b.kept.entries c.args.self.now c.args.stamped.now.tab _ _ c.self.view_is c.seat_of-seat.ensures c.is_dead.ensures ∙ c.if-is_dead.false in
     let placed = misplaced_seen b.generation b.listed.entries b.seats.entries b.partitions.entries b.kept.entries c.args.self.now c.args.stamped.now.tab c.args.stamped.now.partition _ _ _ c.self.view_is c.listed_at-place.ensures c.seat_of-seat.ensures c.is_misplaced.ensures ∙ c.if-is_misplaced.false in
     let inner = inner_taken c.args.self.now c.args.stamped.now old later alive placed ∙ ap (λ (x : Upward). take_inner c.args.self.now c.args.stamped.now.tab c.args.stamped.now.partition x) c.in-Command.is in
@@ -104,8 +105,8 @@ pub returns-in-Report-clause-taken : goal.returns-in-Report-clause-taken
 returns-in-Report-clause-taken g c =
     let b = c.self.inside in
     let mine = ap (λ (x : BrokerState). x.generation) c.self.view_is in
-    let old : c.args.self.now.generation ≤ generation_of c.args.stamped.now.inner = omega (arith, mine, c.generation_of-generation.ensures, c.if-generation-self.false) in
-    let later : generation_of c.args.stamped.now.inner ≤ c.args.self.now.generation = omega (arith, mine, c.generation_of-generation.ensures, c.if-generation-self-2.false) in
+    let old : c.args.self.now.generation ≤ generation_of c.args.stamped.now.inner = omega (arith, mine, c.generation-generation.ensures, c.if-generation-self.false) in
+    let later : generation_of c.args.stamped.now.inner ≤ c.args.self.now.generation = omega (arith, mine, c.generation-generation.ensures, c.if-generation-self-2.false) in
     let alive = dead_seen b.generation b.listed.entries b.seats.entries b.partitions.entries b.kept.entries c.args.self.now c.args.stamped.now.tab _ _ c.self.view_is c.seat_of-seat.ensures c.is_dead.ensures ∙ c.if-is_dead.false in
     let placed = misplaced_seen b.generation b.listed.entries b.seats.entries b.partitions.entries b.kept.entries c.args.self.now c.args.stamped.now.tab c.args.stamped.now.partition _ _ _ c.self.view_is c.listed_at-place.ensures c.seat_of-seat.ensures c.is_misplaced.ensures ∙ c.if-is_misplaced.false in
     let inner = inner_taken c.args.self.now c.args.stamped.now old later alive placed ∙ ap (λ (x : Upward). take_inner c.args.self.now c.args.stamped.now.tab c.args.stamped.now.partition x) c.in-Report.is ∙ ap (λ (x : Told). take_told c.args.self.now c.args.stamped.now.tab c.args.stamped.now.partition x) (sym (ap (λ (es : List Entry). told c.at_once.result es) c.as_slice.ensures ∙ c.at_once.ensures)) in
@@ -115,8 +116,8 @@ pub returns-in-Report-clause-dropped : goal.returns-in-Report-clause-dropped
 returns-in-Report-clause-dropped g c =
     let b = c.self.inside in
     let mine = ap (λ (x : BrokerState). x.generation) c.self.view_is in
-    let old : c.args.self.now.generation ≤ generation_of c.args.stamped.now.inner = omega (arith, mine, c.generation_of-generation.ensures, c.if-generation-self.false) in
-    let later : generation_of c.args.stamped.now.inner ≤ c.args.self.now.generation = omega (arith, mine, c.generation_of-generation.ensures, c.if-generation-self-2.false) in
+    let old : c.args.self.now.generation ≤ generation_of c.args.stamped.now.inner = omega (arith, mine, c.generation-generation.ensures, c.if-generation-self.false) in
+    let later : generation_of c.args.stamped.now.inner ≤ c.args.self.now.generation = omega (arith, mine, c.generation-generation.ensures, c.if-generation-self-2.false) in
     let alive = dead_seen b.generation b.listed.entries b.seats.entries b.partitions.entries b.kept.entries c.args.self.now c.args.stamped.now.tab _ _ c.self.view_is c.seat_of-seat.ensures c.is_dead.ensures ∙ c.if-is_dead.false in
     let placed = misplaced_seen b.generation b.listed.entries b.seats.entries b.partitions.entries b.kept.entries c.args.self.now c.args.stamped.now.tab c.args.stamped.now.partition _ _ _ c.self.view_is c.listed_at-place.ensures c.seat_of-seat.ensures c.is_misplaced.ensures ∙ c.if-is_misplaced.false in
     let inner = inner_taken c.args.self.now c.args.stamped.now old later alive placed ∙ ap (λ (x : Upward). take_inner c.args.self.now c.args.stamped.now.tab c.args.stamped.now.partition x) c.in-Report.is ∙ ap (λ (x : Told). take_told c.args.self.now c.args.stamped.now.tab c.args.stamped.now.partition x) (sym (ap (λ (es : List Entry). told c.at_once.result es) c.as_slice.ensures ∙ c.at_once.ensures)) in
@@ -126,8 +127,8 @@ pub returns-in-Report-clause-memory : goal.returns-in-Report-clause-memory
 returns-in-Report-clause-memory g c =
     let b = c.self.inside in
     let mine = ap (λ (x : BrokerState). x.generation) c.self.view_is in
-    let old : c.args.self.now.generation ≤ generation_of c.args.stamped.now.inner = omega (arith, mine, c.generation_of-generation.ensures, c.if-generation-self.false) in
-    let later : generation_of c.args.stamped.now.inner ≤ c.args.self.now.generation = omega (arith, mine, c.generation_of-generation.ensures, c.if-generation-self-2.false) in
+    let old : c.args.self.now.generation ≤ generation_of c.args.stamped.now.inner = omega (arith, mine, c.generation-generation.ensures, c.if-generation-self.false) in
+    let later : generation_of c.args.stamped.now.inner ≤ c.args.self.now.generation = omega (arith, mine, c.generation-generation.ensures, c.if-generation-self-2.false) in
     let alive = dead_seen b.generation b.listed.entries b.seats.entries b.partitions.entries b.kept.entries c.args.self.now c.args.stamped.now.tab _ _ c.self.view_is c.seat_of-seat.ensures c.is_dead.ensures ∙ c.if-is_dead.false in
     let placed = misplaced_seen b.generation b.listed.entries b.seats.entries b.partitions.entries b.kept.entries c.args.self.now c.args.stamped.now.tab c.args.stamped.now.partition _ _ _ c.self.view_is c.listed_at-place.ensures c.seat_of-seat.ensures c.is_misplaced.ensures ∙ c.if-is_misplaced.false in
     let inner = inner_taken c.args.self.now c.args.stamped.now old later alive placed ∙ ap (λ (x : Upward). take_inner c.args.self.now c.args.stamped.now.tab c.args.stamped.now.partition x) c.in-Report.is ∙ ap (λ (x : Told). take_told c.args.self.now c.args.stamped.now.tab c.args.stamped.now.partition x) (sym (ap (λ (es : List Entry). told c.at_once.result es) c.as_slice.ensures ∙ c.at_once.ensures)) in
@@ -137,8 +138,8 @@ pub returns-in-ReportPart-clause-taken : goal.returns-in-ReportPart-clause-taken
 returns-in-ReportPart-clause-taken g c =
     let b = c.self.inside in
     let mine = ap (λ (x : BrokerState). x.generation) c.self.view_is in
-    let old : c.args.self.now.generation ≤ generation_of c.args.stamped.now.inner = omega (arith, mine, c.generation_of-generation.ensures, c.if-generation-self.false) in
-    let later : generation_of c.args.stamped.now.inner ≤ c.args.self.now.generation = omega (arith, mine, c.generation_of-generation.ensures, c.if-generation-self-2.false) in
+    let old : c.args.self.now.generation ≤ generation_of c.args.stamped.now.inner = omega (arith, mine, c.generation-generation.ensures, c.if-generation-self.false) in
+    let later : generation_of c.args.stamped.now.inner ≤ c.args.self.now.generation = omega (arith, mine, c.generation-generation.ensures, c.if-generation-self-2.false) in
     let alive = dead_seen b.generation b.listed.entries b.seats.entries b.partitions.entries b.kept.entries c.args.self.now c.args.stamped.now.tab _ _ c.self.view_is c.seat_of-seat.ensures c.is_dead.ensures ∙ c.if-is_dead.false in
     let placed = misplaced_seen b.generation b.listed.entries b.seats.entries b.partitions.entries b.kept.entries c.args.self.now c.args.stamped.now.tab c.args.stamped.now.partition _ _ _ c.self.view_is c.listed_at-place.ensures c.seat_of-seat.ensures c.is_misplaced.ensures ∙ c.if-is_misplaced.false in
     let inner = inner_taken c.args.self.now c.args.stamped.now old later alive placed ∙ ap (λ (x : Upward). take_inner c.args.self.now c.args.stamped.now.tab c.args.stamped.now.partition x) c.in-ReportPart.is ∙ ap (λ (x : Told). take_told c.args.self.now c.args.stamped.now.tab c.args.stamped.now.partition x) (sym (ap (λ (es : List Entry). told c.in_part.result es) c.as_slice-in-ReportPart.ensures ∙ c.in_part.ensures)) in
@@ -148,8 +149,8 @@ pub returns-in-ReportPart-clause-dropped : goal.returns-in-ReportPart-clause-dro
 returns-in-ReportPart-clause-dropped g c =
     let b = c.self.inside in
     let mine = ap (λ (x : BrokerState). x.generation) c.self.view_is in
-    let old : c.args.self.now.generation ≤ generation_of c.args.stamped.now.inner = omega (arith, mine, c.generation_of-generation.ensures, c.if-generation-self.false) in
-    let later : generation_of c.args.stamped.now.inner ≤ c.args.self.now.generation = omega (arith, mine, c.generation_of-generation.ensures, c.if-generation-self-2.false) in
+    let old : c.args.self.now.generation ≤ generation_of c.args.stamped.now.inner = omega (arith, mine, c.generation-generation.ensures, c.if-generation-self.false) in
+    let later : generation_of c.args.stamped.now.inner ≤ c.args.self.now.generation = omega (arith, mine, c.generation-generation.ensures, c.if-generation-self-2.false) in
     let alive = dead_seen b.generation b.listed.entries b.seats.entries b.partitions.entries b.kept.entries c.args.self.now c.args.stamped.now.tab _ _ c.self.view_is c.seat_of-seat.ensures c.is_dead.ensures ∙ c.if-is_dead.false in
     let placed = misplaced_seen b.generation b.listed.entries b.seats.entries b.partitions.entries b.kept.entries c.args.self.now c.args.stamped.now.tab c.args.stamped.now.partition _ _ _ c.self.view_is c.listed_at-place.ensures c.seat_of-seat.ensures c.is_misplaced.ensures ∙ c.if-is_misplaced.false in
     let inner = inner_taken c.args.self.now c.args.stamped.now old later alive placed ∙ ap (λ (x : Upward). take_inner c.args.self.now c.args.stamped.now.tab c.args.stamped.now.partition x) c.in-ReportPart.is ∙ ap (λ (x : Told). take_told c.args.self.now c.args.stamped.now.tab c.args.stamped.now.partition x) (sym (ap (λ (es : List Entry). told c.in_part.result es) c.as_slice-in-ReportPart.ensures ∙ c.in_part.ensures)) in
@@ -159,8 +160,8 @@ pub returns-in-ReportPart-clause-memory : goal.returns-in-ReportPart-clause-memo
 returns-in-ReportPart-clause-memory g c =
     let b = c.self.inside in
     let mine = ap (λ (x : BrokerState). x.generation) c.self.view_is in
-    let old : c.args.self.now.generation ≤ generation_of c.args.stamped.now.inner = omega (arith, mine, c.generation_of-generation.ensures, c.if-generation-self.false) in
-    let later : generation_of c.args.stamped.now.inner ≤ c.args.self.now.generation = omega (arith, mine, c.generation_of-generation.ensures, c.if-generation-self-2.false) in
+    let old : c.args.self.now.generation ≤ generation_of c.args.stamped.now.inner = omega (arith, mine, c.generation-generation.ensures, c.if-generation-self.false) in
+    let later : generation_of c.args.stamped.now.inner ≤ c.args.self.now.generation = omega (arith, mine, c.generation-generation.ensures, c.if-generation-self-2.false) in
     let alive = dead_seen b.generation b.listed.entries b.seats.entries b.partitions.entries b.kept.entries c.args.self.now c.args.stamped.now.tab _ _ c.self.view_is c.seat_of-seat.ensures c.is_dead.ensures ∙ c.if-is_dead.false in
     let placed = misplaced_seen b.generation b.listed.entries b.seats.entries b.partitions.entries b.kept.entries c.args.self.now c.args.stamped.now.tab c.args.stamped.now.partition _ _ _ c.self.view_is c.listed_at-place.ensures c.seat_of-seat.ensures c.is_misplaced.ensures ∙ c.if-is_misplaced.false in
     let inner = inner_taken c.args.self.now c.args.stamped.now old later alive placed ∙ ap (λ (x : Upward). take_inner c.args.self.now c.args.stamped.now.tab c.args.stamped.now.partition x) c.in-ReportPart.is ∙ ap (λ (x : Told). take_told c.args.self.now c.args.stamped.now.tab c.args.stamped.now.partition x) (sym (ap (λ (es : List Entry). told c.in_part.result es) c.as_slice-in-ReportPart.ensures ∙ c.in_part.ensures)) in

@@ -3,7 +3,7 @@ use Rattle.std.proofs.Common.{◌≡◌, false, ◌||◌, List, [], ◌∷◌, r
 use Rattle.serde_json.specs.Written.{has_float, items_have_float}
 use Rattle.wl_agent.specs.declared.snapshot.LockInfo.{LockInfo}
 use Rattle.wl_agent.specs.declared.snapshot.Snapshot.{Snapshot}
-use Rattle.wl_replies.specs.ReplyTexts.{infos_data, snapshot_data}
+use Rattle.wl_snapshots.specs.Snapshots.{infos_data, snapshot_data}
 
 infos_no_float : (is : List LockInfo) → items_have_float (infos_data is) ≡ false
 infos_no_float [] = refl

@@ -1,9 +1,9 @@
 use Rattle.std.proofs.Common.{ap, ◌∙◌}
 use Rattle.std.proofs.lemmas.Result.{IfOk-weaker}
 use Rattle.serde_json.specs.Written.{has_float, compact_text}
-use Rattle.wl_replies.specs.ReplyTexts.{json_text}
-use Rattle.wl_replies.proofs.Json.{snapshot_no_float}
-use Rattle.wl_replies.proofs.snapshots.snapshot_json.Goals as goal
+use Rattle.wl_snapshots.specs.Snapshots.{json_text}
+use Rattle.wl_snapshots.proofs.NoFloats.{snapshot_no_float}
+use Rattle.wl_snapshots.proofs.json.snapshot_json.Goals as goal
 
 pub returns : goal.returns
 unfolding json_text

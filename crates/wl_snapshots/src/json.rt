@@ -4,13 +4,13 @@ ghost use Rattle.std.specs.Prelude.{◌≡◌, codes, IfOk};
 ghost use Rattle.std.specs.String.{string_bytes};
 ghost use Rattle.serde_json.specs.Data.{array, object, member, no_members};
 ghost use Rattle.serde_json.specs.View.{view};
-ghost use Rattle.wl_replies.specs.ReplyTexts.{info_data, infos_data, snapshot_data, json_text};
+ghost use Rattle.wl_snapshots.specs.Snapshots.{info_data, infos_data, snapshot_data, json_text};
 
-use crate::messages::mode_word;
 use serde_json::{Value, json};
 use std::alloc::{AllocError, Global};
 use wl_agent::Snapshot;
 use wl_agent::snapshot::LockInfo;
+use wl_words::printing::mode_word;
 
 fn info_value(alloc: Global, info: &LockInfo) -> Result<Value, AllocError>
     ensures { IfOk result (λ value. view value ≡ info_data info.now) }
