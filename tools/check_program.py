@@ -122,7 +122,7 @@ def check_at_once(program):
     frames = [(bytes_of(*sent), bytes_of(*answer)) for sent, answer in frames]
     lines = [(b"start -\n", b"up 1\n"), (b"stop\n", b"stopped 1\n"), (b"stop\n", b"already down\n")]
     for word, turns in [("desk", frames), ("sim", lines)]:
-        ran = subprocess.Popen([program, word], stdin=subprocess.PIPE, stdout=subprocess.PIPE)
+        ran = subprocess.Popen([program, word], stdin=subprocess.PIPE, stdout=subprocess.PIPE, stderr=subprocess.PIPE)
         guard = threading.Timer(SECONDS, ran.kill)
         guard.start()
         with contextlib.suppress(BrokenPipeError):
@@ -131,7 +131,8 @@ def check_at_once(program):
                 ran.stdin.flush()
                 same(f"{word}, turn {number}", "the answer", ran.stdout.read(len(answer)), answer)
             ran.stdin.close()
-        same(f"{word} by turns", "what is left, and the status", (ran.stdout.read(), ran.wait()), (b"", 0))
+        left = (ran.stdout.read(), ran.stderr.read(), ran.wait())
+        same(f"{word} by turns", "what is left, what is said of it, and the status", left, (b"", b"", 0))
         guard.cancel()
 
 

@@ -291,8 +291,8 @@ fn print_rates(rt: &HostRuntime, what: &str, indexed: u64, plain: u64) -> anyhow
     Ok(())
 }
 
-/// Prints how fast each table plays a trace, beside the entries of another one or of none, and answers how many calls a second the
-/// indexed one makes.
+/// Prints how fast each table plays a trace, beside the entries of another one or of none, and answers how many calls a second
+/// the indexed one makes.
 fn compare(rt: &HostRuntime, trace: Trace, beside: Option<Trace>) -> anyhow::Result<u64> {
     let alloc = rt.alloc();
     let entries = (trace.clients as usize).saturating_mul(trace.entries as usize);

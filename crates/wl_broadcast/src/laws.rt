@@ -3,10 +3,10 @@
 ghost use Rattle.wl_broadcast.specs.Heard.{TakesRising, TakesPosts, KeepsName, ClosedTakesNothing, ReadsInOrder, OldOnlyAfter, DeliversNew, DeliversOwn, NeverTooManyOpen, NeverTooManyWait, NeverTooManyPosts};
 
 /// What a channel object takes of one source, read or not, is a list of that source's posts to its name, with strictly
-/// rising numbers. None was posted on the object itself, and none comes after its close. A post is old only where one of its source
-/// came before that had its number or a greater one, and one that is not old is delivered to each open object of its name
-/// that has room. Posts are read in the order in which they were taken. Over any calls, the limits of open objects, of
-/// inboxes and of posts hold.
+/// rising numbers. None was posted on the object itself, and none comes after its close. A post is old only where one of
+/// its source came before that had its number or a greater one, and one that is not old is delivered to each open object of
+/// its name that has room. Posts are read in the order in which they were taken. Over any calls, the limits of open
+/// objects, of inboxes and of posts hold.
 pub fn law_channels()
     ensures rising { TakesRising }
     ensures posts { TakesPosts }

@@ -1,4 +1,5 @@
--- The broker in shards: each partition belongs to one shard, and each shard has a broker of its own, which knows only the shard's.
+-- The broker in shards: each partition belongs to one shard, and each shard has a broker of its own, which knows only the
+-- shard's.
 use Rattle.std.specs.Prelude.{◌≡◌, ℕ, ◌<◌, ◌%◌, List, [], ◌∷◌, ◌++◌, Bool, true, false, not, ◌||◌, ◌==◌, filter, Option, Some, None, IsPermutation, if◌then◌else◌}
 use Rattle.std.specs.List.{list_all, range_with_len, flat_map}
 use Rattle.wl_grammar.specs.declared.frame.Stamped.{Stamped}

@@ -3,13 +3,14 @@
 ghost use Rattle.std.specs.Prelude.{ℕ, List};
 ghost use Rattle.wl_grammar.specs.declared.frame.Stamped.{Stamped};
 ghost use Rattle.wl_broker.specs.Broker.{BrokerState};
-ghost use Rattle.wl_broker.specs.Laws.{IsListedOnce, TakesInOnePartition, BuriesInOnePartition, GrantsNothingWhileRecovering, BuriesInSilenceWhileRecovering, StaysActive, MovesItsOwn, KeepsCompatible, CountsCommands};
+ghost use Rattle.wl_broker.specs.Laws.{IsListedOnce, TakesInOnePartition, BuriesInOnePartition, GrantsNothingWhileRecovering, BuriesInSilenceWhileRecovering, StaysActive, MovesItsOwn, KeepsCompatible, LeavesPartsOfOthers, CountsCommands};
 ghost use Rattle.wl_broker.specs.Grants.{StartsSettled, TakesSettled, BuriesSettled, BuriesItsOwn, BuriesOnce, BuriesActive, TakesTelling, BuriesTelling};
 ghost use Rattle.wl_broker.specs.Shards.{SeenAtEachShard, AnsweredByItsShard, DeathsSentByShards, DeathsSentByOneShard, HellosOfShards, InOneOrder};
 ghost use Rattle.wl_broker.specs.Speech.{SpellsStart, SpellsTaking, SpellsBurial};
 
 /// What any message and any death do: one partition at a time, nothing granted while recovering, each tab's locks moved by
-/// its own messages, held locks in conflict only if they were reported so, and each command once.
+/// its own messages, held locks in conflict only if they were reported so, the kept parts of other tabs' reports left alone,
+/// and each command once.
 pub fn law_broker()
     ensures one_partition { (b : BrokerState) (s : Stamped) → IsListedOnce b → TakesInOnePartition b s }
     ensures one_burial { (b : BrokerState) (t : ℕ) → IsListedOnce b → BuriesInOnePartition b t }
@@ -18,6 +19,7 @@ pub fn law_broker()
     ensures active { (b : BrokerState) (s : Stamped) → StaysActive b s }
     ensures own { (b : BrokerState) (s : Stamped) → MovesItsOwn b s }
     ensures compatible { (b : BrokerState) (s : Stamped) → KeepsCompatible b s }
+    ensures parts { (b : BrokerState) (s : Stamped) → LeavesPartsOfOthers b s }
     ensures numbers { (b : BrokerState) (s : Stamped) → CountsCommands b s }
 {}
 

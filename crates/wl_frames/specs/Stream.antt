@@ -111,7 +111,7 @@ pub record Takes (old new : Feeding) (piece : List ℕ) (frames : List Frame) : 
   pub is_sound : new.has_failed ≡ false
   pub reads : Reads (old.rest ++ piece) frames (Rest new.rest)
 
--- a fault, behind the frames of the piece that stood before it. When out of memory it takes nothing of the piece
+-- a fault, behind the frames of the piece that stood before it. Where memory is refused, nothing of the piece is taken
 pub record Refuses (old new : Feeding) (piece : List ℕ) (before : List Frame) (fault : FrameFault) : Type 0 where
   pub failed_before : (fault ≡ Failed) ↔ (old.has_failed ≡ true)
   pub failed : fault ≡ Failed → (before ≡ []) × (new ≡ old)

@@ -6,7 +6,7 @@ ghost use Rattle.wl_grammar.specs.Grammar.{IsWellFormed, IsBody, body, spelling}
 ghost use Rattle.wl_encoding.specs.Lengths.{IsLength};
 ghost use Rattle.wl_frames.specs.Stream.{Reads, Rest, Stop};
 
-/// Each frame has one spelling, and no spelling begins another.
+/// No two frames have one spelling, and no spelling begins another.
 pub fn law_spelling()
     ensures one_frame { (bytes : List ℕ) (f g : Frame) → IsBody bytes f → IsBody bytes g → f ≡ g }
     ensures length { (f : Frame) → IsWellFormed f → IsLength (length (body f)) }

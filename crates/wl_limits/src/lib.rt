@@ -1,4 +1,4 @@
-//! The limits of the standards and of the protocol, each with the one name by which code and contracts call it.
+//! The limits of standards, protocol and scripts, each with the one name by which code and contracts call it.
 #![tactic(auto)]
 
 pub mod brokers;

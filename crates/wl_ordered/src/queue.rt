@@ -16,8 +16,8 @@ pub struct Waiter {
     pub is_gone: bool,
 }
 
-/// The numbers of the requests that wait, rising. One that is taken out while others wait before it is marked, so that none has to
-/// be moved. It leaves with those before it, or once more are marked than wait.
+/// The numbers of the requests that wait, rising. One that is taken out while others wait before it is marked, so that none has
+/// to be moved. It leaves with those before it, or once more are marked than wait.
 #[derive(Drop)]
 pub struct Queue {
     waiters: VecDeque<Waiter>,

@@ -30,8 +30,8 @@ told (Err fault) = Err fault
 
 -- ---- what a read brings
 
--- where the frames of a piece stop, which has come behind this rest: before what waits for the next piece; before a fault, which is
--- told from then on; or nowhere, where memory was refused
+-- where the frames of a piece stop, which has come behind this rest: before what waits for the next piece; before a fault, which
+-- is told from then on; or nowhere, where memory was refused
 abbrev pub Stops : {R : Type 0} → List ℕ → List ℕ → List Frame → Link R → Type 0
 Stops rest piece frames link =
     ((unread : List ℕ) × Reads (rest ++ piece) frames (Rest unread) × (link.unread ≡ Some unread))
@@ -49,8 +49,8 @@ pub record Brings {R : Type 0} (before after : Option (List ℕ)) (rest : List �
 abbrev pub Ended : Option (List ℕ) → Option (List ℕ) → List ℕ → Type 0
 Ended before after rest = Consumes before after [] × IsAtEnd after × (rest ≡ [])
 
--- why a read brings nothing: the input ended within a frame; the reader failed; or it was read as often as it may be. Nothing of the
--- input is lost then but what was read of that frame
+-- why a read brings nothing: the input ended within a frame; the reader failed; or it was read as often as it may be. Such a read
+-- takes nothing of the input, and what had come of a next frame is given up
 abbrev pub Fails : {R : Type 0} → Option (List ℕ) → Option (List ℕ) → List ℕ → ProcessFault → Link R → Type 0
 Fails before after rest fault link =
     ((fault ≡ process.Frame frame_fault.Truncated) × Consumes before after [] × IsAtEnd after × (rest ≢ []))

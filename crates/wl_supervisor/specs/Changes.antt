@@ -1,6 +1,6 @@
 -- What a start, a stop, a message and a death make of a kernel and of its broker, if one is up. Where nothing happens each gives
--- `same`. Else it hands the kernel, the broker and what that says to `makes`: the supervisor makes its own state of them, or takes
--- what the broker says, and the world makes a world.
+-- `same`. Else it hands the kernel, the broker and what that says to `makes`: the supervisor makes its own state of them, or
+-- takes what the broker says, and the world makes a world.
 use Rattle.std.specs.Prelude.{ℕ, List, [], Bool, not, ◌&&◌, Option, Some, None, is_some, if◌then◌else◌}
 use Rattle.wl_grammar.specs.declared.frame.Stamped.{Stamped}
 use Rattle.wl_grammar.specs.declared.frame.Addressed.{Addressed}

@@ -10,6 +10,7 @@ use std::alloc::Global;
 use std::process::Abort;
 use std::thread;
 use std::thread::Threads;
+use wl_board::board::SEAT_LIMIT;
 use wl_board::{Birth, Board, DrawFault, Life, Memory, Seat, SeatSpent, Ticket};
 
 /// A board with two seats.
@@ -228,4 +229,9 @@ fn a_seat_that_made_all_bumps_is_spent(rt: HostRuntime) {
     bump_all(&rt, &board, &mut a);
     bump(&rt, &board, &mut a, Err(SeatSpent));
     bump(&rt, &board, &mut b, Ok(65_537));
+}
+
+#[test]
+fn limit_of_seats(rt: HostRuntime) {
+    assert_eq!(&rt; SEAT_LIMIT, 16);
 }

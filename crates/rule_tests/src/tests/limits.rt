@@ -1,6 +1,6 @@
 //! The limits have the values that the documents give: contracts and code cite them by name alone.
 
-use wl_frames::device::PIECE_LEN;
+use wl_frames::device::{BUNDLE_LEN, PIECE_LEN};
 use wl_limits::brokers::LAST_GENERATION;
 use wl_limits::frames::{
     BODY_LIMIT, ENTRY_LIMIT, LEAST_BODY, LIST_LIMIT, REPORT_PART_LIMIT, SNAPSHOT_PART_LIMIT,
@@ -11,6 +11,7 @@ use wl_limits::tabs::{
     PARTITION_LIMIT,
 };
 use wl_limits::texts::{DATA_LIMIT, NAME_LIMIT, ORIGIN_LIMIT, URL_LIMIT};
+use wl_process_rules::status::{SIGNALLED, status_of};
 
 #[test]
 fn limits_of_tabs_and_brokers(rt: HostRuntime) {
@@ -43,7 +44,17 @@ fn limits_of_frames_and_texts(rt: HostRuntime) {
         (ORIGIN_LIMIT, 4_096),
         (DATA_LIMIT, 16_384),
         (PIECE_LEN, 4_096),
+        (BUNDLE_LEN, 32_768),
     ] {
         assert_eq!(&rt; limit, want);
     }
+}
+
+/// As shells tell it.
+#[test]
+fn statuses_of_processes(rt: HostRuntime) {
+    assert_eq!(&rt; SIGNALLED, 128);
+    assert_eq!(&rt; status_of(Some(3), None), 3);
+    assert_eq!(&rt; status_of(None, Some(9)), 137);
+    assert_eq!(&rt; status_of(None, None), 128);
 }

@@ -9,7 +9,6 @@ ghost use Rattle.wl_agent.specs.Tab.{command_frame, report_frames, message_refus
 use crate::agent::Agent;
 use crate::fault::MessageFault;
 use crate::reporting::report_frames;
-use std::alloc::AllocError;
 use wl_grammar::{Command, Frame, Memory, Sequence};
 
 /// What the tab sends again, since nothing may have come of it.

@@ -15,7 +15,8 @@ use wl_grammar::{Frame, Sequence};
 use wl_said::{Ended, Reason, Said};
 
 impl TabLocks {
-    /// Takes in a frame, tells the tokens what came of it, and says it. A frame for which memory was refused may come again.
+    /// Takes in a frame, tells the tokens what came of it, and says it. Where memory is refused all is as
+    /// before, and the frame may come again.
     pub fn deliver(&mut self, frame: &Frame) -> Result<Said, AllocError>
         ensures new { OnOk result (self.new ≡ told (delivery frame.now self.old).0) }
         ensures said { IfOk result (λ said. said ≡ arrival frame.now self.old) }
