@@ -505,7 +505,8 @@ class Trial:
     def goals_of(self, said, texts):
         """The goals that are not proved, in the order in which the prover tells them."""
         functions, goals = functions_in(self.crate, texts), []
-        for line in said.split("\n"):
+        # (what is said of a goal may go on in the next line, further in)
+        for line in re.sub(r"\n {2,}", " ", said).split("\n"):
             in_code, in_proof, in_lemma = IN_CODE.match(line), IN_PROOF.match(line), IN_LEMMA.match(line)
             if in_code:
                 at = int(in_code[2])
