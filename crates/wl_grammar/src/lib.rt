@@ -6,6 +6,7 @@ mod copy;
 pub mod frame;
 mod generation;
 pub mod kinds;
+pub mod laws;
 pub mod origin;
 pub mod sequence;
 mod well_formed;

@@ -3,6 +3,7 @@
 
 pub mod brokers;
 pub mod frames;
+pub mod laws;
 pub mod scripts;
 pub mod tabs;
 pub mod texts;
