@@ -2,6 +2,7 @@ pub mod Stuck
 pub mod SettleLemmas
 pub mod IndexLemmas
 mod EntryLemmas
+pub mod LeanLemmas
 mod NextLemmas
 pub mod RemovalLemmas
 pub mod CandidateLemmas

@@ -1,5 +1,5 @@
 -- What a table keeps of each client.
-use Rattle.std.specs.Prelude.{ℕ, [], ◌∷◌, ◌++◌, nat_eq, if◌then◌else◌}
+use Rattle.std.specs.Prelude.{ℕ, [], ◌∷◌, ◌++◌, length, Bool, false, ◌&&◌, ◌==◌, nat_eq, if◌then◌else◌}
 use Rattle.std.specs.Option.{option_map_or}
 use Rattle.std.specs.HashMap.{get}
 use Rattle.wl_draft.specs.declared.row.Standing.{Standing}
@@ -24,6 +24,14 @@ places_seen h = record { held = h.held.items; waiting = h.waiting.items }
 -- what is kept of a client
 abbrev pub places_at : Clients → ℕ → Places
 places_at cs client = option_map_or places_seen (get nat_eq cs.clients client) no_places
+
+-- whether a client has no entry
+abbrev pub has_no_places : Places → Bool
+has_no_places s = length s.held == 0 && length s.waiting == 0
+
+-- whether a client is kept, though it has no entry
+abbrev pub is_idle_client : Clients → ℕ → Bool
+is_idle_client cs client = option_map_or (λ h. has_no_places (places_seen h)) (get nat_eq cs.clients client) false
 
 -- where the lock of a number stands
 abbrev pub standing_in : Places → ℕ → Standing

@@ -1,22 +1,22 @@
 -- What an indexed table keeps true: each line and each client's places are read off the two lists.
-use Rattle.std.specs.Prelude.{◌≡◌, ◌≤◌, ◌<◌, ◌+◌, ℕ, List, Bool, true, length, map, filter, count_by, ◌==◌, ◌&&◌, bytes_eq, if◌then◌else◌}
+use Rattle.std.specs.Prelude.{◌≡◌, ◌≤◌, ◌<◌, ◌+◌, ℕ, List, Bool, true, false, not, length, map, filter, count_by, ◌==◌, ◌&&◌, ◌||◌, bytes_eq, if◌then◌else◌}
 use Rattle.wl_draft.specs.declared.mode.Mode.{Mode}
 use Rattle.wl_draft.specs.declared.mode.Mode.TheVariants.{Shared, Exclusive}
 use Rattle.wl_draft.specs.declared.row.Row.{Row}
 use Rattle.wl_draft.specs.Locks.{Locks, is_named}
 use Rattle.wl_draft.specs.Tables.{Table}
 use Rattle.wl_ordered.specs.Orders.{values_in, orders_in, is_below, is_rising}
-use Rattle.wl_index.specs.Lines.{LineState, line_at, room_at, HasLine, count_named}
-use Rattle.wl_index.specs.Clients.{Places, places_at, held_room_at, waiting_room_at}
+use Rattle.wl_index.specs.Lines.{LineState, line_at, room_at, HasLine, count_named, is_idle_line}
+use Rattle.wl_index.specs.Clients.{Places, places_at, held_room_at, waiting_room_at, is_idle_client}
 use Rattle.std.specs.List.{list_all}
 use Rattle.wl_index.specs.declared.index.Index.{Index}
 
 abbrev pub is_shared : Mode → Bool
 is_shared Shared = true
-is_shared Exclusive = Rattle.std.specs.Prelude.false
+is_shared Exclusive = false
 
 abbrev pub is_exclusive : Mode → Bool
-is_exclusive Shared = Rattle.std.specs.Prelude.false
+is_exclusive Shared = false
 is_exclusive Exclusive = true
 
 -- the line of a name, read off the two lists
@@ -48,6 +48,25 @@ pub record IsIndexed (t : Index) : Type 0 where
   pub clients : (client : ℕ) → places_at t.clients client ≡ places_of client t.held.items t.waiting.items
   pub room : length t.waiting.items ≤ t.held.room
   pub client_room : (client : ℕ) → length (places_at t.clients client).waiting ≤ held_room_at t.clients client
+
+-- each name that is kept without an entry is one of these, and so is each such client
+pub record IsLeanBut (t : Index) (is_name : List ℕ → Bool) (is_client : ℕ → Bool) : Type 0 where
+  pub names : (name : List ℕ) → is_idle_line t.lines name ≡ true → is_name name ≡ true
+  pub clients : (client : ℕ) → is_idle_client t.clients client ≡ true → is_client client ≡ true
+
+-- each name that is kept is held or waited for, and each client that is kept has an entry
+abbrev pub IsLean : Index → Type 0
+IsLean t = IsLeanBut t (λ name. false) (λ client. false)
+
+-- the row's name and its client have an entry now, and no others have lost theirs
+pub record Fills (old new : Index) (row : Row) : Type 0 where
+  pub names : (name : List ℕ) → is_idle_line new.lines name ≡ true → (is_idle_line old.lines name && not (bytes_eq row.name name)) ≡ true
+  pub clients : (client : ℕ) → is_idle_client new.clients client ≡ true → (is_idle_client old.clients client && not (row.client == client)) ≡ true
+
+-- no others than the row's name and its client have lost their entries
+pub record Empties (old new : Index) (row : Row) : Type 0 where
+  pub names : (name : List ℕ) → is_idle_line new.lines name ≡ true → (is_idle_line old.lines name || bytes_eq row.name name) ≡ true
+  pub clients : (client : ℕ) → is_idle_client new.clients client ≡ true → (is_idle_client old.clients client || row.client == client) ≡ true
 
 -- there is room for one more lock of this client under this name
 pub record IsHoldable (t : Index) (client : ℕ) (name : List ℕ) : Type 0 where

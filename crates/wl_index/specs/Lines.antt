@@ -1,5 +1,5 @@
 -- What a table keeps of each name.
-use Rattle.std.specs.Prelude.{ℕ, ◌+◌, ◌-◌, List, [], ◌∷◌, ◌++◌, count_by, Bool, ◌&&◌, ◌==◌, IsSome, bytes_eq}
+use Rattle.std.specs.Prelude.{ℕ, ◌+◌, ◌-◌, List, [], ◌∷◌, ◌++◌, count_by, length, Bool, false, ◌&&◌, ◌==◌, IsSome, bytes_eq}
 use Rattle.std.specs.Option.{option_map_or}
 use Rattle.std.specs.HashMap.{get_by_text}
 use Rattle.wl_draft.specs.declared.mode.Mode.{Mode}
@@ -53,6 +53,14 @@ room_at ls name = option_map_or line_room (get_by_text ls.lines name) 0
 
 abbrev pub HasLine : Lines → List ℕ → Type 0
 HasLine ls name = IsSome (get_by_text ls.lines name)
+
+-- whether nobody holds or waits
+abbrev pub is_nobody : LineState → Bool
+is_nobody s = length s.queue == 0 && s.shared == 0 && s.exclusive == 0
+
+-- whether a name has a line, though nobody holds it or waits for it
+abbrev pub is_idle_line : Lines → List ℕ → Bool
+is_idle_line ls name = option_map_or (λ l. is_nobody (line_seen l)) (get_by_text ls.lines name) false
 
 -- how many of these rows have this name
 abbrev pub count_named : List ℕ → List Row → ℕ

@@ -38,7 +38,7 @@ impl Candidates {
     }
 
     pub fn is_empty(&self) -> bool
-        ensures { result ≡ true → self.now.items ≡ [] }
+        ensures { result ≡ (length self.now.items == 0) }
     {
         self.orders.is_empty()
     }

@@ -1,9 +1,9 @@
 //! The entries of all clients.
 
-ghost use Rattle.std.specs.Prelude.{true, ◌≡◌, ◌+◌, ◌<◌, ◌≤◌, ◌==◌, ℕ, length, OnOk, IfSome, IfNone, Some, None, if◌then◌else◌};
+ghost use Rattle.std.specs.Prelude.{true, false, not, ◌&&◌, ◌||◌, ◌≡◌, ◌+◌, ◌<◌, ◌≤◌, ◌==◌, ℕ, length, OnOk, IfSome, IfNone, Some, None, if◌then◌else◌};
 ghost use Rattle.wl_ordered.specs.Orders.{is_below};
 ghost use Rattle.wl_ordered.specs.Places.{first_place, IsPlace};
-ghost use Rattle.wl_index.specs.Clients.{no_places, places_at, standing_in, held_room_at, with_held, waiting_room_at, with_waiting, without_held, without_waiting};
+ghost use Rattle.wl_index.specs.Clients.{no_places, is_idle_client, places_at, standing_in, held_room_at, with_held, waiting_room_at, with_waiting, without_held, without_waiting};
 
 use crate::holdings::Holdings;
 use indexmap::IndexMap;
@@ -19,7 +19,8 @@ pub struct Clients {
 
 impl Clients {
     pub fn new(alloc: Global) -> Clients
-        ensures { (c : ℕ) → places_at result c ≡ no_places }
+        ensures places { (c : ℕ) → places_at result c ≡ no_places }
+        ensures idle { (c : ℕ) → is_idle_client result c ≡ false }
     {
         Clients {
             alloc,
@@ -85,6 +86,7 @@ impl Clients {
         ensures places { (c : ℕ) → places_at self.new c ≡ places_at self.old c }
         ensures held { (c : ℕ) → held_room_at self.old c ≤ held_room_at self.new c }
         ensures waiting { (c : ℕ) → waiting_room_at self.old c ≤ waiting_room_at self.new c }
+        ensures idle { (c : ℕ) → is_idle_client self.new c ≡ true → (is_idle_client self.old c || client == c) ≡ true }
     {
         if !self.clients.contains_key(&client) {
             drop(self.clients.insert(client, Holdings::new(self.alloc))?);
@@ -98,6 +100,7 @@ impl Clients {
         ensures held { OnOk result
             (length (places_at self.new client).waiting < held_room_at self.new client) }
         ensures kept { (c : ℕ) → held_room_at self.old c ≤ held_room_at self.new c }
+        ensures idle { (c : ℕ) → is_idle_client self.new c ≡ true → (is_idle_client self.old c || client == c) ≡ true }
     {
         self.open(client)?;
         match self.clients.get_mut(&client) {
@@ -114,6 +117,7 @@ impl Clients {
         ensures waiting { OnOk result (count ≤ waiting_room_at self.new client) }
         ensures kept { (c : ℕ) → held_room_at self.old c ≤ held_room_at self.new c }
         ensures kept_waiting { (c : ℕ) → waiting_room_at self.old c ≤ waiting_room_at self.new c }
+        ensures idle { (c : ℕ) → is_idle_client self.new c ≡ true → (is_idle_client self.old c || client == c) ≡ true }
     {
         self.open(client)?;
         match self.clients.get_mut(&client) {
@@ -131,6 +135,7 @@ impl Clients {
         ensures held { (c : ℕ)
             → held_room_at self.old c ≤ held_room_at self.new c + (if client == c then 1 else 0) }
         ensures waiting { (c : ℕ) → waiting_room_at self.old c ≤ waiting_room_at self.new c }
+        ensures idle { (c : ℕ) → is_idle_client self.new c ≡ (is_idle_client self.old c && not (client == c)) }
     {
         match self.clients.get_mut(&client) {
             Some(holdings) => holdings.held.push(order, number),
@@ -147,6 +152,7 @@ impl Clients {
         ensures held { (c : ℕ) → held_room_at self.old c ≤ held_room_at self.new c }
         ensures waiting { (c : ℕ)
             → waiting_room_at self.old c ≤ waiting_room_at self.new c + (if client == c then 1 else 0) }
+        ensures idle { (c : ℕ) → is_idle_client self.new c ≡ (is_idle_client self.old c && not (client == c)) }
     {
         match self.clients.get_mut(&client) {
             Some(holdings) => holdings.waiting.push(order, number),
@@ -160,6 +166,7 @@ impl Clients {
             ≡ (if client == c then without_held (places_at self.old c) order else places_at self.old c) }
         ensures held { (c : ℕ) → held_room_at self.old c ≤ held_room_at self.new c }
         ensures waiting { (c : ℕ) → waiting_room_at self.old c ≤ waiting_room_at self.new c }
+        ensures idle { (c : ℕ) → is_idle_client self.new c ≡ true → (is_idle_client self.old c || client == c) ≡ true }
     {
         match self.clients.get_mut(&client) {
             Some(holdings) => holdings.held.remove(order),
@@ -173,6 +180,7 @@ impl Clients {
             ≡ (if client == c then without_waiting (places_at self.old c) order else places_at self.old c) }
         ensures held { (c : ℕ) → held_room_at self.old c ≤ held_room_at self.new c }
         ensures waiting { (c : ℕ) → waiting_room_at self.old c ≤ waiting_room_at self.new c }
+        ensures idle { (c : ℕ) → is_idle_client self.new c ≡ true → (is_idle_client self.old c || client == c) ≡ true }
     {
         match self.clients.get_mut(&client) {
             Some(holdings) => holdings.waiting.remove(order),
@@ -185,15 +193,16 @@ impl Clients {
         ensures places { (c : ℕ) → places_at self.new c ≡ places_at self.old c }
         ensures room { (c : ℕ) → length (places_at self.old c).waiting ≤ held_room_at self.old c
             → length (places_at self.new c).waiting ≤ held_room_at self.new c }
+        ensures idle { (c : ℕ) → is_idle_client self.new c ≡ (is_idle_client self.old c && not (client == c)) }
     {
         if self.is_idle(client) {
             drop(self.clients.swap_remove(&client));
         }
     }
 
-    // Whether the client is known and has no entry.
+    // Whether the client is kept, though it has no entry.
     fn is_idle(&self, client: u16) -> bool
-        ensures { result ≡ true → places_at self.now client ≡ no_places }
+        ensures { result ≡ is_idle_client self.now client }
     {
         match self.clients.get(&client) {
             Some(holdings) => holdings.is_empty(),

@@ -1,7 +1,7 @@
 //! The entries of one client: which numbers it holds, and which wait.
 
 ghost use Rattle.std.specs.Prelude.{◌≡◌, true, ◌+◌, ◌<◌, ◌≤◌, OnOk, length};
-ghost use Rattle.wl_index.specs.Clients.{no_places, places_seen, standing_in, held_room, waiting_room};
+ghost use Rattle.wl_index.specs.Clients.{no_places, has_no_places, places_seen, standing_in, held_room, waiting_room};
 
 use std::alloc::{AllocError, Global};
 use wl_draft::Standing;
@@ -43,7 +43,7 @@ impl Holdings {
     }
 
     pub fn is_empty(&self) -> bool
-        ensures { result ≡ true → places_seen self.now ≡ no_places }
+        ensures { result ≡ has_no_places (places_seen self.now) }
     {
         self.held.is_empty() && self.waiting.is_empty()
     }

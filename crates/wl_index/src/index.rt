@@ -1,12 +1,12 @@
 //! The two lists of a table, with an index of their names and one of their clients.
 
-ghost use Rattle.std.specs.Prelude.{◌≡◌, ◌+◌, ◌-◌, ◌<◌, ◌≤◌, ◌^◌, [], ◌∷◌, ◌++◌, ℕ, List, OnOk, IfOk};
+ghost use Rattle.std.specs.Prelude.{◌≡◌, ◌+◌, ◌-◌, ◌<◌, ◌≤◌, ◌^◌, [], ◌∷◌, ◌++◌, ℕ, List, ◌==◌, bytes_eq, OnOk, OnErr, IfOk, IfSome, IfNone};
 ghost use Rattle.wl_draft.specs.Tables.{find};
 ghost use Rattle.wl_draft.specs.Locks.{row_of};
 ghost use Rattle.wl_ordered.specs.Orders.{without_order};
 ghost use Rattle.wl_index.specs.Lines.{HasLine};
 ghost use Rattle.wl_index.specs.Clients.{held_room_at};
-ghost use Rattle.wl_index.specs.Index.{IsIndexed, IsHoldable, IsReady, TakesRoom};
+ghost use Rattle.wl_index.specs.Index.{IsIndexed, IsHoldable, IsReady, TakesRoom, IsLean, IsLeanBut, Fills, Empties};
 
 use crate::clients::Clients;
 use crate::lines::Lines;
@@ -29,6 +29,7 @@ impl Index {
         ensures indexed { IsIndexed result }
         ensures held { result.held.items ≡ [] }
         ensures waiting { result.waiting.items ≡ [] }
+        ensures lean { IsLean result }
     {
         Index {
             next: 0,
@@ -49,6 +50,7 @@ impl Index {
         ensures waiting { self.new.waiting.items ≡ self.old.waiting.items }
         ensures next { self.new.next ≡ self.old.next + 1 }
         ensures room { TakesRoom self.old self.new 1 0 row.name }
+        ensures fills { Fills self.old self.new row }
     {
         let order = self.next;
         let _count = self.held.len();
@@ -68,6 +70,7 @@ impl Index {
         ensures waiting { self.new.waiting.items ≡ self.old.waiting.items ++ (self.old.next, row) ∷ [] }
         ensures next { self.new.next ≡ self.old.next + 1 }
         ensures room { TakesRoom self.old self.new 0 1 row.name }
+        ensures fills { Fills self.old self.new row }
     {
         let order = self.next;
         self.next = order + 1;
@@ -84,6 +87,7 @@ impl Index {
         ensures held { self.new.held.items ≡ without_order order self.old.held.items }
         ensures waiting { self.new.waiting.items ≡ self.old.waiting.items }
         ensures next { self.new.next ≡ self.old.next }
+        ensures empties { IfSome result (λ r. Empties self.old self.new r) }
     {
         match self.held.remove(order) {
             Some(row) => {
@@ -106,6 +110,8 @@ impl Index {
         ensures room { self.old.held.room ≤ self.new.held.room }
         ensures client_room { (c : ℕ) → held_room_at self.old.clients c ≤ held_room_at self.new.clients c }
         ensures lines { (n : List ℕ) → HasLine self.old.lines n → HasLine self.new.lines n }
+        ensures empties { IfSome result (λ r. Empties self.old self.new r) }
+        ensures absent { IfNone result (IsLean self.old → IsLean self.new) }
     {
         match self.waiting.remove(order) {
             Some(row) => {
@@ -134,6 +140,35 @@ impl Index {
         ensures row { IfOk result (λ r. r ≡ row_of client number name.now mode) }
         ensures ready { OnOk result (IsReady self.new client name.now 1) }
         ensures small { OnOk result (self.new.next + 1 < 2 ^ 64) }
+        ensures lean { OnOk result (IsLean self.old
+            → IsLeanBut self.new (λ n. bytes_eq name.now n) (λ c. client == c)) }
+        ensures refused { OnErr result (IsLean self.old → IsLean self.new) }
+    {
+        let row = self.make_ready(alloc, client, number, name, mode);
+        if row.is_err() {
+            self.forget(client, name);
+        }
+        row
+    }
+
+    // Like `ready`, but a refusal may leave a name or a client without an entry.
+    fn make_ready(
+        &mut self,
+        alloc: Global,
+        client: u16,
+        number: u32,
+        name: &Name,
+        mode: Mode,
+    ) -> Result<Row, AllocError>
+        requires { IsIndexed self.old }
+        ensures indexed { IsIndexed self.new }
+        ensures held { self.new.held.items ≡ self.old.held.items }
+        ensures waiting { self.new.waiting.items ≡ self.old.waiting.items }
+        ensures next { self.new.next ≡ self.old.next }
+        ensures row { IfOk result (λ r. r ≡ row_of client number name.now mode) }
+        ensures ready { OnOk result (IsReady self.new client name.now 1) }
+        ensures small { OnOk result (self.new.next + 1 < 2 ^ 64) }
+        ensures lean { IsLean self.old → IsLeanBut self.new (λ n. bytes_eq name.now n) (λ c. client == c) }
     {
         let waiting = self.waiting.len();
         if self.next == u64::MAX {
@@ -163,6 +198,35 @@ impl Index {
         ensures row { IfOk result (λ r. r ≡ row_of client number name.now mode) }
         ensures holdable { OnOk result (IsHoldable self.new client name.now) }
         ensures small { OnOk result (self.new.next + 1 < 2 ^ 64) }
+        ensures lean { OnOk result (IsLean self.old
+            → IsLeanBut self.new (λ n. bytes_eq name.now n) (λ c. client == c)) }
+        ensures refused { OnErr result (IsLean self.old → IsLean self.new) }
+    {
+        let row = self.make_ready_lock(alloc, client, number, name, mode);
+        if row.is_err() {
+            self.forget(client, name);
+        }
+        row
+    }
+
+    // Like `ready_lock`, but a refusal may leave a name or a client without an entry.
+    fn make_ready_lock(
+        &mut self,
+        alloc: Global,
+        client: u16,
+        number: u32,
+        name: &Name,
+        mode: Mode,
+    ) -> Result<Row, AllocError>
+        requires { IsIndexed self.old }
+        ensures indexed { IsIndexed self.new }
+        ensures held { self.new.held.items ≡ self.old.held.items }
+        ensures waiting { self.new.waiting.items ≡ self.old.waiting.items }
+        ensures next { self.new.next ≡ self.old.next }
+        ensures row { IfOk result (λ r. r ≡ row_of client number name.now mode) }
+        ensures holdable { OnOk result (IsHoldable self.new client name.now) }
+        ensures small { OnOk result (self.new.next + 1 < 2 ^ 64) }
+        ensures lean { IsLean self.old → IsLeanBut self.new (λ n. bytes_eq name.now n) (λ c. client == c) }
     {
         let waiting = self.waiting.len();
         if self.next == u64::MAX {

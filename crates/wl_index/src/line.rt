@@ -2,7 +2,7 @@
 
 ghost use Rattle.std.specs.Prelude.{◌≡◌, true, ◌+◌, ◌<◌, ◌≤◌, ◌^◌, OnOk, length, ◌==◌, slice_get};
 ghost use Rattle.wl_draft.specs.declared.mode.Mode.TheVariants.{Shared, Exclusive};
-ghost use Rattle.wl_index.specs.Lines.{nobody, line_seen, lets_in, with_holder, with_waiter, without_holder, without_waiter, line_room};
+ghost use Rattle.wl_index.specs.Lines.{nobody, is_nobody, line_seen, lets_in, with_holder, with_waiter, without_holder, without_waiter, line_room};
 ghost use Rattle.wl_ordered.specs.Orders.{do_rise};
 
 use std::alloc::{AllocError, Global};
@@ -80,7 +80,7 @@ impl Line {
 
     /// Whether nobody holds the name or waits for it.
     pub fn is_idle(&self) -> bool
-        ensures { result ≡ true → line_seen self.now ≡ nobody }
+        ensures { result ≡ is_nobody (line_seen self.now) }
     {
         self.queue.is_empty() && self.shared == 0 && self.exclusive == 0
     }

@@ -1,9 +1,9 @@
 //! The lines of all names.
 
-ghost use Rattle.std.specs.Prelude.{◌≡◌, true, ◌+◌, ◌<◌, ◌≤◌, ◌^◌, ℕ, List, OnOk, ◌==◌, ◌&&◌, length, slice_get, bytes_eq, if◌then◌else◌};
+ghost use Rattle.std.specs.Prelude.{◌≡◌, true, false, not, ◌||◌, ◌+◌, ◌<◌, ◌≤◌, ◌^◌, ℕ, List, OnOk, ◌==◌, ◌&&◌, length, slice_get, bytes_eq, if◌then◌else◌};
 ghost use Rattle.wl_draft.specs.Locks.{is_named};
 ghost use Rattle.wl_ordered.specs.Orders.{do_rise};
-ghost use Rattle.wl_index.specs.Lines.{nobody, lets_in, with_holder, with_waiter, without_holder, without_waiter, line_at, room_at, HasLine, count_named};
+ghost use Rattle.wl_index.specs.Lines.{nobody, lets_in, with_holder, with_waiter, without_holder, without_waiter, line_at, room_at, HasLine, count_named, is_idle_line};
 
 use crate::line::Line;
 use indexmap::IndexMap;
@@ -19,7 +19,8 @@ pub struct Lines {
 
 impl Lines {
     pub fn new(alloc: Global) -> Lines
-        ensures { (n : List ℕ) → line_at result n ≡ nobody }
+        ensures lines { (n : List ℕ) → line_at result n ≡ nobody }
+        ensures idle { (n : List ℕ) → is_idle_line result n ≡ false }
     {
         Lines {
             alloc,
@@ -55,6 +56,7 @@ impl Lines {
             ≡ (if bytes_eq name.now n then with_holder (line_at self.old n) mode else line_at self.old n) }
         ensures room { (n : List ℕ) → room_at self.new n ≡ room_at self.old n }
         ensures kept { (n : List ℕ) → HasLine self.old n → HasLine self.new n }
+        ensures idle { (n : List ℕ) → is_idle_line self.new n ≡ (is_idle_line self.old n && not (bytes_eq name.now n)) }
     {
         match self.lines.get_mut(name.as_str()) {
             Some(line) => line.hold(mode),
@@ -70,6 +72,7 @@ impl Lines {
         ensures room { (n : List ℕ)
             → room_at self.old n ≤ room_at self.new n + (if bytes_eq name.now n then 1 else 0) }
         ensures kept { (n : List ℕ) → HasLine self.old n → HasLine self.new n }
+        ensures idle { (n : List ℕ) → is_idle_line self.new n ≡ (is_idle_line self.old n && not (bytes_eq name.now n)) }
     {
         match self.lines.get_mut(name.as_str()) {
             Some(line) => line.push(order),
@@ -93,6 +96,7 @@ impl Lines {
         ensures there { OnOk result (HasLine self.new name.now) }
         ensures kept { (n : List ℕ) → room_at self.old n ≤ room_at self.new n }
         ensures kept_lines { (n : List ℕ) → HasLine self.old n → HasLine self.new n }
+        ensures idle { (n : List ℕ) → is_idle_line self.new n ≡ true → (is_idle_line self.old n || bytes_eq name.now n) ≡ true }
     {
         if !self.lines.contains_key(name.as_str()) {
             let key = String::from_str(self.alloc, name.as_str())?;
@@ -116,6 +120,7 @@ impl Lines {
         ensures there { OnOk result (HasLine self.new name.now) }
         ensures kept { (n : List ℕ) → room_at self.old n ≤ room_at self.new n }
         ensures kept_lines { (n : List ℕ) → HasLine self.old n → HasLine self.new n }
+        ensures idle { (n : List ℕ) → is_idle_line self.new n ≡ true → (is_idle_line self.old n || bytes_eq name.now n) ≡ true }
     {
         self.open(name)?;
         match self.lines.get_mut(name.as_str()) {
@@ -128,6 +133,7 @@ impl Lines {
     pub fn open_all(&mut self, rows: &[Row]) -> Result<(), AllocError>
         ensures lines { (n : List ℕ) → line_at self.new n ≡ line_at self.old n }
         ensures there { OnOk result ((n : List ℕ) → is_named n rows.now ≡ true → HasLine self.new n) }
+        ensures idle { (n : List ℕ) → is_idle_line self.new n ≡ true → (is_idle_line self.old n || is_named n rows.now) ≡ true }
     {
         for row in rows {
             self.open(&row.name)?;
@@ -140,6 +146,7 @@ impl Lines {
         ensures lines { (n : List ℕ) → line_at self.new n ≡ line_at self.old n }
         ensures room { OnOk result ((n : List ℕ) → count_named n rows.now ≤ room_at self.new n) }
         ensures kept_lines { (n : List ℕ) → HasLine self.old n → HasLine self.new n }
+        ensures idle { (n : List ℕ) → is_idle_line self.new n ≡ true → (is_idle_line self.old n || is_named n rows.now) ≡ true }
     {
         let mut counts: IndexMap<&str, usize> = IndexMap::new(self.alloc);
         for row in rows {
@@ -157,6 +164,7 @@ impl Lines {
             ≡ (if bytes_eq name.now n then without_holder (line_at self.old n) mode else line_at self.old n) }
         ensures room { (n : List ℕ) → room_at self.new n ≡ room_at self.old n }
         ensures kept { (n : List ℕ) → HasLine self.old n → HasLine self.new n }
+        ensures idle { (n : List ℕ) → is_idle_line self.new n ≡ true → (is_idle_line self.old n || bytes_eq name.now n) ≡ true }
     {
         match self.lines.get_mut(name.as_str()) {
             Some(line) => line.let_go(mode),
@@ -171,6 +179,7 @@ impl Lines {
             then without_waiter (line_at self.old n) order else line_at self.old n) }
         ensures room { (n : List ℕ) → room_at self.old n ≤ room_at self.new n }
         ensures kept { (n : List ℕ) → HasLine self.old n → HasLine self.new n }
+        ensures idle { (n : List ℕ) → is_idle_line self.new n ≡ true → (is_idle_line self.old n || bytes_eq name.now n) ≡ true }
     {
         match self.lines.get_mut(name.as_str()) {
             Some(line) => line.take_out(order),
@@ -180,16 +189,29 @@ impl Lines {
 
     /// Forgets a name that nobody holds or waits for.
     pub fn forget(&mut self, name: &Name)
-        ensures { (n : List ℕ) → line_at self.new n ≡ line_at self.old n }
+        ensures lines { (n : List ℕ) → line_at self.new n ≡ line_at self.old n }
+        ensures idle { (n : List ℕ)
+            → is_idle_line self.new n ≡ (is_idle_line self.old n && not (bytes_eq name.now n)) }
     {
         if self.is_idle(name) {
             let _ = self.lines.swap_remove(name.as_str());
         }
     }
 
-    // Whether nobody holds the name or waits for it.
+    /// Forgets those of these rows' names that nobody holds or waits for.
+    pub fn forget_all(&mut self, rows: &[Row])
+        ensures lines { (n : List ℕ) → line_at self.new n ≡ line_at self.old n }
+        ensures idle { (n : List ℕ) → is_idle_line self.new n ≡ true
+            → (is_idle_line self.old n && not (is_named n rows.now)) ≡ true }
+    {
+        for row in rows {
+            self.forget(&row.name);
+        }
+    }
+
+    // Whether the name has a line, though nobody holds it or waits for it.
     fn is_idle(&self, name: &Name) -> bool
-        ensures { result ≡ true → line_at self.now name.now ≡ nobody }
+        ensures { result ≡ is_idle_line self.now name.now }
     {
         match self.lines.get(name.as_str()) {
             Some(line) => line.is_idle(),

@@ -1,13 +1,16 @@
 //! Takes out a client's entries.
 
-ghost use Rattle.std.specs.Prelude.{◌≡◌, ◌+◌, ◌<◌, ◌≤◌, ◌^◌, OnOk, length, vec_len, vec_capacity};
-ghost use Rattle.wl_index.specs.Index.{IsIndexed, places_in};
+ghost use Rattle.std.specs.Prelude.{◌≡◌, ℕ, List, false, not, ◌&&◌, ◌||◌, ◌==◌, bytes_eq, ◌+◌, ◌<◌, ◌≤◌, ◌^◌, OnOk, length, vec_len, vec_capacity};
+ghost use Rattle.wl_draft.specs.Locks.{is_named};
+ghost use Rattle.wl_index.specs.Lines.{is_idle_line};
+ghost use Rattle.wl_index.specs.Clients.{is_idle_client};
+ghost use Rattle.wl_index.specs.Index.{IsIndexed, IsLean, IsLeanBut, places_in};
 ghost use Rattle.wl_index.specs.Nexts.{without_meant, AreCandidates};
 
 use crate::candidates::Candidates;
 use crate::index::Index;
 use std::alloc::AllocError;
-use wl_draft::{Grant, Name};
+use wl_draft::{Grant, Name, Row};
 
 impl Index {
     /// Takes out the client's held locks of the number that is meant, or all of them.
@@ -22,6 +25,7 @@ impl Index {
         ensures next { self.new.next ≡ self.old.next }
         ensures room { length (places_in client self.new.waiting.items) ≤ candidates.new.room }
         ensures candidates { AreCandidates candidates.new.items self.new.held.items self.new.waiting.items }
+        ensures lean { IsLeanBut self.old (λ n. false) (λ c. client == c) → IsLeanBut self.new (λ n. false) (λ c. client == c) }
     {
         while let Some(order) = self.clients.find_held(client, which) {
             match self.take_held(order) {
@@ -45,6 +49,7 @@ impl Index {
         ensures next { self.new.next ≡ self.old.next }
         ensures fewer { length self.new.waiting.items ≤ length self.old.waiting.items }
         ensures candidates { AreCandidates candidates.new.items self.new.held.items self.new.waiting.items }
+        ensures lean { IsLeanBut self.old (λ n. false) (λ c. client == c) → IsLeanBut self.new (λ n. false) (λ c. client == c) }
     {
         while let Some(order) = self.clients.find_waiting(client, which) {
             match self.take_waiting(order) {
@@ -64,6 +69,9 @@ impl Index {
         ensures held { self.new.held.items ≡ self.old.held.items }
         ensures waiting { self.new.waiting.items ≡ self.old.waiting.items }
         ensures next { self.new.next ≡ self.old.next }
+        ensures names { (n : List ℕ) → is_idle_line self.new.lines n
+            ≡ (is_idle_line self.old.lines n && not (bytes_eq name.now n)) }
+        ensures clients { (c : ℕ) → is_idle_client self.new.clients c ≡ is_idle_client self.old.clients c }
     {
         self.lines.forget(name);
     }
@@ -75,8 +83,39 @@ impl Index {
         ensures held { self.new.held.items ≡ self.old.held.items }
         ensures waiting { self.new.waiting.items ≡ self.old.waiting.items }
         ensures next { self.new.next ≡ self.old.next }
+        ensures names { (n : List ℕ) → is_idle_line self.new.lines n ≡ is_idle_line self.old.lines n }
+        ensures clients { (c : ℕ) → is_idle_client self.new.clients c
+            ≡ (is_idle_client self.old.clients c && not (client == c)) }
     {
         self.clients.forget(client);
+    }
+
+    /// Forgets the client and the name if they have no entry.
+    pub fn forget(&mut self, client: u16, name: &Name)
+        requires { IsIndexed self.old }
+        ensures indexed { IsIndexed self.new }
+        ensures held { self.new.held.items ≡ self.old.held.items }
+        ensures waiting { self.new.waiting.items ≡ self.old.waiting.items }
+        ensures next { self.new.next ≡ self.old.next }
+        ensures lean { IsLeanBut self.old (λ n. bytes_eq name.now n) (λ c. client == c) → IsLean self.new }
+    {
+        self.forget_name(name);
+        self.forget_client(client);
+    }
+
+    /// Forgets the client and these rows' names if they have no entry.
+    pub fn forget_rows(&mut self, client: u16, held: &[Row], waiting: &[Row])
+        requires { IsIndexed self.old }
+        ensures indexed { IsIndexed self.new }
+        ensures held { self.new.held.items ≡ self.old.held.items }
+        ensures waiting { self.new.waiting.items ≡ self.old.waiting.items }
+        ensures next { self.new.next ≡ self.old.next }
+        ensures lean { IsLeanBut self.old (λ n. is_named n held.now || is_named n waiting.now) (λ c. client == c)
+            → IsLean self.new }
+    {
+        self.lines.forget_all(held);
+        self.lines.forget_all(waiting);
+        self.forget_client(client);
     }
 
     /// Makes room for what settling grants once so many more entries were put in, and sees that there are numbers for them.

@@ -1,8 +1,9 @@
 //! Puts the entries of a client's report into an index.
 
-ghost use Rattle.std.specs.Prelude.{◌≡◌, ◌+◌, ◌<◌, ◌≤◌, ◌^◌, ◌++◌, true, OnOk, length};
+ghost use Rattle.std.specs.Prelude.{◌≡◌, ◌+◌, ◌<◌, ◌≤◌, ◌^◌, ◌==◌, ◌||◌, ◌++◌, true, false, OnOk, OnErr, length};
 ghost use Rattle.wl_ordered.specs.Orders.{values_in};
-ghost use Rattle.wl_index.specs.Index.{IsIndexed, HasRoom, are_of};
+ghost use Rattle.wl_draft.specs.Locks.{is_named};
+ghost use Rattle.wl_index.specs.Index.{IsIndexed, HasRoom, IsLean, IsLeanBut, are_of};
 ghost use Rattle.wl_index.specs.Nexts.{AreCandidates};
 
 use crate::candidates::Candidates;
@@ -25,6 +26,28 @@ impl Index {
         ensures waiting { self.new.waiting.items ≡ self.old.waiting.items }
         ensures next { self.new.next ≡ self.old.next }
         ensures room { OnOk result (HasRoom self.new client held.now waiting.now) }
+        ensures lean { OnOk result (IsLean self.old → IsLeanBut self.new
+            (λ n. is_named n held.now || is_named n waiting.now) (λ c. client == c)) }
+        ensures refused { OnErr result (IsLean self.old → IsLean self.new) }
+    {
+        let made = self.reserve(client, held, waiting);
+        if made.is_err() {
+            self.forget_rows(client, held, waiting);
+        }
+        made
+    }
+
+    // Like `make_room`, but a refusal may leave names or the client without an entry.
+    fn reserve(&mut self, client: u16, held: &[Row], waiting: &[Row]) -> Result<(), AllocError>
+        requires indexed { IsIndexed self.old }
+        requires small { length held.now + length waiting.now < 2 ^ 63 }
+        ensures indexed { IsIndexed self.new }
+        ensures held { self.new.held.items ≡ self.old.held.items }
+        ensures waiting { self.new.waiting.items ≡ self.old.waiting.items }
+        ensures next { self.new.next ≡ self.old.next }
+        ensures room { OnOk result (HasRoom self.new client held.now waiting.now) }
+        ensures lean { IsLean self.old → IsLeanBut self.new
+            (λ n. is_named n held.now || is_named n waiting.now) (λ c. client == c) }
     {
         let more = held.len() + waiting.len();
         let before = self.waiting.len();
@@ -56,6 +79,9 @@ impl Index {
             ≡ values_in self.old.waiting.items ++ waiting.items }
         ensures next { self.new.next ≡ self.old.next + length held.items + length waiting.items }
         ensures candidates { AreCandidates candidates.new.items self.new.held.items self.new.waiting.items }
+        ensures lean { IsLeanBut self.old
+            (λ n. is_named n held.items || is_named n waiting.items) (λ c. client == c)
+            → IsLeanBut self.new (λ n. false) (λ c. client == c) }
     {
         for row in held {
             self.hold(row);

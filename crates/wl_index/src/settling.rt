@@ -5,7 +5,7 @@ ghost use Rattle.wl_draft.specs.declared.row.Row.{Row};
 ghost use Rattle.wl_draft.specs.Tables.{find};
 ghost use Rattle.wl_draft.specs.Locks.{grants, newly, settle};
 ghost use Rattle.wl_ordered.specs.Orders.{without_order};
-ghost use Rattle.wl_index.specs.Index.{IsIndexed, locks_in};
+ghost use Rattle.wl_index.specs.Index.{IsIndexed, IsLean, locks_in};
 ghost use Rattle.wl_index.specs.Nexts.{next_in, is_next, is_among, AreCandidates, AreOthers};
 
 use crate::candidates::Candidates;
@@ -83,6 +83,7 @@ impl Index {
         ensures candidates { (r : Row) → find self.old.waiting.items order ≡ Some r
             → AreCandidates candidates.new.items self.new.held.items self.new.waiting.items }
         ensures candidates_len { length candidates.new.items ≤ length candidates.old.items + 1 }
+        ensures lean { IsLean self.old → IsLean self.new }
     {
         match self.take_waiting(order) {
             Some(row) => {
@@ -106,6 +107,7 @@ impl Index {
         ensures granted { granted.new.items
             ≡ granted.old.items ++ grants (newly (locks_in self.old.held.items self.old.waiting.items)) }
         ensures candidates { AreCandidates candidates.new.items self.new.held.items self.new.waiting.items }
+        ensures lean { IsLean self.old → IsLean self.new }
     {
         while let Some(order) = candidates.pop() {
             if self.is_next(order) {

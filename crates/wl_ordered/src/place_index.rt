@@ -1,7 +1,7 @@
 //! The places of a client's entries in a list: found by their order numbers and by the client's own numbers, at no cost
 //! that grows with how many there are.
 
-ghost use Rattle.std.specs.Prelude.{◌≡◌, true, ◌+◌, ◌<◌, ◌≤◌, ◌^◌, [], ◌∷◌, ◌++◌, Some, None, length, OnOk, IfSome, IfNone};
+ghost use Rattle.std.specs.Prelude.{◌≡◌, true, ◌+◌, ◌<◌, ◌≤◌, ◌^◌, ◌==◌, [], ◌∷◌, ◌++◌, Some, None, length, OnOk, IfSome, IfNone};
 ghost use Rattle.wl_ordered.specs.Orders.{is_below, is_rising, without_order};
 ghost use Rattle.wl_ordered.specs.Places.{first_place, has_number, lesser_of, IsPlace};
 
@@ -53,9 +53,9 @@ impl PlaceIndex {
     }
 
     pub fn is_empty(&self) -> bool
-        ensures { result ≡ true → self.now.items ≡ [] }
+        ensures { result ≡ (length self.now.items == 0) }
     {
-        self.any().is_none()
+        self.len() == 0
     }
 
     /// The first place of a number.

@@ -57,8 +57,8 @@ impl LockTable for IndexedTable {
             return self.grant_at_once(client, number, name, mode);
         }
         self.index.room_to_settle(&mut self.granted, 1)?;
-        let row = self.index.ready(self.alloc, client, number, name, mode)?;
         self.candidates.reserve(1)?;
+        let row = self.index.ready(self.alloc, client, number, name, mode)?;
         self.candidates.push(self.index.next);
         self.index.queue(row);
         self.index.settle(&mut self.candidates, &mut self.granted);
@@ -83,6 +83,7 @@ impl LockTable for IndexedTable {
         self.candidates.reserve(self.index.clients.live(client))?;
         self.index
             .take_all_held(client, Some(number), &mut self.candidates);
+        self.index.forget_client(client);
         self.index.settle(&mut self.candidates, &mut self.granted);
         Ok(hand_out(self.alloc, &mut self.granted))
     }
@@ -95,6 +96,7 @@ impl LockTable for IndexedTable {
             .take_all_held(client, which, &mut self.candidates);
         self.index
             .take_all_waiting(client, which, &mut self.candidates);
+        self.index.forget_client(client);
         self.index.settle(&mut self.candidates, &mut self.granted);
         Ok(hand_out(self.alloc, &mut self.granted))
     }
@@ -125,6 +127,7 @@ impl LockTable for IndexedTable {
         self.index.make_room(client, &held, &waiting)?;
         self.index
             .put_all(client, held, waiting, &mut self.candidates);
+        self.index.forget_client(client);
         if !settle {
             return Ok(Vec::new(self.alloc));
         }
@@ -172,10 +175,10 @@ impl IndexedTable {
         ensures ok { OnOk result (self.new ≡ probed (row_of client number name.now mode) self.old) }
         ensures err { OnErr result (self.new ≡ self.old) }
     {
+        let mut granted = Vec::with_capacity(self.alloc, 1)?;
         let row = self
             .index
             .ready_lock(self.alloc, client, number, name, mode)?;
-        let mut granted = Vec::with_capacity(self.alloc, 1)?;
         granted.push(Grant::from(&row)).unwrap();
         self.index.hold(row);
         Ok(granted)

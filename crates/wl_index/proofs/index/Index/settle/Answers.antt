@@ -66,6 +66,7 @@ loop-order-preserved-then-is_next c =
       candidates = c.grant.ensures.candidates g.row f;
       settled = rw (held, waiting) (sym (grant-settle h w o k g rise) ∙ i.settled);
       newly = rw (c.grant.ensures.granted g.row f, held, waiting) (append_assoc l.granted.items (grants (g.row ∷ [])) (grants (newly (locks_in (h ++ (k, g.row) ∷ []) (without_order o w)))) ∙ ap (λ n. l.granted.items ++ grants n) (sym (grant-newly h w o k g rise)) ∙ i.newly);
+      lean = λ l. c.grant.ensures.lean (i.lean l);
     }
 
 pub loop-order-preserved : goal.loop-order-preserved
@@ -83,6 +84,7 @@ loop-order-preserved c =
       candidates = candidates-passed c.pop.new.self.items h w o i.indexed.waiting_rise (sym c.is_next.ensures ∙ c.if-is_next.false) others;
       settled = i.settled;
       newly = i.newly;
+      lean = i.lean;
     }
 
 pub returns-clause-settled : goal.returns-clause-settled

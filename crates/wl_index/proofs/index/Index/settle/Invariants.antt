@@ -1,6 +1,6 @@
 use Rattle.std.proofs.Common.{◌≡◌, ◌≤◌, ◌<◌, ◌+◌, ◌^◌, ◌++◌, length, vec_len, vec_capacity}
 use Rattle.wl_draft.specs.Locks.{grants, newly, settle}
-use Rattle.wl_index.specs.Index.{IsIndexed, locks_in}
+use Rattle.wl_index.specs.Index.{IsIndexed, IsLean, locks_in}
 use Rattle.wl_index.specs.Nexts.{AreCandidates}
 use Rattle.wl_index.proofs.index.Index.settle.Given as goal
 
@@ -12,6 +12,7 @@ invariant-loop-order l = record {
   candidates : AreCandidates l.candidates.items l.self.held.items l.self.waiting.items;
   settled : settle (locks_in l.self.held.items l.self.waiting.items) ≡ settle (locks_in l.initial.self.held.items l.initial.self.waiting.items);
   newly : l.granted.items ++ grants (newly (locks_in l.self.held.items l.self.waiting.items)) ≡ l.initial.granted.items ++ grants (newly (locks_in l.initial.self.held.items l.initial.self.waiting.items));
+  lean : IsLean l.initial.self → IsLean l.self;
 }
 
 abbrev pub decreases-loop-order : goal.decreases-loop-order

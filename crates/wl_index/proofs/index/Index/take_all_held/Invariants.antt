@@ -1,5 +1,6 @@
 use Rattle.std.proofs.Common.{◌≡◌, ◌≤◌, ◌+◌, length}
-use Rattle.wl_index.specs.Index.{IsIndexed, places_in}
+use Rattle.std.specs.Prelude.{false, ◌==◌}
+use Rattle.wl_index.specs.Index.{IsIndexed, IsLeanBut, places_in}
 use Rattle.wl_index.specs.Nexts.{without_meant, AreCandidates}
 use Rattle.wl_index.proofs.index.Index.take_all_held.Given as goal
 
@@ -12,6 +13,7 @@ invariant-loop-order l = record {
   kept : l.self.waiting.items ≡ l.initial.self.waiting.items;
   next : l.self.next ≡ l.initial.self.next;
   fewer : length l.self.held.items ≤ length l.initial.self.held.items;
+  lean : IsLeanBut l.initial.self (λ n. false) (λ c. l.client == c) → IsLeanBut l.self (λ n. false) (λ c. l.client == c);
 }
 
 abbrev pub decreases-loop-order : goal.decreases-loop-order

@@ -5,6 +5,7 @@ use Rattle.wl_index.specs.Index.{places_in}
 use Rattle.wl_ordered.specs.Places.{first_place}
 use Rattle.wl_index.specs.Nexts.{next_in, is_among}
 use Rattle.wl_ordered.proofs.WithoutLemmas.{length-without}
+use Rattle.wl_index.proofs.LeanLemmas.{lean-dropped, row-client}
 use Rattle.wl_index.proofs.EntryLemmas.{places-fewer}
 use Rattle.wl_index.proofs.RemovalLemmas.{place-meant, none-meant, one-meant, meant-client, none-found}
 use Rattle.wl_index.proofs.CandidateLemmas.{candidates-taken, others-all}
@@ -54,6 +55,7 @@ loop-order-preserved-in-Some-take_waiting c =
       kept = same ∙ i.kept;
       next = c.forget_name.ensures.next ∙ c.take_waiting.ensures.next ∙ i.next;
       fewer = rw taken (omega (arith, i.fewer, length-without o w t rise f));
+      lean = λ n. lean-dropped l.self c.take_waiting.new.self c.forget_name.new.self w c.args.client (row-client w m.row (sym f ∙ m.found) ∙ meant-client c.args.client c.args.which m.row m.meant) c.in-Some-take_waiting.ensures.empties c.forget_name.ensures.names c.forget_name.ensures.clients (i.lean n);
     }
 
 pub loop-order-smaller : goal.loop-order-smaller

@@ -1,5 +1,6 @@
 use Rattle.std.proofs.Common.{arith}
 use Rattle.std.proofs.lemmas.Map.Text.{text_keys}
+use Rattle.std.proofs.lemmas.Bool.Decides.{nat_tests}
 use Rattle.wl_index.proofs.lines.Lines.hold.Goals as goal
 
 pub hold-requires : goal.hold-requires
@@ -13,3 +14,6 @@ returns-in-Some-clause-room c = λ n. grind (arith, text_keys)
 
 pub returns-in-Some-clause-kept : goal.returns-in-Some-clause-kept
 returns-in-Some-clause-kept c = λ n h. grind (arith, text_keys)
+
+pub returns-in-Some-clause-idle : goal.returns-in-Some-clause-idle
+returns-in-Some-clause-idle c = λ n. grind (arith, text_keys, nat_tests)

@@ -1,8 +1,9 @@
-use Rattle.std.proofs.Common.{◌≡◌, ◌∙◌, ◌||◌, ℕ, List, Bool, true, false, sym, subst, refl}
+use Rattle.std.proofs.Common.{◌≡◌, ◌∙◌, ◌+◌, ◌||◌, ℕ, List, Bool, true, false, sym, subst, refl}
 use Rattle.std.specs.Prelude.{bytes_eq}
 use Rattle.wl_index.specs.declared.lines.Lines.{Lines}
 use Rattle.wl_index.specs.Lines.{HasLine}
 use Rattle.wl_index.proofs.NextLemmas.{text-same}
+use Rattle.wl_index.proofs.LeanLemmas.{idle-more, idle-within, named-within}
 use Rattle.wl_index.proofs.RoomLemmas.{named-more}
 use Rattle.wl_index.proofs.lines.Lines.open_all.Goals as goal
 
@@ -20,4 +21,11 @@ loop-row-preserved c =
     record {
       lines = λ n. c.open.ensures.lines n ∙ i.lines n;
       there = λ n e. there-step c.loop-row.self c.open.new.self n r.name _ (bytes_eq r.name n) (i.there n) (c.open.ensures.kept_lines n) c.in_ok-open.ensures.there refl (sym (named-more n c.args.rows.now c.loop-row.row-index r c.loop-row-test.true c.row-item.is) ∙ e);
+      idle = λ n e. idle-more _ _ _ _ _ (c.open.ensures.idle n e) (i.idle n) (named-more n c.args.rows.now c.loop-row.row-index c.row-item.result c.loop-row-test.true c.row-item.is);
     }
+
+pub returns-in_err-open-clause-idle : goal.returns-in_err-open-clause-idle
+returns-in_err-open-clause-idle c = λ n e.
+    let rows = c.args.rows.now in
+    let k = c.loop-row.row-index in
+    idle-within _ _ _ (idle-more _ _ _ _ _ (c.open.ensures.idle n e) (c.loop-row.invariant.idle n) (named-more n rows k c.row-item.result c.loop-row-test.true c.row-item.is)) (named-within n rows (k + 1))

@@ -1,5 +1,8 @@
-use Rattle.std.proofs.Common.{arith}
+use Rattle.std.proofs.Common.{◌∙◌, ap, arith}
 use Rattle.std.proofs.lemmas.Map.Text.{text_keys}
+use Rattle.std.proofs.lemmas.Bool.Decides.{nat_tests}
+use Rattle.wl_index.specs.Lines.{line_seen, is_nobody}
+use Rattle.wl_index.proofs.LeanLemmas.{waiter-somebody}
 use Rattle.wl_index.proofs.lines.Lines.push.Goals as goal
 
 pub push-requires : goal.push-requires
@@ -13,3 +16,8 @@ returns-in-Some-clause-room c = λ n. grind (arith, text_keys)
 
 pub returns-in-Some-clause-kept : goal.returns-in-Some-clause-kept
 returns-in-Some-clause-kept c = λ n h. grind (arith, text_keys)
+
+pub returns-in-Some-clause-idle : goal.returns-in-Some-clause-idle
+returns-in-Some-clause-idle c = λ n.
+    let e = ap (λ s. is_nobody s) c.push.ensures.seen ∙ waiter-somebody (line_seen c.in-Some.line.now) c.args.order in
+    grind (arith, text_keys, nat_tests)

@@ -1,6 +1,7 @@
-use Rattle.std.proofs.Common.{◌≡◌, ◌∙◌, ◌≤◌, arith}
+use Rattle.std.proofs.Common.{◌≡◌, ◌∙◌, ◌≤◌, sym, arith}
+use Rattle.std.proofs.lemmas.Bool.Decides.{nat_tests}
 use Rattle.std.proofs.lemmas.Map.Text.{text_keys}
-use Rattle.wl_index.specs.Lines.{line_at, room_at, HasLine}
+use Rattle.wl_index.specs.Lines.{line_at, room_at, HasLine, is_idle_line}
 use Rattle.wl_index.proofs.lines.Lines.reserve.Goals as goal
 
 pub returns-in-Some-clause-lines : goal.returns-in-Some-clause-lines
@@ -17,3 +18,8 @@ pub returns-in-Some-clause-kept_lines : goal.returns-in-Some-clause-kept_lines
 returns-in-Some-clause-kept_lines c = λ n h.
     let e : HasLine c.open.new.self n = c.open.ensures.kept_lines n h in
     grind (arith, text_keys)
+
+pub returns-in-Some-clause-idle : goal.returns-in-Some-clause-idle
+returns-in-Some-clause-idle c = λ n h.
+    let e : is_idle_line (record { alloc = c.open.new.self.alloc; lines = c.get_mut.follows.lender c.reserve.new.self }) n ≡ is_idle_line c.open.new.self n = grind (arith, text_keys, nat_tests) in
+    c.open.ensures.idle n (sym e ∙ h)

@@ -5,7 +5,8 @@ use Rattle.wl_draft.specs.declared.row.Row.{Row}
 use Rattle.wl_index.specs.declared.lines.Lines.{Lines}
 use Rattle.wl_index.specs.Lines.{room_at, count_named}
 use Rattle.wl_index.proofs.NextLemmas.{text-same}
-use Rattle.wl_index.proofs.RoomLemmas.{count-more, count-upto}
+use Rattle.wl_index.proofs.LeanLemmas.{idle-more, idle-within, named-within}
+use Rattle.wl_index.proofs.RoomLemmas.{named-more, count-more, count-upto}
 use Rattle.wl_index.proofs.lines.Lines.reserve_all.Goals as goal
 
 pub overflow_add-count : goal.overflow_add-count
@@ -34,4 +35,14 @@ loop-row-preserved c =
       kept_lines = λ n h. c.reserve.ensures.kept_lines n (i.kept_lines n h);
       counts = λ q. grind (arith, text_counts, i.counts q, count-more q rows k r c.loop-row-test.true c.row-item.is);
       room = λ q. rw (count-more q rows k r c.loop-row-test.true c.row-item.is) (room-step l.self c.reserve.new.self rows k q r.name (bytes_eq q r.name) refl (i.room q) (c.reserve.ensures.kept q) here);
+      idle = λ n e. idle-more _ _ _ _ _ (c.reserve.ensures.idle n e) (i.idle n) (named-more n c.args.rows.now c.loop-row.row-index c.row-item.result c.loop-row-test.true c.row-item.is);
     }
+
+pub returns-in_err-reserve-clause-idle : goal.returns-in_err-reserve-clause-idle
+returns-in_err-reserve-clause-idle c = λ n e.
+    let rows = c.args.rows.now in
+    let k = c.loop-row.row-index in
+    idle-within _ _ _ (idle-more _ _ _ _ _ (c.reserve.ensures.idle n e) (c.loop-row.invariant.idle n) (named-more n rows k c.row-item.result c.loop-row-test.true c.row-item.is)) (named-within n rows (k + 1))
+
+pub returns-in_err-insert-clause-idle : goal.returns-in_err-insert-clause-idle
+returns-in_err-insert-clause-idle c = λ n e. idle-within _ _ _ (c.loop-row.invariant.idle n e) (named-within n c.args.rows.now c.loop-row.row-index)

@@ -1,5 +1,6 @@
 use Rattle.std.proofs.Common.{arith}
 use Rattle.std.proofs.lemmas.Map.Text.{text_keys}
+use Rattle.std.proofs.lemmas.Bool.Decides.{nat_tests}
 use Rattle.wl_index.proofs.lines.Lines.take_out.Goals as goal
 
 pub returns-in-Some-clause-lines : goal.returns-in-Some-clause-lines
@@ -13,3 +14,6 @@ returns-in-Some-clause-kept c = λ n h. grind (arith, text_keys)
 
 pub take_out-requires : goal.take_out-requires
 take_out-requires c = grind (arith, text_keys)
+
+pub returns-in-Some-clause-idle : goal.returns-in-Some-clause-idle
+returns-in-Some-clause-idle c = λ n e. grind (arith, text_keys, nat_tests)

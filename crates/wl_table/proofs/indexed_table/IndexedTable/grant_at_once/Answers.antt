@@ -3,6 +3,7 @@ use Rattle.std.proofs.lemmas.Grind.{common_steps}
 use Rattle.wl_draft.specs.Locks.{row_of, probed}
 use Rattle.wl_index.specs.Index.{locks_in}
 use Rattle.wl_index.proofs.IndexLemmas.{probed-free}
+use Rattle.wl_index.proofs.LeanLemmas.{lean-filled}
 use Rattle.wl_index.proofs.CandidateLemmas.{candidates-held}
 use Rattle.wl_table.proofs.indexed_table.IndexedTable.grant_at_once.Goals as goal
 
@@ -13,6 +14,7 @@ invariant_of-self-2 c =
     let same : c.hold.new.self.waiting.items ≡ c.self.inside.index.waiting.items = c.hold.ensures.waiting ∙ c.in_ok-row.ensures.waiting in
     record {
       index = c.hold.ensures.indexed;
+      lean = lean-filled c.ready_lock.new.self c.hold.new.self c.in_ok-row.row c.args.client c.args.name.now (ap (λ r. r.client) c.in_ok-row.ensures.row) (ap (λ r. r.name) c.in_ok-row.ensures.row) c.hold.ensures.fills (c.in_ok-row.ensures.lean c.self.invariant.lean);
       candidates = rw (items, same) (candidates-held c.self.inside.candidates.items c.self.inside.index.held.items c.self.inside.index.waiting.items k (row_of c.args.client c.args.number c.args.name.now c.args.mode) c.self.invariant.candidates);
       granted = c.self.invariant.granted;
     }

@@ -1,4 +1,4 @@
-use Rattle.std.proofs.Common.{◌≡◌, ◌∙◌, ◌++◌, [], ◌∷◌, true, ap, refl}
+use Rattle.std.proofs.Common.{◌≡◌, ◌∙◌, ◌++◌, [], ◌∷◌, true, sym, ap, refl}
 use Rattle.wl_draft.specs.Locks.{is_grantable, grants, newly, settle, queued, row_of}
 use Rattle.wl_ordered.specs.Orders.{values_in}
 use Rattle.wl_index.specs.Index.{locks_in}
@@ -7,6 +7,7 @@ use Rattle.wl_index.specs.Nexts.{is_among, AreCandidates}
 use Rattle.wl_index.proofs.IndexLemmas.{queued-in, grantable-known}
 use Rattle.wl_index.proofs.Stuck.{AreStuck}
 use Rattle.wl_index.proofs.SettleLemmas.{newly-alone, settle-alone}
+use Rattle.wl_index.proofs.LeanLemmas.{lean-filled, no-items}
 use Rattle.wl_index.proofs.CandidateLemmas.{no-candidates, candidates-queued, pushed-here, pushed-kept}
 use Rattle.wl_table.proofs.indexed_table.IndexedTableLockTable.request.Goals as goal
 
@@ -19,7 +20,7 @@ pub returns-then-is_next-clause-grants : goal.returns-then-is_next-clause-grants
 returns-then-is_next-clause-grants c =
     let e : is_grantable (values_in c.self.inside.index.held.items) (values_in c.self.inside.index.waiting.items) (row_of c.args.client c.args.number c.args.name.now c.args.mode) ≡ true = grantable-known c.self.inside.index.held.items c.self.inside.index.waiting.items (line_at c.self.inside.index.lines c.args.name.now) (row_of c.args.client c.args.number c.args.name.now c.args.mode) c.is_next.result true (c.self.invariant.index.lines c.args.name.now) c.is_next.ensures c.if-is_next.true in
     let known : is_grantable c.args.self.now.held c.args.self.now.waiting (row_of c.args.client c.args.number c.args.name.now c.args.mode) ≡ true = rw (← c.self.view_is) e in
-    let none : AreCandidates [] c.self.inside.index.held.items c.self.inside.index.waiting.items = rw (c.is_empty.ensures c.if-is_empty.true) at c.self.invariant.candidates in
+    let none : AreCandidates [] c.self.inside.index.held.items c.self.inside.index.waiting.items = rw (no-items c.self.inside.candidates.items (sym c.is_empty.ensures ∙ c.if-is_empty.true)) at c.self.invariant.candidates in
     let stuck : AreStuck c.args.self.now.held [] c.args.self.now.waiting = rw (← c.self.view_is) (no-candidates c.self.inside.index.held.items c.self.inside.index.waiting.items none) in
     rw (newly-alone c.args.self.now (row_of c.args.client c.args.number c.args.name.now c.args.mode) stuck known) c.grant_at_once.ensures.grants
 
@@ -27,7 +28,7 @@ pub returns-then-is_next-clause-ok : goal.returns-then-is_next-clause-ok
 returns-then-is_next-clause-ok c =
     let e : is_grantable (values_in c.self.inside.index.held.items) (values_in c.self.inside.index.waiting.items) (row_of c.args.client c.args.number c.args.name.now c.args.mode) ≡ true = grantable-known c.self.inside.index.held.items c.self.inside.index.waiting.items (line_at c.self.inside.index.lines c.args.name.now) (row_of c.args.client c.args.number c.args.name.now c.args.mode) c.is_next.result true (c.self.invariant.index.lines c.args.name.now) c.is_next.ensures c.if-is_next.true in
     let known : is_grantable c.args.self.now.held c.args.self.now.waiting (row_of c.args.client c.args.number c.args.name.now c.args.mode) ≡ true = rw (← c.self.view_is) e in
-    let none : AreCandidates [] c.self.inside.index.held.items c.self.inside.index.waiting.items = rw (c.is_empty.ensures c.if-is_empty.true) at c.self.invariant.candidates in
+    let none : AreCandidates [] c.self.inside.index.held.items c.self.inside.index.waiting.items = rw (no-items c.self.inside.candidates.items (sym c.is_empty.ensures ∙ c.if-is_empty.true)) at c.self.invariant.candidates in
     let stuck : AreStuck c.args.self.now.held [] c.args.self.now.waiting = rw (← c.self.view_is) (no-candidates c.self.inside.index.held.items c.self.inside.index.waiting.items none) in
     rw (settle-alone c.args.self.now (row_of c.args.client c.args.number c.args.name.now c.args.mode) stuck known) c.grant_at_once.ensures.ok
 
@@ -52,3 +53,11 @@ returns-clause-ok c =
     let before : locks_in c.queue.new.self.held.items c.queue.new.self.waiting.items ≡ queued (row_of c.args.client c.args.number c.args.name.now c.args.mode) (locks_in t.held.items t.waiting.items) = ap (λ h. locks_in h c.queue.new.self.waiting.items) (c.queue.ensures.held ∙ c.in_ok-row.ensures.held) ∙ ap (λ w. locks_in t.held.items w) (c.queue.ensures.waiting ∙ ap (λ w. w ++ (c.ready.new.self.next, c.in_ok-row.row) ∷ []) c.in_ok-row.ensures.waiting ∙ ap (λ r. t.waiting.items ++ (c.ready.new.self.next, r) ∷ []) c.in_ok-row.ensures.row) ∙ queued-in t.held.items t.waiting.items c.ready.new.self.next (row_of c.args.client c.args.number c.args.name.now c.args.mode) in
     let e : locks_in c.settle.new.self.held.items c.settle.new.self.waiting.items ≡ settle (queued (row_of c.args.client c.args.number c.args.name.now c.args.mode) (locks_in t.held.items t.waiting.items)) = c.settle.ensures.settled ∙ ap (λ m. settle m) before in
     rw (← c.self.view_is) e
+
+pub invariant_of-self-2 : goal.invariant_of-self-2
+invariant_of-self-2 c = record {
+  index = c.settle.ensures.indexed;
+  lean = c.settle.ensures.lean (lean-filled c.ready.new.self c.queue.new.self c.in_ok-row.row c.args.client c.args.name.now (ap (λ r. r.client) c.in_ok-row.ensures.row) (ap (λ r. r.name) c.in_ok-row.ensures.row) c.queue.ensures.fills (c.in_ok-row.ensures.lean c.self.invariant.lean));
+  candidates = c.settle.ensures.candidates;
+  granted = c.hand_out.ensures.emptied;
+}
