@@ -26,7 +26,7 @@ pub any-places : (client number : ℕ) (rows : Table Row) → has_number number 
 any-places client number [] = refl
 any-places client number (p ∷ ps) = any-places_step client number p ps (any-places client number ps)
 
-count-cons : {X : Type 0} (t : X → Bool) (x : X) (xs : List X) → count_by t (x ∷ xs) ≡ cond (t x) 1 0 + count_by t xs
+pub count-cons : {X : Type 0} (t : X → Bool) (x : X) (xs : List X) → count_by t (x ∷ xs) ≡ cond (t x) 1 0 + count_by t xs
 count-cons t x xs = sum_by-cons (λ y. cond (t y) 1 0) x xs
 
 count-map : {X Y : Type 0} (t : Y → Bool) (f : X → Y) (xs : List X) → count_by t (map f xs) ≡ count_by (λ x. t (f x)) xs
@@ -51,7 +51,7 @@ live-places held waiting places client e =
 named-queue_step : (name : List ℕ) (p : ℕ × Row) (ps : Table Row) → is_named name (values_in ps) ≡ not (length (orders_in (filter (λ (q : ℕ × Row). bytes_eq q.1.name name) ps)) == 0) → is_named name (values_in (p ∷ ps)) ≡ not (length (orders_in (filter (λ (q : ℕ × Row). bytes_eq q.1.name name) (p ∷ ps))) == 0)
 named-queue_step name p ps below = grind (arith, nat_tests)
 
-named-queue : (name : List ℕ) (rows : Table Row) → is_named name (values_in rows) ≡ not (length (orders_in (filter (λ (q : ℕ × Row). bytes_eq q.1.name name) rows)) == 0)
+pub named-queue : (name : List ℕ) (rows : Table Row) → is_named name (values_in rows) ≡ not (length (orders_in (filter (λ (q : ℕ × Row). bytes_eq q.1.name name) rows)) == 0)
 named-queue name [] = refl
 named-queue name (p ∷ ps) = named-queue_step name p ps (named-queue name ps)
 

@@ -3,6 +3,7 @@ pub mod SettleLemmas
 pub mod IndexLemmas
 mod EntryLemmas
 pub mod LeanLemmas
+mod UsedLemmas
 mod NextLemmas
 pub mod RemovalLemmas
 pub mod CandidateLemmas

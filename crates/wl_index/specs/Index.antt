@@ -1,14 +1,15 @@
 -- What an indexed table keeps true: each line and each client's places are read off the two lists.
-use Rattle.std.specs.Prelude.{◌≡◌, ◌≤◌, ◌<◌, ◌+◌, ℕ, List, Bool, true, false, not, length, map, filter, count_by, ◌==◌, ◌&&◌, ◌||◌, bytes_eq, if◌then◌else◌}
+use Rattle.std.specs.Prelude.{◌≡◌, ◌≤◌, ◌<◌, ◌+◌, ℕ, List, Bool, true, false, not, length, map, filter, count_by, ◌==◌, ◌&&◌, ◌||◌, IsSome, nat_eq, bytes_eq, if◌then◌else◌}
 use Rattle.wl_draft.specs.declared.mode.Mode.{Mode}
 use Rattle.wl_draft.specs.declared.mode.Mode.TheVariants.{Shared, Exclusive}
 use Rattle.wl_draft.specs.declared.row.Row.{Row}
-use Rattle.wl_draft.specs.Locks.{Locks, is_named}
+use Rattle.wl_draft.specs.Locks.{Locks, is_named, live}
 use Rattle.wl_draft.specs.Tables.{Table}
 use Rattle.wl_ordered.specs.Orders.{values_in, orders_in, is_below, is_rising}
 use Rattle.wl_index.specs.Lines.{LineState, line_at, room_at, HasLine, count_named, is_idle_line}
 use Rattle.wl_index.specs.Clients.{Places, places_at, held_room_at, waiting_room_at, is_idle_client}
 use Rattle.std.specs.List.{list_all}
+use Rattle.std.specs.HashMap.{get}
 use Rattle.wl_index.specs.declared.index.Index.{Index}
 
 abbrev pub is_shared : Mode → Bool
@@ -54,9 +55,14 @@ pub record IsLeanBut (t : Index) (is_name : List ℕ → Bool) (is_client : ℕ 
   pub names : (name : List ℕ) → is_idle_line t.lines name ≡ true → is_name name ≡ true
   pub clients : (client : ℕ) → is_idle_client t.clients client ≡ true → is_client client ≡ true
 
--- each name that is kept is held or waited for, and each client that is kept has an entry
+-- no line says that nobody holds its name or waits for it, and no client is kept without places
 abbrev pub IsLean : Index → Type 0
 IsLean t = IsLeanBut t (λ name. false) (λ client. false)
+
+-- each name that has a line is the name of an entry, and each client that is kept has an entry
+pub record KeepsNoOthers (t : Index) : Type 0 where
+  pub names : (name : List ℕ) → HasLine t.lines name → (is_named name (values_in t.held.items) || is_named name (values_in t.waiting.items)) ≡ true
+  pub clients : (client : ℕ) → IsSome (get nat_eq t.clients.clients client) → 1 ≤ live (locks_in t.held.items t.waiting.items) client
 
 -- the row's name and its client have an entry now, and no others have lost theirs
 pub record Fills (old new : Index) (row : Row) : Type 0 where

@@ -5,6 +5,7 @@ pub mod candidates;
 pub mod clients;
 pub mod holdings;
 pub mod index;
+pub mod laws;
 pub mod line;
 pub mod lines;
 mod removal;
