@@ -5,6 +5,7 @@ ghost use Rattle.wl_grammar.specs.declared.frame.Frame.{Frame};
 ghost use Rattle.wl_grammar.specs.Grammar.{IsWellFormed, IsBody, body, spelling};
 ghost use Rattle.wl_encoding.specs.Lengths.{IsLength};
 ghost use Rattle.wl_frames.specs.Stream.{Reads, Rest, Stop};
+ghost use Rattle.wl_frames.specs.declared.device.TheConstants.{READ_LIMIT, PIECE_LEN, BUNDLE_LEN};
 
 /// No two frames have one spelling, and no spelling begins another.
 pub fn law_spelling()
@@ -20,4 +21,11 @@ pub fn law_reading()
         → Reads stream fs s → Reads stream gs t → (fs ≡ gs) × (s ≡ t) }
     ensures joins { (stream piece rest : List ℕ) (fs gs : List Frame) (s : Stop)
         → Reads stream fs (Rest rest) → Reads (rest ++ piece) gs s → Reads (stream ++ piece) (fs ++ gs) s }
+{}
+
+/// The value of each limit of this crate. All other contracts cite the limits by name.
+pub fn law_limits()
+    ensures reads { READ_LIMIT ≡ 1000000 }
+    ensures piece { PIECE_LEN ≡ 4096 }
+    ensures bundle { BUNDLE_LEN ≡ 32768 }
 {}

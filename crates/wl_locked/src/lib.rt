@@ -9,6 +9,7 @@ pub mod event;
 mod fours;
 mod gathering;
 pub mod lane;
+pub mod laws;
 pub mod locked;
 mod locking;
 mod marking;

@@ -1,7 +1,9 @@
 //! What the rule of an outbox says of its parcels. It holds between any two steps.
 
+ghost use Rattle.std.specs.Prelude.{◌≡◌};
 ghost use Rattle.wl_outbox.specs.Laws.{TakesInOrder, OnePassTakes, AllForOneTab, AllArrived};
 ghost use Rattle.wl_outbox.specs.MergeLaws.{KeepsOrder, HasEachOnce, HasNothingElse};
+ghost use Rattle.wl_outbox.specs.declared.outbox.TheConstants.{CAPACITY, PUTTER_LIMIT};
 
 /// The laws of the outbox, whatever its threads do and in whichever order.
 pub fn law_outbox()
@@ -23,4 +25,10 @@ pub fn law_merge()
     ensures once { HasEachOnce }
     // Each item was given by a source.
     ensures nothing_else { HasNothingElse }
+{}
+
+/// The value of each limit of this crate. All other contracts cite the limits by name.
+pub fn law_limits()
+    ensures parcels { CAPACITY ≡ 256 }
+    ensures putters { PUTTER_LIMIT ≡ 16 }
 {}

@@ -3,6 +3,7 @@
 #![tactic(auto)]
 
 pub mod ends;
+pub mod laws;
 pub mod pace;
 pub mod patience;
 pub mod restarts;
