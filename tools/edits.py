@@ -18,9 +18,10 @@ AT = re.compile(r"(?:note: )?(?:\./)?(\S+?):(\d+):\d+: (.*)$")
 HEAD = """# The must-fail edits
 
 Each edit changes a line or a few of the code, or of a definition, so that it means something else, and the prover has to refuse
-it. Beside it stands the first goal that was told as unproved, in the last run that is recorded here: the function, and which of
-its goals; a function with `+` in front is one that calls itself. Where a lemma is named the edit shows less, since all that is
-seen is that this lemma does not fit any more. `tools/edits.py` makes this page of what the gate and `make try-edits` print.
+it. "(rt)" marks the edits in `crates/*/must-fail`, which `rt ci` tries. The others stand in `edits/`, where `tools/try_edits.py`
+tries them. Beside each edit stands a goal that was not proved with it, in the last run that is recorded here: the function, and
+which of its goals. A function with `+` in front calls itself. If a lemma is named, the edit shows less: only that this lemma no
+longer fits. `tools/edits.py` makes this page of what the gate and `make try-edits` print.
 """
 
 
@@ -87,7 +88,8 @@ def main():
         print(f"\n## {crate}\n\n| Edit | In | Refused by |\n|---|---|---|")
         for edit in crates[crate]:
             name = os.path.basename(edit).removesuffix(".edit")
-            print(f"| {name} | `{', '.join(pairs_of(edit))}` | {goals.get((crate, name), '')} |")
+            mark = "" if edit.startswith("edits/") else " (rt)"
+            print(f"| {name}{mark} | `{', '.join(pairs_of(edit))}` | {goals.get((crate, name), '')} |")
 
 
 if __name__ == "__main__":

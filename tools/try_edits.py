@@ -1,29 +1,30 @@
-"""Tries the must-fail edits, those of a crate at once.
+"""Tries the must-fail edits in `edits/`, those of a crate at once.
 
-usage: try_edits.py [--gate | --control] [CRATE ..]
-       try_edits.py --fit
+An edit of `edits/CRATE` has the form of those that `rt` tries in `crates/CRATE/must-fail`, and more: a line `after: TEXT` before
+an old text means the first one behind TEXT. `rt` tries one edit after another, each in a check of its crate. The proof of a
+function uses the contracts of the others, never their code. So this tool tries edits of different functions together. It copies
+the crate, makes one edit in each function, and lets the prover check only these functions (`--only`). The prover has to refuse
+each of them by a goal of its own contract. Every other function gets an empty loop for its body, and a hole for its proof: its
+contract stands.
 
-An edit stands in `edits/CRATE`, in the form that `rt` has for edits in `crates/CRATE/must-fail`, of which it tries one after
-another; a line `after: TEXT` before an old text says that the first one behind TEXT is meant. What `rt` tries takes as long as a
-check of the crate at least. But the proof of a function knows of the others what their contracts say, and nothing of their code.
-So edits of the code of different functions are tried together here: a copy of the crate gets one for each function, and the
-prover has to refuse each of these functions, and no other one that they call. A further edit of one of them is made in a twin:
-the same function under another name, with its clauses and its proof. The prover is asked for these functions alone (`--only`),
-which looks at what they call too; so each function that no edit is of gets an empty loop as its body there, and a hole as its
-proof, which stands for what its contract says. An edit of anything else, as of a definition, is tried alone, and a line `refused:
-PATH` in it names the function that has to refuse it, as the prover names it, by a goal of its own or by a lemma. A second edit of
-a trait's function, which has no twin, comes after the others. Beside each edit stands the first goal that is not proved with it.
+- Each copy is checked twice: first without its edits, as the control. If a function is not proved there, its edits fail, because
+  their refusal would show nothing. Both checks share what was proved, so the control costs only what it adds.
+- A second edit of a function stands in a twin: the same function under another name, with its clauses and its proof. The control
+  proves the twin without the edit, too.
+- A second edit of a trait's function has no twin. It comes in a later copy.
+- If an edit spoils a function that another one calls, the other is tried again without it.
+- An edit of a definition is tried alone. Its line `refused: PATH` names the function that has to refuse it, as the prover names
+  it, by a goal of its own or by a lemma.
+- An edit with a line `error: CODE` must not compile, with this error of the compiler and no other.
+- An edit fails if the prover accepts it, if it cannot be read, or if its only goals have no name or cite a name that the edit
+  took away: they say nothing of a contract.
 
-Without CRATE the edits of all crates are tried, as many crates at a time as there are processors and memory. The libraries that
-a crate stands on are built first, by `rt lib`. The status is 0 where the prover refuses every edit, and the last line counts an
-edit that it refuses as passed, as `rt ci` does.
-With `--gate` it takes the libraries as `rt ci` has just left them, where it has all of them, and else says that it builds them.
-It leaves seven crates out, and of the others each edit with a line `gate: no`.
-With `--control` no edit is made, over such libraries likewise, and the prover has to prove each function that has to refuse one,
-beside the same loops and holes.
-With `--fit` none is tried: the status is 0, and nothing is printed, where each edit still fits its file.
+Without CRATE, the tool tries the edits of all crates, in as many processes as there are processors and memory. It builds the
+libraries below a crate first, by `rt lib`. The status is 0 if the prover refuses every edit. The last line counts a refused edit
+as passed, as `rt ci` does.
 """
 
+import argparse
 import concurrent.futures
 import contextlib
 import dataclasses
@@ -122,6 +123,7 @@ class Goal:
     clause: str
     # Whether the proof names what is no longer there.
     is_lost: bool
+    said: str
 
 
 @dataclasses.dataclass(frozen=True)
@@ -148,11 +150,12 @@ class Change:
 
 @dataclasses.dataclass(frozen=True)
 class Twin:
-    """A function once more, under another name, with an edit made in its code, and what that adds to the end of its file."""
+    """A second copy of a function under another name: what it adds to the end of its file, with the edit and without."""
 
     of: Function
     function: Function
-    text: str
+    edited: str
+    plain: str
 
 
 # What the name of a twin ends with, before a number.
@@ -172,6 +175,8 @@ class Edit:
     twin: Twin | None = None
     # Whether the gate tries it.
     is_of_gate: bool = True
+    # The error by which the compiler refuses it, if it does not reach the prover.
+    error: str = ""
 
     def __str__(self):
         return f"edit {self.crate}/{self.name}"
@@ -224,6 +229,8 @@ def read_edit(crate, name):
             edit.asked.append(text)
         elif word == "gate":
             edit.is_of_gate = text != "no"
+        elif word == "error":
+            edit.error = text
         elif word == "after":
             after = text
         elif word == "old":
@@ -243,7 +250,7 @@ def read_edit(crate, name):
     for path in edit.asked:
         if path not in known:
             raise ValueError(f"{edit} names no function: {path}")
-    if None not in inside:
+    if None not in inside and not edit.error:
         edit.functions = list(dict.fromkeys(it.key for it in inside))
         edit.asked = edit.asked or list(dict.fromkeys(it.named for it in inside))
     return edit
@@ -294,16 +301,21 @@ def twin_of(edit, number):
     behind = sum(len(it) + 1 for it in lines[of.last :])
     for change in edit.changes:
         edited = change.made_in(edited, edit)
-    body = edited[begins : len(edited) - behind]
     name = f"{of.name}{TWIN}{number}"
-    body = re.sub(rf"\bfn {of.name}\b", f"fn {name}", body, count=1)
-    if not of.is_plain or of.is_called_in(body):
-        return None
+    head, foot = [], []
     if of.is_inside:
-        begin = max(n for n in range(of.first) if re.match(r"(?:unsafe )?impl\b", lines[n]))
+        begin = max((n for n in range(of.first) if re.match(r"(?:unsafe )?impl\b", lines[n])), default=None)
+        if begin is None:
+            return None
         end = next(n for n in range(begin, of.first) if lines[n].endswith("{"))
-        body = "\n".join([*lines[begin : end + 1], body, "}"])
-    return Twin(of, dataclasses.replace(of, name=name), f"\n{body}\n")
+        head, foot = lines[begin : end + 1], ["}"]
+
+    def twin_in(whole):
+        body = re.sub(rf"\bfn {of.name}\b", f"fn {name}", whole[begins : len(whole) - behind], count=1)
+        return None if of.is_called_in(body) else "\n".join(["", *head, body, *foot, ""])
+
+    made = twin_in(edited), twin_in(text)
+    return Twin(of, dataclasses.replace(of, name=name), *made) if of.is_plain and all(made) else None
 
 
 def hollow(crate, texts, asked):
@@ -340,17 +352,17 @@ def fits_in(edit, group):
     return False
 
 
-def changed(edits):
-    """The texts of the files that these edits change, once all of them have."""
+def changed(edits, is_control=False):
+    """The texts of the files that these edits change, with the edits made, or without them but with their twins."""
     texts = {}
     for edit in edits:
         for change in edit.changes:
             if change.path not in texts:
                 texts[change.path] = text_of(os.path.join(ROOT, "crates", edit.crate, change.path))
-            if not edit.twin:
+            if not edit.twin and not is_control:
                 texts[change.path] = change.made_in(texts[change.path], edit)
     for twin in filter(None, (it.twin for it in edits)):
-        texts[twin.of.path] += twin.text
+        texts[twin.of.path] += twin.plain if is_control else twin.edited
     return texts
 
 
@@ -391,46 +403,67 @@ def command_of(crate, named):
     return words
 
 
+def link_or_copy(one, other):
+    """Links a file with a proof, which a check replaces and never changes, and copies any other."""
+    with contextlib.suppress(OSError):
+        if one.endswith(".oantt"):
+            return os.link(one, other)
+    return shutil.copy2(one, other)
+
+
+def begin_kept(crate, folder):
+    """Makes the folder of what is proved already. It begins with what `rt check` kept of the crate, if that is there."""
+    kept = os.path.join(ROOT, "crates", crate, "out", "incremental")
+    if os.path.isdir(kept):
+        shutil.copytree(kept, folder, copy_function=link_or_copy)
+    else:
+        os.mkdir(folder)
+
+
 class Trial:
     """The edits of one crate, those of a group at once."""
 
-    def __init__(self, crate, named, groups):
-        self.crate, self.groups = crate, groups
+    def __init__(self, crate, named, groups, is_control):
+        self.crate, self.groups, self.is_control = crate, groups, is_control
         self.command = command_of(crate, named)
         self.passed, self.failed = [], []
+        # By what was asked for, the functions that are proved in a copy of that kind without an edit.
+        self.controls = {}
 
     def run(self):
         with tempfile.TemporaryDirectory(prefix="try-edits-") as room:
-            self.folder = os.path.join(room, "crate")
+            self.folder, self.kept = os.path.join(room, "crate"), os.path.join(room, "kept")
+            begin_kept(self.crate, self.kept)
             for group in self.groups:
                 self.judge(group)
         return self
 
-    def control(self):
-        """Tells of each function that has to refuse an edit whether it is proved as it is."""
-        asked = {path for it in edits_of(self.crate) for path in it.asked}
-        with tempfile.TemporaryDirectory(prefix="try-edits-") as room:
-            self.folder = os.path.join(room, "crate")
-            said = self.said([], hollow(self.crate, {}, asked), sorted(asked))
-        if unread := UNREAD.search(said):
-            self.failed.append(f"{self.crate}: {unread[0]}")
-        proved = self.proved_by(said, {})
-        for it in (it for it in functions_in(self.crate) if it.named in asked):
-            if it.key in proved:
-                self.passed.append(f"{self.crate}::{it.named}: proved as it is")
-            else:
-                self.failed.append(f"{self.crate}::{it.named}: NOT PROVED, with no edit made")
-        return self
+    def asked_of(self, edits):
+        """What the prover is asked for, or nothing for the whole crate."""
+        return [it for edit in edits for it in edit.asked] if all(it.asked for it in edits) else []
 
-    def said_of(self, edits):
-        """What the prover says of the functions that have to refuse these edits, or of the whole crate where one names none."""
-        texts = changed(edits)
-        asked = [it for edit in edits for it in edit.asked] if all(it.asked for it in edits) else []
+    def said_of(self, edits, is_control=False):
+        """What the prover says of the functions that have to refuse these edits, or of the whole crate if one names none."""
+        texts, asked = changed(edits, is_control), self.asked_of(edits)
         said = self.said(edits, hollow(self.crate, texts, {*asked}), asked) if asked else ""
         if not VERDICT.search(said):
             # (a name that fits nothing, say)
             said = self.said(edits, texts, [])
         return said, texts
+
+    def uncontrolled(self, edits):
+        """The edits of which a function is not proved in a copy of the same kind without them, by name, each with the reason."""
+        asked = self.asked_of(edits)
+        kind = frozenset(asked)
+        if kind not in self.controls:
+            said, texts = self.said_of(edits, is_control=True)
+            unread = UNREAD.search(said)
+            proved = {it[1] for it in self.proved_by(said, texts)}
+            if not asked and "logic=proved" not in said:
+                unread = unread or [said[-300:]]
+            self.controls[kind] = (unread[0] if unread else "", proved)
+        why, proved = self.controls[kind]
+        return {it.name: why or f"{', '.join({*it.asked} - proved)}" for it in edits if why or {*it.asked} - proved}
 
     def said(self, edits, texts, asked):
         """What the prover says of the functions that are asked for, or of all, in a copy of the crate with these texts."""
@@ -448,6 +481,7 @@ class Trial:
                 file.write(text)
         words = ["--allow-holes", *(word for it in asked for word in ("--only", it))] if asked else []
         how = {"stdin": subprocess.DEVNULL, "stdout": subprocess.PIPE, "stderr": subprocess.STDOUT, "errors": "replace"}
+        words += ["--incremental", self.kept]
         return subprocess.run([*self.command, *words], cwd=self.folder, check=False, **how).stdout
 
     def copy_proof(self, twin):
@@ -464,17 +498,31 @@ class Trial:
                     file.write(text.replace(f".proofs.{old}.", f".proofs.{new}."))
 
     def judge(self, group):
+        if group[0].error:
+            self.judge_error(group[0])
+            return
+        unproved = self.uncontrolled(group)
+        for edit in [it for it in group if it.name in unproved]:
+            self.failed.append(f"{edit}: NO CONTROL: not proved without the edit: {unproved[edit.name]}")
+        if unproved:
+            group = [it for it in group if it.name not in unproved]
+            if group:
+                self.judge(group)
+            return
+        if self.is_control:
+            self.passed += [f"{edit}: proved without the edit: {', '.join(edit.asked) or 'the crate'}" for edit in group]
+            return
         said, texts = self.said_of(group)
         unread = UNREAD.search(said)
         goals = self.goals_of(said, texts)
         taken = {it for edit in group for it in edit.functions}
         is_lost = unread or not VERDICT.search(said)
         told = {edit.name: [it for it in goals if edit.is_refused_by(it, len(group) == 1)] for edit in group}
-        # What waits for a function that it calls, and that another edit has spoilt, is tried again without that one.
+        # A function that calls one that another edit has spoilt is not proved either. It is tried again without that edit.
         proved = self.proved_by(said, texts)
         waiting = [it for it in group if taken and not told[it.name] and not proved & {*it.functions}]
         if len(group) > 1 and (is_lost or waiting == group or any(it.function not in taken for it in goals)):
-            # One cannot be read, the prover gave up, or it refuses a function that none changes: which it is, is seen alone.
+            # One cannot be read, the prover gave up, or it refuses a function that none changes: each is tried alone.
             for edit in group:
                 self.judge([edit])
         elif is_lost or waiting == group:
@@ -487,13 +535,25 @@ class Trial:
             if waiting:
                 self.judge(waiting)
 
-    def tell(self, edit, goals):
-        if not goals:
-            self.failed.append(f"{edit}: NOT REFUSED: what it changes is still proved")
+    def judge_error(self, edit):
+        if self.is_control:
             return
-        goal = min(goals, key=lambda it: it.is_lost)
-        least = ", which only names what the edit took away, so this says little of the contract" if goal.is_lost else ""
-        self.passed.append(f"{edit}: refused by `{goal.home.partition(TWIN)[0]}`, `{goal.clause}`{least}")
+        errors = re.findall(r"\berror\[([\w-]+)\]", self.said([edit], changed([edit]), []))
+        if {*errors} == {edit.error}:
+            self.passed.append(f"{edit}: refused by the compiler, `{edit.error}`")
+        else:
+            self.failed.append(f"{edit}: NOT REFUSED by `{edit.error}`: {', '.join(errors) or 'it compiles'}")
+
+    def tell(self, edit, goals):
+        named = [it for it in goals if it.clause and not it.is_lost]
+        if named:
+            self.passed.append(f"{edit}: refused by `{named[0].home.partition(TWIN)[0]}`, `{named[0].clause}`")
+        elif not goals:
+            self.failed.append(f"{edit}: NOT REFUSED: what it changes is still proved")
+        elif goals[0].is_lost:
+            self.failed.append(f"{edit}: SHOWS NOTHING: `{goals[0].home}` only names what the edit took away")
+        else:
+            self.failed.append(f"{edit}: SHOWS NOTHING: the goal of `{goals[0].home}` has no name: {goals[0].said}")
 
     def proved_by(self, said, texts):
         """The functions that the prover tells as proved, given those with a hole, by file and name."""
@@ -511,22 +571,20 @@ class Trial:
             if in_code:
                 at = int(in_code[2])
                 of = next((it for it in functions if it.path == in_code[1] and it.first <= at <= it.last), None)
-                goals.append(Goal(of and of.key, of.name if of else in_code[1], in_code[3], False))
-            elif in_proof:
-                of = proved_in(in_proof[1], functions)
-                clause = re.match(r"`([^`]+)`", in_proof[2])
-                name = in_proof[1].rpartition("/")[2]
-                goals.append(Goal(of and of.key, name, clause[1] if clause else "", bool(NAME_LOST.search(line))))
-            elif in_lemma:
-                clause = re.match(r"`([^`]+)`", in_lemma[2])
-                goals.append(Goal(None, in_lemma[1], clause[1] if clause else "", bool(NAME_LOST.search(line))))
+                goals.append(Goal(of and of.key, of.name if of else in_code[1], in_code[3], False, ""))
+            elif in_proof or in_lemma:
+                told = in_proof or in_lemma
+                of = proved_in(told[1], functions) if in_proof else None
+                home = told[1].rpartition("/")[2] if in_proof else told[1]
+                clause = re.match(r"`([^`]+)`", told[2])
+                goals.append(Goal(of and of.key, home, clause[1] if clause else "", bool(NAME_LOST.search(line)), told[2][:200]))
         return goals
 
 
-def unfit():
+def unfit(crates):
     """What is to be said of the edits that no longer fit their files."""
     said = []
-    for crate in sorted(os.listdir(EDITS)):
+    for crate in sorted(crates):
         for name in sorted(os.listdir(os.path.join(EDITS, crate))):
             try:
                 read_edit(crate, name.removesuffix(".edit"))
@@ -546,36 +604,48 @@ def size(crate):
     return sum(os.path.getsize(it) for it in files)
 
 
-def main():
-    words = sys.argv[1:]
-    if words == ["--fit"]:
-        said = unfit()
-        print("\n".join(said), end="\n" if said else "")
-        return 1 if said else 0
-    flags = {it for it in words if it.startswith("-")}
-    if len(flags) > 1 or flags - {"--gate", "--control"}:
-        sys.exit(__doc__)
-    is_gate, is_control = "--gate" in flags, "--control" in flags
-    named = libraries()
-    crates = [it for it in words if it not in flags] or sorted({*os.listdir(EDITS)} - (LEFT_OUT if is_gate else set()))
+def build_libraries(crates, named, is_gate):
+    """Builds what the crates stand on. After `rt ci` the gate takes the libraries that it left."""
     needed = {dep for crate in crates for dep in below(crate, named)}
     lacking = sorted(it for it in needed if not is_of_gate(it))
-    if lacking or not (is_gate or is_control):
-        if is_gate or is_control:
-            print(f"builds {len(needed)} libraries first, since `rt ci` has not left {' '.join(lacking)}", file=sys.stderr)
-        for dep in sorted(needed, key=lambda it: len(below(it, named))):
-            subprocess.run(["rt", "lib"], cwd=os.path.join(ROOT, "crates", dep), stdout=subprocess.DEVNULL, check=True)
+    if is_gate and not lacking:
+        return
+    if is_gate:
+        print(f"builds {len(needed)} libraries first, since `rt ci` has not left {' '.join(lacking)}", file=sys.stderr)
+    for dep in sorted(needed, key=lambda it: len(below(it, named))):
+        subprocess.run(["rt", "lib"], cwd=os.path.join(ROOT, "crates", dep), stdout=subprocess.DEVNULL, check=True)
+
+
+def arguments():
+    parser = argparse.ArgumentParser(description=__doc__, formatter_class=argparse.RawDescriptionHelpFormatter)
+    parser.add_argument("crates", nargs="*", metavar="CRATE", help="a folder of edits/; without any, all of them")
+    modes = parser.add_mutually_exclusive_group()
+    modes.add_argument("--gate", action="store_true", help="leave out what the gate leaves out; use what `rt ci` left")
+    modes.add_argument("--control", action="store_true", help="run the control alone: make no edit, and prove every copy")
+    modes.add_argument("--fit", action="store_true", help="try nothing: print each edit that does not fit its file any more")
+    return parser.parse_args()
+
+
+def main():
+    given = arguments()
+    crates = given.crates or sorted({*os.listdir(EDITS)} - (LEFT_OUT if given.gate else set()))
+    if given.fit:
+        said = unfit(crates)
+        print("\n".join(said), end="\n" if said else "")
+        return 1 if said else 0
+    named = libraries()
+    build_libraries(crates, named, given.gate)
     trials = []
     for crate in sorted(crates, key=size, reverse=True):
-        edits = [] if is_control else [it for it in edits_of(crate) if it.is_of_gate or not is_gate]
-        trials.append(Trial(crate, named, together(edits)))
+        edits = [it for it in edits_of(crate) if it.is_of_gate or not given.gate]
+        trials.append(Trial(crate, named, together(edits), given.control))
     passed = failed = 0
     with concurrent.futures.ThreadPoolExecutor(lanes()) as pool:
-        for trial in concurrent.futures.as_completed([pool.submit(it.control if is_control else it.run) for it in trials]):
+        for trial in concurrent.futures.as_completed([pool.submit(it.run) for it in trials]):
             ended = trial.result()
             print("\n".join([*ended.passed, *ended.failed]), flush=True)
             passed, failed = passed + len(ended.passed), failed + len(ended.failed)
-    print(f"{'controls' if is_control else 'edits'}: {passed} passed, {failed} failed")
+    print(f"{'controls' if given.control else 'edits'}: {passed} passed, {failed} failed")
     return 1 if failed else 0
 
 

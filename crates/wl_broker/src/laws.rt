@@ -3,7 +3,7 @@
 ghost use Rattle.std.specs.Prelude.{ℕ, List};
 ghost use Rattle.wl_grammar.specs.declared.frame.Stamped.{Stamped};
 ghost use Rattle.wl_broker.specs.Broker.{BrokerState};
-ghost use Rattle.wl_broker.specs.Laws.{IsListedOnce, TakesInOnePartition, BuriesInOnePartition, GrantsNothingWhileRecovering, BuriesInSilenceWhileRecovering, StaysActive, MovesItsOwn, KeepsCompatible, LeavesPartsOfOthers, CountsCommands};
+ghost use Rattle.wl_broker.specs.Laws.{IsListedOnce, TakesInOnePartition, BuriesInOnePartition, GrantsNothingWhileRecovering, BuriesInSilenceWhileRecovering, StaysActive, MovesItsOwn, KeepsCompatible, LeavesPartsOfOthers, CountsCommands, WaitsForItsOwn};
 ghost use Rattle.wl_broker.specs.Grants.{StartsSettled, TakesSettled, BuriesSettled, BuriesItsOwn, BuriesOnce, BuriesActive, TakesTelling, BuriesTelling};
 ghost use Rattle.wl_broker.specs.Shards.{SeenAtEachShard, AnsweredByItsShard, DeathsSentByShards, DeathsSentByOneShard, HellosOfShards, InOneOrder};
 ghost use Rattle.wl_broker.specs.Speech.{SpellsStart, SpellsTaking, SpellsBurial};
@@ -21,6 +21,11 @@ pub fn law_broker()
     ensures compatible { (b : BrokerState) (s : Stamped) → KeepsCompatible b s }
     ensures parts { (b : BrokerState) (s : Stamped) → LeavesPartsOfOthers b s }
     ensures numbers { (b : BrokerState) (s : Stamped) → CountsCommands b s }
+{}
+
+/// A partition recovers on its own: the tabs of other partitions neither delay its first grant nor bring it forward.
+pub fn law_recovery()
+    ensures own_tabs { (b : BrokerState) (p : ℕ) → WaitsForItsOwn b p }
 {}
 
 /// What becomes of an active partition: no request waits there that could be granted; a death takes out the dead tab's locks and
