@@ -3,16 +3,17 @@
 usage: check_program.py PROGRAM
 
 The last part of the gate: `main`, the exit statuses and what stands on standard error are what no test of a crate can call. It
-plays the desk with whole, cut and refused input, desk and sim by turns with who waits for each answer, each example in
-`examples/` with the output beside it, refused scripts and what `explain.py` finds wrong with them, devices that fail, wrong
-command lines, and kernels with real children. It prints nothing where all is as it has to be, and else each difference; the
-status is then 1.
+plays the desk with whole, cut and refused input, desk and sim by turns with who waits for each answer, a million fresh names
+through the desk, each example in `examples/` with the output beside it, refused scripts and what `explain.py` finds wrong with
+them, devices that fail, wrong command lines, and kernels with real children. It prints nothing where all is as it has to be, and
+else each difference; the status is then 1.
 """
 
 import contextlib
 import os
 import pathlib
 import signal
+import struct
 import subprocess
 import sys
 import tempfile
@@ -36,6 +37,10 @@ HANDED_OVER = [
     "00000013 01 22 0001 01 11 00000001 00000002 00000001 04",
     "00000013 01 22 0002 01 11 00000001 00000001 00000000 02",
 ]
+
+# A million requests and releases, and how long an answer to one is.
+TIMES = 1_000_000
+ANSWER = 23
 
 SIZE = ["--lanes", "1", "--shards", "1", "--limit", "8"]
 KERNEL = ["kernel", "--dir", ".", "--lanes", "2", "--shards", "1", "--limit", "65536", "KERNEL"]
@@ -134,6 +139,54 @@ def check_at_once(program):
         left = (ran.stdout.read(), ran.stderr.read(), ran.wait())
         same(f"{word} by turns", "what is left, what is said of it, and the status", left, (b"", b"", 0))
         guard.cancel()
+
+
+def requests_and_releases(name_of):
+    """A tab that asks for a lock and gives it up, a million times, by the thousand: `name_of` tells each lock's name."""
+    stamp, asked = bytes.fromhex("01 20 0001 0001 01 01 00000001"), bytes.fromhex("01 02 00 07")
+    yield bytes_of(START, REPORT)
+    for first in range(0, TIMES, 1000):
+        frames = []
+        for turn in range(first, first + 1000):
+            number = struct.pack(">I", 2 * turn)
+            frames += [b"\0\0\0\x1B", stamp, number, asked, name_of(turn)]
+            frames += [b"\0\0\0\x15", stamp, struct.pack(">I", 2 * turn + 1), b"\x02", number]
+        yield b"".join(frames)
+
+
+def peak_of(program, name, pieces):
+    """The most memory, in KiB, that the desk takes for requests and releases in these pieces, each of which it answers."""
+    ran = subprocess.Popen([program, "desk"], stdin=subprocess.PIPE, stdout=subprocess.PIPE)
+    guard = threading.Timer(SECONDS, ran.kill)
+    guard.start()
+
+    def write():
+        with contextlib.suppress(BrokenPipeError), ran.stdin:
+            for piece in pieces:
+                ran.stdin.write(piece)
+
+    writer = threading.Thread(target=write)
+    writer.start()
+    length, end = 0, b""
+    while piece := ran.stdout.read(65536):
+        length, end = length + len(piece), (end + piece)[-ANSWER:]
+    writer.join()
+    ran.stdout.close()
+    _, status, usage = os.wait4(ran.pid, 0)
+    ran.returncode = os.waitstatus_to_exitcode(status)
+    guard.cancel()
+    last = struct.pack(">II", 2 * TIMES, 2 * TIMES - 1)
+    taken = bytes_of("00000013 01 22 0001 01 11 00000001") + last + b"\x04"
+    same(name, "the answers' length, the last answer, and the status", (length, end, ran.returncode), (2 * TIMES * ANSWER, taken, 0))
+    return usage.ru_maxrss
+
+
+def check_forgetting(program):
+    """A tab that asks for fresh names without end takes no more memory than one that asks for one name again and again."""
+    one = peak_of(program, "one name", requests_and_releases(lambda turn: b"0000000"))
+    fresh = peak_of(program, "fresh names", requests_and_releases(lambda turn: b"%07d" % turn))
+    if fresh > one + 32 * 1024:
+        differences.append(f"fresh names: they took {fresh} KiB, and one name {one} KiB")
 
 
 def read_nothing(program, word):
@@ -280,6 +333,7 @@ def main():
     check_desk(program)
     check_sim(program)
     check_at_once(program)
+    check_forgetting(program)
     check_explained(program)
     check_words(program)
     check_processes(program)
