@@ -623,7 +623,11 @@ def arguments():
     modes.add_argument("--gate", action="store_true", help="leave out what the gate leaves out; use what `rt ci` left")
     modes.add_argument("--control", action="store_true", help="run the control alone: make no edit, and prove every copy")
     modes.add_argument("--fit", action="store_true", help="try nothing: print each edit that does not fit its file any more")
-    return parser.parse_args()
+    given = parser.parse_args()
+    for crate in given.crates:
+        if not os.path.isdir(os.path.join(EDITS, crate)):
+            parser.error(f"there is no folder edits/{crate}")
+    return given
 
 
 def main():
