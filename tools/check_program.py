@@ -5,24 +5,21 @@ usage: check_program.py PROGRAM
 The last part of the gate: `main`, the exit statuses and what stands on standard error are what no test of a crate can call. It
 plays the desk with whole, cut and refused input, desk and sim by turns with who waits for each answer, a million fresh names
 through the desk, each example in `examples/` with the output beside it, refused scripts and what `explain.py` finds wrong with
-them, devices that fail, wrong command lines, and kernels with real children. It prints nothing where all is as it has to be, and
-else each difference; the status is then 1.
+them, devices that fail, and wrong command lines; `check_processes.py` plays kernels with real children. It prints nothing where
+all is as it has to be, and else each difference; the status is then 1.
 """
 
 import contextlib
 import os
 import pathlib
-import signal
 import struct
 import subprocess
 import sys
-import tempfile
 import threading
-import time
 
+from checks import SECONDS, Ended, bytes_of, differences, ends, same
 from explain import FORMS, wrong_line
 
-SECONDS = 60
 TOP = pathlib.Path(__file__).resolve().parent.parent
 
 START = "00000008 01 21 00000001 0000"
@@ -43,54 +40,6 @@ TIMES = 1_000_000
 ANSWER = 23
 
 SIZE = ["--lanes", "1", "--shards", "1", "--limit", "8"]
-KERNEL = ["kernel", "--dir", ".", "--lanes", "2", "--shards", "1", "--limit", "65536", "KERNEL"]
-ROUND = "ask exclusive f\nwait 0\nadd COUNTER\nrelease 0\n"
-
-# A tab that is not the program: it leaves a child behind, which keeps the link open until the kernel ends it.
-LEAVER = """#!{python}
-import os, socket, sys
-link = socket.socket(socket.AF_UNIX)
-link.connect(sys.argv[3])
-link.recv(1)
-if os.fork() == 0:
-    while link.recv(4096):
-        pass
-    os._exit(0)
-os._exit(7)
-"""
-
-differences = []
-
-
-class Ended:
-    """How a run of the program ended. A kernel starts the program that `name` says, where it is given."""
-
-    def __init__(self, program, words, stdin=b"", stdout=subprocess.PIPE, folder=None, name=None):
-        source = {"input": stdin} if isinstance(stdin, bytes) else {"stdin": stdin}
-        words = [name or program, *words]
-        try:
-            ran = subprocess.run(
-                words, executable=program, stdout=stdout, stderr=subprocess.PIPE, cwd=folder, timeout=SECONDS, check=False, **source
-            )
-            self.stdout, self.stderr, self.status = ran.stdout, ran.stderr.decode(), ran.returncode
-        except subprocess.TimeoutExpired:
-            self.stdout, self.stderr, self.status = None, "", f"none after {SECONDS} seconds"
-
-
-def bytes_of(*frames):
-    return bytes.fromhex("".join(frames))
-
-
-def same(name, what, found, wanted):
-    if found != wanted:
-        differences.append(f"{name}: {what} is {found!r}, not {wanted!r}")
-
-
-def ends(name, ended, stdout, stderr, status):
-    """Compares the whole of what was printed, and the status. Lines of standard error are of several processes."""
-    same(name, "standard output", ended.stdout, stdout)
-    same(name, "standard error", sorted(ended.stderr.splitlines()), sorted(stderr))
-    same(name, "the status", ended.status, status)
 
 
 def check_desk(program):
@@ -254,80 +203,6 @@ def check_words(program):
     ends("a tab without a kernel", Ended(program, ["tab", "--socket", "nowhere/x", "TAB"]), b"", ["wlb: Device"], 3)
 
 
-def play(program, kernel, words=KERNEL, **tabs):
-    """Runs a kernel with a script in a directory that has these scripts of tabs and a counter: how it ended, and what is in the
-    counter then."""
-    with tempfile.TemporaryDirectory() as folder:
-        scripts = {"KERNEL": kernel, "COUNTER": "0\n", **tabs}
-        for name, text in scripts.items():
-            pathlib.Path(folder, name).write_text(text, encoding="utf-8")
-        ended = Ended(program, words, folder=folder)
-        same(kernel, "what is left", sorted(os.listdir(folder)), sorted(scripts))
-        return ended, pathlib.Path(folder, "COUNTER").read_text(encoding="utf-8")
-
-
-def check_processes(program):
-    program = os.path.abspath(program)
-    for kernel, stdout, stderr, status in [
-        ("", b"", [], 0),
-        ("open data:,x TAB\n", b"SecurityError\n", [], 0),
-        ("open nowhere TAB\n", b"BadUrl\n", [], 0),
-        ("stop\nstart\nstart\nstop\nstop\nkill 1\n", b"already down\nup 1\nalready up\nstopped 1\nalready down\nno tab\n", [], 0),
-        ("pause 0\nstart\nstart \n", b"up 1\n", ["wlb: line 3"], 1),
-        ("pause 10001\n", b"", ["wlb: line 1"], 1),
-    ]:
-        ends(f"the kernel's script {kernel!r}", play(program, kernel)[0], stdout, stderr, status)
-    kernel = "start\n" + "".join(f"open https://a.test/ {tab}\n" for tab in ["BAD", "REFUSED", "NONE", "LACKING", "TAB"]) + "join\n"
-    tabs = {"BAD": "ask  exclusive f\n", "REFUSED": "\nask exclusive -f\n", "LACKING": ROUND.replace("COUNTER", "NOTHING"), "TAB": ROUND}
-    ended, counter = play(program, kernel, **tabs)
-    opened = "".join(f"opened {tab} https://a.test\n" for tab in range(1, 6))
-    statuses = "ended 1 1\nended 2 1\nended 3 3\nended 4 3\nended 5 0\n"
-    stderr = ["wlb: line 1", "wlb: line 2", "wlb: line 3", "wlb: Read"]
-    ends("tabs that end", ended, f"up 1\n{opened}{statuses}".encode(), stderr, 0)
-    same("tabs that end", "the counter", counter, "1\n")
-    query = "ask exclusive a\nwait 0\nquery\n"
-    held = '{"held":[{"clientId":"1","mode":"exclusive","name":"a"}],"pending":[]}'
-    ended, _counter = play(program, "start\nopen https://a.test/ TAB\njoin\n", TAB=query)
-    ends("a query", ended, f"up 1\nopened 1 https://a.test\n{held}\nended 1 0\n".encode(), [], 0)
-    check_leaver(program)
-    check_stopped(program)
-    for example in ["counter", "killed"]:
-        words = [sys.executable, TOP / "tools" / "demo_processes.py", TOP / "examples" / "processes" / example, program]
-        ran = subprocess.run(words, capture_output=True, text=True, timeout=3 * SECONDS, check=False)
-        same(f"examples/processes/{example}", "the status", (ran.returncode, ran.stdout if ran.returncode else ""), (0, ""))
-
-
-def check_leaver(program):
-    """A tab's process ends while its link stays open: the kernel sees that, and `join` tells it."""
-    with tempfile.TemporaryDirectory() as folder:
-        leaver = pathlib.Path(folder, "leaver")
-        leaver.write_text(LEAVER.format(python=sys.executable), encoding="utf-8")
-        leaver.chmod(0o755)
-        pathlib.Path(folder, "KERNEL").write_text("open https://a.test/ TAB\njoin\n", encoding="utf-8")
-        ended = Ended(program, KERNEL, folder=folder, name=str(leaver))
-    ends("a tab that leaves a child", ended, b"opened 1 https://a.test\nended 1 7\n", [], 0)
-
-
-def check_stopped(program):
-    """A kernel is stopped and goes on, which interrupts its reads: its tab lives on, and is there to be killed."""
-    with tempfile.TemporaryDirectory() as folder:
-        pathlib.Path(folder, "KERNEL").write_text("start\nopen https://a.test/ TAB\npause 2000\nkill 1\n", encoding="utf-8")
-        pathlib.Path(folder, "TAB").write_text("ask exclusive a\nwait 0\nask exclusive a\nwait 1\n", encoding="utf-8")
-        kernel = subprocess.Popen([program, *KERNEL], cwd=folder, stdout=subprocess.PIPE, stderr=subprocess.PIPE)
-        guard = threading.Timer(SECONDS, kernel.kill)
-        guard.start()
-        said = kernel.stdout.readline() + kernel.stdout.readline()
-        for _stop in range(5):
-            time.sleep(0.1)
-            kernel.send_signal(signal.SIGSTOP)
-            time.sleep(0.02)
-            kernel.send_signal(signal.SIGCONT)
-        said += kernel.stdout.read()
-        found = (said, kernel.stderr.read(), kernel.wait())
-        guard.cancel()
-    same("a kernel that was stopped and goes on", "what it says", found, (b"up 1\nopened 1 https://a.test\nkilled 1\n", b"", 0))
-
-
 def main():
     program = sys.argv[1]
     check_desk(program)
@@ -336,7 +211,6 @@ def main():
     check_forgetting(program)
     check_explained(program)
     check_words(program)
-    check_processes(program)
     for difference in differences:
         print(difference)
     sys.exit(1 if differences else 0)

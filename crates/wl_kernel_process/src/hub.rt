@@ -9,6 +9,7 @@ ghost use Rattle.wl_kernel_rules.specs.Supervised.{IsSentOn, IsRefusedBy, to_bro
 
 mod orders;
 
+use crate::child_link::Watched;
 pub(crate) use crate::hub::orders::Stop;
 use crate::post::{Post, Taking};
 use std::alloc::{AllocError, Global};
@@ -36,18 +37,28 @@ use wl_workers::BoardSeat;
 #[derive(Drop)]
 struct Link {
     generation: u32,
-    stream: UnixStream,
+    stream: Arc<UnixStream>,
+}
+
+impl Link {
+    /// Writes these bytes, or ends the link. After a failed write the broker may lack a death, so its generation must not go on.
+    fn write_or_end(&self, bytes: &[u8]) {
+        let mut writer = &*self.stream;
+        if writer.write_all(bytes).is_err() {
+            let _ = self.stream.shutdown(Shutdown::Both);
+        }
+    }
 }
 
 /// The current broker's process, with its link, for the end of both.
 #[derive(Drop)]
 pub(crate) struct BrokerProcess {
     child: Child,
-    link: UnixStream,
+    link: Arc<UnixStream>,
 }
 
 impl BrokerProcess {
-    pub(crate) fn new(child: Child, link: UnixStream) -> BrokerProcess {
+    pub(crate) fn new(child: Child, link: Arc<UnixStream>) -> BrokerProcess {
         BrokerProcess { child, link }
     }
 
@@ -61,6 +72,25 @@ impl BrokerProcess {
     pub(crate) fn end(mut self) {
         self.stop();
         let _ = self.child.wait();
+    }
+
+    fn has_ended(&mut self) -> bool {
+        matches!(self.child.try_wait(), Ok(Some(_)))
+    }
+}
+
+/// The process of the current broker.
+#[derive(Drop)]
+pub(crate) struct CurrentBroker<'a> {
+    pub(crate) hub: &'a Hub,
+}
+
+impl Watched for CurrentBroker<'_> {
+    fn has_ended<R: Wait>(&self, rt: &R) -> bool {
+        match &mut *self.hub.broker.lock(rt) {
+            Some(process) => process.has_ended(),
+            None => false,
+        }
     }
 }
 
@@ -337,11 +367,14 @@ impl Hub {
 
     // ---- the broker's link
 
-    /// Writes to the current broker, if there is one. A link that takes no more is found ended by who reads it.
+    /// Writes to the current broker, if there is one. A write that fails ends the link: the keeper reads its end, and starts the
+    /// next generation with the living tabs.
     pub(crate) fn write<R: Wait>(&self, rt: &R, bytes: &[u8]) {
-        let mut link = self.link.lock(rt);
-        if let Some(link) = &mut *link {
-            let _ = link.stream.write_all(bytes);
+        if bytes.is_empty() {
+            return;
+        }
+        if let Some(link) = &*self.link.lock(rt) {
+            link.write_or_end(bytes);
         }
     }
 
@@ -351,7 +384,11 @@ impl Hub {
     }
 
     /// Starts the next generation over this link. Nothing is sent over it before its Start frame.
-    pub(crate) fn install<R: Host>(&self, rt: &R, stream: UnixStream) -> Result<u32, ProcessFault> {
+    pub(crate) fn install<R: Host>(
+        &self,
+        rt: &R,
+        stream: Arc<UnixStream>,
+    ) -> Result<u32, ProcessFault> {
         let mut supervisor = self.supervisor.lock(rt);
         let mut bytes = Vec::new(self.alloc);
         let (generation, appended) = start(self.alloc, &mut supervisor, &mut bytes)?;
@@ -361,13 +398,11 @@ impl Hub {
         Ok(generation)
     }
 
-    /// This is the current broker's link from now on, over which these bytes go first.
+    /// Makes this the current broker's link, and writes these bytes first. If that fails, the link is ended, as in `write`.
     fn set_link<R: Host>(&self, rt: &R, current: Link, bytes: &[u8]) {
         let mut link = self.link.lock(rt);
+        current.write_or_end(bytes);
         *link = Some(current);
-        if let Some(link) = &mut *link {
-            let _ = link.stream.write_all(bytes);
-        }
     }
 
     /// The broker of this generation has no link any more.

@@ -1,19 +1,25 @@
 //! The keeper of the broker: one thread that starts each generation's process, and reads its link to its end.
 
-use crate::hub::{BrokerProcess, Hub};
-use std::alloc::Global;
+use crate::child_link::ChildLink;
+use crate::clock::milliseconds_since;
+use crate::hub::{BrokerProcess, CurrentBroker, Hub};
+use std::alloc::{AllocError, Global};
 use std::net::Shutdown;
 use std::os::unix::net::UnixStream;
 use std::process::Child;
+use std::sync::Arc;
 use std::time::{Duration, Instant};
 use wl_frames::device::READ_LIMIT;
 use wl_kernel_rules::is_answer;
-use wl_process::children::{Started, end, front_of, start_child};
+use wl_process::children::{NotStarted, Started, end, front_of, start_child};
 use wl_process::{Host, Incoming, ProcessFault};
 use wl_process_rules::Restarts;
 
 /// How often a broker's process is started at most, where each ends before it connects.
 const TRIES: u32 = 16;
+
+/// How many milliseconds the keeper waits before it tries again, if no descriptor was left.
+const BETWEEN_TRIES: u64 = 20;
 
 /// How a broker's process is started.
 #[derive(Drop)]
@@ -27,7 +33,7 @@ pub(crate) struct BrokerWords {
 
 impl BrokerWords {
     /// Starts the process of a generation.
-    fn start<R: Host>(&self, rt: &R, generation: u32) -> Result<Started, ProcessFault> {
+    fn start<R: Host>(&self, rt: &R, generation: u32) -> Result<Started, NotStarted> {
         let alloc = rt.alloc();
         let directory = self.directory.as_str();
         let path = format!(in alloc;
@@ -52,21 +58,37 @@ impl BrokerWords {
                 "--limit",
                 limit.as_str(),
             ],
+            0,
         )
     }
 
-    /// Starts the process of the next generation. One that ends before it connects is started again; None where the kernel ends.
+    /// Starts the process of the next generation. It is started again if it ends before it connects, or if no descriptor was
+    /// left, which a tab that is being opened may have for a moment. Returns None if the kernel ends.
     fn start_next<R: Host>(
         &self,
         rt: &R,
         hub: &Hub,
     ) -> Result<Option<(Child, UnixStream)>, ProcessFault> {
         for _try in 0..TRIES {
-            let mut started = self.start(rt, hub.generation(rt))?;
-            if let Some(link) = started.link {
-                return Ok(Some((started.child, link)));
+            match self.start(rt, hub.generation(rt)) {
+                Ok(
+                    Started {
+                        child,
+                        link: Some(link),
+                    },
+                ) => return Ok(Some((child, link))),
+                Ok(
+                    Started {
+                        mut child,
+                        link: None,
+                    },
+                ) => end(&mut child),
+                Err(NotStarted::NoDescriptor) => hub.pause(
+                    rt,
+                    Duration::from_millis(BETWEEN_TRIES),
+                ),
+                Err(NotStarted::Fault(fault)) => return Err(fault),
             }
-            end(&mut started.child);
             if hub.is_ending(rt) {
                 return Ok(None);
             }
@@ -97,16 +119,6 @@ pub(crate) fn keep<R: Host>(rt: &R, alloc: Global, hub: &Hub, words: &BrokerWord
     }
 }
 
-/// How many milliseconds have passed; very many without a clock.
-fn milliseconds_since<R: Host>(rt: &R, begun: Option<Instant>) -> u64 {
-    match (Instant::now(rt).ok(), begun) {
-        (Some(now), Some(begun)) => {
-            u64::try_from(now.duration_since(begun).as_millis()).unwrap_or(u64::MAX)
-        }
-        _ => u64::MAX,
-    }
-}
-
 /// Runs one generation to its end, and tells whether its broker has answered anything.
 fn run_generation<R: Host>(
     rt: &R,
@@ -117,9 +129,9 @@ fn run_generation<R: Host>(
     let Some((mut child, link)) = words.start_next(rt, hub)? else {
         return Ok(false);
     };
-    let Ok(ending) = link.try_clone() else {
+    let Ok((link, ending)) = shared(alloc, link) else {
         end(&mut child);
-        return Err(ProcessFault::Device);
+        return Err(ProcessFault::Memory);
     };
     hub.hold(rt, BrokerProcess::new(child, ending));
     let served = serve(rt, alloc, hub, &link);
@@ -130,17 +142,29 @@ fn run_generation<R: Host>(
     served
 }
 
+/// Shares a link, which has one descriptor then.
+fn shared(
+    alloc: Global,
+    link: UnixStream,
+) -> Result<(Arc<UnixStream>, Arc<UnixStream>), AllocError> {
+    let link = Arc::new(alloc, link)?;
+    let other = Arc::try_clone(&link)?;
+    Ok((link, other))
+}
+
 /// Starts the generation of a link, passes on what comes over it, to its end, and tells whether anything but hellos came.
 fn serve<R: Host>(
     rt: &R,
     alloc: Global,
     hub: &Hub,
-    link: &UnixStream,
+    link: &Arc<UnixStream>,
 ) -> Result<bool, ProcessFault> {
-    let writing = link.try_clone().map_err(ProcessFault::of_device)?;
+    let writing = Arc::try_clone(link)?;
+    let process = CurrentBroker { hub };
+    let reading = ChildLink::new(*rt, link, &process).map_err(ProcessFault::of_device)?;
     let generation = hub.install(rt, writing)?;
     hub.note_up(rt, generation);
-    let has_answered = read_broker(rt, alloc, hub, generation, link);
+    let has_answered = read_broker(rt, alloc, hub, generation, reading);
     // Whoever waits to write to it waits no longer.
     let _ = link.shutdown(Shutdown::Both);
     hub.note_end_of_link(rt, generation);
@@ -154,7 +178,7 @@ fn read_broker<R: Host>(
     alloc: Global,
     hub: &Hub,
     generation: u32,
-    link: &UnixStream,
+    link: ChildLink<'_, R, CurrentBroker<'_>>,
 ) -> bool {
     let mut incoming = Incoming::new(alloc, link);
     let mut has_answered = false;

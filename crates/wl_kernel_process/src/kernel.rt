@@ -13,10 +13,15 @@ use std::time::Duration;
 use std::{io, thread};
 use wl_kernel_rules::{unopened_reply, unread_reply};
 use wl_origin::{OriginFault, Partition, partition, partition_pair};
-use wl_process::children::{Started, front_of, start_child};
+use wl_process::children::{NotStarted, Started, front_of, start_child};
+use wl_process::fault::DEVICE_OR_MEMORY;
 use wl_process::{Host, ProcessFault, line_number, read_script};
 use wl_process_script::{KernelLine, KernelReply, read_kernel_line};
 use wl_words::Unread;
+
+/// How many descriptors the opening of a tab leaves, so that a broker can be started again. A start takes two of them at most:
+/// the socket, and then the link.
+const SPARE_DESCRIPTORS: usize = 8;
 
 /// How a kernel is to be run.
 #[derive(Drop)]
@@ -226,12 +231,21 @@ impl Kernel {
         }
     }
 
-    /// Starts the process of a tab, and the threads of its link.
+    /// Starts the process of a tab, and the threads of its link. If no descriptor is left for it, the tab alone is given up: it is
+    /// buried with the status of a device that failed.
     fn start<R: Host>(&mut self, rt: R, opened: Opened, file: &str) -> Result<(), ProcessFault>
         requires { IsDeathOf opened.tab opened.death.items }
     {
         self.tabs.reserve(1)?;
-        let started = self.start_process(&rt, opened.tab, file)?;
+        let started = match self.start_process(&rt, opened.tab, file) {
+            Ok(started) => started,
+            Err(NotStarted::NoDescriptor) => {
+                let death = opened.death.as_slice();
+                self.hub.bury(&rt, opened.tab, death, DEVICE_OR_MEMORY);
+                return Ok(());
+            }
+            Err(NotStarted::Fault(fault)) => return Err(fault),
+        };
         let Opened {
             tab,
             post,
@@ -254,12 +268,7 @@ impl Kernel {
     }
 
     /// Starts the process of a tab with a script, and accepts its link.
-    fn start_process<R: Host>(
-        &self,
-        rt: &R,
-        tab: u16,
-        file: &str,
-    ) -> Result<Started, ProcessFault> {
+    fn start_process<R: Host>(&self, rt: &R, tab: u16, file: &str) -> Result<Started, NotStarted> {
         let directory = self.words.directory.as_str();
         let path = format!(in self.alloc; "{}{directory}/tab{tab}.sock", front_of(directory))?;
         let script = format!(in self.alloc; "{}{file}", front_of(file))?;
@@ -268,6 +277,7 @@ impl Kernel {
             self.words.program.as_str(),
             path.as_str(),
             &["tab", "--socket", path.as_str(), script.as_str()],
+            SPARE_DESCRIPTORS,
         )
     }
 

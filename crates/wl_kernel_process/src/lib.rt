@@ -2,6 +2,8 @@
 //! does is tested.
 #![tactic(auto)]
 
+mod child_link;
+mod clock;
 mod flushed;
 mod hub;
 mod keeper;

@@ -1,15 +1,15 @@
 //! A tab's link and process in the kernel: the thread that reads, the thread that writes, and the end of both.
 
-ghost use Rattle.std.specs.Io.{ReadsAtMost};
 ghost use Rattle.wl_kernel_rules.specs.News.{IsDeathOf};
 
+use crate::child_link::{ChildLink, Watched};
 use crate::flushed::Flushed;
 use crate::hub::Hub;
 use crate::link_end::{Mercy, mercy_at};
 use crate::post::{Post, Taking};
 use std::alloc::{AllocError, AllocFailed, Global};
 use std::cell::RefCell;
-use std::io::{ErrorKind, Read};
+use std::io::Read;
 use std::net::Shutdown;
 use std::os::unix::net::UnixStream;
 use std::os::unix::process::ExitStatusExt;
@@ -31,9 +31,6 @@ use wl_workers::{ReadEnd, Rung, SharedSeat, Uplink, WriteEnd};
 
 /// How many milliseconds a process has to end by itself when its link has merely ended.
 const GRACE: u32 = 1_000;
-
-/// How many milliseconds a link may be still before its process is looked at.
-const STILLNESS: u64 = 1_000;
 
 /// A tab's process.
 #[derive(Drop)]
@@ -57,11 +54,6 @@ impl TabProcess {
         if let Some(link) = &self.link {
             let _ = link.shutdown(Shutdown::Both);
         }
-    }
-
-    /// Whether the process has ended.
-    fn has_ended<R: Wait>(&self, rt: &R) -> bool {
-        matches!(self.child.lock(rt).try_wait(), Ok(Some(_)))
     }
 
     /// Ends what is left of the process, and buries the tab.
@@ -96,6 +88,12 @@ impl TabProcess {
     }
 }
 
+impl Watched for TabProcess {
+    fn has_ended<R: Wait>(&self, rt: &R) -> bool {
+        matches!(self.child.lock(rt).try_wait(), Ok(Some(_)))
+    }
+}
+
 /// What a tab's reader has gathered for the broker since it read last, and the tab's pace.
 #[derive(Drop)]
 struct Gathered {
@@ -123,9 +121,7 @@ impl Gathered {
         if self.load == Load::NOTHING {
             return Duration::ZERO;
         }
-        if !self.bytes.is_empty() {
-            hub.write(rt, self.bytes.as_slice());
-        }
+        hub.write(rt, self.bytes.as_slice());
         let elapsed = self.since_sent(rt);
         self.pace.send(self.load, elapsed);
         self.bytes.clear();
@@ -169,11 +165,10 @@ struct TabLink<'a, R> {
     rt: R,
     hub: &'a Hub,
     gathered: &'a RefCell<Gathered>,
-    process: &'a TabProcess,
-    link: &'a UnixStream,
+    link: ChildLink<'a, R, TabProcess>,
 }
 
-impl<R: Wait + Clock> TabLink<'_, R> {
+impl<R: Wait + Clock + Drop> TabLink<'_, R> {
     /// Hands on what was gathered. A tab that is ahead of its pace pauses then.
     fn hand_on(&self) {
         let pause = match self.gathered.try_borrow_mut() {
@@ -184,40 +179,12 @@ impl<R: Wait + Clock> TabLink<'_, R> {
             thread::sleep(&self.rt, pause);
         }
     }
-
-    /// Reads the link. It counts as ended where nothing comes and the process has ended: a child of the tab may keep it open. A
-    /// read that is interrupted, as where the kernel is stopped and goes on, is made again.
-    fn read_link(&self, buffer: &mut [u8]) -> io::Result<usize>
-        ensures bound { ReadsAtMost result buffer.new }
-    {
-        let mut link = self.link;
-        // What it sent before its end is read, since nothing has to come after that, too.
-        let mut has_ended = false;
-        for _turn in 0..u32::MAX {
-            match link.read(buffer) {
-                Err(error) if is_still(&error) => {
-                    if has_ended {
-                        return Ok(0);
-                    }
-                    has_ended = self.process.has_ended(&self.rt);
-                }
-                Err(error) if error.kind() == ErrorKind::Interrupted => {}
-                done => return done,
-            }
-        }
-        Ok(0)
-    }
 }
 
-/// Whether a read has ended because nothing came.
-fn is_still(error: &io::Error) -> bool {
-    matches!(error.kind(), ErrorKind::WouldBlock | ErrorKind::TimedOut)
-}
-
-impl<R: Wait + Clock> Read for TabLink<'_, R> {
+impl<R: Wait + Clock + Drop> Read for TabLink<'_, R> {
     fn read(&mut self, buffer: &mut [u8]) -> io::Result<usize> {
         self.hand_on();
-        let count = self.read_link(buffer)?;
+        let count = self.link.read(buffer)?;
         if let Ok(mut gathered) = self.gathered.try_borrow_mut() {
             let bytes = u32::try_from(count).unwrap_or(u32::MAX);
             gathered.load.bytes = gathered.load.bytes.saturating_add(bytes);
@@ -234,9 +201,10 @@ fn read_link<R: Host>(
     process: &TabProcess,
     link: &UnixStream,
 ) -> Result<ReadEnd, AllocError> {
-    // Where the link has no such limit, the end of the process is seen by the end of the link alone.
-    let _ = link.set_read_timeout(Some(Duration::from_millis(STILLNESS)));
     let tab = process.tab;
+    let Ok(link) = ChildLink::new(*rt, link, process) else {
+        return Ok(ReadEnd::Read);
+    };
     let gathered = RefCell::new(Gathered::new(alloc));
     let mut lives = SharedSeat::new(hub.seat_of(tab)?);
     let mut uplink = KernelLink {
@@ -247,7 +215,6 @@ fn read_link<R: Host>(
         rt: *rt,
         hub,
         gathered: &gathered,
-        process,
         link,
     });
     let end = tab_reader(rt, alloc, tab, &mut source, &mut lives, &mut uplink);

@@ -1,10 +1,15 @@
 //! Children that connect to a socket of their own.
 
-ghost use Rattle.std.specs.Prelude.{◌≡◌, [], codes, if◌then◌else◌};
+ghost use Rattle.std.specs.IoError.{error_kind, raw_os_error};
+ghost use Rattle.std.specs.Prelude.{◌≡◌, ◌≢◌, [], Some, codes, if◌then◌else◌};
 ghost use Rattle.wl_process.specs.Paths.{is_like_an_option};
+ghost use Rattle.wl_process.specs.declared.children.NotStarted.TheVariants as reasons;
+ghost use Rattle.wl_process.specs.declared.children.TheConstants.{EMFILE, ENFILE};
+ghost use Rattle.wl_process.specs.declared.fault.ProcessFault.TheVariants as faults;
 
 use crate::fault::ProcessFault;
 use crate::host::Host;
+use std::alloc::AllocError;
 use std::io::ErrorKind;
 use std::os::unix::net::{UnixListener, UnixStream};
 use std::process::{Child, Command};
@@ -13,6 +18,45 @@ use std::{io, thread};
 
 /// How many turns of a millisecond a child has to connect.
 const TURNS: u32 = 10_000;
+
+/// The system's number of the error that this process has as many descriptors as it may have.
+pub const EMFILE: i32 = 24;
+
+/// The system's number of the error that all processes together have as many open files as they may have.
+pub const ENFILE: i32 = 23;
+
+/// Why a child was not started.
+#[derive(Clone, Copy, Debug, PartialEq, Eq)]
+pub enum NotStarted {
+    /// No descriptor is left for it.
+    NoDescriptor,
+    Fault(ProcessFault),
+}
+
+impl NotStarted {
+    /// Converts an error of the system.
+    pub fn of_device(error: io::Error) -> NotStarted
+        ensures process { raw_os_error error ≡ Some EMFILE → result ≡ NotStarted.NoDescriptor }
+        ensures system { raw_os_error error ≡ Some ENFILE → result ≡ NotStarted.NoDescriptor }
+        ensures memory { raw_os_error error ≢ Some EMFILE → raw_os_error error ≢ Some ENFILE
+            → error_kind error ≡ ErrorKind.OutOfMemory → result ≡ NotStarted.Fault ProcessFault.Memory }
+        ensures device { raw_os_error error ≢ Some EMFILE → raw_os_error error ≢ Some ENFILE
+            → error_kind error ≢ ErrorKind.OutOfMemory → result ≡ NotStarted.Fault ProcessFault.Device }
+    {
+        match error.raw_os_error() {
+            Some(EMFILE | ENFILE) => NotStarted::NoDescriptor,
+            _ => NotStarted::Fault(ProcessFault::of_device(error)),
+        }
+    }
+}
+
+impl From<AllocError> for NotStarted {
+    ghost from_gives = { λ _ e. e ≡ reasons.Fault faults.Memory };
+
+    fn from(_refused: AllocError) -> NotStarted {
+        NotStarted::Fault(ProcessFault::Memory)
+    }
+}
 
 /// A child that was started, and its link, if it connected.
 #[derive(Drop)]
@@ -28,23 +72,43 @@ pub fn front_of(path: &str) -> &'static str
     if path.starts_with('-') { "./" } else { "" }
 }
 
-/// Starts the program with these words and a socket that it is to connect to, and accepts its link. The socket's file is
-/// removed then.
+/// Starts the program with these words and a socket that it is to connect to, and accepts its link. Only this user may connect
+/// to the socket, whose file is removed then. If fewer than `spare` descriptors were left beside the link, no child is started.
 pub fn start_child<R: Host>(
     rt: &R,
     program: &str,
     path: &str,
     words: &[&str],
-) -> Result<Started, ProcessFault> {
-    let listener = rt.listen(path).map_err(ProcessFault::of_device)?;
-    let started = start_listened(rt, &listener, program, words).map_err(ProcessFault::of_device);
+    spare: usize,
+) -> Result<Started, NotStarted> {
+    let listener = rt.listen(path).map_err(NotStarted::of_device)?;
+    let started = match prepare(rt, &listener, path, spare) {
+        Ok(()) => start_listened(rt, &listener, program, words),
+        Err(error) => Err(error),
+    };
     let removed = remove(rt, path);
-    let mut started = started?;
+    let mut started = started.map_err(NotStarted::of_device)?;
     if let Err(fault) = removed {
         end(&mut started.child);
-        return Err(fault);
+        return Err(NotStarted::Fault(fault));
     }
     Ok(started)
+}
+
+/// Makes a socket ready for its child.
+fn prepare<R: Host>(rt: &R, listener: &UnixListener, path: &str, spare: usize) -> io::Result<()> {
+    rt.make_private(path)?;
+    listener.set_nonblocking(true)?;
+    find_spare(rt, listener, spare)
+}
+
+/// Fails if fewer than `spare` descriptors are left. It takes them for a moment.
+fn find_spare<R: Host>(rt: &R, listener: &UnixListener, spare: usize) -> io::Result<()> {
+    let mut taken = Vec::new(rt.alloc());
+    for _descriptor in 0..spare {
+        taken.push(listener.try_clone()?)?;
+    }
+    Ok(())
 }
 
 /// Removes a socket's file, unless its child has.
@@ -61,7 +125,6 @@ fn start_listened<R: Host>(
     program: &str,
     words: &[&str],
 ) -> io::Result<Started> {
-    listener.set_nonblocking(true)?;
     let mut child = start_program(rt, program, words)?;
     match accept(rt, listener, &mut child) {
         Ok(link) => {

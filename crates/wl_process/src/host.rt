@@ -1,14 +1,18 @@
 //! What the processes need of the system.
 
-use std::fs::OpenOptions;
+use std::fs::{OpenOptions, Permissions};
 use std::io::Write;
 use std::net::Net;
+use std::os::unix::fs::PermissionsExt;
 use std::os::unix::net::{UnixListener, UnixStream};
 use std::process::{Child, Command, Processes, SystemProcess};
 use std::rt::{Clock, Files};
 use std::sync::Wait;
 use std::thread::Threads;
 use std::{fs, io};
+
+/// The mode of a file that its owner alone may use.
+const OWNER_ONLY: u32 = 0o600;
 
 /// Memory, standard output, the clock, threads and locks; and, as calls, files, sockets and children: a handle that leaves the
 /// type of its files or streams open is none that a thread may be given.
@@ -24,6 +28,9 @@ pub trait Host: AllocGlobal + Print + Clock + Threads + Wait + Copy + Send + Syn
 
     /// Listens on a Unix socket, whose file it makes.
     fn listen(&self, path: &str) -> io::Result<UnixListener>;
+
+    /// Leaves a file to its owner alone: nobody else may read it, write to it or, if it is a socket, connect to it.
+    fn make_private(&self, path: &str) -> io::Result<()>;
 
     /// Connects to a Unix socket.
     fn connect(&self, path: &str) -> io::Result<UnixStream>;
@@ -62,6 +69,10 @@ where
 
     fn listen(&self, path: &str) -> io::Result<UnixListener> {
         UnixListener::bind(self, path)
+    }
+
+    fn make_private(&self, path: &str) -> io::Result<()> {
+        fs::set_permissions(self, path, Permissions::from_mode(OWNER_ONLY))
     }
 
     fn connect(&self, path: &str) -> io::Result<UnixStream> {
