@@ -39,6 +39,7 @@ test:
 	RT_JOBS=$${RT_JOBS:-$$(python3 tools/lanes.py)} rt ci
 	@python3 tools/try_edits.py --gate
 	@python3 tools/check_program.py crates/wlb/out/wlb
+	@python3 tools/check_owed_hello.py crates/wlb/out/wlb
 
 try-edits:
 	python3 tools/try_edits.py $(CRATES)
