@@ -40,6 +40,7 @@ test:
 	@python3 tools/try_edits.py --gate
 	@python3 tools/check_program.py crates/wlb/out/wlb
 	@python3 tools/check_processes.py crates/wlb/out/wlb
+	@python3 tools/check_owed_hello.py crates/wlb/out/wlb
 
 try-edits:
 	python3 tools/try_edits.py $(CRATES)

@@ -1,4 +1,4 @@
-//! The tests of lanes over a broker behind locks, through what `wl_locked` and `wl_workers` offer.
+//! The tests of lanes over a broker behind locks, through what `wl_locked`, `wl_workers` and `wl_broker_process` offer.
 #![tactic(auto)]
 
 #[cfg(test)]

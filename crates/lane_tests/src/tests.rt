@@ -2,6 +2,7 @@
 
 mod lane_ends;
 mod lanes;
+mod process_lanes;
 mod runs;
 mod shards;
 mod turnstile;

@@ -1,7 +1,7 @@
 //! What comes over the broker's link. The lanes take turns at reading it, each for all of them: so a lane that reads what is its
 //! own wakes nobody.
 
-ghost use Rattle.std.specs.Prelude.{◌<◌};
+ghost use Rattle.std.specs.Prelude.{◌≡◌, ◌<◌, ◌%◌};
 
 use crate::mailbox::{Mailbox, Woken};
 use std::alloc::{AllocError, Global};
@@ -41,12 +41,14 @@ enum Turn<'a> {
 #[derive(Drop)]
 pub(crate) struct Inbox<'a> {
     alloc: Global,
+    lanes: u16,
     shards: u16,
     mailboxes: Vec<Mailbox>,
     turn: Mutex<Turn<'a>>,
     meeting: Mutex<Meeting>,
     met: Condvar,
-    ghost some: { 0 < shards },
+    ghost some_lanes: { 0 < lanes },
+    ghost some_shards: { 0 < shards },
 }
 
 impl<'a> Inbox<'a> {
@@ -57,7 +59,8 @@ impl<'a> Inbox<'a> {
         shards: u16,
         incoming: Incoming<&'a UnixStream>,
     ) -> Result<Inbox<'a>, AllocError>
-        requires { 0 < shards }
+        requires lanes { 0 < lanes }
+        requires shards { 0 < shards }
     {
         let mut mailboxes = Vec::new(alloc);
         for _lane in 0..lanes {
@@ -65,6 +68,7 @@ impl<'a> Inbox<'a> {
         }
         Ok(Inbox {
             alloc,
+            lanes,
             shards,
             mailboxes,
             turn: Mutex::new(Turn::Free(incoming)),
@@ -93,6 +97,11 @@ impl<'a> Inbox<'a> {
             self.met.notify_all();
         }
         !meeting.is_off
+    }
+
+    /// Whether a lane got no thread, so that none reads.
+    pub(crate) fn is_off<R: Wait>(&self, rt: &R) -> bool {
+        self.meeting.lock(rt).is_off
     }
 
     /// Deals the frames that came before any lane was there.
@@ -225,7 +234,7 @@ impl<'a> Inbox<'a> {
         let mut works = Vec::new(self.alloc);
         for frame in frames {
             let (tab, event) = event_of(frame)?;
-            let place = usize::from(tab) % self.mailboxes.len().max(1);
+            let place = usize::from(lane_of(tab, self.lanes));
             let _lost = deal(&mut works, self.shards, event).is_err();
             while let Some(work) = works.pop() {
                 let coming = self.put(rt, place, work);
@@ -258,6 +267,14 @@ fn turn_after<'a>(
         Ok(None) => Turn::Over(Ok(())),
         Err(fault) => Turn::Over(Err(fault)),
     }
+}
+
+/// Returns the lane that takes what a tab sends.
+fn lane_of(tab: u16, lanes: u16) -> u16
+    requires { 0 < lanes }
+    ensures { result ≡ tab % lanes }
+{
+    tab % lanes
 }
 
 /// The event of a frame that is dealt, with its tab.

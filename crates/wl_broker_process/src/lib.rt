@@ -4,6 +4,7 @@
 
 pub mod broker;
 mod inbox;
+mod lanes;
 mod mailbox;
 
-pub use broker::run_broker;
+pub use broker::{run_broker, run_generation};

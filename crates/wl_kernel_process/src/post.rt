@@ -1,31 +1,67 @@
 //! A tab's outbox, as those who put into it have it.
 
-ghost use Rattle.std.specs.Prelude.{◌≡◌, true, false};
+ghost use Rattle.std.specs.Prelude.{◌≡◌, ◌≢◌, true, false};
 ghost use Rattle.std.specs.Arc.{arc_value};
+ghost use Rattle.wl_kernel_rules.specs.Owed.{greeting, noted};
 ghost use Rattle.wl_outbox.specs.Passes.{IsOf, takes};
 
 use std::alloc::{AllocError, Global};
 use std::sync::{Arc, Mutex, Wait};
 use std::thread::Parker;
 use wl_frames::Frame;
+use wl_kernel_rules::{OwedHello, greeting_of};
 use wl_outbox::{Outbox, Parcel, Pass};
 
-/// The one pass that puts into an outbox.
+/// The one pass that puts into an outbox, and the Hello that the tab is owed.
 #[derive(Drop)]
 struct Putting {
     outbox: Arc<Outbox>,
     pass: Pass,
+    owed: OwedHello,
     ghost of_outbox: { IsOf pass (arc_value outbox) },
     ghost puts: { takes pass ≡ false },
 }
 
 impl Putting {
-    /// Puts a frame that comes from the partition of this number.
+    /// Puts the Hello that the tab is owed, and then a frame that comes from the partition of this number.
     fn put<R: Wait>(&mut self, rt: &R, partition: u16, frame: Frame) {
+        self.put_owed(rt);
+        self.put_one(rt, partition, frame);
+    }
+
+    /// Puts the Hello that the tab is owed, and returns whether the outbox took one.
+    fn put_owed<R: Wait>(&mut self, rt: &R) -> bool {
+        match self.owed.due() {
+            Some(hello) => {
+                let partition = self.outbox.partition();
+                self.put_one(rt, partition, hello)
+            }
+            None => false,
+        }
+    }
+
+    /// Puts a frame that comes from the partition of this number, and returns whether the outbox took it. The tab is owed a Hello
+    /// that found the outbox full.
+    fn put_one<R: Wait>(&mut self, rt: &R, partition: u16, frame: Frame) -> bool
+        ensures own { partition ≡ (arc_value self.old.outbox).partition
+            → self.new.owed ≡ noted (greeting frame) result self.old.owed }
+        ensures other { partition ≢ (arc_value self.old.outbox).partition
+            → self.new.owed ≡ self.old.owed }
+    {
+        let greeting = greeting_of(&frame);
         let outbox = &*self.outbox;
         match Parcel::new(partition, outbox.partition(), outbox.tab(), frame) {
-            Ok(parcel) => drop(outbox.put(rt, &mut self.pass, parcel)),
-            Err(refused) => drop(refused),
+            Ok(parcel) => {
+                let put = outbox.put(rt, &mut self.pass, parcel);
+                let is_put = put.is_ok();
+                drop(put);
+                self.owed.note(greeting, is_put);
+                is_put
+            }
+            Err(refused) => {
+                drop(refused);
+                false
+            }
         }
     }
 }
@@ -63,6 +99,7 @@ impl Post {
         let putting = Putting {
             outbox: Arc::try_clone(&outbox)?,
             pass: putter,
+            owed: OwedHello::new(),
         };
         let post = Post {
             putting: Mutex::new(putting),
@@ -75,12 +112,20 @@ impl Post {
         Ok((post, taking))
     }
 
-    /// Puts a frame that comes from the partition of this number, and rings the bell. From another partition than the tab's,
-    /// or where the outbox is full, it is lost.
+    /// Puts a frame that comes from the partition of this number, and rings the bell. A frame from another partition than the
+    /// tab's is lost. So is one that finds the outbox full; but a Hello is owed then, and put as soon as there is room.
     pub(crate) fn put<R: Wait>(&self, rt: &R, partition: u16, frame: Frame) {
         let mut putting = self.putting.lock(rt);
         putting.put(rt, partition, frame);
         drop(putting);
         self.bell.unpark();
+    }
+
+    /// Puts the Hello that the tab is owed, if any, and rings the bell if the outbox took it.
+    pub(crate) fn put_owed<R: Wait>(&self, rt: &R) {
+        let is_put = self.putting.lock(rt).put_owed(rt);
+        if is_put {
+            self.bell.unpark();
+        }
     }
 }

@@ -270,6 +270,7 @@ fn write_link<R: Host>(
     let seat = SharedSeat::new(hub.seat_of(process.tab)?);
     let mut lives = Flushed {
         bundle: &bundle,
+        post,
         lives: Rung::new(Arc::try_clone(&post.bell)?, seat),
     };
     let mut sink = Sink::new(Gathering { bundle: &bundle });

@@ -1,2 +1,3 @@
 pub mod Reaching
 pub mod Keeping
+pub mod Owing

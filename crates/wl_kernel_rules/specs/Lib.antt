@@ -3,3 +3,4 @@ pub mod News
 pub mod Broker
 pub mod Refusals
 pub mod Keeping
+pub mod Owed

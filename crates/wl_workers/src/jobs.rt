@@ -43,7 +43,8 @@ impl<'a, J: Shards> Desk for LaneDesk<'a, J> {
     }
 }
 
-/// Runs each job's lane to its end, on a thread of its own, and leaves in the job how it ended. It takes no memory.
+/// Runs each job's lane to its end, on a thread of its own. Tells the job's intake how the lane ended, and leaves it in the job. It
+/// takes no memory.
 pub fn run_lanes<
     J: Shards + Send + Sync,
     I: Intake + Send,
@@ -92,5 +93,6 @@ fn run<J: Shards, I: Intake, O: Outlet, G: Gate, R: Wait + Clock>(
         gate,
         &mut job.outlet,
     );
+    job.intake.end(rt, end);
     job.end = Some(end);
 }

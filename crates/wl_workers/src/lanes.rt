@@ -33,6 +33,12 @@ pub trait Intake {
         ensures given { Grows (given self.old) (given self.new) (result ∷ []) }
         ensures dealt { IfSome result (IsDealt (shards self.old)) }
         ensures shards { shards self.new ≡ shards self.old };
+
+    /// Hears how its lane has ended. `run_lanes` calls it once, after the last `next`.
+    fn end<R: Wait + Clock>(&mut self, _rt: &R, _end: LaneEnd)
+        ensures given { given self.new ≡ given self.old }
+        ensures shards { shards self.new ≡ shards self.old }
+    {}
 }
 
 /// Takes one work at a time, and answers with the receipt of the step.

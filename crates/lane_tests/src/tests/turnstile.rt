@@ -28,12 +28,12 @@ struct Calls {
 
 /// What two lanes did at a gate.
 #[derive(Drop)]
-struct Seen {
+pub(super) struct Seen {
     lanes: [Calls; 2],
     /// Whether any call was not one `pass` and then one `answered` of one of the lanes.
     is_out_of_order: bool,
     /// Whether a lane was held for too long: one that memory refused a thread runs after the other.
-    has_given_up: bool,
+    pub(super) has_given_up: bool,
 }
 
 impl Seen {
@@ -79,11 +79,21 @@ impl Seen {
 
 /// A gate that two lanes pass only if they run at the same time.
 #[derive(Drop)]
-struct Turnstile {
+pub(super) struct Turnstile {
     seen: Mutex<Seen>,
 }
 
 impl Turnstile {
+    pub(super) fn new() -> Turnstile {
+        Turnstile {
+            seen: Mutex::new(Seen::new()),
+        }
+    }
+
+    pub(super) fn into_seen(self) -> Seen {
+        self.seen.into_inner()
+    }
+
     /// Whether a lane passes, or None where it has to wait.
     fn verdict<R: Wait>(&self, rt: &R, lane: u16) -> Option<bool> {
         let seen = self.seen.lock(rt);
@@ -137,7 +147,7 @@ fn once_and_twice(alloc: Global, shards: u16) -> Result<Vec<VecDeque<Work>>, All
 }
 
 /// Asserts that lane 0 stood there once and lane 1 twice, and that each was answered.
-fn were_in_order(rt: &impl Abort, seen: &Seen) {
+pub(super) fn were_in_order(rt: &impl Abort, seen: &Seen) {
     assert!(rt; !seen.is_out_of_order);
     let [first, second] = seen.lanes;
     same(rt, (first.stood, first.answered), (1, 1));
@@ -153,11 +163,9 @@ fn run_gated<R: Threads + Wait + Clock + Abort + Sync>(
     requires { 0 < shards }
 {
     let scripts = once_and_twice(alloc, shards)?;
-    let gate = Turnstile {
-        seen: Mutex::new(Seen::new()),
-    };
+    let gate = Turnstile::new();
     let ran = run_over(rt, alloc, shards, 3, scripts, &gate, Handed::All)?;
-    let seen = gate.seen.into_inner();
+    let seen = gate.into_seen();
     if seen.has_given_up {
         return Err(AllocError);
     }

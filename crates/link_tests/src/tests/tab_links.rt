@@ -14,6 +14,7 @@ use std::rt::Clock;
 use std::sync::{Arc, Mutex, Wait};
 use std::thread;
 use std::thread::{Parker, Threads};
+use std::time::Duration;
 use wl_board::{Board, Life, Seat};
 use wl_fakes::devices::{SlowReader, SlowWriter};
 use wl_frames::device::{Sink, Source};
@@ -190,12 +191,50 @@ fn what_was_put_before_the_death_was_seen_is_written(rt: HostRuntime) {
     assert!(&rt; is_whole(last_words(&rt, alloc)) || is_whole(last_words(&rt, alloc)));
 }
 
+/// How often `ring_for_all` rings.
+const RINGS: u32 = 4;
+
+/// How many milliseconds pass after the look that a ring wakes: enough for many looks of a writer that does not sleep.
+const PAUSE: u64 = 5;
+
+/// How often that look is waited for, a millisecond each. It does not come if memory was refused to the writer.
+const TURNS: u32 = 2_000;
+
+/// Looks that are counted.
+#[derive(Drop)]
+struct Counted<'a> {
+    looks: &'a Mutex<u32>,
+    seat: SharedSeat,
+}
+
+impl Lives for Counted<'_> {
+    fn look<R: Wait + Clock>(&mut self, rt: &R, tab: u16) -> Life {
+        let mut looks = self.looks.lock(rt);
+        *looks = looks.wrapping_add(1);
+        drop(looks);
+        self.seat.look(rt, tab)
+    }
+}
+
+/// Rings the bell, waits until the writer has looked so often, and pauses.
+fn ring<R: Wait + Clock>(rt: &R, bell: &Parker, looks: &Mutex<u32>, times: u32) {
+    bell.unpark();
+    for _turn in 0..TURNS {
+        if *looks.lock(rt) >= times {
+            break;
+        }
+        thread::sleep(rt, Duration::from_millis(1));
+    }
+    thread::sleep(rt, Duration::from_millis(PAUSE));
+}
+
 /// Puts three hellos and ends the tab, and rings the bell after each.
 fn ring_for_all<R: Wait + Clock + Abort>(
     rt: &R,
     outbox: &Outbox,
     mut pass: Pass,
     bell: &Parker,
+    looks: &Mutex<u32>,
     board: &Board,
     mut seat: Seat,
 )
@@ -203,9 +242,9 @@ fn ring_for_all<R: Wait + Clock + Abort>(
     requires tab { (outbox.now.partition ≡ 1) × (outbox.now.tab ≡ 2) }
     requires seat { IsSeatOf seat board.now × (2 ≤ board.now.tabs) }
 {
-    for generation in 1..4 {
+    for generation in 1..RINGS {
         put_hello(rt, outbox, &mut pass, generation);
-        bell.unpark();
+        ring(rt, bell, looks, generation);
     }
     board.mark_dead(&mut seat, 2);
     bell.unpark();
@@ -217,7 +256,7 @@ fn write_rung<R: Wait + Clock>(
     alloc: Global,
     outbox: &Outbox,
     mut taker: Pass,
-    mut lives: Rung<SharedSeat>,
+    mut lives: Rung<Counted<'_>>,
 ) -> Result<Vec<u8>, AllocError>
     requires { IsOf taker outbox.now × (takes taker ≡ true) }
 {
@@ -249,8 +288,9 @@ fn write_and_ring<R: Wait + Clock + Abort + Threads + Sync>(
     outbox: &Outbox,
     taker: Pass,
     putter: Pass,
-    lives: Rung<SharedSeat>,
+    lives: Rung<Counted<'_>>,
     bell: &Parker,
+    looks: &Mutex<u32>,
     board: &Board,
     seat: Seat,
 ) -> Result<Vec<u8>, AllocError>
@@ -268,37 +308,45 @@ fn write_and_ring<R: Wait + Clock + Abort + Threads + Sync>(
             requires putter { IsOf putter outbox.now × (takes putter ≡ false) }
             requires tab { (outbox.now.partition ≡ 1) × (outbox.now.tab ≡ 2) }
             requires seat { IsSeatOf seat board.now × (2 ≤ board.now.tabs) }
-        { ring_for_all(rt, outbox, putter, bell, board, seat) },
+        { ring_for_all(rt, outbox, putter, bell, looks, board, seat) },
     );
     written
 }
 
-/// A bell, and looks at a board that sleep until it is rung.
-fn bell_and_lives(
+/// A bell, and looks at a board that sleep until it is rung, and are counted.
+fn bell_and_lives<'a>(
     alloc: Global,
     board: &Arc<Board>,
     seat: Seat,
-) -> Result<(Arc<Parker>, Rung<SharedSeat>), AllocError>
+    looks: &'a Mutex<u32>,
+) -> Result<(Arc<Parker>, Rung<Counted<'a>>), AllocError>
     requires { IsSeatOf seat (arc_value board.now) }
 {
     let seat = BoardSeat::new(Arc::try_clone(board)?, seat);
     let seat = SharedSeat::new(Arc::new(alloc, Mutex::new(seat))?);
     let bell = Arc::new(alloc, Parker::new())?;
-    Ok((Arc::try_clone(&bell)?, Rung::new(bell, seat)))
+    Ok((
+        Arc::try_clone(&bell)?,
+        Rung::new(bell, Counted { looks, seat }),
+    ))
 }
 
-/// What is written where a bell is rung.
+/// What is written where a bell is rung. The writer looks once at most for each ring.
 fn rung<R: Wait + Clock + Abort + Threads + Sync>(
     rt: &R,
     alloc: Global,
 ) -> Result<Vec<u8>, AllocError> {
     let (board, watching, marking) = board_of_two(alloc)?;
     let board = Arc::new(alloc, board)?;
-    let (bell, lives) = bell_and_lives(alloc, &board, watching)?;
+    let looks = Mutex::new(0);
+    let (bell, lives) = bell_and_lives(alloc, &board, watching, &looks)?;
     let (outbox, taker, putter) = outbox_of_one(alloc)?;
-    write_and_ring(
-        rt, alloc, &outbox, taker, putter, lives, &bell, &board, marking,
-    )
+    let written = write_and_ring(
+        rt, alloc, &outbox, taker, putter, lives, &bell, &looks, &board, marking,
+    );
+    let looks = looks.into_inner();
+    assert!(rt; looks <= RINGS, "{looks} looks for {RINGS} rings");
+    written
 }
 
 #[test]

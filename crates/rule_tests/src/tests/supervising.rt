@@ -8,7 +8,8 @@ use wl_frames::{
 };
 use wl_kernel::{OpenFault, RouteFault, Routed};
 use wl_kernel_rules::{
-    Delivery, NotStarted, NotStopped, Origins, Sent, Supervisor, death_of, is_answer, told_late,
+    Delivery, NotStarted, NotStopped, Origins, OwedHello, Sent, Supervisor, death_of, greeting_of,
+    is_answer, told_late,
 };
 use wl_origin::{OriginFault, Partition, partition_pair};
 use wl_process::append;
@@ -279,4 +280,39 @@ fn hello_in(frame: &Option<Frame>) -> Option<u32> {
         Some(Frame::Hello(hello)) => Some(hello.generation),
         _ => None,
     }
+}
+
+/// The generation of the Hello that is owed.
+fn generation_due(owed: &OwedHello) -> Option<u32> {
+    let due = owed.due();
+    let generation = hello_in(&due);
+    drop(due);
+    generation
+}
+
+/// The newest Hello that found no room is owed, until that one or a later one is put.
+#[test]
+fn a_hello_that_found_no_room_is_owed(rt: HostRuntime) {
+    let mut owed = OwedHello::new();
+    assert_eq!(&rt; generation_due(&owed), None);
+    for (generation, is_put, due) in [
+        (2, false, Some(2)),
+        (1, false, Some(2)),
+        (3, false, Some(3)),
+        (2, true, Some(3)),
+        (3, true, None),
+        (4, true, None),
+        (5, false, Some(5)),
+        (6, true, None),
+    ] {
+        let hello = Frame::Hello(Hello { generation });
+        owed.note(greeting_of(&hello), is_put);
+        drop(hello);
+        assert_eq!(&rt; generation_due(&owed), due, "after {generation}");
+    }
+    owed.refuse(7);
+    owed.note(greeting_of(&query(7)), true);
+    assert_eq!(&rt; generation_due(&owed), Some(7));
+    owed.settle(7);
+    assert_eq!(&rt; generation_due(&owed), None);
 }

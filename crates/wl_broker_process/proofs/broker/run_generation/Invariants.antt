@@ -1,5 +1,5 @@
 use Rattle.wl_locked.specs.Blanks.{name_at}
-use Rattle.wl_broker_process.proofs.broker.run_broker.Given as goal
+use Rattle.wl_broker_process.proofs.broker.run_generation.Given as goal
 
 abbrev pub ghosts-serve : goal.ghosts-serve
 ghosts-serve g a = record {
