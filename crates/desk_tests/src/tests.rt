@@ -2,6 +2,7 @@
 
 mod broker;
 mod desk;
+mod large;
 
 use std::fmt::Debug;
 use std::process::Abort;

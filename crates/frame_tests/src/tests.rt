@@ -632,6 +632,84 @@ fn at_most_64_locks_of_a_snapshot(rt: HostRuntime) {
     expect_most(&rt, rt.alloc(), most, one_more);
 }
 
+/// The stamped part of a report with the most entries, each with the longest name: no frame is longer.
+fn longest_once(alloc: Global) -> Result<Vec<u8>, AllocError> {
+    let mut bytes = vec![in alloc; 0, 0, 0x41, 0x96]?;
+    bytes.extend_from_slice(b"\x01\x20\x00\x07\x00\x05")?;
+    bytes.extend_from_slice(b"\x02\x02\x00\x00\x00\x01\x00\x00\x00\x40\x00\x03\x00\x10\x00\x40")?;
+    for number in 0..64 {
+        bytes.extend_from_slice(&[0, 0, 0, number, 2, 1, 255])?;
+        for _letter in 0..255 {
+            bytes.push(b'x')?;
+        }
+    }
+    Ok(bytes)
+}
+
+fn longest(rt: &impl Abort, alloc: Global) -> Vec<u8> {
+    match longest_once(alloc) {
+        Ok(bytes) => bytes,
+        Err(_) => longest_once(alloc).expect(rt, "memory is back"),
+    }
+}
+
+/// Whether a report part has 64 waiting requests, each for a lock with the longest name.
+fn is_longest_part(part: &ReportPart) -> bool {
+    let entries = part.entries.as_slice();
+    part.base == 64
+        && (part.part, part.parts) == (3, 16)
+        && entries.len() == 64
+        && (0_u32..)
+            .zip(entries.iter())
+            .all(|(number, entry)| is_long_entry(entry, number))
+}
+
+fn is_long_entry(entry: &Entry, number: u32) -> bool {
+    let name = entry.name.as_str();
+    entry.number == number
+        && !entry.held
+        && entry.mode == Mode::Shared
+        && name.len() == 255
+        && name.bytes().all(|letter| letter == b'x')
+}
+
+fn is_longest(frame: &Frame) -> bool {
+    match frame {
+        Frame::Stamped(stamped) => match &stamped.inner {
+            Upward::ReportPart(part) => {
+                (stamped.tab, stamped.partition) == (7, 5) && is_longest_part(part)
+            }
+            _ => false,
+        },
+        _ => false,
+    }
+}
+
+/// How many of the longest frame a piece gives.
+fn count_longest(rt: &impl Abort, feed: &mut Feed, piece: &[u8]) -> usize {
+    let frames = pushed(rt, feed, piece);
+    assert!(rt; frames.iter().all(is_longest));
+    frames.len()
+}
+
+/// The frame comes with its last piece, and none before.
+fn expect_longest(rt: &impl Abort, alloc: Global, bytes: &[u8]) {
+    let mut feed = Feed::new(alloc);
+    let mut left = bytes.len();
+    for piece in bytes.chunks(7) {
+        left = left.saturating_sub(piece.len());
+        let count = count_longest(rt, &mut feed, piece);
+        assert_eq!(rt; count, usize::from(left == 0));
+    }
+}
+
+#[test]
+fn longest_frame_in_pieces(rt: HostRuntime) {
+    let bytes = longest(&rt, rt.alloc());
+    assert_eq!(&rt; bytes.len(), 16_794);
+    expect_longest(&rt, rt.alloc(), bytes.as_slice());
+}
+
 /// A body of 65,536 bytes is read to its end, whatever it is; one more is refused by its length alone.
 #[test]
 fn at_most_65536_bytes_of_a_body(rt: HostRuntime) {

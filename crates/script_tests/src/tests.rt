@@ -1,6 +1,7 @@
 //! Scripts through the sim.
 
 mod hostile;
+mod large;
 mod limits;
 mod parts;
 
@@ -226,6 +227,26 @@ fn snapshots_in_parts(rt: HostRuntime) {
         Err(_) => parts::snapshot_in_two_parts(alloc).expect(&rt, BACK),
     };
     expect_play(&rt, alloc, &play, "snapshots in parts");
+}
+
+#[test]
+fn answer_of_100000_bytes(rt: HostRuntime) {
+    let alloc = rt.alloc();
+    let play = match large::many_locks(alloc) {
+        Ok(play) => play,
+        Err(_) => large::many_locks(alloc).expect(&rt, BACK),
+    };
+    expect_play(&rt, alloc, &play, "many locks");
+}
+
+#[test]
+fn script_of_1000_pieces(rt: HostRuntime) {
+    let alloc = rt.alloc();
+    let play = match large::many_pieces(alloc) {
+        Ok(play) => play,
+        Err(_) => large::many_pieces(alloc).expect(&rt, BACK),
+    };
+    expect_play(&rt, alloc, &play, "many pieces");
 }
 
 #[test]

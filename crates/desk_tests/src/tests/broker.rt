@@ -167,13 +167,29 @@ fn frames_of(alloc: Global, bytes: &[u8]) -> Result<Vec<Frame>, AllocError> {
     Feed::new(alloc).push(bytes).map_err(|_| AllocError)
 }
 
-/// The frames of a row; where memory is refused, once more.
+/// The same; where memory is refused, once more.
+fn frames_again(rt: &impl Abort, alloc: Global, bytes: &[u8]) -> Vec<Frame> {
+    match frames_of(alloc, bytes) {
+        Ok(frames) => frames,
+        Err(_) => frames_of(alloc, bytes).expect(rt, "memory is back"),
+    }
+}
+
+/// The frames of a row.
 fn frames(rt: &impl Abort, alloc: Global, row: &Row) -> Vec<Frame> {
     let bytes = bytes(rt, alloc, &[row.input]);
-    match frames_of(alloc, bytes.as_slice()) {
-        Ok(frames) => frames,
-        Err(_) => frames_of(alloc, bytes.as_slice()).expect(rt, "memory is back"),
+    frames_again(rt, alloc, bytes.as_slice())
+}
+
+/// Gives a broker of generation 1, for which no tab is listed, the frames behind its start, and compares what it answers.
+pub fn answers(rt: &impl Abort, alloc: Global, input: &[u8], output: &[u8], name: &str) {
+    let (mut broker, _hellos) = start(rt, alloc, 1, &[]);
+    let mut written = Vec::new(alloc);
+    for frame in &frames_again(rt, alloc, input) {
+        let outs = answer(rt, alloc, &mut broker, frame);
+        write(rt, alloc, outs, &mut written);
     }
+    assert!(rt; written.as_slice() == output, "of {name}");
 }
 
 /// Compares what a broker wrote with what a row says.

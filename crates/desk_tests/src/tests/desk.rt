@@ -60,7 +60,7 @@ fn run<S: Read + Drop>(alloc: Global, reader: S, written: &mut Vec<u8>) -> Resul
 
 /// Runs the desk, and compares how it ends and what it writes. A run that memory ended has written a prefix of that, and is made
 /// again.
-fn expect<S: Read + Copy + Drop>(
+pub fn expect<S: Read + Copy + Drop>(
     rt: &impl Abort,
     alloc: Global,
     reader: S,

@@ -682,3 +682,39 @@ fn what_is_refused_takes_no_number(rt: HostRuntime) {
     let (refusals, answers) = (refusals(&rt, alloc), answers(&rt, alloc));
     check(&rt, alloc, &[FIRST, refusals.as_str(), answers.as_str()]);
 }
+
+/// A tab takes a lock and gives it up 3,333 times, and takes it once more: 20,006 events with those of `FIRST`.
+fn many_events_once(alloc: Global) -> Result<String, AllocError> {
+    let mut text = String::new(alloc);
+    for turn in 0..3_333_u32 {
+        let (request, release) = (4 * turn + 3, 4 * turn + 5);
+        let (granted, taken, number) = (request + 1, release + 1, 2 * turn);
+        let lines = format!(in alloc;
+            "\
+ask 1 exclusive a
+deliver m{request}
+deliver m{granted}
+release 1 {number}
+deliver m{release}
+deliver m{taken}
+"
+        )?;
+        text.push_str(lines.as_str())?;
+    }
+    text.push_str("ask 1 exclusive a\ndeliver m13335\ndeliver m13336\nheld 1#6666 exclusive a\n")?;
+    Ok(text)
+}
+
+fn many_events(rt: &impl Abort, alloc: Global) -> String {
+    match many_events_once(alloc) {
+        Ok(text) => text,
+        Err(_) => many_events_once(alloc).expect(rt, "memory is back"),
+    }
+}
+
+#[test]
+fn twenty_thousand_events(rt: HostRuntime) {
+    let alloc = rt.alloc();
+    let events = many_events(&rt, alloc);
+    check(&rt, alloc, &[FIRST, events.as_str()]);
+}
