@@ -1,6 +1,6 @@
 //! One file a part.
 
 mod command_line;
-mod limits;
 mod rules;
+mod statuses;
 mod supervising;

@@ -4,6 +4,7 @@
 pub mod desk;
 pub mod jobs;
 pub mod lanes;
+pub mod laws;
 pub mod lives;
 pub mod tab_reader;
 pub mod tab_writer;
