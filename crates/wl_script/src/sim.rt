@@ -192,7 +192,7 @@ pub fn sim_run<R: Read, W: Write>(
         (W.contents sink.old.writer) (W.contents sink.new.writer) result }
     ensures end { OnOk result (IsAtEnd (R.remaining source.new.reader)) }
 
-    // A fault of a device comes exactly where that device failed.
+    // `Read` and `Write` are returned exactly if the source or the sink noted a failure.
     ensures read { (result ≡ Err SimFault.Read) ↔ (source.new.has_failed ≡ true) }
     ensures write { (result ≡ Err SimFault.Write) ↔ (sink.new.has_failed ≡ true) }
     ensures limit { result ≡ Err SimFault.TooManyReads → source.new.reads ≡ READ_LIMIT }

@@ -361,7 +361,7 @@ pub fn desk_run_on<T: LockTable, R: Read, W: Write>(
         (W.contents sink.old.writer) (W.contents sink.new.writer) result }
     ensures end { OnOk result (IsAtEnd (R.remaining source.new.reader)) }
 
-    // A fault of a device comes exactly where that device failed.
+    // `Read` and `Write` are returned exactly if the source or the sink noted a failure.
     ensures read { (result ≡ Err DeskFault.Read) ↔ (source.new.has_failed ≡ true) }
     ensures write { (result ≡ Err DeskFault.Write) ↔ (sink.new.has_failed ≡ true) }
     ensures limit { result ≡ Err DeskFault.TooManyReads → source.new.reads ≡ READ_LIMIT }
@@ -388,7 +388,7 @@ pub fn desk_run<R: Read, W: Write>(
         (W.contents sink.old.writer) (W.contents sink.new.writer) result }
     ensures end { OnOk result (IsAtEnd (R.remaining source.new.reader)) }
 
-    // A fault of a device comes exactly where that device failed.
+    // `Read` and `Write` are returned exactly if the source or the sink noted a failure.
     ensures read { (result ≡ Err DeskFault.Read) ↔ (source.new.has_failed ≡ true) }
     ensures write { (result ≡ Err DeskFault.Write) ↔ (sink.new.has_failed ≡ true) }
     ensures limit { result ≡ Err DeskFault.TooManyReads → source.new.reads ≡ READ_LIMIT }

@@ -164,7 +164,7 @@ pub fn tab_reader<R: Wait + Clock, S: Read, L: Lives, U: Uplink>(
         (L.answered lives.old) (L.answered lives.new) (U.handed uplink.old) (U.handed uplink.new) result }
     ensures end { NeedsEnd result (S.remaining source.new.reader) }
 
-    // A fault of the reader comes exactly where it failed.
+    // `Read` is returned exactly if the source noted a failure of its reader.
     ensures failed { (result ≡ ReadEnd.Read) ↔ (source.new.has_failed ≡ true) }
     ensures limit { result ≡ ReadEnd.TooManyReads → source.new.reads ≡ READ_LIMIT }
 {

@@ -101,7 +101,7 @@ pub fn tab_writer<R: Wait + Clock, L: Lives, W: Write>(
     ensures dead { result ≡ WriteEnd.Dead → FoundDead tab (L.answered lives.old) (L.answered lives.new) }
     ensures empty { result ≡ WriteEnd.Dead → Held 0 (IsMoment pass.new.view) }
 
-    // A fault of the writer comes exactly where it failed.
+    // `Write` is returned exactly if the sink noted a failure of its writer.
     ensures failed { (result ≡ WriteEnd.Dead) ↔ (sink.new.has_failed ≡ false) }
 {
     match write_all(rt, alloc, tab, outbox, pass, lives, sink) {
