@@ -38,6 +38,7 @@ test:
 	@python3 tools/try_edits.py --fit
 	RT_JOBS=$${RT_JOBS:-$$(python3 tools/lanes.py)} rt ci
 	@python3 tools/try_edits.py --gate
+	@python3 tools/refuse.py --gate
 	@python3 tools/check_program.py crates/wlb/out/wlb
 	@python3 tools/check_processes.py crates/wlb/out/wlb
 	@python3 tools/check_owed_hello.py crates/wlb/out/wlb
@@ -51,7 +52,7 @@ MOST ?= 0
 
 refuse:
 	cd crates/$(TESTS) && rt test
-	python3 tools/refuse.py crates/$(TESTS)/out/$(TESTS)_tests $(MOST) $(WORD)
+	python3 tools/refuse.py --most $(MOST) crates/$(TESTS)/out/$(TESTS)_tests $(WORD)
 
 MINUTES ?= 10
 MEGABYTES ?= 100

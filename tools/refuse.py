@@ -1,94 +1,171 @@
-"""Runs the tests of a crate with each allocation refused in its turn.
+"""Runs tests with memory refused: each allocation in its turn, or a sample of them.
 
-usage: refuse.py TESTS [MOST] [WORD ..]
+The tests of a crate are written so that a call which runs out of memory is checked to have changed nothing, and is then made again and
+gives its answer. So each test has to pass whichever allocation fails. One run refuses one allocation. One more run refuses every
+allocation of a megabyte or more, however often it is asked for.
 
-TESTS is what `rt test` leaves of a crate's tests, `crates/NAME/out/NAME_tests`. Each test whose name contains one of the words,
-or each, is run once for each of its allocations, which is refused in that run and no other; of a test with more than MOST of
-them, a number, for MOST that are spread evenly. And each is run once with every allocation of a megabyte or more refused, however
-often it is asked for. Prints for each test how many were refused, and how it failed where it did. The status is 0 where all runs
-passed: where a call that was refused memory had changed nothing, was made again, and gave its answer, or did with less.
-
-Tests with threads may allocate in another order each time, so there a number names no certain allocation. It needs `cc` and
-glibc.
+A test with threads may allocate in another order each time; there a number names no certain allocation. Needs `cc` and glibc.
 """
 
+import argparse
 import collections
+import concurrent.futures
+import dataclasses
 import os
+import resource
 import subprocess
 import sys
 import tempfile
 
+from lanes import lanes, text_of
+
 HERE = os.path.dirname(os.path.abspath(__file__))
+TOP = os.path.dirname(HERE)
 SECONDS = 120
-# From how many bytes on an allocation is refused each time, in one more run.
+# An allocation of so many bytes counts as large.
 LARGE = 1_000_000
-# How many bytes of what a failed run said are shown.
+# How much of what a failed run printed is shown, in characters.
 SHOWN = 160
+# The gate refuses at most so many allocations of each test.
+SAMPLE = 60
+# These take seconds a run, so the gate refuses fewer.
+SLOW_SAMPLE = 6
+SLOW = {}
+# Its children are processes of their own, which would be refused memory too.
+NOT_IN_GATE = {"process_tests"}
+
+
+@dataclasses.dataclass(frozen=True)
+class Ran:
+    """How one run of a test ended: its status, how many allocations it made, and what it printed as it failed."""
+
+    status: int
+    count: int
+    said: str
+
+
+@dataclasses.dataclass
+class Result:
+    """What came of a test: how many allocations it makes, how many of them were refused, and its failures by what they printed."""
+
+    count: int
+    tries: int
+    failures: collections.Counter
 
 
 def build(place):
-    """What is preloaded."""
+    """Compiles the library that refuses, to be preloaded."""
     library = os.path.join(place, "refuse.so")
     subprocess.run(["cc", "-O2", "-shared", "-fPIC", "-o", library, os.path.join(HERE, "refuse.c")], check=True)
     return library
 
 
 def run(tests, name, library, number, large=0):
-    """One test with one allocation refused, and with those from so many bytes on: its status, how many it made, what it said."""
+    """Runs one test with the allocation of this number refused (0: none), and all those of at least `large` bytes (0: none)."""
     reading, writing = os.pipe()
     refused = {"REFUSE": str(number), "REFUSE_FROM": str(large), "REFUSE_TELL": str(writing)}
     given = {**os.environ, "LD_PRELOAD": library, **refused}
-    try:
-        ran = subprocess.run(
-            [tests, name], env=given, pass_fds=[writing], capture_output=True, text=True, timeout=SECONDS, check=False
-        )
-    finally:
-        os.close(writing)
-        with os.fdopen(reading, "rb") as told:
-            count = told.read()
-    if not count and not ran.returncode:
-        return 1, 0, "how many allocations it made was not told"
-    return ran.returncode, int(count or 0), ran.stderr.strip()[:SHOWN]
+    with tempfile.TemporaryDirectory(prefix="refuse-") as folder:
+        how = {"env": given, "pass_fds": [writing], "cwd": folder, "capture_output": True, "text": True, "timeout": SECONDS}
+        try:
+            ran = subprocess.run([tests, name], check=False, **how)
+            status, said = ran.returncode, ran.stderr.strip()[:SHOWN]
+        except subprocess.TimeoutExpired:
+            status, said = 1, f"no end within {SECONDS} seconds"
+        finally:
+            os.close(writing)
+            with os.fdopen(reading, "rb") as told:
+                count = told.read()
+    if not count and not status:
+        return Ran(1, 0, "it did not tell how many allocations it made")
+    return Ran(status, int(count or 0), said)
 
 
 def names_of(tests, words):
+    """The names of the tests in a binary, or of those that contain one of the words."""
     listed = subprocess.run([tests, "--list"], capture_output=True, text=True, check=True).stdout.splitlines()
     names = [line.removesuffix(": test") for line in listed if line.endswith(": test")]
     return [name for name in names if not words or any(word in name for word in words)]
 
 
 def refuse_all(tests, name, library, most):
-    """How many allocations there were, how many were refused, and how often the test failed with which words."""
-    status, count, said = run(tests, name, library, 0)
-    if status:
-        return 0, 0, collections.Counter([said])
-    tries = min(count, most) if most else count
-    status, _told, said = run(tests, name, library, 0, LARGE)
-    failures = collections.Counter([f"large ones refused: {said}"] if status else [])
+    """Runs a test once for each of its allocations, or for `most` of them, spread evenly."""
+    whole = run(tests, name, library, 0)
+    if whole.status:
+        return Result(0, 0, collections.Counter([f"with all memory: {whole.said}"]))
+    tries = min(whole.count, most) if most else whole.count
+    failures = collections.Counter()
+    large = run(tests, name, library, 0, LARGE)
+    if large.status:
+        failures[f"large ones refused: {large.said}"] += 1
     for place in range(tries):
-        status, _told, said = run(tests, name, library, place * count // tries + 1)
-        if status:
-            failures[said] += 1
-    return count, tries, failures
+        ran = run(tests, name, library, place * whole.count // tries + 1)
+        if ran.status:
+            failures[ran.said] += 1
+    return Result(whole.count, tries, failures)
 
 
-def main():
-    given = sys.argv[1:]
-    if not given or given[0].startswith("-"):
-        sys.exit(__doc__)
-    tests, words = os.path.abspath(given[0]), given[1:]
-    most = int(words.pop(0)) if words and words[0].isdigit() else 0
+def tell(name, result):
+    print(f"{name}: {result.tries} of {result.count} refused, {result.failures.total()} failed", flush=True)
+    for said, times in result.failures.items():
+        print(f"    {times} times: {said}", flush=True)
+
+
+def refuse_in(tests, words, most):
+    """Refuses the tests of one binary memory, tells what came of each, and returns whether all passed."""
     names = names_of(tests, words)
-    failed = not names
+    passed = bool(names)
     with tempfile.TemporaryDirectory(prefix="refuse-") as place:
         library = build(place)
         for name in names:
-            count, tries, failures = refuse_all(tests, name, library, most)
-            print(f"{name}: {tries} of {count} refused, {failures.total()} failed", flush=True)
-            for said, times in failures.items():
-                print(f"    {times} times: {said}", flush=True)
-            failed = failed or bool(failures)
-    return 1 if failed else 0
+            result = refuse_all(tests, name, library, most)
+            tell(name, result)
+            passed = passed and not result.failures
+    return passed
+
+
+def crates_of_tests():
+    """The crates whose tests the gate refuses memory."""
+    lines = text_of(os.path.join(TOP, "crates.txt")).splitlines()
+    names = [line.partition(":")[0].split()[0] for line in lines if line.partition("#")[0].strip()]
+    return sorted(it for it in names if it.endswith("_tests") and it not in NOT_IN_GATE)
+
+
+def refuse_in_gate():
+    """Refuses a sample of the allocations of each test, prints one line and the failures, and returns whether all passed."""
+    passed = failed = refused = 0
+    with tempfile.TemporaryDirectory(prefix="refuse-") as place, concurrent.futures.ThreadPoolExecutor(lanes()) as pool:
+        library, begun = build(place), {}
+        for crate in crates_of_tests():
+            tests = os.path.join(TOP, "crates", crate, "out", f"{crate}_tests")
+            for name in names_of(tests, []):
+                most = SLOW_SAMPLE if name in SLOW.get(crate, ()) else SAMPLE
+                begun[pool.submit(refuse_all, tests, name, library, most)] = f"{crate} {name}"
+        for done in concurrent.futures.as_completed(begun):
+            result = done.result()
+            refused += result.tries
+            if result.failures:
+                failed += 1
+                tell(begun[done], result)
+            else:
+                passed += 1
+    used = resource.getrusage(resource.RUSAGE_CHILDREN)
+    minutes = (used.ru_utime + used.ru_stime) / 60
+    print(f"refused memory: {passed} passed, {failed} failed; {refused} allocations, {minutes:.1f} processor minutes", flush=True)
+    return passed > 0 and not failed
+
+
+def main():
+    parser = argparse.ArgumentParser(description=__doc__.partition("\n")[0])
+    parser.add_argument("--gate", action="store_true", help=f"at most {SAMPLE} allocations of each test that `rt ci` has built")
+    parser.add_argument("--most", type=int, default=0, metavar="N", help="N allocations of each test, spread evenly; 0, the default, means all")
+    parser.add_argument("tests", nargs="?", metavar="TESTS", help="a binary that `rt test` has built, crates/NAME/out/NAME_tests")
+    parser.add_argument("words", nargs="*", metavar="WORD", help="only tests whose names contain one of these")
+    given = parser.parse_args()
+    if given.gate == bool(given.tests):
+        parser.error("name a binary, or give --gate")
+    passed = refuse_in_gate() if given.gate else refuse_in(os.path.abspath(given.tests), given.words, given.most)
+    return 0 if passed else 1
 
 
 if __name__ == "__main__":
