@@ -1,8 +1,8 @@
 """Runs tests with memory refused: each allocation in its turn, or a sample of them.
 
 The tests of a crate are written so that a call which runs out of memory is checked to have changed nothing, and is then made again and
-gives its answer. So each test has to pass whichever allocation fails. One run refuses one allocation. One more run refuses every
-allocation of a megabyte or more, however often it is asked for.
+gives its answer. So each test has to pass whichever allocation fails. One run refuses one allocation. With --large, one more run of
+each test refuses every allocation of a megabyte or more, however often it is asked for: a history has to do with less.
 
 A test with threads may allocate in another order each time; there a number names no certain allocation. Needs `cc` and glibc.
 """
@@ -28,9 +28,11 @@ LARGE = 1_000_000
 SHOWN = 160
 # The gate refuses at most so many allocations of each test.
 SAMPLE = 60
-# These take seconds a run, so the gate refuses fewer.
-SLOW_SAMPLE = 6
-SLOW = {}
+# Lanes that wait for one another wait for seconds if memory refused one of them its thread, so the gate refuses fewer there.
+SLOW_SAMPLE = 4
+SLOW = {"lane_tests": ("tests::process_lanes::", "tests::turnstile::")}
+# In these crates each test has to do without large allocations.
+WITHOUT_LARGE = {"book_tests"}
 # Its children are processes of their own, which would be refused memory too.
 NOT_IN_GATE = {"process_tests"}
 
@@ -88,16 +90,17 @@ def names_of(tests, words):
     return [name for name in names if not words or any(word in name for word in words)]
 
 
-def refuse_all(tests, name, library, most):
-    """Runs a test once for each of its allocations, or for `most` of them, spread evenly."""
+def refuse_all(tests, name, library, most, has_large):
+    """Runs a test once for each of its allocations, or for `most` of them, spread evenly, and perhaps without large ones."""
     whole = run(tests, name, library, 0)
     if whole.status:
         return Result(0, 0, collections.Counter([f"with all memory: {whole.said}"]))
     tries = min(whole.count, most) if most else whole.count
     failures = collections.Counter()
-    large = run(tests, name, library, 0, LARGE)
-    if large.status:
-        failures[f"large ones refused: {large.said}"] += 1
+    if has_large:
+        large = run(tests, name, library, 0, LARGE)
+        if large.status:
+            failures[f"large ones refused: {large.said}"] += 1
     for place in range(tries):
         ran = run(tests, name, library, place * whole.count // tries + 1)
         if ran.status:
@@ -111,14 +114,14 @@ def tell(name, result):
         print(f"    {times} times: {said}", flush=True)
 
 
-def refuse_in(tests, words, most):
+def refuse_in(tests, words, most, has_large):
     """Refuses the tests of one binary memory, tells what came of each, and returns whether all passed."""
     names = names_of(tests, words)
     passed = bool(names)
     with tempfile.TemporaryDirectory(prefix="refuse-") as place:
         library = build(place)
         for name in names:
-            result = refuse_all(tests, name, library, most)
+            result = refuse_all(tests, name, library, most, has_large)
             tell(name, result)
             passed = passed and not result.failures
     return passed
@@ -139,8 +142,8 @@ def refuse_in_gate():
         for crate in crates_of_tests():
             tests = os.path.join(TOP, "crates", crate, "out", f"{crate}_tests")
             for name in names_of(tests, []):
-                most = SLOW_SAMPLE if name in SLOW.get(crate, ()) else SAMPLE
-                begun[pool.submit(refuse_all, tests, name, library, most)] = f"{crate} {name}"
+                most = SLOW_SAMPLE if name.startswith(SLOW.get(crate, ())) else SAMPLE
+                begun[pool.submit(refuse_all, tests, name, library, most, crate in WITHOUT_LARGE)] = f"{crate} {name}"
         for done in concurrent.futures.as_completed(begun):
             result = done.result()
             refused += result.tries
@@ -159,12 +162,13 @@ def main():
     parser = argparse.ArgumentParser(description=__doc__.partition("\n")[0])
     parser.add_argument("--gate", action="store_true", help=f"at most {SAMPLE} allocations of each test that `rt ci` has built")
     parser.add_argument("--most", type=int, default=0, metavar="N", help="N allocations of each test, spread evenly; 0, the default, means all")
+    parser.add_argument("--large", action="store_true", help="one more run without allocations of a megabyte or more")
     parser.add_argument("tests", nargs="?", metavar="TESTS", help="a binary that `rt test` has built, crates/NAME/out/NAME_tests")
     parser.add_argument("words", nargs="*", metavar="WORD", help="only tests whose names contain one of these")
     given = parser.parse_args()
     if given.gate == bool(given.tests):
         parser.error("name a binary, or give --gate")
-    passed = refuse_in_gate() if given.gate else refuse_in(os.path.abspath(given.tests), given.words, given.most)
+    passed = refuse_in_gate() if given.gate else refuse_in(os.path.abspath(given.tests), given.words, given.most, given.large)
     return 0 if passed else 1
 
 
