@@ -1,4 +1,4 @@
-//! Numbers drawn from a board, and from a counter under a mutex.
+//! Draws of tab numbers from a board, and from a counter behind a mutex.
 
 ghost use Rattle.std.specs.Prelude.{◌≤◌, All};
 ghost use Rattle.wl_board.specs.Calls.{IsOf};
@@ -66,7 +66,7 @@ impl<'a> Part for Counting<'a> {
     }
 }
 
-/// Threads that draw from a board, one for each seat.
+/// Creates one drawing thread for each seat of a board.
 fn drawers<'a>(
     alloc: Global,
     board: &'a Board,
@@ -88,7 +88,7 @@ fn drawers<'a>(
     Ok(drawers)
 }
 
-/// Draws all numbers of a board.
+/// Draws all numbers of one board.
 fn from_one_board<R: Threads + Wait + Clock + Sync>(
     rt: &R,
     alloc: Global,

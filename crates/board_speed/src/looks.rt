@@ -1,4 +1,4 @@
-//! Looks at a tab on a board, and in words under a mutex.
+//! Looks at a tab on a board, and at a life state behind a mutex.
 
 ghost use Rattle.std.specs.Prelude.{◌≤◌, All};
 ghost use Rattle.wl_board.specs.Calls.{IsOf};
@@ -14,7 +14,7 @@ use wl_board::{Board, Life, Seat};
 /// The tab that is looked at.
 const TAB: u16 = 2;
 
-/// How many tabs there are.
+/// The number of tabs.
 const TABS: u16 = 3;
 
 /// A thread that looks at a board.
@@ -48,7 +48,7 @@ impl<'a> Part for Watcher<'a> {
     }
 }
 
-/// A thread that looks under a mutex.
+/// A thread that looks at a state behind a mutex.
 #[derive(Drop)]
 struct Locking<'a> {
     lives: &'a Mutex<[Life; 3]>,
@@ -70,7 +70,7 @@ impl<'a> Part for Locking<'a> {
     }
 }
 
-/// Watchers of a board, one for each seat.
+/// Creates one watching thread for each seat of a board.
 fn watchers<'a>(
     alloc: Global,
     board: &'a Board,
@@ -93,7 +93,7 @@ fn watchers<'a>(
     Ok(watchers)
 }
 
-/// Marks the tab dead, by the last of these seats, which it takes.
+/// Marks the tab dead with the last of these seats, and removes that seat.
 fn kill(board: &Board, seats: &mut Vec<Seat>)
     requires seats { All (λ s. IsOf s board.now) seats.old.items }
     requires tabs { 2 ≤ board.now.tabs }
@@ -104,7 +104,7 @@ fn kill(board: &Board, seats: &mut Vec<Seat>)
     }
 }
 
-/// Looks at a dead tab.
+/// Looks at a dead tab on a board.
 pub(crate) fn at_board<R: Threads + Wait + Clock + Sync>(
     rt: &R,
     alloc: Global,
@@ -120,7 +120,7 @@ pub(crate) fn at_board<R: Threads + Wait + Clock + Sync>(
     run(rt, parts.as_mut_slice())
 }
 
-/// Looks at a dead tab under a mutex.
+/// Looks at a dead tab behind a mutex.
 pub(crate) fn at_words<R: Threads + Wait + Clock + Sync>(
     rt: &R,
     alloc: Global,

@@ -1,5 +1,7 @@
-//! Times the board and the outbox that threads share, each beside the same loop over a `Mutex`. With the argument `time` it
-//! prints nanoseconds; without it, it makes small runs and prints what they counted, the same each time.
+//! Benchmark of the board and the outbox, each beside the same loop over a `Mutex`.
+//!
+//! With the argument `time` it prints nanoseconds. Without arguments it makes small runs and prints
+//! deterministic counts.
 #![tactic(auto)]
 
 ghost use Rattle.std.specs.Prelude.{◌≤◌};
@@ -16,13 +18,13 @@ use std::sync::Wait;
 use std::thread::Threads;
 use std::time::Clock;
 
-/// How many threads draw and look.
+/// The numbers of threads that draw and look.
 const THREADS: [u16; 3] = [1, 2, 4];
 
-/// How many threads put parcels.
+/// The numbers of threads that put parcels.
 const PUTTERS: [u16; 2] = [1, 4];
 
-/// What is run with no argument.
+/// The size of a run without arguments.
 const SMALL: Setting = Setting {
     boards: 1,
     draws: 200,
@@ -30,7 +32,7 @@ const SMALL: Setting = Setting {
     parcels: 200,
 };
 
-/// What is timed. No board has more than 65,535 numbers, so there are several.
+/// The size of a timed run. It uses several boards, because a board has at most 65,535 numbers.
 const LARGE: Setting = Setting {
     boards: 16,
     draws: 65_532,
@@ -43,7 +45,7 @@ fn main(rt: HostRuntime) -> io::Result<()> {
     run_all(&rt, rt.alloc(), is_timed)
 }
 
-/// Draws, looks and puts, with each number of threads.
+/// Runs draws, looks and puts with each number of threads.
 fn run_all<R: Threads + Wait + Clock + Sync + Print>(
     rt: &R,
     alloc: Global,
@@ -62,7 +64,7 @@ fn run_all<R: Threads + Wait + Clock + Sync + Print>(
     Ok(())
 }
 
-/// Draws from boards and from counters, and prints how that went.
+/// Draws from boards and from counters, and prints the results.
 fn draw<R: Threads + Wait + Clock + Sync + Print>(
     rt: &R,
     alloc: Global,
@@ -77,7 +79,7 @@ fn draw<R: Threads + Wait + Clock + Sync + Print>(
     tell(rt, "draws", threads, is_timed, board, mutex)
 }
 
-/// Looks at a board and at words, and prints how that went.
+/// Looks at a board and at states behind a mutex, and prints the results.
 fn look<R: Threads + Wait + Clock + Sync + Print>(
     rt: &R,
     alloc: Global,
@@ -92,7 +94,7 @@ fn look<R: Threads + Wait + Clock + Sync + Print>(
     tell(rt, "looks", threads, is_timed, board, mutex)
 }
 
-/// Has parcels go through an outbox and a queue, and prints how that went.
+/// Sends parcels through an outbox and through a queue, and prints the results.
 fn put<R: Threads + Wait + Clock + Sync + Print>(
     rt: &R,
     alloc: Global,
@@ -107,7 +109,7 @@ fn put<R: Threads + Wait + Clock + Sync + Print>(
     tell(rt, "parcels", putters, is_timed, outbox, mutex)
 }
 
-/// Prints a line of two races: their times or their counts.
+/// Prints one line for two races: their times or their counts.
 fn tell<R: Print>(
     rt: &R,
     what: &str,

@@ -1,4 +1,4 @@
-//! Parcels through an outbox, and through a queue under a mutex.
+//! Parcels sent through an outbox, and through a queue behind a mutex.
 
 ghost use Rattle.std.specs.Prelude.{◌≡◌, ◌≤◌, true, false, All, IfOk};
 ghost use Rattle.wl_outbox.specs.Passes.{IsOf, takes};
@@ -13,12 +13,13 @@ use std::{io, thread};
 use wl_grammar::{Frame, Hello};
 use wl_outbox::{CrossPartition, Outbox, Parcel, Pass};
 
-/// Of the tab that the parcels are for.
+/// The partition of the receiving tab.
 const PARTITION: u16 = 1;
 
+/// The receiving tab.
 const TAB: u16 = 2;
 
-/// How many parcels a queue has room for, as an outbox has.
+/// The capacity of a queue, equal to that of an outbox.
 const CAPACITY: usize = 256;
 
 /// A thread that puts into an outbox.
@@ -33,7 +34,7 @@ struct Putter<'a> {
 }
 
 impl<'a> Putter<'a> {
-    /// Puts a parcel, and waits for room.
+    /// Puts a parcel, waiting for space.
     fn put<R: Wait>(&mut self, rt: &R, generation: u32) {
         for _ in rt.forever() {
             let Ok(parcel) = parcel_of(generation) else {
@@ -47,7 +48,7 @@ impl<'a> Putter<'a> {
     }
 }
 
-/// A parcel for the tab, whose hello is of this generation.
+/// Creates a parcel for the tab, with a Hello of this generation.
 fn parcel_of(generation: u32) -> Result<Parcel, CrossPartition>
     ensures { IfOk result (λ p. (p.partition ≡ 1) × (p.tab ≡ 2)) }
 {
@@ -59,12 +60,12 @@ fn parcel_of(generation: u32) -> Result<Parcel, CrossPartition>
     )
 }
 
-/// Whether what was asked was done; what a refusal gives back is let go of.
+/// Returns true on success. Drops the value of a failure.
 fn is_done<E: Drop>(done: Result<(), E>) -> bool {
     done.is_ok()
 }
 
-/// Whether there was something; it is let go of.
+/// Returns true if there is a value, and drops it.
 fn is_found<T: Drop>(found: Option<T>) -> bool {
     found.is_some()
 }
@@ -81,7 +82,7 @@ struct Taker<'a> {
 }
 
 impl<'a> Taker<'a> {
-    /// Takes a parcel, and waits for one.
+    /// Takes a parcel, waiting for one.
     fn take<R: Wait>(&mut self, rt: &R) {
         for _ in rt.forever() {
             if is_found(self.outbox.take(rt, &mut self.pass)) {
@@ -93,7 +94,7 @@ impl<'a> Taker<'a> {
     }
 }
 
-/// A thread at an outbox.
+/// A thread that uses an outbox.
 #[derive(Drop)]
 enum AtOutbox<'a> {
     Puts(Putter<'a>),
@@ -124,7 +125,7 @@ impl<'a> Part for AtOutbox<'a> {
     }
 }
 
-/// The threads at an outbox: the one that takes, and one that puts for each of these passes.
+/// Creates the threads of an outbox: one that takes, and one that puts for each of these passes.
 fn threads_at<'a>(
     alloc: Global,
     passes: Vec<Pass>,
@@ -144,7 +145,7 @@ fn threads_at<'a>(
     Ok(threads)
 }
 
-/// An outbox of the tab, the pass that takes from it, and so many that put into it.
+/// Creates an outbox for the tab, with its taking pass and its putting passes.
 fn outbox_of(alloc: Global, putters: u16) -> io::Result<(Outbox, Pass, Vec<Pass>)>
     requires { (1 ≤ putters) × (putters ≤ 16) }
     ensures tab { IfOk result (λ r. (r.0.partition ≡ 1) × (r.0.tab ≡ 2)) }
@@ -157,7 +158,7 @@ fn outbox_of(alloc: Global, putters: u16) -> io::Result<(Outbox, Pass, Vec<Pass>
     }
 }
 
-/// Puts and takes parcels at once.
+/// Puts and takes parcels concurrently.
 pub(crate) fn through_outbox<R: Threads + Wait + Clock + Sync>(
     rt: &R,
     alloc: Global,
@@ -178,7 +179,7 @@ pub(crate) fn through_outbox<R: Threads + Wait + Clock + Sync>(
     run(rt, parts.as_mut_slice())
 }
 
-/// A thread at a queue under a mutex.
+/// A thread that uses a queue behind a mutex.
 #[derive(Drop)]
 struct AtQueue<'a> {
     queue: &'a Mutex<VecDeque<Parcel>>,
@@ -188,7 +189,7 @@ struct AtQueue<'a> {
 }
 
 impl<'a> AtQueue<'a> {
-    /// Puts a parcel, and waits for room.
+    /// Puts a parcel, waiting for space.
     fn put<R: Wait>(&self, rt: &R, generation: u32) {
         for _ in rt.forever() {
             let Ok(parcel) = parcel_of(generation) else {
@@ -201,7 +202,7 @@ impl<'a> AtQueue<'a> {
         }
     }
 
-    /// Takes a parcel, and waits for one.
+    /// Takes a parcel, waiting for one.
     fn take<R: Wait>(&mut self, rt: &R) {
         for _ in rt.forever() {
             if is_found(self.queue.lock(rt).pop_front()) {
@@ -213,7 +214,7 @@ impl<'a> AtQueue<'a> {
     }
 }
 
-/// Puts a parcel, if there is room.
+/// Puts a parcel if there is space. Returns true if it was put.
 fn offer<P: Drop>(queue: &mut VecDeque<P>, parcel: P) -> bool {
     queue.len() < CAPACITY && is_done(queue.push_back(parcel))
 }
@@ -234,7 +235,7 @@ impl<'a> Part for AtQueue<'a> {
     }
 }
 
-/// Puts and takes parcels at once, under a mutex.
+/// Puts and takes parcels concurrently, behind a mutex.
 pub(crate) fn through_queue<R: Threads + Wait + Clock + Sync>(
     rt: &R,
     alloc: Global,

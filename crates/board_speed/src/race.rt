@@ -1,4 +1,4 @@
-//! A race of several threads: each does its part, and the clock runs until the last is done.
+//! A race of several threads, timed until the last one is done.
 
 ghost use Rattle.std.specs.Prelude.{◌≡◌, ◌≤◌, All, IfOk};
 ghost use Rattle.wl_board.specs.Calls.{IsOf};
@@ -10,25 +10,25 @@ use std::time::{Clock, Instant};
 use std::{io, thread};
 use wl_board::{Board, Seat};
 
-/// How much is done.
+/// The amount of work in a run.
 #[derive(Clone, Copy)]
 pub struct Setting {
-    /// How many boards are drawn from, one after another.
+    /// The number of boards, drawn from one after another.
     pub boards: u16,
-    /// How many numbers are drawn from each, at most 65,535.
+    /// The number of draws from each board, at most 65,535.
     pub draws: u16,
-    /// How often is looked.
+    /// The number of looks.
     pub looks: u32,
-    /// How many parcels go through an outbox.
+    /// The number of parcels sent through an outbox.
     pub parcels: u32,
 }
 
-/// How a race went.
+/// The result of a race.
 #[derive(Clone, Copy)]
 pub struct Outcome {
-    /// How much was done, by all threads.
+    /// The amount of work done by all threads.
     pub done: u64,
-    /// How long it took.
+    /// Elapsed time.
     pub nanoseconds: u128,
 }
 
@@ -40,7 +40,7 @@ impl Outcome {
         }
     }
 
-    /// Both races, one after the other.
+    /// Adds two results of consecutive races.
     pub(crate) fn and(self, other: Outcome) -> Outcome {
         Outcome {
             done: self.done.saturating_add(other.done),
@@ -49,15 +49,16 @@ impl Outcome {
     }
 }
 
-/// The part of one thread.
+/// The work of one thread.
 pub trait Part {
+    /// Does the work.
     fn run<R: Wait>(&mut self, rt: &R);
 
-    /// How much it has done.
+    /// Returns the amount of work done.
     fn done(&self) -> u32;
 }
 
-/// A board of so many tabs, and a seat at it for each thread.
+/// Creates a board with these tabs, and a seat for each thread.
 pub(crate) fn board_of(alloc: Global, tabs: u16, threads: u16) -> io::Result<(Board, Vec<Seat>)>
     requires { (1 ≤ threads) × (threads ≤ 16) }
     ensures tabs { IfOk result (λ r. r.0.tabs ≡ tabs) }
@@ -69,7 +70,7 @@ pub(crate) fn board_of(alloc: Global, tabs: u16, threads: u16) -> io::Result<(Bo
     }
 }
 
-/// Adds one more part, if there is memory for it.
+/// Appends a part. Fails if out of memory.
 pub(crate) fn add<P: Drop>(parts: &mut Vec<P>, part: P) -> Result<(), AllocError> {
     match parts.push(part) {
         Ok(()) => Ok(()),
@@ -77,7 +78,7 @@ pub(crate) fn add<P: Drop>(parts: &mut Vec<P>, part: P) -> Result<(), AllocError
     }
 }
 
-/// Runs the parts, each in a thread.
+/// Runs each part in a thread of its own, and times them together.
 pub(crate) fn run<R: Threads + Wait + Clock + Sync, P: Part + Send>(
     rt: &R,
     parts: &mut [P],

@@ -1,4 +1,4 @@
-//! What the lanes are given.
+//! Event traces for the lanes.
 
 use std::alloc::{AllocError, AllocFailed, Global};
 use std::collections::VecDeque;
@@ -7,14 +7,14 @@ use wl_locked::BookEvent;
 
 pub(crate) type Events = VecDeque<BookEvent>;
 
-/// The names of locks, one for each of so many tabs.
+/// The names of the locks. Tabs share a name if their numbers have the same remainder.
 const NAMES: [&str; 4] = ["a", "b", "c", "d"];
 
-/// How many tabs of one partition want the locks, four of them each.
+/// The number of tabs of one partition that want the locks, four tabs per lock.
 const TABS: u16 = 16;
 
-/// A tab's report, and then so often a request of a lock that no other tab wants, and the release of it. Each tab has a
-/// partition of its own.
+/// Creates the trace of a tab without rivals: its report, then `locks` requests of one lock, each
+/// followed by its release. Each tab has a partition of its own.
 pub(crate) fn of_tab(alloc: Global, tab: u16, locks: u32) -> Result<Events, AllocError> {
     let name = name_of(tab);
     let mut events = VecDeque::new(alloc);
@@ -28,8 +28,11 @@ pub(crate) fn of_tab(alloc: Global, tab: u16, locks: u32) -> Result<Events, Allo
     Ok(events)
 }
 
-/// The reports and the first requests of tabs of one partition, three of which wait for each lock then; and so often the
-/// release by a lock's holder, which grants it to the next tab, and the holder's next request, which waits.
+/// Creates the trace of tabs of one partition that contend for four locks, with three tabs waiting
+/// for each.
+///
+/// After the reports and the first requests come `locks` handovers. In each, a lock's holder
+/// releases it, which grants it to the next tab, and then requests it again.
 pub(crate) fn of_tabs(alloc: Global, locks: u32) -> Result<Events, AllocError> {
     let mut events = VecDeque::new(alloc);
     for tab in 1..=TABS {
@@ -56,7 +59,7 @@ fn name_of(tab: u16) -> &'static str {
     NAMES[usize::from(tab) % NAMES.len()]
 }
 
-/// Adds one more event, if there is memory for it.
+/// Appends an event. Fails if out of memory.
 fn add<E: Drop>(events: &mut VecDeque<E>, event: E) -> Result<(), AllocError> {
     match events.push_back(event) {
         Ok(()) => Ok(()),
@@ -64,7 +67,7 @@ fn add<E: Drop>(events: &mut VecDeque<E>, event: E) -> Result<(), AllocError> {
     }
 }
 
-/// A request that waits for the lock of this name.
+/// Creates an exclusive request of the lock of this name.
 fn request(alloc: Global, name: &str) -> Result<Operation, AllocError> {
     Ok(Operation::Request {
         mode: Mode::Exclusive,
@@ -97,7 +100,7 @@ fn command(number: u32, operation: Operation) -> Upward {
     })
 }
 
-/// The command behind the request of this number gives its lock back.
+/// Creates the release of the lock that the request of this number got. It is the next command.
 fn release(number: u32) -> Upward {
     command(number.wrapping_add(1), Operation::Release { number })
 }

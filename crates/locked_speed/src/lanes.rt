@@ -1,4 +1,4 @@
-//! Lanes that step a broker in shards, each on a thread of its own.
+//! Lanes that step a sharded broker, each on a thread of its own.
 
 ghost use Rattle.std.specs.Prelude.{◌≡◌, ◌<◌, ◌≤◌, []};
 ghost use Rattle.wl_locked.specs.Blanks.{HaveParts, AreNamed};
@@ -17,7 +17,8 @@ use wl_grammar::Frame;
 use wl_locked::{Blanks, History, LANE_LIMIT, ShardLane, Sharded, Shards, Work, shard_of};
 use wl_workers::{Gate, Intake, Job, Outlet, OutletFault, run_lanes};
 
-/// Gives what stands in a list, all of it for one of so many shards. Contracts see it as the number of shards.
+/// An intake that reads from a list of events for one shard. Its value in contracts is the number
+/// of shards.
 #[derive(Drop)]
 struct Listed<J: Shards> {
     shards: u16,
@@ -53,7 +54,7 @@ impl<J: Shards> Intake for Listed<J> {
     }
 }
 
-/// Lets every step pass.
+/// A gate that lets every step pass.
 #[derive(Drop)]
 struct Open;
 
@@ -65,7 +66,7 @@ impl Gate for Open {
     fn answered<R: Wait + Clock>(&self, _rt: &R, _lane: u16) {}
 }
 
-/// Sends nothing.
+/// An outlet that discards all frames.
 #[derive(Drop)]
 struct Nowhere;
 
@@ -75,7 +76,7 @@ impl Outlet for Nowhere {
     }
 }
 
-/// For each lane the events of a tab, and the shard that they go to.
+/// Creates the events of one tab for each lane, with the shard of that tab.
 fn lists_of(
     alloc: Global,
     lanes: u16,
@@ -93,7 +94,7 @@ fn lists_of(
     Ok(lists)
 }
 
-/// Adds one more list, if there is memory for it.
+/// Appends a list. Fails if out of memory.
 fn add<L: Drop>(lists: &mut Vec<L>, list: L) -> Result<(), AllocError> {
     match lists.push(list) {
         Ok(()) => Ok(()),
@@ -101,7 +102,7 @@ fn add<L: Drop>(lists: &mut Vec<L>, list: L) -> Result<(), AllocError> {
     }
 }
 
-/// A job for a lane, with the events that it has, all for one shard.
+/// Creates the job of a lane, with its events for one shard.
 fn job_of<J: Shards>(
     lane: ShardLane<J>,
     shards: u16,
@@ -123,7 +124,7 @@ fn job_of<J: Shards>(
     }
 }
 
-/// A job for each lane.
+/// Creates a job for each lane.
 fn jobs_of<J: Shards>(
     alloc: Global,
     lanes: Vec<ShardLane<J>>,
@@ -152,7 +153,7 @@ fn lanes_of<J: Shards>(
         .collect::<Vec<ShardLane<J>>>(alloc)
 }
 
-/// How many steps stand in these histories.
+/// Returns the total number of steps in these histories.
 fn steps_of(histories: &[History]) -> u32 {
     histories
         .iter()
@@ -160,7 +161,8 @@ fn steps_of(histories: &[History]) -> u32 {
         .fold(0, |steps: u32, more: u32| steps.saturating_add(more))
 }
 
-/// Runs so many lanes over so many shards, each with the events of a tab of its own, whose partition has the tab's number.
+/// Runs lanes over a sharded broker, each with the events of a tab of its own. The tab's partition
+/// has the same number as the tab.
 pub(crate) fn run<R: Threads + Wait + Clock + Sync>(
     rt: &R,
     alloc: Global,
@@ -199,7 +201,7 @@ fn run_named<J: Shards + Send + Sync, R: Threads + Wait + Clock + Sync>(
     Ok(Outcome { steps, nanoseconds })
 }
 
-/// Runs the lanes, and gives how many nanoseconds that took.
+/// Runs the lanes and returns the elapsed nanoseconds.
 fn timed<J: Shards + Send + Sync, R: Threads + Wait + Clock + Sync>(
     rt: &R,
     broker: &Sharded<J>,
@@ -213,7 +215,7 @@ fn timed<J: Shards + Send + Sync, R: Threads + Wait + Clock + Sync>(
     Ok(start.elapsed(rt)?.as_nanos())
 }
 
-/// Closes the broker with its lanes, and gives how many steps it has made.
+/// Closes the broker with its lanes and returns the number of its steps.
 fn closed<J: Shards>(
     alloc: Global,
     broker: Sharded<J>,

@@ -1,8 +1,10 @@
-//! Times lanes that step a broker in shards, each behind a lock of its own, beside the same events taken by a broker that no
-//! other thread has, and by a locked broker that one thread steps. These two take the events of a tab that is alone, and then
-//! those of sixteen tabs that hand four locks over. With the argument `time` it prints nanoseconds, and with one more, `alone`,
-//! `locked` or `lanes`, those runs alone, or `turns`, the first two of them by turns, again and again; without arguments it
-//! makes small runs and prints how many steps they made, the same each time.
+//! Benchmark of the broker's lanes over shards. It also runs the same events through a broker
+//! without a lock and through a locked broker that one thread steps. These two take the trace of
+//! one tab, and that of sixteen tabs that contend for four locks.
+//!
+//! With the argument `time` it prints nanoseconds. A second argument selects runs: `alone`,
+//! `locked`, `lanes`, or `turns`, which repeats the first two alternately. Without arguments it
+//! makes small runs and prints deterministic numbers of steps.
 #![tactic(auto)]
 
 mod events;
@@ -19,7 +21,7 @@ use wl_broker::Broker;
 use wl_locked::BookEvent;
 use wl_table::IndexedTable;
 
-/// How many lanes step the broker, in how many shards.
+/// The numbers of lanes and shards of each run.
 const RUNS: [(u16, u16); 9] = [
     (1, 1),
     (1, 2),
@@ -32,19 +34,21 @@ const RUNS: [(u16, u16); 9] = [
     (4, 4),
 ];
 
-/// How many locks each lane hands over with no argument, and where it is timed.
+/// The number of locks that each lane requests in a run without arguments.
 const FEW: u32 = 50;
 
+/// The number of locks that each lane requests in a timed run.
 const MANY: u32 = 100_000;
 
-/// How often the broker alone and the locked one run by turns.
+/// The number of alternating runs with and without a lock.
 const TURNS: u32 = 24;
 
-/// How many locks they hand over where they are timed: with the reports and first requests before, these are as many steps as
-/// a generation of the program may have in a shard, or some fewer.
+/// The number of handovers of a timed run of one broker. With the reports and first requests it
+/// makes at most as many steps as a generation may have in a shard.
 const WHOLE: u32 = 32_751;
 
-/// Whose events one broker takes: those of a tab that is alone, or of tabs that want the same locks.
+/// The source of one broker's events: a tab without rivals, or tabs that contend for the same
+/// locks.
 #[derive(Clone, Copy)]
 enum Trace {
     OneTab,
@@ -53,7 +57,7 @@ enum Trace {
 
 const TRACES: [Trace; 2] = [Trace::OneTab, Trace::Tabs];
 
-/// How a run went.
+/// The result of a run.
 #[derive(Clone, Copy)]
 pub(crate) struct Outcome {
     pub(crate) steps: u32,
@@ -87,7 +91,7 @@ fn main(rt: HostRuntime) -> io::Result<()> {
     Ok(())
 }
 
-/// Whether these runs are to be made: all are, unless some are named.
+/// Returns true if these runs are selected. All are if none is named.
 fn is_wanted(only: &Option<String>, what: &str) -> bool {
     only.is_none() || is_named(only, what)
 }
@@ -99,7 +103,7 @@ fn is_named(only: &Option<String>, what: &str) -> bool {
     }
 }
 
-/// Has a broker that no other thread has, and then a locked one, take the events of a trace, again and again.
+/// Repeatedly runs the events of each trace without a lock and then with one.
 fn by_turns<R: Wait + Clock + Print>(rt: &R, alloc: Global, is_timed: bool) -> io::Result<()> {
     for trace in TRACES {
         for _ in 0..TURNS {
@@ -110,7 +114,7 @@ fn by_turns<R: Wait + Clock + Print>(rt: &R, alloc: Global, is_timed: bool) -> i
     Ok(())
 }
 
-/// Has a broker that no other thread has take the events of a trace.
+/// Runs the events of a trace through a broker without a lock.
 fn run_alone<R: Clock + Print>(
     rt: &R,
     alloc: Global,
@@ -127,7 +131,7 @@ fn run_alone<R: Clock + Print>(
     tell(rt, what, (1, 1), is_timed, timed(rt, &mut broker, events)?)
 }
 
-/// Has a locked broker take the events of a trace.
+/// Runs the events of a trace through a locked broker.
 fn run_locked<R: Wait + Clock + Print>(
     rt: &R,
     alloc: Global,
@@ -150,14 +154,14 @@ fn events_of(alloc: Global, trace: Trace, locks: u32) -> Result<Events, AllocErr
     }
 }
 
-/// A broker of the first generation, without what it says at its start.
+/// Creates a broker of the first generation, and drops its hellos.
 fn started(alloc: Global) -> Result<Broker<IndexedTable>, AllocError> {
     let (broker, hellos) = Broker::start(alloc, 1, &[])?;
     drop(hellos);
     Ok(broker)
 }
 
-/// Times how a broker takes these events.
+/// Times a broker on these events.
 fn timed<R: Clock>(
     rt: &R,
     broker: &mut Broker<IndexedTable>,
@@ -171,7 +175,7 @@ fn timed<R: Clock>(
     })
 }
 
-/// How many of these events a broker takes.
+/// Returns the number of these events that a broker accepts.
 fn steps_of(broker: &mut Broker<IndexedTable>, events: Events) -> u32 {
     let mut steps = 0u32;
     for event in events {
@@ -189,12 +193,12 @@ fn takes(broker: &mut Broker<IndexedTable>, event: &BookEvent) -> bool {
     }
 }
 
-/// Whether an event was taken; what came of it is let go of.
+/// Returns true if an event was accepted. Drops the result.
 pub(crate) fn is_taken<T: Drop, E: Drop>(answer: Result<T, E>) -> bool {
     answer.is_ok()
 }
 
-/// Prints a run: its time or its count.
+/// Prints the time or the step count of a run.
 fn tell<R: Print>(
     rt: &R,
     what: &str,

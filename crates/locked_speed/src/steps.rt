@@ -1,4 +1,4 @@
-//! A broker behind its lock, with its history and the receipts of its one lane, stepped by one thread.
+//! A locked broker with one lane, which records its history and is stepped by one thread.
 
 ghost use Rattle.std.specs.Prelude.{◌≡◌, []};
 ghost use Rattle.wl_broker.specs.Broker.{started};
@@ -13,7 +13,7 @@ use std::sync::ledger::Blank;
 use std::time::{Clock, Instant};
 use wl_locked::{Generation, Lane, LockedBroker};
 
-/// Has a locked broker's one lane take these events.
+/// Runs these events through the only lane of a locked broker.
 pub(crate) fn run<R: Wait + Clock>(rt: &R, alloc: Global, events: Events) -> io::Result<Outcome> {
     run_named::<Brand, R>(rt, alloc, Blank::new(1), events)
 }
@@ -37,7 +37,7 @@ fn run_named<J: Generation, R: Wait + Clock>(
     }
 }
 
-/// Times how a lane takes these events.
+/// Times a lane on these events.
 fn timed<J: Generation, R: Wait + Clock>(
     rt: &R,
     broker: &LockedBroker<J>,
@@ -52,7 +52,7 @@ fn timed<J: Generation, R: Wait + Clock>(
     })
 }
 
-/// How many of these events a lane takes.
+/// Returns the number of these events that make a step.
 fn steps_of<J: Generation, R: Wait>(
     rt: &R,
     broker: &LockedBroker<J>,

@@ -1,22 +1,25 @@
-//! Plays one trace of calls on each lock table. With the word `time` it prints how many calls a second each made; without,
-//! it plays a short trace, and says whether the two answered the same, and the same where other clients have entries too.
+//! Benchmark of the two lock tables on the same traces of random calls.
+//!
+//! With the word `time` it prints calls per second. Without it, it plays a short trace on both
+//! tables, with and without entries of other clients, and prints whether all results agree.
 #![tactic(auto)]
 
 use std::alloc::{AllocError, Global};
 use std::time::Instant;
 use wl_table::{Entry, Grant, IndexedTable, LockTable, Mode, Name, PlainTable, Standing};
 
-/// A trace of calls: a client asks for a number that it does not have, and else lets it go.
+/// A trace of calls. In each call a client requests an absent entry, or releases or aborts a
+/// present one.
 #[derive(Clone, Copy)]
 struct Trace {
     title: &'static str,
     clients: u16,
-    // How many numbers each client uses.
+    // The number of entries of each client.
     entries: u32,
     names: usize,
-    // Whether each number has a name of its own.
+    // Whether each entry has a name of its own.
     is_apart: bool,
-    // How many calls the indexed table gets, and how many the plain one.
+    // The numbers of calls for the indexed and the plain table.
     calls: usize,
     plain_calls: usize,
 }
@@ -81,7 +84,7 @@ const RESTORED: Trace = Trace {
     plain_calls: 4,
 };
 
-/// A sequence of numbers that look random: the high bits of a linear congruence.
+/// A pseudorandom number generator: the high bits of a linear congruence.
 #[derive(Drop)]
 struct Dice {
     state: u64,
@@ -106,7 +109,7 @@ impl Dice {
     }
 }
 
-/// So many names, which are numbered from `first` on.
+/// Creates `count` names, numbered from `first` on.
 fn names_of(alloc: Global, first: usize, count: usize) -> Result<Vec<Name>, AllocError> {
     let mut names = Vec::with_capacity(alloc, count)?;
     for place in 0..count {
@@ -116,7 +119,7 @@ fn names_of(alloc: Global, first: usize, count: usize) -> Result<Vec<Name>, Allo
     Ok(names)
 }
 
-/// The place of a name: by chance, or the one of this client and number.
+/// Returns the index of a name: a random one, or the one of this client's entry.
 fn place_of(dice: &mut Dice, trace: Trace, client: u16, number: u32) -> usize {
     let chance = dice.below(trace.names);
     if trace.is_apart {
@@ -128,7 +131,7 @@ fn place_of(dice: &mut Dice, trace: Trace, client: u16, number: u32) -> usize {
     }
 }
 
-/// What was answered so far, in one number.
+/// Mixes grants into a digest of all results.
 fn mixed(digest: u64, granted: &[Grant]) -> u64 {
     let mut sum = digest.wrapping_mul(31);
     for grant in granted {
@@ -141,7 +144,7 @@ fn mixed(digest: u64, granted: &[Grant]) -> u64 {
     sum
 }
 
-/// One call of the trace.
+/// Makes one call of the trace.
 fn turn<T: LockTable>(
     table: &mut T,
     dice: &mut Dice,
@@ -159,7 +162,7 @@ fn turn<T: LockTable>(
     }
 }
 
-/// A report of a client that waits for, or holds, all its numbers.
+/// Creates the report of a client with all its entries, each held or waiting at random.
 fn report_of(
     alloc: Global,
     dice: &mut Dice,
@@ -184,7 +187,7 @@ fn report_of(
     Ok(entries)
 }
 
-/// How long the reports of all clients took, how long a number of calls took, and what was answered.
+/// The time of restoring all clients, the time of the calls, and a digest of the results.
 #[derive(Clone, Copy)]
 struct Played {
     restore: u64,
@@ -196,8 +199,8 @@ fn micros_since(rt: &HostRuntime, began: Instant) -> anyhow::Result<u64> {
     Ok(u64::try_from(began.elapsed(rt)?.as_micros()).unwrap_or(u64::MAX))
 }
 
-/// Plays a trace with so many calls on an empty table, or on one with the entries of another trace, whose clients and names are
-/// others.
+/// Plays a trace on an empty table, or on one filled with another trace, which uses other clients
+/// and names.
 fn play<T: LockTable>(
     rt: &HostRuntime,
     mut table: T,
@@ -213,7 +216,7 @@ fn play<T: LockTable>(
     play_on(rt, &mut table, trace, &names, calls)
 }
 
-/// Fills a table, and plays so many calls on it.
+/// Fills a table and plays calls on it.
 fn play_on<T: LockTable>(
     rt: &HostRuntime,
     table: &mut T,
@@ -231,7 +234,8 @@ fn play_on<T: LockTable>(
     Ok(played)
 }
 
-/// Fills a table with the reports of all clients, who are numbered from `first` on. The last of them settles.
+/// Fills a table with the reports of all clients, numbered from `first` on. The last report settles
+/// the queues.
 fn fill<T: LockTable>(
     rt: &HostRuntime,
     table: &mut T,
@@ -260,7 +264,7 @@ fn fill<T: LockTable>(
     Ok((dice, played))
 }
 
-/// Restores what a client reports, and adds how long that took and what was granted.
+/// Restores a client's report, and adds the elapsed time and the grants to the results.
 fn restore<T: LockTable>(
     rt: &HostRuntime,
     table: &mut T,
@@ -277,7 +281,7 @@ fn restore<T: LockTable>(
     Ok(())
 }
 
-/// So many a second.
+/// Returns the rate per second.
 fn rate(count: usize, micros: u64) -> u64 {
     (count as u64)
         .saturating_mul(1_000_000)
@@ -291,8 +295,8 @@ fn print_rates(rt: &HostRuntime, what: &str, indexed: u64, plain: u64) -> anyhow
     Ok(())
 }
 
-/// Prints how fast each table plays a trace, beside the entries of another one or of none, and answers how many calls a second
-/// the indexed one makes.
+/// Prints the speed of each table on a trace, alone or beside the entries of another trace. Returns
+/// the indexed table's calls per second.
 fn compare(rt: &HostRuntime, trace: Trace, beside: Option<Trace>) -> anyhow::Result<u64> {
     let alloc = rt.alloc();
     let entries = (trace.clients as usize).saturating_mul(trace.entries as usize);
@@ -341,7 +345,7 @@ fn time(rt: &HostRuntime) -> anyhow::Result<()> {
     )
 }
 
-/// Prints how much longer a call takes than with 64 entries, of how many calls a second there were then and now.
+/// Prints how many times longer a call takes than with 64 entries, given both rates.
 fn print_growth(rt: &HostRuntime, what: &str, few: u64, now: u64) -> anyhow::Result<()> {
     let tenths = few.saturating_mul(10).checked_div(now).unwrap_or(u64::MAX);
     println!(rt;
@@ -352,7 +356,8 @@ fn print_growth(rt: &HostRuntime, what: &str, few: u64, now: u64) -> anyhow::Res
     Ok(())
 }
 
-/// Whether both tables answer a short trace alike, and whether both do beside the entries of others.
+/// Returns whether both tables agree on a short trace, and whether each gives the same results
+/// beside the entries of others.
 fn agree(rt: &HostRuntime) -> anyhow::Result<(bool, bool)> {
     let alloc = rt.alloc();
     let calls = SHORT.calls;

@@ -1,4 +1,4 @@
--- The counts that are kept beside the statuses.
+-- Counts that are stored with the statuses.
 use Rattle.std.proofs.Common.{◌≡◌, ℕ, ◌+◌, ◌-◌, ◌≤◌, Bool, true, false, ◌||◌, Option, Some, None, refl, sym, ap, ◌∙◌, subst, arith}
 use Rattle.wl_draft.specs.Tables.{Table, find, put, without_row}
 use Rattle.wl_draft.proofs.RisingTables.{Rises-put, Rises-filter}
@@ -11,11 +11,11 @@ keeping_is_live : (s : Status) (b c : Bool) → keeps_number (Some s) ≡ b → 
 keeping_is_live s true c e f h = refl
 keeping_is_live s false c e f h = cc
 
--- what keeps a number is live
+-- Each number that reserves another is live.
 pub kept-le_live : (rows : Table Status) → count_of keeps_number rows ≤ count_of is_live rows
 kept-le_live rows = passing-le keeps_number is_live (λ s. keeping_is_live s _ _ refl refl) rows
 
--- ---- a row is taken out
+-- Removing a row
 
 pub live-fits : (rows : Table Status) (live kept l k : ℕ) (o : Option Status) → IsCounted rows live kept → find rows k ≡ o → l ≡ weight is_live o → l ≤ live
 live-fits rows live kept l k o c found l_is =
@@ -38,7 +38,7 @@ counts-without rows rest live kept l m k o c found rest_is l_is m_is =
       kept_is = omega (arith, passing-without keeps_number refl k 0 rows c.rise, m_at, c.kept_is);
     })
 
--- ---- a row is put where there was this one, or none
+-- Putting a row, with or without an old one
 
 pub counts-put : (rows new : Table Status) (live kept l m l' m' k : ℕ) (s : Status) (o : Option Status) → IsCounted rows live kept → find rows k ≡ o → new ≡ put k s rows → l ≡ weight is_live o → m ≡ weight keeps_number o → l' ≡ weight is_live (Some s) → m' ≡ weight keeps_number (Some s) → IsCounted new (live - l + l') (kept - m + m')
 counts-put rows new live kept l m l' m' k s o c found new_is l_is m_is l'_is m'_is =
@@ -51,7 +51,7 @@ counts-put rows new live kept l m l' m' k s o c found new_is l_is m_is l'_is m'_
       kept_is = omega (arith, passing-put keeps_number refl k 0 s rows c.rise, passing-without keeps_number refl k 0 rows c.rise, m_at, m'_is, c.kept_is);
     })
 
--- a row is put where there was none
+-- Putting a row of a number that had none adds its weight to the counts.
 pub counts-insert : (rows new : Table Status) (live kept l m k : ℕ) (s : Status) → IsCounted rows live kept → find rows k ≡ None → new ≡ put k s rows → l ≡ weight is_live (Some s) → m ≡ weight keeps_number (Some s) → IsCounted new (live + l) (kept + m)
 counts-insert rows new live kept l m k s c absent new_is l_is m_is =
     let l_at : weight is_live (find rows k) ≡ 0 = ap (weight is_live) absent in

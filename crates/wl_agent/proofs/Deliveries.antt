@@ -1,4 +1,4 @@
--- What a delivery is, by its cases.
+-- Result of a delivery, by cases.
 use Rattle.std.proofs.Common.{List, ◌≡◌, ◌≢◌, ℕ, ◌+◌, Bool, true, false, ◌&&◌, cond, ltb, length, Option, Some, None, is_some, refl, sym, ap, ◌∙◌}
 use Rattle.wl_grammar.specs.declared.frame.Operation.{Operation}
 use Rattle.wl_grammar.specs.declared.frame.Operation.TheVariants.{Request, Release, Abort, Query}
@@ -21,7 +21,7 @@ use Rattle.wl_agent.specs.SnapshotParts.{PartsState, fits, with_part, is_whole}
 use Rattle.wl_agent.specs.Tab.{TabState, report_frames, enter, status_of, operation_of, is_issued, is_query, is_querying}
 use Rattle.wl_agent.specs.Delivery.{delivery, noted, becomes, has_entered, of_other, told_by_answer, told_by_part, told_command, told_lock, told_asked, told_end, told_query, told_asked_query, told_unless, told_by_come, parts_refusal, asking_refusal, part_refusal, parts_of, with_part_come, after_answer, after_part, takes_memory, IsSendable}
 
--- ---- hellos
+-- Hellos
 
 greeting : (x : Hello) (a : TabState) (b : Bool) → ltb a.entered x.generation ≡ b → cond b (enter x.generation a, told.Entered (report_frames (enter x.generation a))) (a, told.Dropped unheard.OldGeneration) ≡ delivery (frame.Hello x) a
 unfolding delivery
@@ -34,7 +34,7 @@ pub greets-new : (x : Hello) (a new : TabState) (frames : List Frame) → ltb a.
 greets-new x a new frames e new_is frames_are =
     ap (λ (n : TabState). (n, told.Entered frames)) new_is ∙ ap (λ (fs : List Frame). (enter x.generation a, told.Entered fs)) frames_are ∙ greeting x a true e
 
--- ---- answers
+-- Answers
 
 hearing : (x : Answer) (a : TabState) (b : Bool) → has_entered x.generation a ≡ b → cond b (noted x.upto (after_answer (told_by_answer x a) a), told_by_answer x a) (a, of_other x.generation a) ≡ delivery (frame.Answer x) a
 unfolding delivery
@@ -47,7 +47,7 @@ pub hears : (x : Answer) (a mid new : TabState) (d : Delivered) → has_entered 
 hears x a mid new d same d_is mid_is new_is =
     ap (λ (n : TabState). (n, d)) (new_is ∙ ap (noted x.upto) mid_is) ∙ ap (λ (t : Delivered). (noted x.upto (after_answer t a), t)) d_is ∙ hearing x a true same
 
--- ---- parts of snapshots
+-- Parts of snapshots
 
 collecting : (x : Part) (a : TabState) (b : Bool) → has_entered x.generation a ≡ b → cond b (noted (x.number + 1) (after_part x a), told_by_part x a) (a, of_other x.generation a) ≡ delivery (frame.Snapshot x) a
 unfolding delivery
@@ -60,7 +60,7 @@ pub collects : (x : Part) (a mid new : TabState) (d : Delivered) → has_entered
 collects x a mid new d same d_is mid_is new_is =
     ap (λ (n : TabState). (n, d)) (new_is ∙ ap (noted (x.number + 1)) mid_is) ∙ ap (λ (t : Delivered). (noted (x.number + 1) (after_part x a), t)) d_is ∙ collecting x a true same
 
--- ---- what takes memory
+-- Frames that allocate
 
 pub enters-by_memory : (x : Hello) (a : TabState) → ltb a.entered x.generation ≡ true → takes_memory (delivery (frame.Hello x) a).1 ≡ true
 enters-by_memory x a e = ap (λ (p : TabState × Delivered). takes_memory p.1) (sym (greeting x a true e))
@@ -69,12 +69,12 @@ pub collects-by_memory : (x : Part) (a : TabState) → has_entered x.generation 
 collects-by_memory x a same e =
     ap (λ (p : TabState × Delivered). takes_memory p.1) (sym (collecting x a true same)) ∙ e
 
--- no frame is dropped by itself as out of memory
+-- The result says that memory ran out. The definition of a delivery never gives it.
 abbrev pub is_memory : Delivered → Bool
 is_memory (told.Dropped unheard.Memory) = true
 is_memory d = false
 
--- what neither an answer nor a part does
+-- Neither an answer nor a part has this result.
 abbrev pub is_rare : Delivered → Bool
 is_rare (told.Entered frames) = true
 is_rare (told.Dropped unheard.Memory) = true
@@ -181,7 +181,7 @@ never-by_memory (frame.Answer x) a = answer_never x a _ refl
 never-by_memory (frame.Snapshot x) a = snapshot_never x a _ refl
 never-by_memory f a = refl
 
--- ---- a part that is taken
+-- A part that is taken
 
 not_refused_as : (x : Part) (o : Option Status) (b : Bool) → cond b (asking_refusal x o) (Some unheard.Odd) ≡ None → is_querying o ≡ true
 not_refused_as x o false e = cc
@@ -202,7 +202,7 @@ step-part a b x rows same rows_are taken =
     ∙ ap (λ (y : TabState). becomes k (with_part_come x (parts_of (find y.statuses k))) b) same
     ∙ sym (ap (λ r. cond (is_some r) b (becomes k (with_part_come x (parts_of (find b.statuses k))) b)) taken)
 
--- ---- frames of other kinds
+-- Frames of other kinds
 
 pub other-kind : (f : Frame) (a : TabState) → ((x : Part) → f ≢ frame.Snapshot x) → ((x : Answer) → f ≢ frame.Answer x) → ((x : Hello) → f ≢ frame.Hello x) → (a, told.Dropped unheard.WrongKind) ≡ delivery f a
 unfolding delivery

@@ -1,4 +1,5 @@
--- What holds whatever a result is, and what does where a refusal does not apply.
+-- Lemmas on results: those that hold for any result, and those that hold if a refusal does not
+-- apply.
 use Rattle.std.proofs.Common.{◌≡◌, Bool, true, false, cond, Option, Some, None, refl, Result, Ok, Err, OnErr}
 
 pub on_err : {T E : Type 0} (r : Result T E) (P : Type 0) → P → OnErr r P

@@ -1,4 +1,4 @@
--- The parts of a snapshot that have come: which are missing, and when none is.
+-- Parts of a snapshot received so far, and the test whether any is missing.
 use Rattle.std.proofs.Common.{◌≡◌, ◌⊎◌, inl, inr, ⊎_elim, ℕ, ◌+◌, ◌<◌, ◌≤◌, ◌==◌, Bool, true, false, cond, not, ◌&&◌, ◌||◌, eqb, ltb, List, [], ◌∷◌, ◌++◌, length, count_by, is_some, refl, sym, ap, ◌∙◌, subst, arith}
 use Rattle.std.specs.List.{AllByRecursion}
 use Rattle.std.proofs.lemmas.List.Sums.{sum_by-cons, sum_by_push}
@@ -11,7 +11,7 @@ use Rattle.wl_agent.specs.SnapshotParts.{PartsState, no_parts, fits, with_part, 
 use Rattle.wl_agent.specs.Laws.{AreWhole, gathered}
 use Rattle.wl_agent.proofs.Rows.{AllRows-put}
 
--- ---- tables whose numbers are below a bound
+-- Tables whose numbers are below a bound
 
 abbrev pub AreBelow : {X : Type 0} → ℕ → Table X → Type 0
 AreBelow c rows = AllByRecursion (λ row. row.0 < c) rows
@@ -29,7 +29,7 @@ behind : (b r : Bool) → r ≡ true → (b || r) ≡ true
 behind true r e = refl
 behind false r e = e
 
--- as many rows as there are numbers: each number has one
+-- A table with as many rows as there are numbers has a row for each number.
 full-has : {X : Type 0} (c l : ℕ) (rows : Table X) → Rises l rows → AreBelow c rows → l + length rows ≡ c → (n : ℕ) → l ≤ n → n < c → has_row rows n ≡ true
 full-has c l [] rise below full n low high = absurd (omega (arith, full, low, high))
 full-has c l (p ∷ ps) rise below full n low high =
@@ -42,7 +42,7 @@ full-has c l (p ∷ ps) rise below full n low high =
 below_none : {X : Type 0} (k l : ℕ) (rows : Table X) → Rises l rows → k < l → has_row rows k ≡ false
 below_none k l rows rise lt = has_row-find rows k ∙ ap is_some (find_below k l rows rise lt)
 
--- each number has a row: there are as many rows
+-- A table with a row for each number has at least as many rows as there are numbers.
 has-full : {X : Type 0} (c l : ℕ) (rows : Table X) → Rises l rows → ((n : ℕ) → l ≤ n → n < c → has_row rows n ≡ true) → c ≤ l + length rows
 has-full c l [] rise has = ⊎_elim (λ lt. absurd (false≢true (has l (omega arith) lt))) (λ ge. omega (arith, ge)) (cases_lt l c)
 has-full c l (p ∷ ps) rise has = ⊎_elim (λ lt. ⊎_elim
@@ -61,9 +61,9 @@ beyond_none c [] below n le = refl
 beyond_none c (p ∷ ps) below n le =
     ap (λ b. b || has_row ps n) (ne_eqb p.0 n (λ same. omega (arith, same, below.0, le))) ∙ beyond_none c ps below.1 n le
 
--- ---- what came
+-- Parts received
 
--- the parts that came for a query that is asked still
+-- The parts received for a query that is still asked.
 pub record Collects (g : ℕ) (came : PartsState) (xs : List Part) : Type 0 where
   pub gathers : came ≡ gathered xs no_parts
   pub alike : AllByRecursion (λ (x : Part). (x.generation ≡ g) × (x.parts ≡ came.count)) xs
@@ -82,7 +82,7 @@ one_is_some true c e is = refl
 one_is_some false true e is = absurd (omega (arith, e))
 one_is_some false false e is = is
 
--- a missing part shows
+-- If a part is missing, the parts are not the whole answer.
 pub not_yet : (g : ℕ) (came : PartsState) (xs : List Part) → Collects g came xs → (xs ≡ []) ⊎ (is_whole came ≡ false) → AreWhole xs → ⊥
 not_yet g came [] h missing w = absurd (omega (arith, w.each_once 0 ∙ ap (λ b. cond b 1 0) (lt-ltb 0 w.count w.some)))
 not_yet g came (x ∷ xs) h (inl none) w = cc
@@ -92,7 +92,7 @@ not_yet g came (x ∷ xs) h (inr missing) w =
     let most = few came.count 0 came.came h.rise h.below (omega arith) in
     false≢true (sym missing ∙ eq-eqb (length came.came) came.count (omega (arith, least, most)))
 
--- ---- one part more
+-- One more part
 
 gathered-more : (xs : List Part) (x : Part) (came : PartsState) → gathered (xs ++ x ∷ []) came ≡ with_part x (gathered xs came)
 gathered-more [] x came = refl
@@ -105,14 +105,14 @@ all-more : {X : Type 0} (P : X → Type 0) (xs : List X) (x : X) → AllByRecurs
 all-more P [] x all one = (one, tt)
 all-more P (y ∷ ys) x all one = (all.0, all-more P ys x all.1 one)
 
--- parts that are counted nowhere are none
+-- A list in which no index occurs is empty.
 uncounted : (xs : List Part) → ((n : ℕ) → count_by (λ (x : Part). x.part == n) xs ≡ 0) → xs ≡ []
 uncounted [] none = refl
 uncounted (x ∷ xs) none =
     let rest = count_by (λ (y : Part). y.part == x.part) xs in
     absurd (omega (arith, sym (none x.part) ∙ sum_by-cons (λ (y : Part). cond (eqb y.part x.part) 1 0) x xs ∙ ap (λ b. cond b 1 0 + rest) (eq-eqb x.part x.part refl)))
 
--- the part fits what came: nothing did, or it is of as many parts
+-- The part fits those received: there are none, or their number of parts is the same.
 abbrev Fitting : Part → PartsState → Type 0
 Fitting x came = ((came.came ≡ []) ⊎ (x.parts ≡ came.count)) × (x.part < x.parts) × (has_row came.came x.part ≡ false)
 
@@ -161,7 +161,7 @@ one_more g x came xs h fit same =
       below = AllRows-put (λ row. row.0 < x.parts) x.part x.entries came.came f.1 (below-more x came h.below f.0);
     }
 
--- where none is missing any more, they are the whole
+-- If none is missing after this part, the parts are the whole answer.
 pub all_came : (g : ℕ) (x : Part) (came : PartsState) (xs : List Part) → Collects g (with_part x came) (xs ++ x ∷ []) → x.part < x.parts → is_whole (with_part x came) ≡ true → AreWhole (xs ++ x ∷ [])
 unfolding with_part
 all_came g x came xs h fit whole =

@@ -1,4 +1,4 @@
--- The parts of a snapshot, one after another.
+-- Parts of a snapshot, joined one after another.
 use Rattle.std.proofs.Common.{◌≡◌, ◌≢◌, ℕ, Bool, true, false, cond, List, [], ◌∷◌, ◌++◌, map, Some, None, refl, ap, ◌∙◌, sym, length}
 use Rattle.std.proofs.lemmas.Bool.{eq-eqb, ne_eqb}
 use Rattle.std.specs.List.{flat_map}
@@ -9,7 +9,7 @@ use Rattle.wl_agent.specs.declared.snapshot.LockInfo.{LockInfo}
 use Rattle.wl_agent.specs.declared.snapshot.Snapshot.{Snapshot}
 use Rattle.wl_agent.specs.SnapshotParts.{PartsState, with_part, is_whole, whole_of, snapshot_of, all_entries, held_in, pending_in}
 
--- the lists of the rows, taken by their values or by their rows
+-- Joining the values of the rows is joining the rows.
 flat_values_as : {X : Type 0} (p : ℕ × List X) (ps : Table (List X)) → flat_map (λ es. es) (map (λ row. row.1) ps) ≡ flat_map (λ row. row.1) ps → flat_map (λ es. es) (map (λ row. row.1) (p ∷ ps)) ≡ flat_map (λ row. row.1) (p ∷ ps)
 flat_values_as p ps below = ap (λ rest. p.1 ++ rest) below
 
@@ -17,12 +17,12 @@ pub flat_values : {X : Type 0} (ps : Table (List X)) → flat_map (λ es. es) (m
 flat_values [] = refl
 flat_values (p ∷ ps) = flat_values_as p ps (flat_values ps)
 
--- nothing was gathered before the first part
+-- Nothing is gathered before the first part.
 pub gathers : (gather : List SnapshotEntry → List LockInfo) (none : List LockInfo) (left values : List (List SnapshotEntry)) (rows : Table (List SnapshotEntry)) → none ≡ [] → left ≡ values → values ≡ map (λ row. row.1) rows → none ++ gather (flat_map (λ es. es) left) ≡ gather (all_entries rows)
 gathers gather none left values rows none_is left_is values_are =
     ap (λ xs. xs ++ gather (flat_map (λ es. es) left)) none_is ∙ ap (λ es. gather (flat_map (λ l. l) es)) (left_is ∙ values_are) ∙ ap gather (flat_values rows)
 
--- the snapshot, by the rows of all parts
+-- The snapshot is whole or `None`, depending on the test whether a part is missing.
 either_whole : (x : Part) (parts : PartsState) (b : Bool) → is_whole (with_part x parts) ≡ b → whole_of (with_part x parts) ≡ cond b (Some (snapshot_of (with_part x parts))) None
 either_whole x parts b e = rw e refl
 

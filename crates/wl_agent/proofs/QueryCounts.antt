@@ -1,4 +1,4 @@
--- The counts, where a query's answer comes.
+-- Counts of the statuses when a part of a query's answer arrives.
 use Rattle.std.proofs.Common.{◌≡◌, ℕ, ◌+◌, ◌-◌, ◌≤◌, Bool, true, false, Some, refl, sym, ap, ◌∙◌, subst, arith}
 use mir.Val.{bool_byte}
 use Rattle.wl_draft.specs.Tables.{Table, find, put}
@@ -23,7 +23,7 @@ come_weighs : (x : Part) (parts : PartsState) (b : Bool) → is_whole (with_part
 come_weighs x parts true e = rw e (refl, refl)
 come_weighs x parts false e = rw e (refl, refl)
 
--- an asked query is live
+-- An asked query is live.
 pub asking-live : (rows : Table Status) (live kept k n : ℕ) (s : Status) (b : Bool) → IsCounted rows live kept → find rows k ≡ Some s → is_querying (Some s) ≡ true → n ≡ bool_byte b → n ≤ live
 asking-live rows live kept k n s b c found asked n_is =
     let w : weight is_live (find rows k) ≡ 1 = ap (weight is_live) found ∙ (querying_weighs s asked).0 in
@@ -33,7 +33,7 @@ asking-live rows live kept k n s b c found asked n_is =
     byte_small true = omega arith
     byte_small false = omega arith
 
--- a part comes: the query is live no more where none is missing
+-- When a part arrives, the query stays live unless it was the last missing part.
 pub counts-part : (rows new : Table Status) (live kept k n : ℕ) (x : Part) (s : Status) (b : Bool) → IsCounted rows live kept → find rows k ≡ Some s → is_querying (Some s) ≡ true → new ≡ put k (with_part_come x (parts_of (Some s))) rows → is_whole (with_part x (parts_of (Some s))) ≡ b → n ≡ bool_byte b → IsCounted new (live - n) kept
 counts-part rows new live kept k n x s b c found asked new_is whole_is n_is =
     let old = querying_weighs s asked in

@@ -1,4 +1,4 @@
--- What a tab has to say has a spelling.
+-- Well-formedness of all frames that a tab sends.
 use Rattle.std.proofs.Common.{◌≡◌, ℕ, zero, suc, ◌+◌, ◌*◌, ◌/◌, ◌<◌, ◌≤◌, Bool, true, false, not, cond, eqb, ltb, List, [], ◌∷◌, ◌++◌, length, map, take, drop, get_or, Some, None, refl, sym, ap, ◌∙◌, subst, arith}
 use Rattle.std.proofs.lemmas.Bool.{both_ways, eq-eqb, ltb-false, not-true, not-false}
 use Rattle.std.proofs.lemmas.List.{length-take}
@@ -22,15 +22,15 @@ use Rattle.wl_agent.specs.Kept.{IsTidy, IsTellable, IsSpoken, RowsFit, can_becom
 use Rattle.wl_agent.proofs.Outcomes.{passed}
 use Rattle.wl_agent.proofs.ToldReports.{part_frame, told_in_parts, length-entries_of}
 
--- ---- commands
+-- Commands
 
--- one more command
+-- Issuing one more valid command keeps all commands well-formed.
 pub spoken-more : {in_parts : Bool} {entered : ℕ} {report : Report} {issued : List Operation} (o : Operation) (more : List Operation) → IsSpoken in_parts entered report issued → IsOperation o → more ≡ issued ++ o ∷ [] → IsSpoken in_parts entered report more
 spoken-more {issued = issued} o more s new e =
     let all = recursion_from_All IsOperation (issued ++ o ∷ []) (All-append IsOperation issued (o ∷ []) (All-from_recursion IsOperation issued s.commands) (All-from_recursion IsOperation (o ∷ []) (new, tt))) in
     record { tellable = s.tellable; generation = s.generation; commands = subst (λ os. AllByRecursion IsOperation os) (sym e) all }
 
--- the command of a number
+-- The command of each number is valid.
 pub spoken-at : (issued : List Operation) (k : ℕ) → AllByRecursion IsOperation issued → IsOperation (get_or issued k Query)
 spoken-at [] k s = tt
 spoken-at (o ∷ os) zero s = s.0
@@ -40,14 +40,14 @@ no_dash : (name : List ℕ) → is_supported name ≡ true → HasNoDash name
 no_dash [] e = tt
 no_dash (b ∷ bs) e = λ same. both_ways (eqb b 45) (not-true (eqb b 45) e) (eq-eqb b 45 same)
 
--- a name under which a lock is asked for
+-- A name that a request accepts is a valid lock name.
 pub name-spoken : (a : TabState) (name : List ℕ) → ask_refusal a name ≡ None → IsUtf8 name → IsLockName name
 name-spoken a name e text =
     let dash = passed (not (is_supported name)) NotSupported (cond (ltb NAME_LIMIT (length name)) (Some NameTooLong) (live_refusal a 2)) e in
     let short = passed (ltb NAME_LIMIT (length name)) NameTooLong (live_refusal a 2) dash.1 in
     ((ltb-false NAME_LIMIT (length name) short.0, text), no_dash name (not-false (is_supported name) dash.0))
 
--- ---- the entries of a report
+-- Entries of a report
 
 asked_name : (o : Operation) (s : Status) (k : ℕ) → can_become o s ≡ true → reports o s ≡ true → IsOperation o → IsU32 k → IsEntry (entry_at k o s)
 asked_name (Request mode if_available name) s k c r spoken number = (number, spoken)
@@ -94,7 +94,7 @@ entries-rise issued least (row ∷ rows) r =
     let o = get_or issued row.0 Query in
     rise_as least (entry_at row.0 o row.1) (entries_of issued rows) (reports o row.1) r.0 (entries-rise issued (row.0 + 1) rows r.1)
 
--- the report of a later generation
+-- The report of a later generation is well-formed, except for its generation.
 pub tells : (a : TabState) (room g base : ℕ) (entries : List Entry) → IsTidy a room → AllByRecursion IsOperation a.issued → base ≡ length a.issued → entries ≡ entries_of a.issued a.statuses → IsTellable a.in_parts (record { generation = g; base = base; entries = entries })
 tells a room g base entries t spoken base_is e =
     let R : List Entry → Type 0 = λ es. IsTellable a.in_parts (record { generation = g; base = base; entries = es }) in
@@ -105,13 +105,13 @@ tells a room g base entries t spoken base_is e =
       rise = entries-rise a.issued 0 a.statuses t.rise;
     })
 
--- the first report of a life
+-- The first report of a life is well-formed, except for its generation.
 pub tells-none : (in_parts : Bool) (g : ℕ) (entries : List Entry) → entries ≡ [] → IsTellable in_parts (record { generation = g; base = 0; entries = entries })
 tells-none in_parts g entries e =
     let R : List Entry → Type 0 = λ es. IsTellable in_parts (record { generation = g; base = 0; entries = es }) in
     subst R (sym e) (record { few = omega arith; base = omega arith; entries = tt; rise = tt })
 
--- ---- its frames
+-- Frames of a report
 
 RiseFrom-take : (n least : ℕ) (es : List Entry) → RiseFrom least es → RiseFrom least (take n es)
 RiseFrom-take zero least es r = tt
@@ -153,20 +153,20 @@ frames-spoken false r generation t =
 frames-spoken true r generation t =
     subst (λ fs. AllByRecursion IsWellFormed fs) (told_in_parts r) (all-range IsWellFormed (part_frame r) 0 (part_count r.entries) (λ k below. part-spoken r k generation t (omega arith)))
 
--- ---- entering
+-- Entering a generation
 
 generation_as : (g : ℕ) (a : TabState) (c : Bool) → (cond c (enter_first g a) (enter_later g a)).report.generation ≡ g
 unfolding enter_first enter_later report_of
 generation_as g a true = refl
 generation_as g a false = refl
 
--- the frames of the report with which a generation is entered
+-- The frames of the report with which the tab enters a generation are well-formed.
 pub enters-spoken : (g : ℕ) (a : TabState) (in_parts : Bool) (r : Report) (frames : List Frame) → r ≡ (enter g a).report → IsGeneration g → IsTellable in_parts r → frames ≡ map upward_frame (report_bodies in_parts r) → AllByRecursion IsWellFormed frames
 enters-spoken g a in_parts r frames r_is generation t frames_are =
     let at : r.generation ≡ g = ap (λ (x : Report). x.generation) r_is ∙ generation_as g a (eqb a.entered 0) in
     subst (λ fs. AllByRecursion IsWellFormed fs) (sym frames_are) (frames-spoken in_parts r (subst IsGeneration (sym at) generation) t)
 
--- the report of the generation that was entered, asked for again
+-- The frames of the report are well-formed when they are made again.
 pub again-spoken : {in_parts : Bool} {entered : ℕ} {report : Report} {issued : List Operation} (frames : List Frame) → IsSpoken in_parts entered report issued → IsGeneration entered → frames ≡ map upward_frame (report_bodies in_parts report) → AllByRecursion IsWellFormed frames
 again-spoken {in_parts} {entered} {report} frames s generation frames_are =
     subst (λ fs. AllByRecursion IsWellFormed fs) (sym frames_are) (frames-spoken in_parts report (subst IsGeneration (sym s.generation) generation) s.tellable)

@@ -1,4 +1,4 @@
--- A report as frames, and how many entries it has at most.
+-- Frames of a report, and the maximum number of its entries.
 use Rattle.std.proofs.Common.{◌≡◌, ℕ, ◌+◌, ◌*◌, ◌≤◌, Bool, true, false, cond, eqb, List, [], ◌∷◌, ◌++◌, length, map, take, drop, get_or, Some, refl, sym, ap, ◌∙◌, arith}
 use Rattle.std.proofs.lemmas.List.{drop-drop}
 use Rattle.std.proofs.lemmas.Simd.{map-map}
@@ -19,9 +19,9 @@ use Rattle.wl_agent.specs.Tab.{TabState, enter, enter_first, enter_later, report
 use Rattle.wl_agent.specs.Kept.{reports, entry_at, entries_of}
 use Rattle.wl_agent.proofs.Rows.{weight, passing-cons}
 
--- ---- frames
+-- Frames
 
--- the frame of a part
+-- The frame of a part.
 abbrev pub part_frame : Report → ℕ → Frame
 part_frame r k = frame.ReportPart (part_of r k)
 
@@ -33,18 +33,18 @@ pub told_in_parts : (r : Report) → map (part_frame r) (range_with_len 0 (part_
 unfolding report_bodies
 told_in_parts r = sym (map-map upward_frame (λ k. up.ReportPart (part_of r k)) (range_with_len 0 (part_count r.entries)))
 
--- one more part is told
+-- One more part appends its frame.
 pub part_more : (r : Report) (k parts : ℕ) (frames : List Frame) (entries rest : List Entry) → frames ≡ map (part_frame r) (range_with_len 0 k) → entries ≡ take 64 rest → rest ≡ drop (64 * k) r.entries → parts ≡ part_count r.entries → frames ++ frame.ReportPart (record { generation = r.generation; base = r.base; part = k; parts = parts; entries = entries }) ∷ [] ≡ map (part_frame r) (range_with_len 0 (k + 1))
 part_more r k parts frames entries rest made taken left count =
     rw (made, taken, left, count) (sym (map-range_with_len_more (part_frame r) 0 k k (omega arith)))
 
--- what is left after one more part
+-- The entries left after one more part.
 pub drop_part : {X : Type 0} (k : ℕ) (xs ys zs : List X) → ys ≡ drop (64 * k) xs → zs ≡ drop 64 ys → zs ≡ drop (64 * (k + 1)) xs
 drop_part k xs ys zs e f =
     let more : 64 * k + 64 ≡ 64 * (k + 1) = omega arith in
     f ∙ ap (drop 64) e ∙ drop-drop 64 (64 * k) xs ∙ ap (λ i. drop i xs) more
 
--- ---- how many entries
+-- Number of entries
 
 one_at_most : (b : Bool) → cond b 1 0 ≤ 1
 one_at_most true = omega arith
@@ -61,21 +61,21 @@ entries_fewer : (issued : List Operation) (row : ℕ × Status) (rest : List Ent
 entries_fewer issued row rest n true le below = omega arith
 entries_fewer issued row rest n false le below = omega arith
 
--- what is reported is live
+-- Each reported number is live.
 pub length-entries_of : (issued : List Operation) (rows : Table Status) → length (entries_of issued rows) ≤ count_of is_live rows
 length-entries_of issued [] = omega arith
 length-entries_of issued (row ∷ rows) =
     let o = get_or issued row.0 Query in
     omega (arith, entries_fewer issued row (entries_of issued rows) (count_of is_live rows) (reports o row.1) (reported_lives o row.1 (reports o row.1) refl) (length-entries_of issued rows), passing-cons is_live row rows)
 
--- ---- entering
+-- Entering a generation
 
 parts_as : (g : ℕ) (a : TabState) (c : Bool) → (cond c (enter_first g a) (enter_later g a)).in_parts ≡ a.in_parts
 unfolding enter_first enter_later
 parts_as g a true = refl
 parts_as g a false = refl
 
--- the frames of the report with which a generation is entered
+-- The frames of the new report are those of the tab after entering.
 pub enters-frames : (g : ℕ) (a : TabState) (in_parts : Bool) (r : Report) (frames : List Frame) → in_parts ≡ a.in_parts → r ≡ (enter g a).report → frames ≡ map upward_frame (report_bodies in_parts r) → frames ≡ report_frames (enter g a)
 enters-frames g a in_parts r frames kind r_is frames_are =
     frames_are ∙ ap (λ (b : Bool). map upward_frame (report_bodies b r)) (kind ∙ sym (parts_as g a (eqb a.entered 0))) ∙ ap (λ (x : Report). map upward_frame (report_bodies (enter g a).in_parts x)) r_is

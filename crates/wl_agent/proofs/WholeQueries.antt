@@ -1,4 +1,5 @@
--- A query is whole once all parts of its answer have come, and not before.
+-- Lemmas on whole queries: a query becomes whole when all parts of its answer are received, and not
+-- before.
 use Rattle.std.proofs.Common.{◌≡◌, ◌⊎◌, inl, inr, ⊎_elim, ℕ, ◌+◌, ◌<◌, ◌≤◌, Bool, true, false, cond, not, ◌&&◌, eqb, ltb, List, [], ◌∷◌, ◌++◌, length, length-append, append_assoc, append-nil, Option, Some, None, is_some, is_none, refl, sym, ap, ◌∙◌, subst, arith}
 use Rattle.std.proofs.lemmas.Bool.{and_parts, and_right, eqb-true, ltb-true, false≢true}
 use Rattle.wl_draft.specs.Tables.{Table, find, Rises}
@@ -27,7 +28,7 @@ use Rattle.wl_agent.proofs.HeldByGrants.{is-entered}
 use Rattle.wl_agent.proofs.Limits.{Tidy, tidy_step, tidy_born}
 use Rattle.wl_agent.proofs.PartsCollected.{Collects, nothing_came, not_yet, one_more, all_came, fits_below}
 
--- ---- what has become of a number, by the parts that it took
+-- Status of a number, from the parts it has taken
 
 record IsMissing (g : ℕ) (came : PartsState) (xs : List Part) : Type 0 where
   collects : Collects g came xs
@@ -55,7 +56,7 @@ not_whole g (Some Held) xs e t = cc
 not_whole g (Some (Whole snapshot)) xs e t = cc
 not_whole g (Some Lost) xs e t = cc
 
--- in another generation, where none was taken
+-- If no part was taken, the statement holds in any generation.
 told-fresh : (g h : ℕ) (s : Option Status) → Told h s [] → Told g s []
 told-fresh g h None t = tt
 told-fresh g h (Some Asked) t = tt
@@ -67,7 +68,7 @@ told-fresh g h (Some (Querying came)) t = record {
 told-fresh g h (Some (Whole snapshot)) t = t
 told-fresh g h (Some Lost) t = t
 
--- a query that is asked when another generation is entered is lost
+-- A query that is still asked when the tab enters another generation is lost.
 told-unless : (g h : ℕ) (s : Status) (xs : List Part) → Told h (Some s) xs → Told g (Some (unless_asked s)) xs
 told-unless g h Asked xs t = tt
 told-unless g h Held xs t = tt
@@ -99,9 +100,9 @@ told-carried : (g h : ℕ) (old new : Option Status) (xs : List Part) → Carrie
 told-carried g h old new xs (inl gone) t = subst (λ s. Told g s xs) (sym gone) tt
 told-carried g h old new xs (inr kept) t = subst (λ s. Told g s xs) (sym kept.2) (told-unless g h kept.0 xs (subst (λ s. Told h s xs) kept.1 t))
 
--- ---- one call
+-- One call
 
--- the number has taken these parts
+-- The number has taken these parts.
 record Follows (k : ℕ) (a : TabState) (xs : List Part) : Type 0 where
   unissued : length a.issued ≤ k → xs ≡ []
   unentered : a.entered ≡ 0 → xs ≡ []
@@ -158,7 +159,7 @@ follows-enter g a k xs rise up f = either (λ b. Follows k b xs) (eqb a.entered 
       answer = told-carried g a.entered (status_of a k) (find (carried a.issued a.statuses) k) xs (carried-of a.issued k 0 a.statuses rise) f.answer;
     })
 
--- ---- a part that is taken in
+-- A part that is taken
 
 asked-of : (b : Bool) (o : Option Unheard) → cond b o (Some unheard.Odd) ≡ None → (b ≡ true) × (o ≡ None)
 asked-of true o e = (refl, e)
@@ -203,7 +204,7 @@ follows-come x a k xs taken entered is f =
 nil : (k : ℕ) (a : TabState) (xs : List Part) → Follows k a xs → Follows k a (xs ++ [])
 nil k a xs f = subst (Follows k a) (sym (append-nil xs)) f
 
--- by whether it is refused, and is of this number
+-- The result depends on whether the part is refused, and on whether it is for this number.
 entered-part : (x : Part) (a : TabState) (k : ℕ) (xs : List Part) (r : Option Unheard) (b : Bool) → part_refusal x a ≡ r → eqb x.number k ≡ b → has_entered x.generation a ≡ true → Follows k a xs
     → Follows k (cond (is_some r) a (becomes x.number (with_part_come x (parts_of (status_of a x.number))) a)) (xs ++ cond (b && has_entered x.generation a && is_none r) (x ∷ []) [])
 entered-part x a k xs (Some reason) b r_is b_is entered f =
@@ -213,7 +214,7 @@ entered-part x a k xs None false r_is b_is entered f =
 entered-part x a k xs None true r_is b_is entered f =
     subst (λ c. Follows k (becomes x.number (with_part_come x (parts_of (status_of a x.number))) a) (xs ++ cond (c && true) (x ∷ []) [])) (sym entered) (follows-come x a k xs r_is entered b_is f)
 
--- one of a generation that is not entered is not taken
+-- A part of a generation that the tab has not entered is not taken.
 other-part : (x : Part) (a : TabState) (k : ℕ) (xs : List Part) → has_entered x.generation a ≡ false → Follows k a xs
     → Follows k a (xs ++ cond (eqb x.number k && has_entered x.generation a && is_none (part_refusal x a)) (x ∷ []) [])
 other-part x a k xs other f =
@@ -255,7 +256,7 @@ follows-step a (Releases j) k xs rise f =
     nil k _ xs (either (λ b. Follows k b xs) (is_holding a j) (released j a) a (λ e. follows-finish (Release j) j a k xs f) (λ e. f))
 follows-step a (Hears g) k xs rise f = follows-hears g a k xs rise f
 
--- ---- over any calls
+-- Any calls
 
 follows-steps : (n : ℕ) (calls : List Call) (a : TabState) (k : ℕ) (xs : List Part) → Tidy n a → Follows k a xs → Follows k (steps calls a) (xs ++ parts_taken k calls a)
 follows-steps n [] a k xs t f = nil k a xs f

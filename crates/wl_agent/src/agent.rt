@@ -1,4 +1,4 @@
-//! A tab's agent.
+//! Agent of a tab.
 
 ghost use Rattle.std.specs.Prelude.{◌≡◌, ◌≤◌, length};
 ghost use Rattle.wl_agent.specs.Tab.{born, newborn, newborn_two, live_limit};
@@ -17,21 +17,22 @@ use std::marker::Model;
 use wl_grammar::{Operation, Report, Sequence};
 use wl_limits::tabs::{LIVE_LIMIT, LIVE_LIMIT_IN_PARTS};
 
-/// A tab's locks, the numbers of its commands, and the generation that it has entered.
+/// A tab's locks, the numbers of its commands, and the generation it has entered.
 #[derive(Drop)]
 pub struct Agent {
     alloc: Global,
     tab: u16,
-    /// How many commands it may issue in its life.
+    /// Maximum number of commands in the tab's life.
     numbers: u32,
-    /// Its commands, with room for the release or abort of each number that keeps one.
+    /// The commands issued, with capacity for the release or abort of each number that reserves
+    /// one.
     issued: Vec<Operation>,
     statuses: Statuses,
     entered: u32,
     acknowledged: u32,
     answered: bool,
     report: Report,
-    /// Whether it tells its reports in parts, and so may have more numbers live at once.
+    /// Whether the tab sends its reports in parts, and so has a higher limit of live numbers.
     in_parts: bool,
 }
 
@@ -48,7 +49,8 @@ impl Model for Agent {
 }
 
 impl Agent {
-    /// The agent of a tab that has issued nothing, and may issue so many commands in its life. It tells each report at once.
+    /// Returns the agent of a tab that may issue `numbers` commands in its life. The agent sends
+    /// each report in a single frame, and allows 64 live numbers.
     pub fn new(alloc: Global, tab: u16, numbers: u32) -> Agent
         requires { numbers ≤ COMMAND_LIMIT }
         ensures { result ≡ newborn tab numbers }
@@ -56,7 +58,7 @@ impl Agent {
         Agent::born(alloc, tab, numbers, false)
     }
 
-    /// The agent of such a tab that tells its reports in parts, and so may have more numbers live at once.
+    /// Returns such an agent that sends its reports in parts, and allows 1,024 live numbers.
     pub fn new_two(alloc: Global, tab: u16, numbers: u32) -> Agent
         requires { numbers ≤ COMMAND_LIMIT }
         ensures { result ≡ newborn_two tab numbers }
@@ -86,7 +88,7 @@ impl Agent {
         }
     }
 
-    /// The most of its numbers that are live at once.
+    /// Returns the maximum number of live numbers.
     fn live_limit(&self) -> usize
         ensures { result ≡ live_limit self.now.in_parts }
     {
@@ -97,7 +99,7 @@ impl Agent {
         }
     }
 
-    /// How many commands it has issued, which is the number of its next one.
+    /// Returns the number of commands issued, which is also the number of the next command.
     fn count(&self) -> u32
         ensures { result ≡ length self.now.issued }
     {

@@ -1,4 +1,4 @@
-//! What a tab is told by an answer, by the command that it answers and what became of it.
+//! Results of answers, by the command that is answered and its outcome.
 
 ghost use Rattle.std.specs.Prelude.{◌≡◌};
 ghost use Rattle.std.specs.Option.{option_copied};

@@ -1,46 +1,48 @@
-//! What comes of a frame.
+//! Results of received frames.
 
 use wl_grammar::{Frame, Sequence};
 
-/// What a frame was to the tab.
+/// Result of a frame that the tab received.
 #[derive(Drop)]
 pub enum Delivered {
-    /// The tab has entered a generation, and this is its report, in its parts.
+    /// The tab has entered a generation. It has to send these frames, which are its report.
     Entered(Sequence<Frame>),
     /// The tab holds the lock of this number.
     Granted(u32),
-    /// The request of this number waits.
+    /// The request of this number is waiting.
     Waiting(u32),
     /// The probe of this number was refused.
     Null(u32),
     /// The query of this number gets no answer.
     Lost(u32),
-    /// The release or abort of this number was taken.
+    /// The broker has done the release or abort of this number.
     Taken(u32),
-    /// A part of the answer to the query of this number.
+    /// The frame is a part of the answer to the query of this number.
     Part(u32),
-    /// The last part that was missing.
+    /// The frame is the last missing part of that answer.
     Whole(u32),
+    /// The frame was dropped.
     Dropped(Unheard),
 }
 
-/// Why a frame was dropped.
+/// Reason why a frame was dropped.
 #[derive(Clone, Copy, Debug, PartialEq, Eq)]
 pub enum Unheard {
-    /// Its generation is before the entered one, or a hello's is the entered one.
+    /// The generation is before the entered one. A hello is also dropped if its generation is the
+    /// entered one.
     OldGeneration,
-    /// Its generation is not entered yet.
+    /// The tab has not entered the generation yet.
     LaterGeneration,
-    /// The lock is held already.
+    /// The lock is already held.
     Held,
-    /// A late grant or other answer: its number is over, by an abort, a release, an answer before or a later generation.
+    /// The number is over, because of an abort, a release, an earlier answer or a later generation.
     Over,
-    /// No broker answers so to such a command.
+    /// A broker never sends this answer to this command.
     Odd,
-    /// The part has come before.
+    /// The part was received before.
     Twice,
-    /// The frame is none that a broker sends to a tab.
+    /// A broker never sends a frame of this kind to a tab.
     WrongKind,
-    /// Memory was refused, and nothing was changed.
+    /// Out of memory. Nothing changed.
     Memory,
 }

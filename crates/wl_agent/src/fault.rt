@@ -1,3 +1,4 @@
+//! Faults of issuing commands and of making frames.
 ghost use Rattle.std.specs.Prelude.{◌≡◌};
 ghost use Rattle.wl_agent.specs.declared.fault.AgentFault.TheVariants.{Memory as agent_memory};
 ghost use Rattle.wl_agent.specs.declared.fault.MessageFault.TheVariants.{Memory as message_memory};
@@ -5,22 +6,22 @@ ghost use Rattle.wl_agent.specs.declared.fault.MessageFault.TheVariants.{Memory 
 use std::alloc::AllocError;
 use thiserror::Error;
 
-/// Why a command was not issued. A refused call changes nothing.
+/// Reason why a command was not issued. A refused call changes nothing.
 #[derive(Clone, Copy, Debug, PartialEq, Eq, Error)]
 pub enum AgentFault {
-    /// The name begins with U+002D.
+    /// The name starts with U+002D.
     #[error("NotSupported")]
     NotSupported,
-    /// The name has more than 255 bytes.
+    /// The name is longer than 255 bytes.
     #[error("NameTooLong")]
     NameTooLong,
-    /// As many numbers of the tab are live as may be.
+    /// The tab has reached its limit of live numbers.
     #[error("TooMany")]
     TooMany,
-    /// The command has no number any more, or its release or abort would have none.
+    /// Too few numbers are left for the command, or for its release or abort.
     #[error("NumbersUsedUp")]
     NumbersUsedUp,
-    /// Memory was refused.
+    /// Out of memory.
     #[error("Memory")]
     Memory,
 }
@@ -33,16 +34,16 @@ impl From<AllocError> for AgentFault {
     }
 }
 
-/// Why a message was not given.
+/// Reason why a frame was not made.
 #[derive(Clone, Copy, Debug, PartialEq, Eq, Error)]
 pub enum MessageFault {
-    /// The tab has entered no generation.
+    /// The tab has not entered any generation.
     #[error("NotEntered")]
     NotEntered,
     /// No command has the number.
     #[error("NoSuchNumber")]
     NoSuchNumber,
-    /// Memory was refused.
+    /// Out of memory.
     #[error("Memory")]
     Memory,
 }

@@ -1,4 +1,5 @@
-//! A tab's side of the locks: its commands by number, what became of each, and the tokens of those who asked.
+//! Tab's side of the lock protocol: its numbered commands, the status of each, and the tokens of
+//! their owners.
 #![tactic(auto)]
 
 pub mod agent;

@@ -1,4 +1,4 @@
-//! What the commands of a tab are, by number.
+//! Operations of a tab's commands, by number.
 
 ghost use Rattle.std.specs.Prelude.{◌≡◌, ◌&&◌, true, get_or, length, nat_lt, Some, None, IfOk, if◌then◌else◌};
 ghost use Rattle.wl_grammar.specs.declared.frame.Operation.TheVariants.{Query};
@@ -34,7 +34,7 @@ pub(crate) fn is_query_at(issued: &[Operation], number: u32) -> bool
     matches!(issued.get(number as usize), Some(Operation::Query))
 }
 
-/// What a report tells of a number: that its lock is held, or that it is asked for.
+/// Returns the report entry of a number if its lock is held or its request is asked.
 pub(crate) fn reported(
     alloc: Global,
     issued: &[Operation],

@@ -1,4 +1,4 @@
-//! The parts of a snapshot that have come.
+//! Snapshot parts that a tab has received.
 
 ghost use Rattle.std.specs.Prelude.{◌≡◌, ◌++◌, false, IfOk, OnOk, OnErr};
 ghost use Rattle.wl_draft.specs.Tables.{has_row};
@@ -12,10 +12,11 @@ use std::collections::BTreeMap;
 use std::marker::Model;
 use wl_grammar::{Sequence, SnapshotEntry};
 
-/// The parts of a snapshot that have come. It is public for contracts alone, which see it as `PartsState`.
+/// The snapshot parts received for a query. It is public only for contracts, which see it as
+/// `PartsState`.
 #[derive(Drop)]
 pub struct Parts {
-    /// Of how many parts they are, where one has come.
+    /// Number of parts of the snapshot, once one is received.
     count: u16,
     came: BTreeMap<u16, Sequence<SnapshotEntry>>,
 }
@@ -44,7 +45,7 @@ impl Parts {
         self.came.contains_key(&part)
     }
 
-    /// Whether the part is one that is missing.
+    /// Returns whether the part is a missing one.
     fn fits(&self, part: &wl_grammar::Snapshot) -> bool
         ensures { result ≡ fits part.now self.now }
     {
@@ -53,7 +54,7 @@ impl Parts {
             && !self.has(part.part)
     }
 
-    /// Why a part is none that is missing.
+    /// Returns the reason to drop a part, or `None` if it is a missing one.
     pub(crate) fn refusal(&self, part: &wl_grammar::Snapshot) -> Option<Unheard>
         ensures { result ≡ parts_refusal part.now self.now }
     {
@@ -66,7 +67,8 @@ impl Parts {
         }
     }
 
-    /// Takes in a part that is missing, and gives the snapshot where none is missing any more.
+    /// Adds a missing part. Returns the snapshot if it was the last one. Fails if out of memory,
+    /// and then changes nothing.
     pub(crate) fn take(
         &mut self,
         alloc: Global,
@@ -96,7 +98,7 @@ impl Parts {
     }
 }
 
-/// The snapshot of these parts.
+/// Returns the snapshot made of these parts.
 fn assemble(
     alloc: Global,
     came: &BTreeMap<u16, Sequence<SnapshotEntry>>,
@@ -115,7 +117,7 @@ fn assemble(
     })
 }
 
-/// Puts what is held behind the one list, and what is waited for behind the other.
+/// Appends the held locks to one list, and the pending requests to the other.
 fn divide(
     alloc: Global,
     entries: &[SnapshotEntry],

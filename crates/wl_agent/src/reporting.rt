@@ -1,4 +1,4 @@
-//! A report as frames: at once, or in parts.
+//! Frames of a report: a single frame, or one for each part.
 
 ghost use Rattle.std.specs.Prelude.{◌≡◌, ◌≤◌, IfOk, length, map};
 ghost use Rattle.wl_agent.specs.Tab.{upward_frame, report_bodies};
@@ -10,7 +10,7 @@ use std::alloc::{AllocError, Global};
 use wl_grammar::{Entry, Frame, Report, ReportPart, Sequence};
 use wl_limits::frames::ENTRY_LIMIT;
 
-/// The frames that tell a report, by rising part.
+/// Returns the frames of a report, by rising part. Fails if out of memory.
 pub(crate) fn report_frames(
     alloc: Global,
     in_parts: bool,
@@ -40,7 +40,7 @@ pub(crate) fn report_frames(
     Ok(Sequence::new(frames))
 }
 
-/// How many parts a report has. One without entries is one part.
+/// Returns the number of parts of a report. A report without entries is one part.
 fn part_count(entries: &[Entry]) -> u16
     requires { length entries.now ≤ LIVE_LIMIT_IN_PARTS }
     ensures { result ≡ part_count entries.now }

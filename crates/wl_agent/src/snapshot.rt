@@ -1,4 +1,4 @@
-//! What a query is answered.
+//! Answer to a query.
 
 use wl_grammar::{Mode, Name, Sequence};
 
@@ -10,11 +10,11 @@ pub struct LockInfo {
     pub name: Name,
 }
 
-/// The locks of the tab's partition when its query was taken.
+/// The locks of the tab's partition at the time when the broker took the query.
 #[derive(Debug, Drop)]
 pub struct Snapshot {
-    /// In the order of granting.
+    /// Held locks, in the order of granting.
     pub held: Sequence<LockInfo>,
-    /// In the order of queueing.
+    /// Pending requests, in the order of queueing.
     pub pending: Sequence<LockInfo>,
 }

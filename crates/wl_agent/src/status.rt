@@ -1,3 +1,4 @@
+//! Status of a command's number.
 ghost use Rattle.std.specs.Prelude.{◌≡◌, true, false, Some, IfOk, OnOk, OnErr};
 ghost use Rattle.wl_draft.specs.Tables.{has_row};
 ghost use Rattle.wl_agent.specs.SnapshotParts.{with_part, is_whole};
@@ -8,22 +9,23 @@ use crate::parts::Parts;
 use crate::snapshot::Snapshot;
 use std::alloc::{AllocError, Global};
 
-/// What became of a number that is not over. It is public for contracts alone.
+/// Status of a number that is not over. It is public only for contracts.
 #[derive(Drop)]
 pub enum Status {
-    /// A request or probe that no answer has granted or refused.
+    /// A request or probe that no answer has granted or refused yet.
     Asked,
+    /// The tab holds the lock.
     Held,
-    /// A query that is asked, with what has come of its answer.
+    /// A query without its whole answer, and the parts received so far.
     Querying(Parts),
-    /// A query's answer, which its token has not taken yet.
+    /// A query's whole answer, which its token has not taken yet.
     Whole(Snapshot),
-    /// A query without an answer, of which its token has not been told yet.
+    /// A query that gets no answer, and whose token has not been told yet.
     Lost,
 }
 
 impl Status {
-    /// Whether a number is kept free for the release or abort.
+    /// Returns whether the number reserves another one, for its release or abort.
     pub(crate) fn keeps_number(&self) -> bool
         ensures { result ≡ keeps_number (Some self.now) }
     {
@@ -42,7 +44,8 @@ impl Status {
         *self = status;
     }
 
-    /// Takes in a part of the snapshot that is missing, and says whether none is missing any more.
+    /// Adds a missing part of the snapshot. Returns whether it was the last one. Fails if out of
+    /// memory.
     pub(crate) fn take_part(
         &mut self,
         alloc: Global,
@@ -67,7 +70,7 @@ impl Status {
         }
     }
 
-    /// What entering a generation makes of it: an asked query is lost.
+    /// Updates the status for a later generation: an asked query is lost.
     pub(crate) fn carry(&mut self)
         ensures { self.new ≡ unless_asked self.old }
     {

@@ -1,4 +1,4 @@
-//! What became of a tab's numbers.
+//! Statuses of a tab's numbers.
 
 ghost use Rattle.std.specs.Prelude.{◌≡◌, ◌≢◌, ◌<◌, ◌≤◌, [], true, false, None, IsSome, IfOk, OnOk, OnErr};
 ghost use Rattle.std.specs.Option.{option_copied};
@@ -17,12 +17,12 @@ use std::marker::Model;
 use wl_draft::Entry;
 use wl_grammar::Operation;
 
-/// What became of the numbers that are not over, with the counts that limit them.
+/// The statuses of the numbers that are not over, with the counts needed for the limits.
 #[derive(Drop)]
 pub(crate) struct Statuses {
     rows: BTreeMap<u32, Status>,
     live: usize,
-    /// How many of them keep a number free.
+    /// Number of rows that reserve another number.
     kept: usize,
 }
 
@@ -91,7 +91,7 @@ impl Statuses {
         self.kept
     }
 
-    /// Puts the status of a number that has none.
+    /// Adds the status of a number that has none. Fails if out of memory.
     pub(crate) fn insert(&mut self, number: u32, status: Status) -> Result<(), AllocError>
         requires new { find self.old number ≡ None }
         requires few { count_of is_live self.old < LIVE_LIMIT_IN_PARTS }
@@ -106,7 +106,7 @@ impl Statuses {
         Ok(())
     }
 
-    /// Puts another status of a number that has one, which takes no memory.
+    /// Replaces the status of a number that has one. Does not allocate.
     pub(crate) fn set(&mut self, number: u32, status: Status)
         requires there { IsSome (find self.old number) }
         requires few { count_of is_live self.old ≤ LIVE_LIMIT_IN_PARTS }
@@ -123,7 +123,7 @@ impl Statuses {
         }
     }
 
-    /// Takes out the status of a number, which is over then.
+    /// Removes the status of a number, which ends it.
     pub(crate) fn remove(&mut self, number: u32) -> Option<Status>
         ensures rest { self.new ≡ without_row number self.old }
         ensures status { result ≡ find self.old number }
@@ -134,14 +134,15 @@ impl Statuses {
         Some(before)
     }
 
-    /// The number is over.
+    /// Ends the number.
     pub(crate) fn end(&mut self, number: u32)
         ensures { self.new ≡ without_row number self.old }
     {
         self.remove(number);
     }
 
-    /// Takes in a part of the snapshot that an asked query waits for, and says whether none is missing any more.
+    /// Adds a missing part of the snapshot to an asked query. Returns whether it was the last one.
+    /// Fails if out of memory.
     pub(crate) fn take_part(
         &mut self,
         alloc: Global,
@@ -165,7 +166,7 @@ impl Statuses {
         }
     }
 
-    /// What entering a generation makes of them: asked probes are over, and asked queries lost.
+    /// Updates the statuses for a later generation: asked probes end, and asked queries are lost.
     pub(crate) fn carry(&mut self, issued: &[Operation])
         ensures { self.new ≡ carried issued.now self.old }
     {
@@ -176,7 +177,7 @@ impl Statuses {
         (self.live, self.kept) = counts(&self.rows);
     }
 
-    /// What a report tells of them, by rising number.
+    /// Returns the entries of a report, by rising number. Fails if out of memory.
     pub(crate) fn reported(
         &self,
         alloc: Global,
@@ -194,7 +195,8 @@ impl Statuses {
         Ok(entries)
     }
 
-    /// The numbers below this one that are asked, by rising number.
+    /// Returns the numbers below `bound` that are still asked, in rising order. Fails if out of
+    /// memory.
     pub(crate) fn due_below(&self, alloc: Global, bound: u32) -> Result<Vec<u32>, AllocError>
         ensures numbers { IfOk result (λ numbers. numbers.items ≡ due_below bound self.now) }
         ensures growth { OnErr result (due_below bound self.now ≢ []) }
@@ -209,7 +211,7 @@ impl Statuses {
     }
 }
 
-/// How many of the rows are live, and how many keep a number free.
+/// Returns the number of live rows, and the number of rows that reserve another number.
 fn counts(rows: &BTreeMap<u32, Status>) -> (usize, usize)
     ensures live { result.0 ≡ count_of is_live rows.now.entries }
     ensures kept { result.1 ≡ count_of keeps_number rows.now.entries }

@@ -1,32 +1,32 @@
-//! What the owner of a number holds, and what it is told of that number. None of the tokens is let go unspent.
+//! Tokens for the owners of commands, and the results they are told. Each token has to be consumed.
 
 ghost use Rattle.std.specs.Prelude.{◌≡◌};
 
 use crate::snapshot::Snapshot;
 use std::marker::Model;
 
-/// A request that was issued. It is spent by `Agent::settle` or `Agent::abort`.
+/// Token of a request. `Agent::settle` or `Agent::abort` consumes it.
 #[derive(Debug)]
 pub struct Pending {
     pub(crate) tab: u16,
     pub(crate) number: u32,
 }
 
-/// A probe that was issued. It is spent by `Agent::settle_probe`, and can't be aborted.
+/// Token of a probe. `Agent::settle_probe` consumes it. A probe cannot be aborted.
 #[derive(Debug)]
 pub struct Probe {
     pub(crate) tab: u16,
     pub(crate) number: u32,
 }
 
-/// A lock that the tab holds. It is spent by `Agent::release`.
+/// Token of a lock that the tab holds. `Agent::release` consumes it.
 #[derive(Debug)]
 pub struct HeldLock {
     pub(crate) tab: u16,
     pub(crate) number: u32,
 }
 
-/// A query that was issued. It is spent by `Agent::settle_query`.
+/// Token of a query. `Agent::settle_query` consumes it.
 #[derive(Debug)]
 pub struct Asking {
     pub(crate) tab: u16,
@@ -42,7 +42,7 @@ impl Model for Pending {
 }
 
 impl Pending {
-    /// Its number, counted from 0 in the tab's life.
+    /// Returns the number of the command, counted from 0 over the tab's life.
     pub fn number(&self) -> u32
         ensures { result ≡ self.now.number }
     {
@@ -59,7 +59,7 @@ impl Model for Probe {
 }
 
 impl Probe {
-    /// Its number, counted from 0 in the tab's life.
+    /// Returns the number of the command, counted from 0 over the tab's life.
     pub fn number(&self) -> u32
         ensures { result ≡ self.now.number }
     {
@@ -76,7 +76,7 @@ impl Model for HeldLock {
 }
 
 impl HeldLock {
-    /// Its number, counted from 0 in the tab's life.
+    /// Returns the number of the command, counted from 0 over the tab's life.
     pub fn number(&self) -> u32
         ensures { result ≡ self.now.number }
     {
@@ -93,7 +93,7 @@ impl Model for Asking {
 }
 
 impl Asking {
-    /// Its number, counted from 0 in the tab's life.
+    /// Returns the number of the command, counted from 0 over the tab's life.
     pub fn number(&self) -> u32
         ensures { result ≡ self.now.number }
     {
@@ -110,44 +110,45 @@ pub enum Token {
     Asking(Asking),
 }
 
-/// A token that was handed to another tab's agent, or whose number is in no state that such a token can have, given back.
+/// A token that an agent returns, because it belongs to another tab or its number is in no state
+/// that allows such a token.
 #[derive(Debug)]
 pub struct Foreign<T> {
     pub value: T,
 }
 
-/// What became of a request.
+/// State of a request.
 #[derive(Debug)]
 pub enum Settled {
-    /// It is asked still.
+    /// The request is still asked.
     Waiting(Pending),
     Held(HeldLock),
 }
 
-/// What became of a probe.
+/// State of a probe.
 #[derive(Debug)]
 pub enum ProbeSettled {
-    /// It is asked still.
+    /// The probe is still asked.
     Waiting(Probe),
     Held(HeldLock),
-    /// The lock was not to be had.
+    /// The lock was not available.
     Null,
 }
 
-/// What became of a query.
+/// State of a query.
 #[derive(Debug)]
 pub enum QuerySettled {
-    /// It is asked still.
+    /// The query is still asked.
     Waiting(Asking),
     Whole(Snapshot),
-    /// The generation that was to answer it is gone, or its answer is.
+    /// The generation that had to answer has ended, or its answer is lost.
     Lost,
 }
 
-/// Why a request was not aborted, with the token for its number.
+/// Reason why a request was not aborted, with the token for its number.
 #[derive(Debug)]
 pub enum AbortFault {
     Foreign(Pending),
-    /// The tab has been told that it holds the lock.
+    /// The tab already holds the lock.
     Held(HeldLock),
 }

@@ -1,4 +1,4 @@
--- A message is found in the bag by the places of its key.
+-- Lookup of a message by the places of its key.
 use Rattle.std.proofs.Common.{◌≡◌, ℕ, ◌+◌, Bool, true, false, cond, List, [], ◌∷◌, ◌++◌, length, Option, None, Some, unwrap_or, refl, sym, ap, ap₂, ◌∙◌, subst, append_assoc, length-append, not}
 use Rattle.std.specs.Prelude.{slice_get, ◌||◌}
 use Rattle.std.specs.List.{find, position_from, list_any}
@@ -16,7 +16,7 @@ slice_get-seam : (front : List Message) (x : Message) (rest : List Message) → 
 slice_get-seam [] x rest = refl
 slice_get-seam (y ∷ front) x rest = slice_get-seam front x rest
 
--- a step of the search: t is whether the place is looked at, s whether the message there is the same
+-- One step of the search: `t` is whether the place is searched, `s` whether its message is equal.
 step : (t s : Bool) (i : ℕ) (test : ℕ → Bool) (ps : List ℕ) (q : Option ℕ)
     → test i ≡ s → (s ≡ true → t ≡ true) → find test ps ≡ q → find test (cond t (i ∷ ps) ps) ≡ cond s (Some i) q
 step true s i test ps q e h rest = ap₂ (λ b r. cond b (Some i) r) e rest
@@ -38,11 +38,11 @@ find-places_from m front (x ∷ rest) =
     (λ s. subst (λ (z : Message). same_key (key_of z) (key_of m) ≡ true) (message-same m x s) (same_key-itself (key_of m)))
     next
 
--- what is found by the index is the first that is the same
+-- A lookup by the index finds the first equal message.
 pub find-place_of : (m : Message) (bag : List Message) (ps : List ℕ) → ps ≡ places_from 0 (key_of m) bag → find (is_at m bag) ps ≡ place_of m bag
 find-place_of m bag ps e = ap (find (is_at m bag)) e ∙ find-places_from m [] bag ∙ sym (position_from-zero (same_message m) bag)
 
--- ---- a place is found exactly where the message was sent
+-- A place is found exactly if the message was sent
 
 is_some-position_from : (p : Message → Bool) (i : ℕ) (ms : List Message) → is_some (position_from p i ms) ≡ list_any p ms
 is_some-position_from p i [] = refl
@@ -56,7 +56,7 @@ pub is_some-place_of : (m : Message) (bag : List Message) → is_some (place_of 
 unfolding is_sent
 is_some-place_of m bag = ap is_some (position_from-zero (same_message m) bag) ∙ is_some-position_from (same_message m) 0 bag
 
--- ---- what is sent, by the place that was found
+-- The result of sending, from the place that was found
 
 found : (m : Message) (bag : List Message) (i : ℕ) → Some i ≡ place_of m bag → is_sent m bag ≡ true
 found m bag i e = sym (is_some-place_of m bag) ∙ ap is_some (sym e)

@@ -1,4 +1,4 @@
--- The index of the bag, as messages come.
+-- Index of the bag when messages are added.
 use Rattle.std.proofs.Common.{◌≡◌, ℕ, ◌+◌, Bool, true, false, cond, List, [], ◌∷◌, ◌++◌, length, None, Some, unwrap_or, refl, sym, ap, ◌∙◌, arith, add-zero}
 use Rattle.std.proofs.lemmas.Cmp.{tied_itself}
 use Rattle.std.specs.declared.cmp.Ordering.{Ordering}
@@ -18,13 +18,13 @@ equal-from_is_eq Less h = apart h refl
 equal-from_is_eq Equal h = refl
 equal-from_is_eq Greater h = apart h refl
 
--- at keys that are equal the index has the same places
+-- The index has the same places for equal keys.
 places_at-same : (index : BTreeMap Key (List ℕ)) (j k : Key) → same_key j k ≡ true → places_at index j ≡ places_at index k
 places_at-same index j k h =
     let e : key_order j k ≡ Equal = equal-from_is_eq (key_order j k) h in
     ap (λ (f : Key → Ordering). unwrap_or (lookup (is_at f) index.entries) []) (λ i z. total-law.congr j k z e i)
 
--- a key that the index had not, put with one place; the index is seen as `at` in between
+-- Inserting a missing key with one place. The map is called `at` between lookup and insertion.
 pub places_at-insert : (old at new : BTreeMap Key (List ℕ)) (j : Key) (place : ℕ) (v : List ℕ)
     → None ≡ get key_order old j → at ≡ old → v ≡ place ∷ []
     → ((q : Key) → get key_order new q ≡ cond (is_at (key_order j) q) (Some v) (get key_order at q))
@@ -38,7 +38,7 @@ places_at-insert old at new j place v none same one updates k =
     ∙ ap (λ zs. zs ++ place ∷ []) (ap (λ o. unwrap_or o []) none ∙ places_at-same old j k t))
     (λ f. ap (λ b. unwrap_or (cond b (Some v) (get key_order old k)) []) f)
 
--- the places after one more message
+-- The places of a key after one more message.
 places_from-push : (i : ℕ) (k : Key) (ms : List Message) (m : Message)
     → places_from i k (ms ++ m ∷ []) ≡ cond (same_key (key_of m) k) (places_from i k ms ++ (i + length ms) ∷ []) (places_from i k ms)
 places_from-push i k [] m = ap (λ n. cond (same_key (key_of m) k) (n ∷ []) []) (sym (add-zero i))
@@ -53,7 +53,7 @@ places_from-push i k (x ∷ ms) m =
     choices false true i n ps = refl
     choices false false i n ps = refl
 
--- the index of the bag with one more message
+-- The updated index is the index of the bag with one more message.
 pub IsIndexOf-push : (bag : List Message) (old new : BTreeMap Key (List ℕ)) (m : Message) (key : Key) (place : ℕ)
     → key ≡ key_of m → place ≡ length bag → IsIndexOf bag old
     → ((k : Key) → places_at new k ≡ cond (same_key key k) (places_at old k ++ place ∷ []) (places_at old k))

@@ -1,4 +1,4 @@
--- Two messages that the test finds the same are one, so a message that was sent is in the bag.
+-- Messages that compare equal are identical, so a message that was sent is in the bag.
 use Rattle.std.proofs.Common.{◌≡◌, ◌⊎◌, inl, inr, ⊎_elim, ℕ, true, ◌&&◌, List, [], ◌∷◌, ◌++◌, refl, sym, ap, ap₂, subst}
 use Rattle.std.specs.Prelude.{◌==◌, bytes_eq}
 use Rattle.std.proofs.lemmas.Bool.{and_parts, eqb-true}
@@ -45,7 +45,7 @@ is_sent-In m bag h =
     let o = list_any-In (same_message m) bag h in
     subst (λ z. In z bag) (sym (message-same m o.0 o.2)) o.1
 
--- ---- what the bag has after a sending
+-- The bag after a message is sent
 
 sent-keeps : {x : Message} (m : Message) (bag : List Message) → In x bag → In x (sent m bag)
 sent-keeps {x = x} m bag h = either (λ zs. In x zs) (is_sent m bag) bag (bag ++ m ∷ []) (λ _. h) (λ _. In-append_left (m ∷ []) h)
@@ -64,7 +64,7 @@ sent_all-cases [] bag h = inl h
 sent_all-cases (m ∷ ms) bag h =
     ⊎_elim (λ a. ⊎_elim (λ u. inl u) (λ v. inr (In-head v)) (sent-cases m bag a)) (λ b. inr (Later b)) (sent_all-cases ms (sent m bag) h)
 
--- ---- what messages that are one have in common
+-- Common properties of equal messages
 
 up-inner : (x y : Stamped) → Up x ≡ Up y → x ≡ y
 up-inner x y e = cc
@@ -88,7 +88,7 @@ hellos-same x y e = cc
 pub answer-no_hello : (x : Answer) (y : Hello) → down.Answer x ≡ down.Hello y → ⊥
 answer-no_hello x y e = cc
 
--- ---- what is sent is in the bag
+-- A message that is sent is in the bag
 
 sent-adds : (m : Message) (bag : List Message) → In m (sent m bag)
 sent-adds m bag = either (In m) (is_sent m bag) bag (bag ++ m ∷ []) (λ e. is_sent-In m bag e) (λ _. In-append_right bag Here)

@@ -1,4 +1,4 @@
--- Frames that their derived comparisons find the same are one.
+-- Frames that their derived comparisons report equal are identical.
 use Rattle.std.proofs.Common.{◌≡◌, ℕ, Bool, true, false, List, [], ◌∷◌, refl, ap, ap₂}
 use mathlib.Core.Bool.{beq}
 use Rattle.std.specs.Prelude.{bytes_eq}
@@ -57,7 +57,7 @@ bool-same false false h = refl
 bool-same true false h = apart h refl
 bool-same false true h = apart h refl
 
--- lists whose items are compared one by one
+-- Lists whose items compare equal one by one are identical.
 list-same : {X : Type 0} (same : X → X → Bool) (sound : (x y : X) → same x y ≡ true → x ≡ y) (xs ys : List X) → pointwise same xs ys ≡ true → xs ≡ ys
 list-same same sound [] [] h = refl
 list-same same sound (x ∷ xs) (y ∷ ys) h = ap₂ ◌∷◌ (sound x y (and_parts _ _ h).0) (list-same same sound xs ys (and_parts _ _ h).1)

@@ -1,4 +1,4 @@
--- What the bag looks messages up by.
+-- Keys by which the bag looks up messages.
 use Rattle.std.specs.Prelude.{ℕ}
 use Rattle.wl_grammar.specs.declared.frame.Upward.{Upward}
 use Rattle.wl_grammar.specs.declared.frame.Upward.TheVariants as up
@@ -19,7 +19,7 @@ key_of_downward tab (down.Hello h) = key.Hello tab h.generation
 key_of_downward tab (down.Answer a) = key.Answer tab a.generation a.upto a.number
 key_of_downward tab (down.Snapshot s) = key.Part tab s.generation s.number s.part
 
--- the ends and the numbers of a message
+-- The key of a message: its kind, its recipient or sender, its partition and its numbers.
 abbrev pub key_of : Message → Key
 key_of (Up x) = key_of_upward x.tab x.partition x.inner
 key_of (Down s x) = key_of_downward x.tab x.inner

@@ -10,7 +10,7 @@ use Rattle.wl_bag.specs.declared.message.Message.{Message}
 use Rattle.wl_bag.specs.declared.message.Message.TheVariants.{Up, Down, Across}
 use Rattle.wl_bag.specs.declared.sent.Sent.{Sent}
 
--- ---- whether two messages are the same, in source, target and content
+-- Equality of messages: the same sender, recipient and content
 
 abbrev pub same_heard : Heard → Heard → Bool
 same_heard x y = x.source == y.source && x.number == y.number && bytes_eq x.channel y.channel && bytes_eq x.bytes y.bytes
@@ -20,32 +20,32 @@ same_sender Kernel Kernel = true
 same_sender Broker Broker = true
 same_sender x y = false
 
--- what is stamped or addressed is the same where its derived `==` says so, field by field; two messages that are the same are one
+-- Whether two messages are equal. Stamped and addressed frames are compared field by field, by their derived `==`.
 abbrev pub same_message : Message → Message → Bool
 same_message (Up x) (Up y) = (stamped.ghosts).eq x y
 same_message (Down s x) (Down r y) = same_sender s r && (addressed.ghosts).eq x y
 same_message (Across t x) (Across u y) = t == u && same_heard x y
 same_message x y = false
 
--- ---- the bag
+-- The bag
 
--- whether this message was ever sent
+-- Whether the message was ever sent.
 unfoldable pub is_sent : Message → List Message → Bool
 is_sent m bag = list_any (same_message m) bag
 
--- the bag with this message; it is a set, and none leaves it
+-- The bag with this message. The bag is a set, and no message leaves it.
 abbrev pub sent : Message → List Message → List Message
 sent m bag = if is_sent m bag then bag else bag ++ m ∷ []
 
--- where the first message of the bag that is the same stands, counted from 0
+-- The place of the first equal message in the bag, counted from 0.
 abbrev pub place_of : Message → List Message → Option ℕ
 place_of m bag = position (same_message m) bag
 
--- this message as it is sent: where it then stands in the bag, and whether it was not there before
+-- The result of sending a message: its place in the bag afterwards, and whether it is new.
 unfoldable pub sending : Message → List Message → Sent
 sending m bag = record { message = m; place = unwrap_or (place_of m bag) (length bag); is_new = not (is_sent m bag) }
 
--- the bag with these messages, in their order
+-- The bag with these messages, added in order.
 abbrev pub sent_all : List Message → List Message → List Message
 sent_all [] bag = bag
 sent_all (m ∷ ms) bag = sent_all ms (sent m bag)

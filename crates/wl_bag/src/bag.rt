@@ -1,4 +1,4 @@
-//! The bag of all messages that were ever sent.
+//! Bag of all messages that were ever sent.
 
 ghost use Rattle.std.specs.Prelude.{◌≡◌, [], ◌∷◌, ◌++◌, length, is_some, IfOk, OnOk, OnErr, slice_get, find, if◌then◌else◌};
 ghost use Rattle.std.specs.Option.{option_copied};
@@ -14,12 +14,12 @@ use std::alloc::{AllocError, Global};
 use std::collections::BTreeMap;
 use std::marker::Model;
 
-/// The messages in the order of sending, each once. Contracts see them as a list.
+/// All messages in the order of sending, each once. Contracts treat the bag as a list.
 #[derive(Drop)]
 pub struct Bag {
     alloc: Global,
     messages: Vec<Message>,
-    /// Where the messages of each key stand.
+    /// The places of the messages with each key.
     index: BTreeMap<Key, Places>,
 }
 
@@ -36,7 +36,7 @@ impl Model for Bag {
 }
 
 impl Bag {
-    /// The empty bag.
+    /// Returns an empty bag.
     pub fn new(alloc: Global) -> Bag
         ensures { result ≡ [] }
     {
@@ -47,14 +47,14 @@ impl Bag {
         }
     }
 
-    /// The message at a place.
+    /// Returns the message at a place, counted from 0.
     pub fn get(&self, place: usize) -> Option<&Message>
         ensures { option_copied result ≡ slice_get self.now place }
     {
         self.messages.get(place)
     }
 
-    /// The place of the message, if it was ever sent.
+    /// Returns the place of the message, or `None` if it was never sent.
     pub fn find(&self, message: &Message) -> Option<usize>
         ensures place { result ≡ place_of message.now self.now }
         ensures sent { is_some result ≡ is_sent message.now self.now }
@@ -63,7 +63,7 @@ impl Bag {
         find_at(places, &self.messages, message)
     }
 
-    /// Sends the message: a new one comes behind the others.
+    /// Puts a message into the bag. A new message is appended after all others. Fails if out of memory.
     pub fn put(&mut self, message: Message) -> Result<Sent, AllocError>
         ensures ok { OnOk result (self.new ≡ sent message self.old) }
         ensures sending { IfOk result (λ s. s ≡ sending message self.old) }
@@ -86,7 +86,7 @@ impl Bag {
         }
     }
 
-    /// Puts the message behind the others, and answers its place.
+    /// Appends a message and returns its place.
     fn add(&mut self, message: Message) -> Result<usize, AllocError>
         ensures ok { OnOk result (self.new ≡ self.old ++ message ∷ []) }
         ensures place { IfOk result (λ place. place ≡ length self.old) }
@@ -100,7 +100,7 @@ impl Bag {
     }
 }
 
-/// The places that the index has at the key.
+/// Returns the places that the index has for the key.
 fn places_at(index: &BTreeMap<Key, Places>, key: Key) -> &[usize]
     ensures { result.now ≡ places_at index.now key }
 {
@@ -110,7 +110,7 @@ fn places_at(index: &BTreeMap<Key, Places>, key: Key) -> &[usize]
     }
 }
 
-/// The first of the places at which a message that is the same stands.
+/// Returns the first of these places that has an equal message.
 fn find_at(places: &[usize], messages: &[Message], message: &Message) -> Option<usize>
     ensures { result ≡ find (is_at message.now messages.now) places.now }
 {
@@ -129,7 +129,7 @@ fn is_at(messages: &[Message], place: usize, message: &Message) -> bool
     }
 }
 
-/// Notes the place of a message of the key.
+/// Adds a place to the index under the key.
 fn note(
     index: &mut BTreeMap<Key, Places>,
     alloc: Global,

@@ -1,4 +1,4 @@
-//! What messages are looked up by.
+//! Keys by which the bag looks up messages.
 
 ghost use Rattle.std.specs.Prelude.{◌≡◌};
 ghost use Rattle.wl_bag.specs.Keys.{key_of};
@@ -6,7 +6,7 @@ ghost use Rattle.wl_bag.specs.Keys.{key_of};
 use crate::message::Message;
 use wl_grammar::{Downward, Upward};
 
-/// The ends and the numbers of a message. Few messages have the same.
+/// Kind, recipient or sender, partition and numbers of a message. Few messages share a key.
 #[derive(Clone, Copy, PartialEq, Eq, PartialOrd, Ord)]
 pub(crate) enum Key {
     Command {
@@ -51,7 +51,7 @@ pub(crate) enum Key {
     },
 }
 
-/// The key of a message. Messages that are the same have one key.
+/// Returns the key of a message. Equal messages have the same key.
 pub(crate) fn key_of(message: &Message) -> Key
     ensures { result ≡ key_of message.now }
 {

@@ -1,28 +1,28 @@
-//! What tabs, kernel and broker send each other.
+//! Messages that tabs, kernel and broker send each other.
 
 ghost use Rattle.std.specs.Prelude.{◌≡◌, IfOk};
 
 use std::alloc::{AllocError, Global};
 use wl_grammar::{Addressed, Heard, Stamped};
 
-/// Who sends a tab what comes from above.
+/// Sender of a message to a tab, other than a post.
 #[derive(Clone, Copy, Debug, PartialEq, Eq)]
 pub enum Sender {
     Kernel,
     Broker,
 }
 
-/// A message with its ends.
+/// A message with its sender and its recipient.
 #[derive(Drop)]
 pub enum Message {
-    /// A tab's command or report, with the kernel's stamp, to the broker.
+    /// A tab's command, report or part of a report to the broker, with the kernel's stamp.
     Up(Stamped),
     /// A hello, an answer or a part of a snapshot, to a tab.
     Down {
         sender: Sender,
         addressed: Addressed,
     },
-    /// A post of a tab, to another tab.
+    /// A post of one tab to another.
     Across {
         tab: u16,
         heard: Heard,
@@ -30,7 +30,7 @@ pub enum Message {
 }
 
 impl Message {
-    /// An equal message. The bytes of a post are shared with this one, and all else is in memory of its own.
+    /// Returns an equal message. The bytes of a post are shared with this message. Everything else is copied.
     pub fn copy(&self, alloc: Global) -> Result<Message, AllocError>
         ensures equals { IfOk result (λ copy. copy ≡ self.now) }
     {

@@ -1,11 +1,11 @@
-//! The places of the messages of one key.
+//! Places of the messages with one key.
 
 ghost use Rattle.std.specs.Prelude.{◌≡◌, [], ◌∷◌, ◌++◌, IfOk, OnOk, OnErr};
 
 use std::alloc::{AllocError, Global};
 use std::marker::Model;
 
-/// Some places in the bag, in the order of sending.
+/// Places in the bag, in the order of sending.
 #[derive(Drop)]
 pub(crate) struct Places {
     items: Vec<usize>,
@@ -20,7 +20,7 @@ impl Model for Places {
 }
 
 impl Places {
-    /// This one place.
+    /// Returns a list of this one place.
     pub(crate) fn of(alloc: Global, place: usize) -> Result<Places, AllocError>
         ensures { IfOk result (λ places. places ≡ place ∷ []) }
     {
@@ -29,7 +29,7 @@ impl Places {
         Ok(Places { items })
     }
 
-    /// Puts a place behind the others.
+    /// Appends a place.
     pub(crate) fn push(&mut self, place: usize) -> Result<(), AllocError>
         ensures ok { OnOk result (self.new ≡ self.old ++ place ∷ []) }
         ensures err { OnErr result (self.new ≡ self.old) }

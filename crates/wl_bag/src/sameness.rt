@@ -1,4 +1,4 @@
-//! Whether two messages are the same, in source, target and content.
+//! Equality of messages: the same sender, recipient and content.
 
 ghost use Rattle.std.specs.Prelude.{◌≡◌};
 ghost use Rattle.wl_bag.specs.Messages.{same_heard, same_message};

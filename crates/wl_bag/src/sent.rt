@@ -1,4 +1,4 @@
-//! What becomes of a message that is sent.
+//! Result of sending a message.
 
 use crate::message::Message;
 
@@ -6,8 +6,8 @@ use crate::message::Message;
 #[derive(Drop)]
 pub struct Sent {
     pub message: Message,
-    /// Where it stands in the bag, counted from 0.
+    /// Its place in the bag, counted from 0.
     pub place: usize,
-    /// Whether no message of this source, target and content was sent before.
+    /// Whether no equal message was sent before.
     pub is_new: bool,
 }

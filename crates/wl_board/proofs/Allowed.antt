@@ -1,4 +1,4 @@
--- What each call owes the table.
+-- Lemmas that every call is a step the board's rule allows.
 use Rattle.std.proofs.Common.{◌≡◌, ℕ, ◌+◌, ◌-◌, ◌%◌, ◌^◌, ◌<◌, ◌≤◌, max, eqb, List, [], ◌∷◌, ◌++◌, length, inl, inr, sym, refl, ap, subst, ⊎_elim, arith, le_refl, eq-eqb, ne_eqb}
 use Rattle.std.specs.Prelude.{slice_index}
 use Rattle.std.proofs.lemmas.Bool.{cases_lt}
@@ -121,7 +121,7 @@ module _ (tabs slots id : ℕ) (me : Sat) (long : length me.0.seen ≡ tabs + 2)
         ((λ hit. absurd (miss hit)), (λ _. refl)),
       ))
 
-  -- the same at a word that is known by its number
+  -- A look is allowed at a word given by its index.
   pub looks_at : (tab word : ℕ) → word ≡ tab + 1 → 0 < tab → tab ≤ tabs → Allows (IsOrderly tabs) slots id me word (λ n. n) (looked (step slots word 0 0 none) me)
   looks_at tab word is pos lt = subst (λ k. Allows (IsOrderly tabs) slots id me k (λ n. n) (looked (step slots k 0 0 none) me)) (sym is) (looks tab pos lt)
 

@@ -1,4 +1,4 @@
--- The fields of a seat and its view.
+-- Lemmas on the agreement of a seat's fields with its view.
 use Rattle.std.proofs.Common.{◌≡◌, ℕ, ◌+◌, ◌<◌, Bool, false, List, [], ◌∷◌, ◌++◌, length, sym, ap, ◌∙◌, subst, ⊎_elim, arith, length-set}
 use Rattle.std.specs.Prelude.{slice_index}
 use Rattle.std.proofs.lemmas.Bool.{cases_eq}
@@ -30,6 +30,6 @@ draw_counted place new d b met r s unmet same is pos near =
           (cases_eq n r);
     }
 
--- a seat of a board stands at the board's table
+-- A seat of a board is at the board's table.
 pub at_table : (s t : Sitting) (b d : SharedBoard) → s ≡ t → b ≡ d → t.table ≡ d.table → s.table ≡ b.table
 at_table s t b d seat board same = ap (λ z. z.table) seat ∙ same ∙ sym (ap (λ z. z.table) board)

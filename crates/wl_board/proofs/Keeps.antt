@@ -1,4 +1,4 @@
--- Each step keeps the rule.
+-- Lemmas that each step keeps the rule.
 use Rattle.std.proofs.Common.{◌≡◌, ◌≢◌, ◌⊎◌, ℕ, ◌+◌, ◌<◌, ◌≤◌, List, [], ◌∷◌, ◌++◌, length, set, inl, inr, sym, refl, ap, ◌∙◌, subst, ⊎_elim, arith, length-set, length-append, le_trans}
 use Rattle.std.specs.Prelude.{slice_index}
 use Rattle.std.proofs.lemmas.Bool.{cases_eq}
@@ -13,7 +13,7 @@ use Rattle.wl_board.proofs.Views.{times-push, times-push_same, times-push_other,
 abbrev Taken : Type 0
 Taken = List (ℕ × Unit {0})
 
--- what the rule says of a view's sight of the words
+-- No word is below the largest value that the view has seen of it.
 abbrev Below : List ℕ → View → Type 0
 Below ws u = (j : ℕ) → slice_index u.seen j ≤ slice_index ws j
 
@@ -21,7 +21,7 @@ abbrev Knows : ℕ → View → Type 0
 Knows tab u = Has tab u.born ⊎ (slice_index u.seen (tab + 1) ≡ 2)
 
 module _ (tabs : ℕ) (s : Board) (h : IsOrderly tabs s) (id : ℕ) (v : View) (at : get_elem? s.views id ≡ some v) where
-  -- a seat sees x of a word that stays as it was, or that becomes 2
+  -- A step by which the seat sees x in a word that stays as it is or becomes 2.
   module _ (c : Taken) (k x y : ℕ) (lt : k < tabs + 2) (in_sight : k < length v.seen) (up : slice_index s.words k ≤ y) (more : slice_index v.seen k ≤ x) (le : x ≤ y) (m : List ℕ) (grows : (tab : ℕ) → Has tab v.marked → Has tab m)
       (how : (y ≡ slice_index s.words k) ⊎ ((2 ≤ k) × (y ≡ 2) × (x ≡ 2) × ((tab : ℕ) → tab + 1 ≡ k → Has tab m))) where
     abbrev after : List ℕ
@@ -84,7 +84,7 @@ module _ (tabs : ℕ) (s : Board) (h : IsOrderly tabs s) (id : ℕ) (v : View) (
           (word_is (tab + 1));
     }
 
-  -- the tabs' words where the counter or the generation rises
+  -- The tabs' words while the counter or the generation rises.
   module _ (k x y : ℕ) (w : View) (lt : k < 2) (up : slice_index s.words k ≤ y) (le : x ≤ y) (same_seen : w.seen ≡ set v.seen k x) (same_born : w.born ≡ v.born) (same_marked : w.marked ≡ v.marked) where
     apart_from : (tab : ℕ) → 0 < tab → tab + 1 ≢ k
     apart_from tab pos e = absurd (omega arith)
@@ -126,7 +126,7 @@ module _ (tabs : ℕ) (s : Board) (h : IsOrderly tabs s) (id : ℕ) (v : View) (
   pub generation_small : slice_index s.words 0 < 1048577
   generation_small = let a = total_most (λ u. u.bumps) s.views (λ i u e. (h.limits i u e).1) in let f = h.few in let o = h.generation in omega arith
 
-  -- no seat has drawn the number that the counter stands at
+  -- No seat has drawn the number that the counter holds.
   pub not_drawn : times (slice_index s.words 1) v.drawn ≡ 0
   not_drawn = let a = total_one (λ u. times (slice_index s.words 1) u.drawn) s.views id v at in let o = h.below (slice_index s.words 1) (omega arith) in omega arith
 
@@ -216,7 +216,7 @@ module _ (tabs : ℕ) (s : Board) (h : IsOrderly tabs s) (id : ℕ) (v : View) (
         known = known_now 0 (n + 1) (n + 1) w (omega arith) up same_up refl refl refl;
       }
 
-  -- a tab that this seat drew, and that is not born, is not living
+  -- A tab that this seat drew but did not bring to life is not living.
   pub not_living : (tab : ℕ) → 0 < tab → Has tab v.drawn → ¬ (Has tab v.born) → slice_index s.words (tab + 1) ≢ 1
   not_living tab pos drawn unborn one =
       let b = h.living tab pos one in

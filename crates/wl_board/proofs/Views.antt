@@ -1,4 +1,4 @@
--- Sums over the views of all seats, and a change of one view.
+-- Lemmas on sums over all views, and on changing one view.
 use Rattle.std.proofs.Common.{◌≡◌, ◌≢◌, ℕ, zero, suc, ◌+◌, ◌*◌, ◌<◌, ◌≤◌, ◌==◌, List, [], ◌∷◌, ◌++◌, length, set, cond, sym, refl, ap, ◌∙◌, subst, ⊎_elim, arith, get_or-set_same, eq-eqb, ne_eqb}
 use Rattle.std.specs.Prelude.{slice_index}
 use Rattle.std.proofs.lemmas.List.{get_or-set_other}
@@ -49,7 +49,7 @@ at_here [] i v w e = absurd (some-ne-none v (sym e))
 at_here (x ∷ xs) zero v w e = refl
 at_here (x ∷ xs) (suc i) v w e = at_here xs i v w e
 
--- each seat has Q, where each had P and the one that changes has Q
+-- If P implies Q, and the changed view has Q, then all views have Q.
 pub each_set : (P Q : View → Type 0) (views : List View) (seat : ℕ) (w : View) → EachSeat P views → ((u : View) → P u → Q u) → Q w → EachSeat Q (set views seat w)
 each_set P Q views seat w h up mine j u e = ⊎_elim (λ (t : (j ≡ seat) × (w ≡ u)). subst Q t.1 mine) (λ (t : (j ≢ seat) × (get_elem? views j ≡ some u)). up u (h j u t.1)) (at_set views seat j w u e)
 
@@ -59,7 +59,7 @@ each_push P views w h mine j u e = ⊎_elim (λ was. h j u was) (λ (same : w �
 pub some_here : (P : View → Type 0) (views : List View) (seat : ℕ) (v w : View) → get_elem? views seat ≡ some v → P w → SomeSeat P (set views seat w)
 some_here P views seat v w at p = (seat, w, at_here views seat v w at, p)
 
--- some seat has it still, where the one that changes keeps it
+-- If some view has P, and the change keeps P, then some view still has P.
 pub some_set : (P : View → Type 0) (views : List View) (seat : ℕ) (v w : View) → get_elem? views seat ≡ some v → (P v → P w) → SomeSeat P views → SomeSeat P (set views seat w)
 some_set P views seat v w at kept h = ⊎_elim
     (λ (is : h.0 ≡ seat). some_here P views seat v w at (kept (subst P (some-injective h.1 v (sym h.2 ∙ ap (get_elem? views) is ∙ at)) h.3)))
@@ -69,19 +69,19 @@ some_set P views seat v w at kept h = ⊎_elim
 pub some_push : (P : View → Type 0) (views more : List View) → SomeSeat P views → SomeSeat P (views ++ more)
 some_push P views more h = (h.0, h.1, at_longer views more h.0 h.1 h.2, h.3)
 
--- a word after a write
+-- A word has the value last written to it.
 pub at_word : (ws : List ℕ) (k x : ℕ) → k < length ws → slice_index (set ws k x) k ≡ x
 at_word ws k x h = get_or-set_same ws k x 0 h
 
 pub at_other : (ws : List ℕ) (k j x : ℕ) → j ≢ k → slice_index (set ws k x) j ≡ slice_index ws j
 at_other ws k j x ne = get_or-set_other ws k j x 0 ne
 
--- a word that does not go down leaves none below
+-- Raising one word lowers no word.
 pub word_up : (ws : List ℕ) (k x : ℕ) → k < length ws → slice_index ws k ≤ x → (j : ℕ) → slice_index ws j ≤ slice_index (set ws k x) j
 word_up ws k x h up j = ⊎_elim (λ (is : j ≡ k). subst (λ i. slice_index ws i ≤ slice_index (set ws k x) i) (sym is) (omega (arith, at_word ws k x h)))
     (λ (not : j ≡ k → ⊥). omega (arith, at_other ws k j x not)) (cases_eq j k)
 
--- a view that sees x of a word sees no more than there is
+-- A view that sees at most the value written sees no more than the words hold.
 pub seen_below : (seen ws : List ℕ) (k x y : ℕ) → k < length ws → ((j : ℕ) → slice_index seen j ≤ slice_index ws j) → slice_index ws k ≤ y → x ≤ y → (j : ℕ) → slice_index (set seen k x) j ≤ slice_index (set ws k y) j
 seen_below seen ws k x y h below up le j = ⊎_elim
     (λ (is : j ≡ k). subst (λ i. slice_index (set seen k x) i ≤ slice_index (set ws k y) i) (sym is) (let a = at_word ws k y h in let b = at_most seen k x in let c = below k in omega arith))

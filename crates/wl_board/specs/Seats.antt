@@ -1,22 +1,24 @@
--- A board and its seats as contracts see them, and what the fields of a seat say of its view.
+-- The values of boards and seats in contracts, and the relation between a seat's fields and its
+-- view.
 use Rattle.std.specs.Prelude.{◌≡◌, ℕ, ◌+◌, ◌<◌, ◌≤◌, Bool, true, false, length, slice_index}
 use Rattle.atomic_table.specs.Seated.{TableId}
 use Rattle.atomic_table.specs.declared.shared.Seat.{Seat}
 use Rattle.wl_board.specs.declared.rule.View.{View}
 use Rattle.wl_board.specs.Rule.{Has}
 
--- a board: which table of words it is, and the greatest number of a tab
+-- A board: its table of words and its largest tab number.
 pub record SharedBoard : Type 0 where
   pub table : TableId
   pub tabs : ℕ
 
--- a seat: at which table it stands, at which place there, and what it has seen and done
+-- A seat: its table, its place there, and its view.
 pub record Sitting : Type 0 where
   pub table : TableId
   pub place : ℕ
   pub view : View
 
--- the fields of a seat go with its view; `met_end` says that the seat found the counter above all tabs
+-- The seat's fields agree with its view. `met_end` means that the seat found the counter above all
+-- tab numbers.
 pub record IsCounted (place : Seat (Unit {0}) View) (draws bumps : ℕ) (met_end : Bool) : Type 0 where
   pub long : length place.me.0.seen ≡ place.table_id.words
   pub drew : place.me.0.draws ≡ draws

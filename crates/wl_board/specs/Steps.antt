@@ -1,4 +1,4 @@
--- What each step leaves in its seat's view, and what it tells.
+-- The effect of each kind of step on the view of its seat, and the facts that each step reveals.
 use Rattle.std.specs.Prelude.{◌≡◌, ◌≢◌, ℕ, ◌+◌, ◌-◌, ◌^◌, ◌<◌, ◌≤◌, [], ◌∷◌, ◌++◌, length, slice_index, slice_set}
 use Rattle.atomic_table.specs.Table.{Me, Step}
 use Rattle.wl_board.specs.declared.rule.View.{View}
@@ -10,11 +10,11 @@ sees v word x = record v { seen = slice_set v.seen word x; steps = v.steps + 1 }
 abbrev pub marks : View → ℕ → View
 marks v tab = record v { seen = slice_set v.seen (tab + 1) 2; marked = v.marked ++ tab ∷ []; steps = v.steps + 1 }
 
--- a number was drawn, and the counter was left above it
+-- A number was drawn, and the counter is above it.
 abbrev pub draws_number : View → ℕ → View
 draws_number v n = record v { seen = slice_set v.seen 1 (n + 1); drawn = v.drawn ++ n ∷ []; draws = v.draws + 1; steps = v.steps + 1 }
 
--- the counter was found at n, above all tabs
+-- The counter was found at n, above all tab numbers.
 abbrev pub draws_none : View → ℕ → View
 draws_none v n = record v { seen = slice_set v.seen 1 (n + 1); draws = v.draws + 1; steps = v.steps + 1 }
 
@@ -42,7 +42,7 @@ marked st m r n = n ≡ (marks m.0 (st.word - 1), m.1)
 abbrev pub born_or_dead : Play
 born_or_dead st m r n = (r ≡ 0 → (slice_index m.0.seen st.word ≡ 0) × (n ≡ (bears m.0 (st.word - 1), m.1))) × (r ≢ 0 → n ≡ (sees m.0 st.word 2, m.1))
 
--- the numbers of tabs are those below the last word's
+-- A drawn number belongs to a tab if the board has a word for it.
 abbrev pub drew : Play
 drew st m r n = (0 < r) × (slice_index m.0.seen 1 ≤ r)
     × (r + 1 < length m.0.seen → (¬ Has r m.0.drawn) × (¬ Has r m.0.born) × (n ≡ (draws_number m.0 r, m.1)))

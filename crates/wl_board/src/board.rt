@@ -1,4 +1,4 @@
-//! The board that threads share.
+//! The board: an array of atomic words that threads share.
 
 ghost use Rattle.std.specs.Prelude.{◌≡◌, ◌+◌, ◌<◌, ◌≤◌, Err, IfOk, OnOk, OnErr, All, vec_len};
 ghost use Rattle.wl_board.specs.declared.board.TheConstants.{SEAT_LIMIT, SEAT_STEP_LIMIT};
@@ -14,32 +14,33 @@ use atomic_table::Table;
 use std::alloc::Global;
 use std::marker::Model;
 
-/// The word of the generation.
+/// Index of the generation's word.
 const GENERATION: usize = 0;
 
-/// The word of the next number to be drawn.
+/// Index of the word that holds the next tab number.
 const COUNTER: usize = 1;
 
-/// How many words stand before those of the tabs.
+/// The number of words before the tabs' words.
 const FIRST_WORDS: usize = 2;
 
-/// The word of a tab that never lived.
+/// State of a tab that has not lived.
 const NONE: u64 = 0;
 
-/// The word of a living tab.
+/// State of a living tab.
 const LIVING: u64 = 1;
 
-/// The word of a dead tab.
+/// State of a dead tab.
 const DEAD: u64 = 2;
 
-/// The most seats.
+/// The largest number of seats of a board.
 pub const SEAT_LIMIT: u16 = 16;
 
-/// The most draws that a seat makes, and the most bumps.
+/// The largest number of draws by one seat, and of bumps by one seat.
 pub const SEAT_STEP_LIMIT: u16 = 65_535;
 
-/// A counter of tab numbers, a word for each tab and a generation. The calls on a shared board take neither memory nor a
-/// lock: each is one atomic step.
+/// A counter of tab numbers, a life state for each tab, and the broker's generation.
+///
+/// Calls on a shared board neither allocate nor lock: each is one atomic operation.
 #[derive(Drop)]
 pub struct Board {
     table: Table<(), View, u16, BoardRule, Global>,
@@ -58,7 +59,8 @@ impl Model for Board {
 }
 
 impl Board {
-    /// A board for tabs of the numbers 1 to `tabs`, and all its seats. No number is drawn, and the generation is 1.
+    /// Creates a board for the tab numbers 1 to `tabs`, with all its seats. No number is drawn, and
+    /// the generation is 1. Fails if out of memory.
     pub fn new(alloc: Global, tabs: u16, seats: u16) -> Result<(Board, Vec<Seat>), Memory>
         requires { (1 ≤ seats) × (seats ≤ SEAT_LIMIT) }
         ensures tabs { IfOk result (λ r. r.0.tabs ≡ tabs) }
@@ -74,7 +76,7 @@ impl Board {
         Ok((board, list))
     }
 
-    /// Splits the first place into the seats asked for.
+    /// Splits the first place into `seats` seats.
     fn deal(&self, alloc: Global, mut first: Place, seats: u16) -> Result<Vec<Seat>, Memory>
         requires count { (1 ≤ seats) × (seats ≤ SEAT_LIMIT) }
         requires first { (first.table_id ≡ self.now.table) × (first.me.0 ≡ first_seat self.now.tabs) }
@@ -90,19 +92,23 @@ impl Board {
         Ok(list)
     }
 
-    /// The greatest number of a tab.
+    /// Returns the largest tab number.
     pub fn tabs(&self) -> u16
         ensures { result ≡ self.now.tabs }
     {
         self.tabs
     }
 
-    /// Draws the next number. A seat that found the numbers used up says so from then on, without a step.
+    /// Draws the next tab number.
+    ///
+    /// Fails with `TabsUsedUp` if all numbers are drawn, and with `SeatSpent` after
+    /// `SEAT_STEP_LIMIT` draws of this seat. After `TabsUsedUp` every later draw of the seat fails
+    /// so too, without a step.
     pub fn draw(&self, seat: &mut Seat) -> Result<Ticket, DrawFault>
         requires { IsOf seat.old self.now }
         ensures seat { IsSameSeat seat.old seat.new }
 
-        // The number is one of the board's that the seat had not seen drawn, and the seat has drawn it by its own step.
+        // The number is on the board and not below any number the seat has seen drawn.
         ensures range { IfOk result (λ t. (1 ≤ t) × (t ≤ self.now.tabs)) }
         ensures rising { IfOk result (λ t. counter_seen seat.old.view ≤ t) }
         ensures unknown { IfOk result (λ t. ¬ Has t seat.old.view.drawn) }
@@ -111,7 +117,7 @@ impl Board {
         ensures allowed { OnOk result ((¬ HasMetEnd self.now.tabs seat.old.view)
             × (seat.old.view.draws < SEAT_STEP_LIMIT)) }
 
-        // A refusal comes for its cause alone.
+        // A draw fails only for the reason it reports.
         ensures used_up { result ≡ Err DrawFault.TabsUsedUp
             → MeetsEnd self.now.tabs seat.old.view seat.new.view }
         ensures spent { result ≡ Err DrawFault.SeatSpent
@@ -137,7 +143,7 @@ impl Board {
         Ok(Ticket::new(found as u16))
     }
 
-    /// Brings the tab of a ticket to life, unless it was marked dead before.
+    /// Brings the tab of a ticket to life. Returns `WasDead` if the tab was marked dead before.
     pub fn birth(&self, seat: &mut Seat, ticket: Ticket) -> Birth
         requires seat { IsOf seat.old self.now }
         requires drawn { Has ticket seat.old.view.drawn }
@@ -155,7 +161,7 @@ impl Board {
         }
     }
 
-    /// Marks a tab dead, whether it ever lived or not. No step makes it living again.
+    /// Marks a tab dead, whether it ever lived or not. A dead tab stays dead.
     pub fn mark_dead(&self, seat: &mut Seat, tab: u16)
         requires seat { IsOf seat.old self.now }
         requires tab { (1 ≤ tab) × (tab ≤ self.now.tabs) }
@@ -168,7 +174,7 @@ impl Board {
             .fetch_max::<MarkDead>(&mut seat.place, word, DEAD);
     }
 
-    /// Looks whether a tab lives.
+    /// Returns the life state of a tab.
     pub fn look(&self, seat: &mut Seat, tab: u16) -> Life
         requires seat { IsOf seat.old self.now }
         requires tab { (1 ≤ tab) × (tab ≤ self.now.tabs) }
@@ -184,7 +190,8 @@ impl Board {
         }
     }
 
-    /// Begins the next generation, and answers it.
+    /// Starts the next generation and returns its number. Fails after `SEAT_STEP_LIMIT` bumps of
+    /// this seat.
     pub fn bump(&self, seat: &mut Seat) -> Result<u64, SeatSpent>
         requires { IsOf seat.old self.now }
         ensures seat { IsSameSeat seat.old seat.new }
@@ -205,7 +212,7 @@ impl Board {
         Ok(found + 1)
     }
 
-    /// The current generation.
+    /// Returns the current generation.
     pub fn generation(&self, seat: &mut Seat) -> u64
         requires { IsOf seat.old self.now }
         ensures seat { IsSameSeat seat.old seat.new }
@@ -219,7 +226,7 @@ impl Board {
     }
 }
 
-/// Where the word of a tab stands.
+/// Returns the index of a tab's word.
 fn word_index(tab: u16) -> usize
     ensures { result ≡ tab + 1 }
 {

@@ -1,4 +1,4 @@
-//! Why a call is refused.
+//! Reasons for the failure of a call.
 
 use std::alloc::AllocError;
 use thiserror::Error;
@@ -9,17 +9,17 @@ pub enum DrawFault {
     /// All numbers of the board are drawn.
     #[error("TabsUsedUp")]
     TabsUsedUp,
-    /// The seat has made all the draws that a seat may make.
+    /// The seat has made `SEAT_STEP_LIMIT` draws.
     #[error("SeatSpent")]
     SeatSpent,
 }
 
-/// The seat has made all the bumps that a seat may make.
+/// The seat has made `SEAT_STEP_LIMIT` bumps.
 #[derive(Clone, Copy, Debug, PartialEq, Eq, Error)]
 #[error("SeatSpent")]
 pub struct SeatSpent;
 
-/// Memory was refused.
+/// Out of memory.
 #[derive(Clone, Copy, Debug, PartialEq, Eq, Error)]
 #[error("Memory")]
 pub struct Memory;

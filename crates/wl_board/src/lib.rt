@@ -1,5 +1,7 @@
-//! The board of a kernel: from it the threads draw the numbers of tabs, on it stands which tabs live, and which generation
-//! of the broker is current. Threads share it without a lock: each call is one atomic step, and waits for nobody.
+//! The kernel's board: tab numbers, the life state of each tab, and the broker's current
+//! generation.
+//!
+//! Threads share the board without a lock. Each call is one atomic operation and never blocks.
 #![tactic(auto)]
 
 pub mod board;

@@ -1,25 +1,26 @@
-//! What a seat knows, the rule over all seats, and what each kind of step tells. Nothing here is left when the program runs.
+//! The ghost state of seats, the rule over all seats, and the effect of each kind of step.
+//! Everything here is erased at run time.
 
 use atomic_table::{Play, Split, TableRule};
 use std::collections::LinkedList;
 
-/// What a seat has seen and done. No value of it is made.
+/// Ghost record of a seat's knowledge and steps. It has no values at run time.
 pub struct View {
-    /// The greatest value seen of each word; 0 where none was.
+    /// The largest value seen of each word, or 0 if the seat has not seen it.
     pub seen: LinkedList<u64>,
-    /// The numbers drawn.
+    /// The numbers that the seat drew.
     pub drawn: LinkedList<u64>,
-    /// Those of them whose tabs were brought to life.
+    /// The drawn numbers whose tabs the seat brought to life.
     pub born: LinkedList<u64>,
-    /// The tabs marked dead.
+    /// The tabs that the seat marked dead.
     pub marked: LinkedList<u64>,
-    /// How many steps were draws; the one that found the numbers used up is one.
+    /// The number of draws, including one that found all numbers drawn.
     pub draws: u64,
-    /// How many steps were bumps.
+    /// The number of bumps.
     pub bumps: u64,
-    /// How many steps there were of any kind.
+    /// The number of steps of any kind.
     pub steps: u64,
-    /// How many seats it may still split off.
+    /// The number of seats that this one may still split off.
     pub to_give: u64,
 }
 

@@ -1,4 +1,4 @@
-//! The right of one thread to call on a board.
+//! A thread's capability to call a board.
 
 ghost use Rattle.std.specs.Prelude.{◌≡◌, ◌-◌, ◌≤◌, length};
 ghost use Rattle.wl_board.specs.Rule.{newcomer};
@@ -7,18 +7,18 @@ ghost use Rattle.wl_board.specs.Seats.{Sitting};
 use crate::rule::View;
 use std::marker::Model;
 
-/// A place among those who share the board's table of words.
+/// A seat at the board's table of atomic words.
 pub(crate) type Place = atomic_table::Seat<(), View>;
 
-/// The right of one thread to call on a board. `Board::new` makes all seats that there are.
+/// A thread's capability to call a board. All seats of a board are made by `Board::new`.
 #[derive(Drop)]
 pub struct Seat {
     pub(crate) place: Place,
-    /// How many draws it has made.
+    /// The number of draws made.
     pub(crate) draws: u16,
-    /// How many bumps it has made.
+    /// The number of bumps made.
     pub(crate) bumps: u16,
-    /// Whether it found the numbers used up.
+    /// Whether a draw found all numbers drawn.
     pub(crate) met_end: bool,
 }
 

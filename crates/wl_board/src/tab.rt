@@ -1,10 +1,11 @@
-//! What a seat is told of a tab, and the number that it drew for one.
+//! Tab numbers, tickets and life states.
 
 ghost use Rattle.std.specs.Prelude.{◌≡◌};
 
 use std::marker::Model;
 
-/// A number that a seat drew, for a tab that this seat may bring to life, once. Contracts see it as the number.
+/// A tab number drawn by a seat, which lets that seat bring the tab to life once. Its value in
+/// contracts is the number.
 #[derive(Debug, Drop)]
 pub struct Ticket {
     tab: u16,
@@ -25,7 +26,7 @@ impl Ticket {
         Ticket { tab }
     }
 
-    /// The number that was drawn.
+    /// Returns the number drawn.
     pub fn tab(&self) -> u16
         ensures { result ≡ self.now }
     {
@@ -33,19 +34,19 @@ impl Ticket {
     }
 }
 
-/// What became of a ticket.
+/// The result of redeeming a ticket.
 #[derive(Clone, Copy, Debug, PartialEq, Eq)]
 pub enum Birth {
-    /// The tab lives from now on.
+    /// The tab lives.
     Born,
     /// The tab was marked dead before it lived.
     WasDead,
 }
 
-/// What stands on the board for a number.
+/// The life state of a tab number.
 #[derive(Clone, Copy, Debug, PartialEq, Eq)]
 pub enum Life {
-    /// No tab of that number lives yet.
+    /// No tab of this number has lived.
     None,
     Living,
     Dead,

@@ -1,4 +1,4 @@
--- The limits of a tab's channels, over any calls.
+-- Limits of a tab's channels, over any calls.
 use Rattle.std.proofs.Common.{◌≡◌, ℕ, zero, suc, ◌+◌, ◌<◌, ◌≤◌, Bool, true, false, not, ◌&&◌, ◌==◌, cond, if◌then◌else◌, nat_le, subst, List, [], ◌∷◌, ◌++◌, length, count_by, Option, Some, None, is_some, refl, sym, ap, ◌∙◌, arith}
 use Rattle.std.specs.List.{AllByRecursion}
 use Rattle.std.proofs.lemmas.Bool.{and_parts}
@@ -14,7 +14,7 @@ use Rattle.wl_broadcast.specs.Heard.{Call, Opens, Posts, Hears, Reads, Closes, s
 use Rattle.wl_broadcast.proofs.Numbered.{inbox_at-suc, changed_at-suc, length-open, open-pushed, open-delivered, open-read, open-closed_at}
 use Rattle.wl_broadcast.proofs.Gained.{either, read, close}
 
--- ---- open objects
+-- Open objects
 
 open_count_of : (k : ℕ) (os ps : List Object) → open_from k ps ≡ open_from k os → count_by (λ o. o.is_open) ps ≡ count_by (λ o. o.is_open) os
 open_count_of k os ps e = sym (length-open k ps) ∙ ap length e ∙ length-open k os
@@ -28,7 +28,7 @@ fewer_open n os =
     let other : ℕ → Bool = λ j. not (j == n) in
     omega (arith, length-open 0 (changed_at n close os), ap length (open-closed_at n os), length-filter other (open_from 0 os), count_by-le-length other (open_from 0 os), length-open 0 os)
 
--- ---- inboxes
+-- Inboxes
 
 abbrev HasFew : Object → Type 0
 HasFew o = length o.inbox ≤ inbox_limit
@@ -63,7 +63,7 @@ few_at [] k few = omega arith
 few_at (o ∷ os) zero few = few.0
 few_at (o ∷ os) (suc k) few = omega (arith, ap length (inbox_at-suc o os k), few_at os k few.1)
 
--- ---- refusals
+-- Refusals
 
 room_by : (a b : Bool) (rest : Option ChannelFault) → is_some (if a then Some NameTooLong else (if b then Some TooManyChannels else None)) ≡ false → b ≡ false
 room_by true b rest e = cc
@@ -78,7 +78,7 @@ posts_by false false rest e = refl
 below : (n limit : ℕ) → nat_le limit n ≡ false → n + 1 ≤ limit
 below n limit e = grind (arith, nat_tests)
 
--- ---- over any calls
+-- Any calls
 
 record IsBounded (c : ChannelState) : Type 0 where
   objects : open_count c ≤ channel_limit

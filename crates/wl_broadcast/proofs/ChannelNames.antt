@@ -1,4 +1,4 @@
--- Each object has the name of a channel, whatever becomes of it.
+-- Lemmas on names: each object has a valid channel name after every change.
 use Rattle.std.proofs.Common.{◌≡◌, ℕ, zero, suc, ◌+◌, ◌<◌, List, [], ◌∷◌, ◌++◌, length, Option, subst, sym, arith}
 use Rattle.wl_grammar.specs.Grammar.{IsChannel}
 use Rattle.wl_broadcast.specs.declared.letter.Letter.{Letter}

@@ -1,4 +1,5 @@
--- A delivery goes from one open object to the next: what stands between them is closed, and stays as it is.
+-- Steps of a delivery from one open object to the next. The objects between them are closed, and do
+-- not change.
 use Rattle.std.proofs.Common.{◌≡◌, ℕ, ◌+◌, ◌-◌, ◌<◌, ◌≤◌, Bool, true, false, not, ◌&&◌, cond, subst, bytes_eq, List, [], ◌∷◌, ◌++◌, length, Option, refl, sym, ap, ◌∙◌, append_assoc, arith}
 use Rattle.std.proofs.lemmas.List.{map-append, length-map, nil_from_length}
 use Rattle.wl_broadcast.specs.declared.letter.Letter.{Letter}
@@ -6,7 +7,7 @@ use Rattle.wl_broadcast.specs.Channels.{Object, is_other, is_destination, has_ro
 use Rattle.wl_broadcast.specs.declared.object.ChannelObject.{ChannelObject}
 use Rattle.wl_broadcast.specs.OpenObjects.{seen, all_seen, open_from}
 
--- a closed object stays as it is
+-- A closed object does not change.
 closed_stays : (k : ℕ) (sender : Option ℕ) (name : List ℕ) (letter : Letter) (o : Object) → o.is_open ≡ false → delivered_to sender name letter k o ≡ o
 closed_stays k sender name letter o closed =
     let P : Bool → Type 0 = λ b. cond (b && bytes_eq o.name name && is_other sender k && has_room o) (record o { inbox = o.inbox ++ letter ∷ [] }) o ≡ o in
@@ -16,7 +17,7 @@ closed_in_front : (k : ℕ) (sender : Option ℕ) (name : List ℕ) (letter : Le
 closed_in_front k sender name letter o os ps closed e =
     ap (λ first. first ∷ delivered_from (k + 1) sender name letter os) (closed_stays k sender name letter o closed) ∙ ap (λ rest. o ∷ rest) e
 
--- ---- no object is open
+-- No open object
 
 pub record NoneTakes (k : ℕ) (sender : Option ℕ) (name : List ℕ) (letter : Letter) (os : List Object) : Type 0 where
   pub objects : delivered_from k sender name letter os ≡ os
@@ -27,7 +28,7 @@ none_takes_behind : (k : ℕ) (sender : Option ℕ) (name : List ℕ) (letter : 
 none_takes_behind k sender name letter o os closed below =
     record { objects = closed_in_front k sender name letter o os os closed below.objects; took = rw closed below.took; full = rw closed below.full }
 
--- the first object is closed where a later one is the first that is open, or none is
+-- If no object is open, the first is closed and no later one is open.
 first_is_closed : (k : ℕ) (o : Object) (os : List Object) (b : Bool) → o.is_open ≡ b → open_from k (o ∷ os) ≡ [] → (o.is_open ≡ false) × (open_from (k + 1) os ≡ [])
 first_is_closed k o os true h e = let none : k ∷ open_from (k + 1) os ≡ [] = rw h at e in cc
 first_is_closed k o os false h e = let none : open_from (k + 1) os ≡ [] = rw h at e in (h, none)
@@ -38,9 +39,9 @@ none_takes k sender name letter (o ∷ os) e =
     let c = first_is_closed k o os o.is_open refl e in
     none_takes_behind k sender name letter o os c.0 (none_takes (k + 1) sender name letter os c.1)
 
--- ---- the first open object
+-- First open object
 
--- the first object is open, or a later one
+-- The first open object is either the head of the list or in its tail.
 first_or_later : (k : ℕ) (o : Object) (os : List Object) (j : ℕ) (js : List ℕ) (b : Bool) → o.is_open ≡ b → open_from k (o ∷ os) ≡ j ∷ js → cond b ((k ≡ j) × (open_from (k + 1) os ≡ js)) (open_from (k + 1) os ≡ j ∷ js)
 first_or_later k o os j js true h e = let both : k ∷ open_from (k + 1) os ≡ j ∷ js = rw h at e in (cc, cc)
 first_or_later k o os j js false h e = let later : open_from (k + 1) os ≡ j ∷ js = rw h at e in later
@@ -62,7 +63,7 @@ pub record FirstTakes (k j : ℕ) (js : List ℕ) (front : List Object) (o : Obj
   pub took : taking_from k sender name (front ++ o ∷ behind) ≡ cond (is_destination sender name j o && has_room o) (j ∷ taking_from (j + 1) sender name behind) (taking_from (j + 1) sender name behind)
   pub full : full_from k sender name (front ++ o ∷ behind) ≡ cond (is_destination sender name j o && not (has_room o)) (j ∷ full_from (j + 1) sender name behind) (full_from (j + 1) sender name behind)
 
--- the object that is asked for stands first
+-- The first open object may be the head of the list.
 first_here : (k : ℕ) (js : List ℕ) (o : Object) (behind : List Object) (sender : Option ℕ) (name : List ℕ) (letter : Letter) (b : Bool) → o.is_open ≡ b → open_from k (o ∷ behind) ≡ k ∷ js → FirstTakes k k js [] o behind sender name letter
 first_here k js o behind sender name letter true h e =
     let c : (k ≡ k) × (open_from (k + 1) behind ≡ js) = first_or_later k o behind k js true h e in
@@ -72,7 +73,7 @@ first_here k js o behind sender name letter false h e =
     let bounds = open_bounds (k + 1) behind k js c in
     absurd (omega (arith, bounds.0))
 
--- a closed object stands before it
+-- The first open object may come after a closed one.
 first_behind : (k j : ℕ) (js : List ℕ) (f : Object) (fs : List Object) (o : Object) (behind : List Object) (sender : Option ℕ) (name : List ℕ) (letter : Letter) → f.is_open ≡ false → FirstTakes (k + 1) j js fs o behind sender name letter → FirstTakes k j js (f ∷ fs) o behind sender name letter
 first_behind k j js f fs o behind sender name letter closed below =
     record { is_open = below.is_open; open_behind = below.open_behind; objects = closed_in_front k sender name letter f (fs ++ o ∷ behind) _ closed below.objects; took = rw closed below.took; full = rw closed below.full }
@@ -92,9 +93,9 @@ first_takes k j js (f ∷ fs) o behind sender name letter e at =
     let c = first_is_later k j js f fs o behind f.is_open refl e at in
     first_behind k j js f fs o behind sender name letter c.0 (first_takes (k + 1) j js fs o behind sender name letter c.1 (omega (arith, at)))
 
--- ---- the same over the objects of the code
+-- The same over the objects of the code
 
--- the first open object of these, and what stands before it and behind it
+-- The first open object, with the objects before it and after it.
 pub record Reaches (k j : ℕ) (js : List ℕ) (objects front : List ChannelObject) (object : ChannelObject) (behind : List ChannelObject) (sender : Option ℕ) (name : List ℕ) (letter : Letter) : Type 0 where
   pub first : FirstTakes k j js (all_seen front) (seen object) (all_seen behind) sender name letter
   pub whole : all_seen objects ≡ all_seen front ++ seen object ∷ all_seen behind
@@ -121,12 +122,14 @@ reaches numbers k j js objects front from object behind sender name letter numbe
       below_end = bounds.1;
     }
 
--- the delivery went on behind the first open object, which is now as it is after the delivery
+-- The delivery continues after the first open object, which has already taken the post or passed it
+-- over.
 pub delivered_on : (k j : ℕ) (js : List ℕ) (objects front : List ChannelObject) (object : ChannelObject) (behind : List ChannelObject) (sender : Option ℕ) (name : List ℕ) (letter : Letter) → Reaches k j js objects front object behind sender name letter → (after : ChannelObject) (new : List ChannelObject) → seen after ≡ delivered_to sender name letter j (seen object) → all_seen new ≡ delivered_from (j + 1) sender name letter (all_seen behind) → all_seen (front ++ after ∷ new) ≡ delivered_from k sender name letter (all_seen objects)
 delivered_on k j js objects front object behind sender name letter r after new here on =
     map-append seen front (after ∷ new) ∙ ap (λ x. all_seen front ++ x ∷ all_seen new) here ∙ ap (λ rest. all_seen front ++ delivered_to sender name letter j (seen object) ∷ rest) on ∙ sym r.first.objects ∙ ap (delivered_from k sender name letter) (sym r.whole)
 
--- what the first open object adds to the numbers that took the post and to those that were full, and what it is afterwards
+-- The first open object after the delivery, and the numbers that it adds to the takers and to the
+-- full ones.
 pub record Goes (k j : ℕ) (objects : List ChannelObject) (object : ChannelObject) (behind : List ChannelObject) (sender : Option ℕ) (name : List ℕ) (letter : Letter) (after : Object) (taking filled : List ℕ) : Type 0 where
   pub becomes : after ≡ delivered_to sender name letter j (seen object)
   pub took : taking_from k sender name (all_seen objects) ≡ taking ++ taking_from (j + 1) sender name (all_seen behind)
@@ -176,10 +179,10 @@ takes k j js objects front object behind sender name letter r dest room =
       full = ap (full_from k sender name) r.whole ∙ r.first.full ∙ went _ _ R true true dest room refl;
     }
 
--- numbers that were pushed, and those that the rest of the delivery pushed behind them
+-- The rest of the delivery appends its numbers after those of the first open object.
 pub numbers_on : (old pushed new own rest whole : List ℕ) → pushed ≡ old ++ own → new ≡ pushed ++ rest → whole ≡ own ++ rest → new ≡ old ++ whole
 numbers_on old pushed new own rest whole first on all = on ∙ ap (λ xs. xs ++ rest) first ∙ append_assoc old own rest ∙ ap (λ xs. old ++ xs) (sym all)
 
--- no object is open
+-- If no object is open, the delivery changes nothing.
 pub delivered_to_none : (numbers : List ℕ) (k : ℕ) (objects : List ChannelObject) (sender : Option ℕ) (name : List ℕ) (letter : Letter) → numbers ≡ open_from k (all_seen objects) → length numbers ≡ 0 → NoneTakes k sender name letter (all_seen objects)
 delivered_to_none numbers k objects sender name letter numbers_are none = none_takes k sender name letter (all_seen objects) (sym numbers_are ∙ nil_from_length numbers none)

@@ -1,4 +1,5 @@
--- A post that comes is old only where one of its source came before that had its number or a greater one.
+-- Lemmas on old posts: a post is old only if one of its source with the same number or a greater
+-- one was received before.
 use Rattle.std.proofs.Common.{◌≡◌, ⊎_elim, ℕ, ◌<◌, false, List, [], ◌∷◌, Some, is_some, refl, sym, ap, ◌∙◌, subst}
 use Rattle.std.proofs.lemmas.Bool.{cases_eq, lt-leb}
 use Rattle.wl_draft.specs.Tables.{find, put}

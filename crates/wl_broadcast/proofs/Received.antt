@@ -1,4 +1,4 @@
--- What is delivered to an object, and what is read of it.
+-- Posts delivered to an object, and posts read from it.
 use Rattle.std.proofs.Common.{◌≡◌, ◌≢◌, ◌⊎◌, inl, inr, ℕ, zero, suc, ◌+◌, ◌<◌, Bool, true, false, ◌&&◌, ◌==◌, if◌then◌else◌, List, [], ◌∷◌, ◌++◌, length, take, drop, Option, Some, None, is_some, refl, sym, ap, ◌∙◌, append-nil, arith}
 use Rattle.std.specs.Prelude.{bytes_eq}
 use Rattle.std.proofs.lemmas.Bool.{false≢true}
@@ -11,7 +11,7 @@ use Rattle.wl_broadcast.specs.Heard.{Opens, Posts, Hears, Reads, Closes, ReadsIn
 use Rattle.wl_broadcast.proofs.Numbered.{inbox_at-suc, name_at-suc, is_open_at-suc, changed_at-suc}
 use Rattle.wl_broadcast.proofs.Gained.{Gains, gains_from, inbox_opened, either, read, close, more, nothing_read}
 
--- ---- a delivery
+-- Delivery
 
 delivered_here : (sender : Option ℕ) (name : List ℕ) (letter : Letter) (m : ℕ) (o : Object) → o.is_open ≡ true → o.name ≡ name → is_other sender m ≡ true
     → length o.inbox < inbox_limit → (delivered_to sender name letter m o).inbox ≡ o.inbox ++ letter ∷ []
@@ -48,7 +48,7 @@ delivers_own c j k bytes allowed other alive named room =
     either (is_some (post_refusal c.tab j bytes c)) P c (posted j bytes c) (λ refused. absurd (false≢true (sym (ap is_some allowed) ∙ refused)))
     (λ _. delivered_at (Some j) (name_at c.objects j) letter 0 c.objects k k (omega arith) alive named (is_another j k other) room)
 
--- ---- readings
+-- Reading
 
 pub changed_other : (f : Object → Object) (j k : ℕ) (os : List Object) → j ≢ k → inbox_at (changed_at j f os) k ≡ inbox_at os k
 changed_other f j k [] other = refl
@@ -76,7 +76,7 @@ first_and_rest : (ls : List Letter) → ls ≡ take 1 ls ++ rest_of ls
 first_and_rest [] = refl
 first_and_rest (l ∷ ls) = refl
 
--- what is behind
+-- The posts before, followed by those dropped behind them, are all the posts.
 behind : (before now xs : List Letter) → now ≡ before ++ xs → before ++ drop (length before) now ≡ now
 behind before now xs e = ap (λ ls. before ++ drop (length before) ls) e ∙ ap (λ ls. before ++ ls) (drop_at before xs _ refl) ∙ sym e
 
@@ -88,14 +88,14 @@ gained_behind : (sender : Option ℕ) (name : List ℕ) (letter : Letter) (os af
 gained_behind sender name letter os after k (inl e) = same_behind (inbox_at os k) (inbox_at after k) e
 gained_behind sender name letter os after k (inr g) = behind (inbox_at os k) (inbox_at after k) (letter ∷ []) g.inbox
 
--- nothing is read where all that waited waits still
+-- No post is read, and all unread posts stay in the inbox.
 abbrev Waits : ℕ → ChannelState → ChannelState → Type 0
 Waits k c d = inbox_at c.objects k ++ more k c d ≡ inbox_at d.objects k
 
 waits_itself : (k : ℕ) (c : ChannelState) → Waits k c c
 waits_itself k c = same_behind (inbox_at c.objects k) (inbox_at c.objects k) refl
 
--- what is read of the object k, by whether the object j is an own one, and is that object
+-- The posts read from object `k`, given whether object `j` belongs to the tab and is object `k`.
 abbrev read_by : Bool → Bool → List Letter → List Letter
 read_by own same ls = if own && same then take 1 ls else []
 

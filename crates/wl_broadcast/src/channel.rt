@@ -1,8 +1,10 @@
+//! Handles of channel objects.
 ghost use Rattle.std.specs.Prelude.{◌≡◌};
 
 use std::marker::Model;
 
-/// A channel object of a tab, as its owner holds it. It is spent by `Channels::close` or `Channels::end`.
+/// Handle of a tab's channel object, held by the owner of the channel. `Channels::close` or
+/// `Channels::end` consumes it.
 #[derive(Debug)]
 pub struct Channel {
     pub(crate) tab: u16,
@@ -18,7 +20,7 @@ impl Model for Channel {
 }
 
 impl Channel {
-    /// Its number, counted from 0 in the tab's life.
+    /// Returns the channel's number, counted from 0 over the tab's life.
     pub fn number(&self) -> usize
         ensures { result ≡ self.now.number }
     {
@@ -26,7 +28,7 @@ impl Channel {
     }
 }
 
-/// A channel that was handed to another tab's channels, given back.
+/// A channel passed to the channels of another tab, which return it to the caller.
 #[derive(Debug)]
 pub struct Foreign<C> {
     pub value: C,

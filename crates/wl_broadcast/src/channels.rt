@@ -1,4 +1,4 @@
-//! A tab's channels.
+//! Channels of a tab.
 
 ghost use Rattle.std.specs.Prelude.{◌≡◌, ◌==◌, ◌<◌, ◌^◌, ◌++◌, length, filter, not, true, None, Some, Err, IfOk, OnOk, IfErr, OnErr, IsTrue};
 ghost use Rattle.wl_draft.specs.Refusals.{RefusesBy, RefusesOnlyBy};
@@ -19,23 +19,24 @@ use wl_draft::Name;
 use wl_grammar::{Frame, Post, Sequence};
 use wl_limits::texts::{DATA_LIMIT, NAME_LIMIT};
 
-/// The most channels of a tab that are open at once.
+/// Maximum number of open channels of a tab.
 pub const CHANNEL_LIMIT: usize = 64;
 
-/// The most posts of a tab in its life.
+/// Maximum number of posts of a tab over its life.
 pub const POST_LIMIT: u32 = 1_000_000;
 
-/// The channels of a tab, its posts, and the last post that it heard of each other tab.
+/// The channels of a tab, its posts, and the last post received from each other tab (HTML Standard
+/// 9.5 BroadcastChannel).
 #[derive(Drop)]
 pub struct Channels {
     alloc: Global,
     tab: u16,
-    /// All that were ever opened, the closed ones too.
+    /// All objects ever opened, including the closed ones.
     objects: Vec<ChannelObject>,
-    /// The numbers of the open ones, oldest first.
+    /// Numbers of the open objects, oldest first.
     open_numbers: Vec<usize>,
     posts: u32,
-    /// The number of the last post heard, by source.
+    /// Number of the last post received from each source.
     last: BTreeMap<u16, u32>,
 }
 
@@ -51,7 +52,7 @@ impl Model for Channels {
 }
 
 impl Channels {
-    /// The channels of a tab that has opened none.
+    /// Returns the channels of a tab that has opened none.
     pub fn new(alloc: Global, tab: u16) -> Channels
         ensures { result ≡ no_channels tab }
     {
@@ -65,7 +66,8 @@ impl Channels {
         }
     }
 
-    /// Opens a channel object of the name, behind the others.
+    /// Opens a channel object with this name. Fails with `NameTooLong` or `TooManyChannels`, or
+    /// with `Memory` if out of memory.
     pub fn open(&mut self, name: &str) -> Result<Channel, ChannelFault>
         ensures ok { OnOk result (self.new ≡ opened name.now self.old) }
         ensures channel { IfOk result (λ c. (c.tab ≡ self.old.tab) × (c.number ≡ length self.old.objects)) }
@@ -87,7 +89,8 @@ impl Channels {
         })
     }
 
-    /// Why the opening of a channel object of the name is refused, if it is, though memory be had. Never Memory.
+    /// Returns the fault with which `open` fails even if there is enough memory, or `None`. Never
+    /// returns `Memory`.
     pub fn open_refusal(&self, name: &str) -> Option<ChannelFault>
         ensures { result ≡ open_refusal name.now self.now }
     {
@@ -100,7 +103,9 @@ impl Channels {
         None
     }
 
-    /// Posts data on a channel: the tab's other open objects of its name get it at once, oldest first.
+    /// Posts data on a channel. The tab's other open objects of its name receive the post at once,
+    /// oldest first. Fails with `DataTooLong`, `PostsUsedUp` or `ForeignChannel`, or with `Memory`
+    /// if out of memory.
     pub fn post(&mut self, channel: &Channel, bytes: &[u8]) -> Result<Posted, ChannelFault>
         ensures ok { OnOk result (self.new ≡ posted channel.now.number bytes.now self.old) }
         ensures posted { IfOk result (λ p.
@@ -149,7 +154,8 @@ impl Channels {
         })
     }
 
-    /// Takes another tab's post in. An old one changes nothing.
+    /// Receives another tab's post. An old post changes nothing. Fails with `WrongKind` if the
+    /// frame is not a Heard frame, and with `Memory` if out of memory.
     pub fn heard(&mut self, frame: &Frame) -> Result<Hearing, ChannelFault>
         ensures ok { OnOk result (self.new ≡ after_hearing frame.now self.old) }
         ensures hearing { IfOk result (λ h. h ≡ hearing_of frame.now self.old) }
@@ -188,7 +194,7 @@ impl Channels {
         })
     }
 
-    /// How many posts wait in the channel's inbox.
+    /// Returns the number of unread posts in the channel's inbox. Fails with `ForeignChannel`.
     pub fn inbox(&self, channel: &Channel) -> Result<usize, ChannelFault>
         ensures ok { IfOk result (λ n. n ≡ length (inbox_at self.now.objects channel.now.number)) }
         ensures refused { RefusesOnlyBy result (own_refusal channel.now.tab channel.now.number self.now) }
@@ -199,7 +205,7 @@ impl Channels {
         Ok(object::waiting_at(&self.objects, channel.number))
     }
 
-    /// Takes the oldest post out. It takes no memory.
+    /// Removes and returns the oldest unread post. Fails with `ForeignChannel`. Does not allocate.
     pub fn read(&mut self, channel: &Channel) -> Result<Option<Letter>, ChannelFault>
         ensures ok { OnOk result (self.new ≡ read_at channel.now.number self.old) }
         ensures letter { IfOk result (λ letter.
@@ -213,7 +219,8 @@ impl Channels {
         Ok(object::read_at(&mut self.objects, channel.number))
     }
 
-    /// Closes a channel: it takes no more posts, and what it had not read is gone. It takes no memory.
+    /// Closes a channel and discards its unread posts. Fails if the channel belongs to another tab,
+    /// and then returns it. Does not allocate.
     pub fn close(&mut self, channel: Channel) -> Result<(), Foreign<Channel>>
         ensures ok { OnOk result (self.new ≡ closed_at channel.number self.old) }
         ensures allowed { OnOk result (own_refusal channel.tab channel.number self.old ≡ None) }
@@ -231,7 +238,7 @@ impl Channels {
         Ok(())
     }
 
-    /// Ends the tab's channels with the channels that it still holds.
+    /// Ends the tab's channels, and consumes the handles that the tab still holds.
     pub fn end(self, mut channels: Vec<Channel>) {
         while let Some(channel) = channels.pop() {
             let Channel { tab: _, number: _ } = channel;
@@ -239,7 +246,7 @@ impl Channels {
         channels.destroy_empty();
     }
 
-    /// Delivers a post to the open objects, all or none.
+    /// Delivers a post to all its destinations. If out of memory, it delivers to none of them.
     fn deliver(&mut self, delivery: &Delivery) -> Result<Takers, AllocError>
         ensures ok { OnOk result (self.new
             ≡ record self.old {
@@ -263,7 +270,7 @@ impl Channels {
         Ok(takers)
     }
 
-    /// Whether this post or a later one of its source was heard.
+    /// Returns whether this post or a later one of its source was received before.
     fn is_old(&self, source: u16, number: u32) -> bool
         ensures { result ≡ is_old self.now source number }
     {
@@ -273,7 +280,7 @@ impl Channels {
         }
     }
 
-    /// Whether the channel is an open one of this tab.
+    /// Returns whether the channel is an open one of this tab.
     fn is_own(&self, channel: &Channel) -> bool
         ensures value { result ≡ is_own self.now channel.now.tab channel.now.number }
         ensures within { IsTrue result → channel.now.number < length self.now.objects }
@@ -282,14 +289,15 @@ impl Channels {
     }
 }
 
-/// Takes the number out.
+/// Removes the number from the list.
 fn forget(numbers: &mut Vec<usize>, number: usize)
     ensures { numbers.new.items ≡ filter (λ n. not (n == number)) numbers.old.items }
 {
     numbers.retain(|n| *n != number);
 }
 
-/// Delivers another tab's post and puts its number as the last one heard of its source: both, or neither.
+/// Delivers another tab's post, and records its number as the last one of its source. If out of
+/// memory, it does neither.
 fn hear(
     objects: &mut [ChannelObject],
     open_numbers: &[usize],
@@ -318,11 +326,11 @@ fn hear(
     let Letter { source, number, .. } = delivery.letter;
     if last.contains_key(source) {
         object::deliver(objects, 0, open_numbers, delivery, takers)?;
-        // The row is there, so this is never refused.
+        // The row exists, so this insert never fails.
         last.insert(*source, *number)?;
         return Ok(());
     }
-    // The row of a new source may be refused, so it is put before any object takes the post.
+    // Inserting the row of a new source may fail, so this happens before any object takes the post.
     last.insert(*source, *number)?;
     if let Err(refused) = object::deliver(objects, 0, open_numbers, delivery, takers) {
         last.remove(source);

@@ -1,31 +1,32 @@
+//! Faults of calls on a tab's channels.
 ghost use Rattle.std.specs.Prelude.{◌≡◌};
 ghost use Rattle.wl_broadcast.specs.declared.fault.ChannelFault.TheVariants.{Memory as memory};
 
 use std::alloc::{AllocError, AllocFailed};
 use thiserror::Error;
 
-/// Why a call on a tab's channels was refused. A refused call changes nothing.
+/// Reason why a call on a tab's channels was refused. A refused call changes nothing.
 #[derive(Clone, Copy, Debug, PartialEq, Eq, Error)]
 pub enum ChannelFault {
-    /// The name has more than 255 bytes.
+    /// The name is longer than 255 bytes.
     #[error("NameTooLong")]
     NameTooLong,
-    /// The data are more than 16,384 bytes.
+    /// The data is longer than 16,384 bytes.
     #[error("DataTooLong")]
     DataTooLong,
-    /// 64 channels of the tab are open.
+    /// The tab has 64 open channels.
     #[error("TooManyChannels")]
     TooManyChannels,
     /// The tab has made 1,000,000 posts.
     #[error("PostsUsedUp")]
     PostsUsedUp,
-    /// The channel is another tab's.
+    /// The channel is closed, or belongs to another tab.
     #[error("ForeignChannel")]
     ForeignChannel,
-    /// The frame is no Heard frame.
+    /// The frame is not a Heard frame.
     #[error("WrongKind")]
     WrongKind,
-    /// Memory was refused.
+    /// Out of memory.
     #[error("Memory")]
     Memory,
 }

@@ -1,15 +1,15 @@
-//! What a channel object hears, as laws over the definition.
+//! Laws of channel objects, stated over their definition.
 
 ghost use Rattle.std.specs.Prelude.{◌≡◌};
 ghost use Rattle.wl_broadcast.specs.Heard.{TakesRising, TakesPosts, KeepsName, ClosedTakesNothing, ReadsInOrder, OldOnlyAfter, DeliversNew, DeliversOwn, NeverTooManyOpen, NeverTooManyWait, NeverTooManyPosts};
 ghost use Rattle.wl_broadcast.specs.declared.channels.TheConstants.{CHANNEL_LIMIT, POST_LIMIT};
 ghost use Rattle.wl_broadcast.specs.declared.object.TheConstants.{INBOX_LIMIT};
 
-/// What a channel object takes of one source, read or not, is a list of that source's posts to its name, with strictly
-/// rising numbers. None was posted on the object itself, and none comes after its close. A post is old only where one of
-/// its source came before that had its number or a greater one, and one that is not old is delivered to each open object of
-/// its name that has room. Posts are read in the order in which they were taken. Over any calls, the limits of open
-/// objects, of inboxes and of posts hold.
+/// States which posts a channel object receives. It takes only posts with its name, in rising
+/// number for each source. It takes none of its own posts, and none after its close. A post is old
+/// only if one of its source with the same number or a greater one was received before. Any other
+/// post is delivered to each open object of its name that has room. Posts are read in the order in
+/// which they were taken. The limits of open objects, inboxes and posts always hold.
 pub fn law_channels()
     ensures rising { TakesRising }
     ensures posts { TakesPosts }
@@ -24,7 +24,7 @@ pub fn law_channels()
     ensures post_limit { NeverTooManyPosts }
 {}
 
-/// The value of each limit of this crate. All other contracts cite the limits by name.
+/// States the value of each limit of this crate. All other contracts cite the limits by name.
 pub fn law_limits()
     ensures inbox { INBOX_LIMIT ≡ 256 }
     ensures channels { CHANNEL_LIMIT ≡ 64 }

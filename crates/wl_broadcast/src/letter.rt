@@ -1,21 +1,22 @@
+//! Posts in the inboxes of channel objects, and results of posting and receiving.
 ghost use Rattle.std.specs.Prelude.{◌≡◌, IfOk};
 
 use bytes::Bytes;
 use std::alloc::AllocError;
 use wl_grammar::{Frame, Sequence};
 
-/// A post as a channel object took it.
+/// A post in the inbox of a channel object.
 #[derive(Clone, Debug, Drop)]
 pub struct Letter {
-    /// The tab that posted it.
+    /// The tab that sent the post.
     pub source: u16,
-    /// Its number in that tab's life.
+    /// The post's number, counted over that tab's life.
     pub number: u32,
     pub bytes: Bytes,
 }
 
 impl Letter {
-    /// An equal letter, which shares the bytes.
+    /// Returns an equal letter that shares the data. Fails if out of memory.
     pub(crate) fn copy(&self) -> Result<Letter, AllocError>
         ensures { IfOk result (λ copy. copy ≡ self.now) }
     {
@@ -26,22 +27,22 @@ impl Letter {
 /// Numbers of channel objects, oldest first.
 pub type Numbers = Sequence<usize>;
 
-/// What became of a post of the own tab.
+/// Result of posting.
 #[derive(Drop)]
 pub struct Posted {
     /// The frame for the other tabs.
     pub frame: Frame,
-    /// The own channels that took it,
+    /// The tab's own channels that took the post.
     pub took: Numbers,
-    /// and those whose inbox was full.
+    /// The tab's own channels whose inbox was full.
     pub full: Numbers,
 }
 
-/// What became of a post of another tab.
+/// Result of receiving another tab's post.
 #[derive(Debug, Drop)]
 pub enum Hearing {
-    /// This post or a later one of its source was heard before: nothing changes.
+    /// This post or a later one of its source was received before. Nothing changes.
     Old,
-    /// The own channels that took it, and those whose inbox was full.
+    /// The tab's channels that took the post, and those whose inbox was full.
     New { took: Numbers, full: Numbers },
 }

@@ -1,4 +1,5 @@
-//! Broadcast channels of one tab: its channel objects, its posts, and what it hears.
+//! Broadcast channels of one tab: its channel objects, the posts it makes and the posts it
+//! receives.
 #![tactic(auto)]
 
 pub mod channel;

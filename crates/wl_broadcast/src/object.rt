@@ -1,4 +1,4 @@
-//! The channel objects of a tab, and how a post is delivered to them.
+//! Channel objects of a tab, and the delivery of a post to them.
 
 ghost use Rattle.std.specs.Prelude.{◌≡◌, ◌+◌, ◌<◌, ◌^◌, ◌++◌, [], length, false, IsTrue, OnOk, OnErr};
 ghost use Rattle.wl_broadcast.specs.Channels.{new_object, has_room, is_destination, delivered_from, taking_from, full_from, changed_at, is_open_at, name_at, inbox_at, rest_of, first_of};
@@ -9,7 +9,7 @@ use std::alloc::{AllocError, Global};
 use std::collections::VecDeque;
 use wl_draft::Name;
 
-/// How many posts an inbox holds.
+/// Maximum number of unread posts in an inbox.
 pub const INBOX_LIMIT: usize = 256;
 
 /// A channel object of the tab.
@@ -17,7 +17,7 @@ pub const INBOX_LIMIT: usize = 256;
 pub(crate) struct ChannelObject {
     name: Name,
     is_open: bool,
-    /// The posts that wait to be read, oldest first.
+    /// The unread posts, oldest first.
     inbox: VecDeque<Letter>,
 }
 
@@ -32,7 +32,7 @@ impl ChannelObject {
         }
     }
 
-    /// How many posts wait to be read.
+    /// Returns the number of unread posts.
     fn waiting(&self) -> usize
         ensures { result ≡ length self.now.inbox.items }
     {
@@ -45,7 +45,7 @@ impl ChannelObject {
         self.waiting() < INBOX_LIMIT
     }
 
-    /// Takes the oldest post out.
+    /// Removes and returns the oldest unread post.
     fn read(&mut self) -> Option<Letter>
         ensures oldest { result ≡ first_of self.old.inbox.items }
         ensures rest { seen self.new ≡ record (seen self.old) { inbox = rest_of self.old.inbox.items } }
@@ -53,7 +53,7 @@ impl ChannelObject {
         self.inbox.pop_front()
     }
 
-    /// It takes no more posts, and those that wait are gone.
+    /// Closes the object, and discards its unread posts.
     fn close(&mut self, alloc: Global)
         ensures { seen self.new ≡ record (seen self.old) { is_open = false; inbox = [] } }
     {
@@ -62,7 +62,7 @@ impl ChannelObject {
     }
 }
 
-/// Whether the object of the number is an open one.
+/// Returns whether an object with this number exists and is open.
 pub(crate) fn is_open_at(objects: &[ChannelObject], number: usize) -> bool
     ensures value { result ≡ is_open_at (all_seen objects.now) number }
     ensures within { IsTrue result → number < length objects.now }
@@ -80,7 +80,7 @@ pub(crate) fn name_at(objects: &[ChannelObject], number: usize) -> &Name
     &objects[number].name
 }
 
-/// How many posts the object has waiting.
+/// Returns the number of the object's unread posts.
 pub(crate) fn waiting_at(objects: &[ChannelObject], number: usize) -> usize
     requires { number < length objects.now }
     ensures { result ≡ length (inbox_at (all_seen objects.now) number) }
@@ -88,7 +88,7 @@ pub(crate) fn waiting_at(objects: &[ChannelObject], number: usize) -> usize
     objects[number].waiting()
 }
 
-/// Takes the object's oldest post out.
+/// Removes and returns the object's oldest unread post.
 pub(crate) fn read_at(objects: &mut [ChannelObject], number: usize) -> Option<Letter>
     requires { number < length objects.old }
     ensures oldest { result ≡ first_of (inbox_at (all_seen objects.old) number) }
@@ -107,10 +107,10 @@ pub(crate) fn close_at(objects: &mut [ChannelObject], number: usize, alloc: Glob
     objects[number].close(alloc);
 }
 
-/// A post on its way to the objects of its name.
+/// A post in delivery to the objects of its channel name.
 #[derive(Clone, Copy)]
 pub(crate) struct Delivery<'a> {
-    /// The object that posts it, which does not get it itself.
+    /// Number of the object that sent the post, which does not receive it.
     pub(crate) sender: Option<usize>,
     pub(crate) name: &'a Name,
     pub(crate) letter: &'a Letter,
@@ -124,7 +124,7 @@ impl Delivery<'_> {
     }
 }
 
-/// The objects that took a post, and those that were full.
+/// Numbers of the objects that took a post, and of those whose inbox was full.
 #[derive(Drop)]
 pub(crate) struct Takers {
     pub(crate) took: Vec<usize>,
@@ -143,8 +143,9 @@ impl Takers {
     }
 }
 
-/// Delivers a post to these objects, of which the first has the number `first` and those of the numbers `open_numbers`
-/// are open. Each makes room before any takes it, so a refused allocation leaves them all as they were.
+/// Delivers a post to `objects`. The first object has the number `first`, and `open_numbers` lists
+/// the open ones. Each destination reserves room before any takes the post. If out of memory, no
+/// object changes.
 pub(crate) fn deliver(
     objects: &mut [ChannelObject],
     first: usize,

@@ -1,4 +1,4 @@
--- Which partitions are active, before and after a tab comes or dies.
+-- Active partitions before and after a tab arrives or dies.
 use Rattle.std.proofs.Common.{◌≡◌, ⊎_elim, ℕ, ◌+◌, ◌<◌, Bool, true, false, not, ◌&&◌, ◌||◌, cond, eqb, List, [], ◌∷◌, Option, Some, None, refl, sym, ap, ◌∙◌, subst, arith}
 use Rattle.std.specs.List.{list_all}
 use Rattle.std.proofs.lemmas.Bool.{and_parts, cases_eq, false≢true, eqb-true, eq-eqb, ne_eqb}
@@ -10,14 +10,14 @@ use Rattle.wl_broker.specs.declared.seat.Seat.TheVariants.{Joined, Dead}
 use Rattle.wl_broker.specs.Broker.{has_come, listed_at}
 use Rattle.wl_broker.specs.Kept.{all_come}
 
--- ---- which partitions are active
+-- Active partitions
 
--- the seat has come
+-- A tab with a seat has arrived.
 pub has_come_some : (s : Seat) → has_come (Some s) ≡ true
 has_come_some (Joined p n l) = refl
 has_come_some Dead = refl
 
--- no listed place of the tab is in the partition
+-- The tab is not listed under this partition.
 abbrev pub is_apart : ℕ → ℕ → List (ℕ × ℕ) → Bool
 is_apart t p listed = list_all (λ x. not (eqb x.0 t) || not (eqb x.1 p)) listed
 
@@ -38,7 +38,7 @@ all_come-apart (x ∷ xs) seats t s p apart =
     (λ e. ap has_come (find-put_other t s seats x.0 (λ same. apart_then (eqb x.0 t) (eqb x.1 p) h.0 (eq-eqb x.0 t same) e)))
     (all_come-apart xs seats t s p h.1)
 
--- a tab that had come before changes nothing
+-- Another seat of a tab that has arrived changes nothing.
 has_come-again : (seats : Table Seat) (t : ℕ) (s : Seat) (k : ℕ) → has_come (find seats t) ≡ true → has_come (find (put t s seats) k) ≡ has_come (find seats k)
 has_come-again seats t s k was =
     ⊎_elim (λ (e : t ≡ k). subst (λ j. has_come (find (put t s seats) j) ≡ has_come (find seats j)) e (ap has_come (find-put_same t s seats) ∙ has_come_some s ∙ sym was))
@@ -50,7 +50,7 @@ all_come-again [] seats t s p was = refl
 all_come-again (x ∷ xs) seats t s p was =
     same_place (eqb x.1 p) _ _ _ _ (λ e. has_come-again seats t s x.0 was) (all_come-again xs seats t s p was)
 
--- no tab is listed before the first number
+-- No tab with a number below the first one is listed.
 unlisted_below : (listed : List (ℕ × ℕ)) (t k p : ℕ) → TabsRiseFrom k listed → t < k → is_apart t p listed ≡ true
 unlisted_below [] t k p r h = refl
 unlisted_below (x ∷ xs) t k p r h =
@@ -68,7 +68,7 @@ apart_unlisted_as x xs t k p true e r below h =
     rw (e, h, rest) refl
 apart_unlisted_as x xs t k p false e r below h = rw (e, below h) refl
 
--- a tab that is listed once is listed nowhere else
+-- A tab that is listed under another partition is not listed under this one.
 apart_unlisted : (listed : List (ℕ × ℕ)) (t k p : ℕ) → TabsRiseFrom k listed → is_within (listed_at t listed) p ≡ false → is_apart t p listed ≡ true
 apart_unlisted [] t k p r h = refl
 apart_unlisted (x ∷ xs) t k p r h =

@@ -1,4 +1,4 @@
--- The definition's steps, said of a broker's fields.
+-- Steps of the definition, in terms of the broker's fields.
 use Rattle.std.proofs.Common.{◌≡◌, ◌≢◌, ℕ, ◌+◌, Bool, true, false, List, [], ◌∷◌, ◌++◌, map, Some, None, IsSome, refl, sym, ap, ◌∙◌, append-nil}
 use Rattle.wl_draft.specs.declared.row.Row.{Row}
 use Rattle.wl_draft.specs.declared.row.Grant.{Grant}
@@ -26,7 +26,7 @@ is_active-fields g listed seats partitions partial p = refl
 pub manager_of-fields : (g : ℕ) (listed : List (ℕ × ℕ)) (seats : Table Seat) (partitions : Table PartitionState) (partial : Table Partial) (p : ℕ) → manager_of (broker_of g listed seats partitions partial) p ≡ (at no_partition partitions p).locks
 manager_of-fields g listed seats partitions partial p = at-map_values (λ (s : PartitionState). s.locks) no_partition p partitions
 
--- grants as rows
+-- The frames of the grants are the frames of the granted rows.
 grants_are : (g : ℕ) (seats : Table Seat) (rows : List Row) → map (grant_of g seats) (grants rows) ≡ map (λ r. answer_of g (next_in (find seats r.client)) r.client r.number Granted) rows
 grants_are g seats [] = refl
 grants_are g seats (r ∷ rs) = ap (λ xs. grant_of g seats (record { client = r.client; number = r.number }) ∷ xs) (grants_are g seats rs)
@@ -41,7 +41,7 @@ unfolding settled_at newly_at is_active
 bury_does g listed seats partitions partial t p b granted outs seats' partitions' partial' s a gr ps ks os =
     rw (os, gr, grants_are, ps, put-map_values (λ (s : PartitionState). s.locks) p _ partitions, manager_of-fields g listed seats partitions partial p, a, s, ks) refl
 
--- ---- commands
+-- Commands
 
 first_is : (b : BrokerState) (t p n : ℕ) (o : Operation) → o ≢ Query → first_answer b t p n o ≡ answer_to b t n (outcome_at (manager_of b p) t n o) ∷ []
 first_is b t p n (Request mode if_available name) other = refl
@@ -59,7 +59,7 @@ settled_active : (b : BrokerState) (p : ℕ) (m : Locks) → is_active b p ≡ t
 unfolding settled_at
 settled_active b p m active = rw active refl
 
--- where no part is kept of a tab, giving it up changes nothing
+-- If no part is kept of a tab, discarding its parts changes nothing.
 kept_none : (t : ℕ) (b : BrokerState) (seats : Table Seat) (managers : Table Locks) → find b.partial t ≡ None → record b { seats = seats; managers = managers; partial = without_partial t b.partial } ≡ record b { seats = seats; managers = managers }
 kept_none t b seats managers none = ap (λ ks. record b { seats = seats; managers = managers; partial = ks }) (without_none t b.partial none)
 
@@ -67,7 +67,8 @@ newly_active : (b : BrokerState) (p : ℕ) (m : Locks) → is_active b p ≡ tru
 unfolding newly_at
 newly_active b p m active = rw active refl
 
--- what a command that is no query does, where its partition is active and no part of its tab's report is kept
+-- The effect of a command other than a query, in an active partition, if no part of the tab's
+-- report is kept.
 performs : (b after : BrokerState) (t p n l : ℕ) (o : Operation) (outs : List Addressed) → o ≢ Query → limit_of b t ≡ l → find b.partial t ≡ None → is_active (with_seat t (Joined p (n + 1) l) b) p ≡ true → after ≡ record b { seats = put t (Joined p (n + 1) l) b.seats; managers = put p (settle (drafted t n o (manager_of b p))) b.managers } → outs ≡ answer_to after t n (outcome_at (manager_of after p) t n o) ∷ [] ++ grants_to after (without t n (newly (drafted t n o (manager_of b p)))) → perform b t p n o ≡ Does after outs
 unfolding perform
 performs b after t p n l o outs other limit none active e os =
@@ -85,7 +86,7 @@ change_does g listed seats partitions partial t p n l o granted outs seats' part
     (let next : next_in (find seats' t) ≡ n + 1 = ap (λ ss. next_in (find ss t)) s ∙ ap next_in (find-put_same t (Joined p (n + 1) l) seats) in
     rw (manager_of-fields g listed seats' partitions' partial p, manager_of-fields g listed seats partitions partial p, next, os, gr, grants_are) refl)
 
--- a query
+-- The effect of a query.
 queries : (b after : BrokerState) (t p n l : ℕ) (outs : List Addressed) → limit_of b t ≡ l → find b.partial t ≡ None → is_active (with_seat t (Joined p (n + 1) l) b) p ≡ true → newly (manager_of b p) ≡ [] → after ≡ record b { seats = put t (Joined p (n + 1) l) b.seats; managers = put p (settle (manager_of b p)) b.managers } → outs ≡ snapshot_to after t n (snapshot_entries (manager_of after p)) → perform b t p n Query ≡ Does after outs
 unfolding perform
 queries b after t p n l outs limit none active still e os =
@@ -108,7 +109,7 @@ query_does g listed seats partitions partial t p n l held waiting outs seats' ri
     (let next : next_in (find seats' t) ≡ n + 1 = ap (λ ss. next_in (find ss t)) s ∙ ap next_in (find-put_same t (Joined p (n + 1) l) seats) in
     rw (manager_of-fields g listed seats' partitions partial p, next, os, hs, ws) refl)
 
--- ---- deaths
+-- Deaths
 
 pub burial_again : (b : BrokerState) (t : ℕ) → seat_of b t ≡ Some Dead → burial b t ≡ (b, [])
 unfolding burial

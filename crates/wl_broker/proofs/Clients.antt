@@ -1,4 +1,4 @@
--- What stands of a draft's clients: each stands under its own number, from call to call.
+-- Invariant of the clients of locks and requests, through the draft's operations.
 use Rattle.std.proofs.Common.{⊎_elim, ℕ, Bool, true, false, List, [], ◌∷◌, ◌++◌, filter, sym, subst}
 use Rattle.wl_draft.specs.declared.row.Row.{Row}
 use Rattle.wl_draft.specs.declared.row.Entry.{Entry}
@@ -9,7 +9,7 @@ use Rattle.wl_grammar.specs.declared.frame.Operation.{Operation}
 use Rattle.wl_grammar.specs.declared.frame.Operation.TheVariants.{Request, Release, Abort, Query}
 use Rattle.wl_broker.specs.Broker.{drafted}
 
--- each row's client has Q
+-- The client of each row has the property `Q`.
 abbrev pub Own : (ℕ → Type 0) → List Row → Type 0
 Own Q rows = (r : Row) → In r rows → Q r.client
 

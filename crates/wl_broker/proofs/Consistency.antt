@@ -1,4 +1,4 @@
--- What stays true of a broker when a tab's seat and a partition change.
+-- Invariant of the broker when a tab's seat and a partition change.
 use Rattle.std.proofs.Common.{◌≡◌, ◌≢◌, ◌⊎◌, ⊎_elim, ℕ, ◌+◌, ◌≤◌, Bool, true, false, eqb, List, [], Option, Some, None, IsSome, is_some, refl, sym, ap, ◌∙◌, subst, arith}
 use Rattle.std.proofs.lemmas.Bool.{cases_eq, eqb-true, eq-eqb, ne_eqb, lt-ltb, cond_both, cond-true, cond-false, not-false}
 use Rattle.wl_draft.specs.declared.row.Entry.{Entry}
@@ -20,9 +20,9 @@ use Rattle.wl_broker.proofs.SettledLocks.{settle_same}
 use Rattle.wl_broker.proofs.Arrivals.{all_come-again, all_come-elsewhere, is_within}
 use Rattle.wl_broker.proofs.TakenRows.{AllRows-put, AllRows-settle_if, AllRows-drafted, AllRows-restored, AllRows-ended, new_pair}
 
--- ---- one change of a seat, and of a partition
+-- One change of a seat and of a partition
 
--- the change leaves this partition as it was
+-- The change leaves this partition as it is.
 pub record IsApart (listed : List (ℕ × ℕ)) (seats : Table Seat) (t : ℕ) (s : Seat) (q : ℕ) : Type 0 where
   pub active : all_come listed (put t s seats) q ≡ all_come listed seats q
   pub taken : taken_in (find seats t) q ≤ taken_in (Some s) q
@@ -38,12 +38,12 @@ seated_after p q x ps h =
 some_inj : {X : Type 0} {x y : X} → Some x ≡ Some y → x ≡ y
 some_inj e = cc
 
--- a row that was put there is that row
+-- A row that was put is the row found.
 put_here : {X : Type 0} (p q : ℕ) (x y : X) (ps : Table X) → q ≡ p → find (put p x ps) q ≡ Some y → x ≡ y
 put_here p q x y ps same e =
     some_inj (sym (subst (λ j. find (put p x ps) j ≡ Some x) (sym same) (find-put_same p x ps)) ∙ e)
 
--- a tab's new seat is in no partition
+-- A new seat in no partition keeps the invariant.
 pub IsConsistent-seat : {listed : List (ℕ × ℕ)} {seats : Table Seat} {partitions : Table PartitionState} (t : ℕ) (s : Seat) → IsConsistent listed seats partitions → ((q : ℕ) → IsApart listed seats t s q) → ((q n l : ℕ) → s ≡ Joined q n l → ⊥) → IsConsistent listed (put t s seats) partitions
 IsConsistent-seat {listed} {seats} {partitions} t s k apart gone =
     record {
@@ -55,7 +55,7 @@ IsConsistent-seat {listed} {seats} {partitions} t s k apart gone =
           (λ (ne : u ≡ t → ⊥). k.seated u q n l (sym (find-put_other t s seats u ne) ∙ e)) (cases_eq u t);
     }
 
--- a tab's new seat is in this partition, or in none
+-- A new seat in this partition or in none keeps the invariant.
 pub IsConsistent-put : {listed : List (ℕ × ℕ)} {seats : Table Seat} {partitions : Table PartitionState} (t : ℕ) (s : Seat) (p : ℕ) (st : PartitionState) → IsConsistent listed seats partitions → ((q : ℕ) → q ≢ p → IsApart listed seats t s q) → ((q n l : ℕ) → s ≡ Joined q n l → q ≡ p) → IsPartition listed (put t s seats) p st → IsConsistent listed (put t s seats) (put p st partitions)
 IsConsistent-put {listed} {seats} {partitions} t s p st k apart place here =
     record {
@@ -69,7 +69,7 @@ IsConsistent-put {listed} {seats} {partitions} t s p st k apart place here =
           (λ (ne : u ≡ t → ⊥). seated_after p q st partitions (k.seated u q n l (sym (find-put_other t s seats u ne) ∙ e))) (cases_eq u t);
     }
 
--- ---- what a partition's row says
+-- Row of a partition
 
 rows_as : {listed : List (ℕ × ℕ)} {seats : Table Seat} {partitions : Table PartitionState} (p : ℕ) (o : Option PartitionState) → IsConsistent listed seats partitions → find partitions p ≡ o → AllRows (was_taken seats p) (at no_partition partitions p).locks
 rows_as {partitions = partitions} p None k e = rw at_none (refl, refl)
@@ -82,7 +82,7 @@ active_as : {listed : List (ℕ × ℕ)} {seats : Table Seat} {partitions : Tabl
 active_as p None k e some = cc
 active_as {partitions = partitions} p (Some st) k e some = rw (at-find no_partition st p partitions e) (k.each p st e).active
 
--- where a tab has joined, the partition's row says whether it is active
+-- If a tab has joined in a partition, the partition's row states whether it is active.
 pub IsConsistent-active : {listed : List (ℕ × ℕ)} {seats : Table Seat} {partitions : Table PartitionState} (t p n l : ℕ) → IsConsistent listed seats partitions → find seats t ≡ Some (Joined p n l) → (at no_partition partitions p).is_active ≡ all_come listed seats p
 IsConsistent-active {partitions = partitions} t p n l k e = active_as p (find partitions p) k refl (k.seated t p n l e)
 
@@ -92,14 +92,14 @@ taken_here p n l = cond-true _ _ _ (eq-eqb p p refl)
 taken_there : (p q n l : ℕ) → q ≢ p → taken_in (Some (Joined p n l)) q ≡ 0
 taken_there p q n l ne = cond-false _ _ _ (ne_eqb p q (λ e. ne (sym e)))
 
--- the next command of a tab has a new pair
+-- The next command of a tab has a new pair.
 pub IsConsistent-new : {listed : List (ℕ × ℕ)} {seats : Table Seat} {partitions : Table PartitionState} (t p n l : ℕ) → IsConsistent listed seats partitions → find seats t ≡ Some (Joined p n l) → standing (at no_partition partitions p).locks t n ≡ Absent
 IsConsistent-new {seats = seats} t p n l k e =
     new_pair seats p t n _ (IsConsistent-rows p k) (let here : taken_in (find seats t) p ≡ n = ap (λ o. taken_in o p) e ∙ taken_here p n l in omega arith)
 
--- ---- a tab joins
+-- A tab joins
 
--- a tab without a seat has had no command taken
+-- No command of a tab without a seat has been taken.
 untaken : (o : Option Seat) (q n : ℕ) → o ≡ None → taken_in o q ≤ n
 untaken o q n e = rw e (omega arith)
 
@@ -125,7 +125,7 @@ IsConsistent-join {listed} {seats} {partitions} t p base l entries b k new at_ho
           (AllRows-put seats t seat p _ (untaken _ p _ new) (IsConsistent-rows p k)));
     })
 
--- ---- a command is taken
+-- A command is taken
 
 pub IsConsistent-command : {listed : List (ℕ × ℕ)} {seats : Table Seat} {partitions : Table PartitionState} (t p n l : ℕ) (o : Operation) → IsConsistent listed seats partitions → find seats t ≡ Some (Joined p n l) → all_come listed seats p ≡ true → IsConsistent listed (put t (Joined p (n + 1) l) seats) (put p (state_of (settle (drafted t n o (at no_partition partitions p).locks)) true) partitions)
 IsConsistent-command {listed} {seats} {partitions} t p n l o k e active =
@@ -147,7 +147,7 @@ IsConsistent-command {listed} {seats} {partitions} t p n l o k e active =
           (AllRows-put seats t seat p _ (omega (arith, here, taken_here p (n + 1) l)) (IsConsistent-rows p k)));
     })
 
--- ---- a tab dies
+-- A tab dies
 
 abbrev HadPlace : List (ℕ × ℕ) → Table Seat → ℕ → ℕ → Type 0
 HadPlace listed seats t p = ((n l : ℕ) × (find seats t ≡ Some (Joined p n l))) ⊎ ((find seats t ≡ None) × (listed_at t listed ≡ Some p))
@@ -173,7 +173,7 @@ IsConsistent-dead {listed} {seats} {partitions} partial g t p b k had active =
       numbers = AllRows-settle_if (was_taken (put t Dead seats) p) b _ (AllRows-ended seats t p Dead _ (IsConsistent-rows p k));
     })
 
--- a tab without a place
+-- The death of a tab without a partition keeps the invariant.
 pub IsConsistent-unknown : {listed : List (ℕ × ℕ)} {seats : Table Seat} {partitions : Table PartitionState} (t : ℕ) → IsConsistent listed seats partitions → find seats t ≡ None → listed_at t listed ≡ None → IsConsistent listed (put t Dead seats) partitions
 IsConsistent-unknown {listed} {seats} t k e unlisted =
     IsConsistent-seat t Dead k
@@ -183,7 +183,7 @@ IsConsistent-unknown {listed} {seats} t k e unlisted =
     })
     (λ q n l same. cc)
 
--- ---- a query
+-- A query
 
 row_itself : (s : PartitionState) → s.is_active ≡ true → newly s.locks ≡ [] → state_of (settle s.locks) true ≡ s
 row_itself s active still = rw (settle_same s.locks still, ← active) refl

@@ -1,4 +1,4 @@
--- Copies of what is told.
+-- Copies of the frames that are sent.
 use Rattle.std.proofs.Common.{◌≡◌, ℕ, List, [], ◌∷◌, length, replicate, Some, sym, ap, ◌∙◌}
 use Rattle.wl_grammar.specs.declared.frame.Addressed.{Addressed}
 use Rattle.wl_broker.specs.Broker.{BrokerState, Taking, Drops, Does, copied, repeated}

@@ -1,4 +1,4 @@
--- Which messages are dropped, case by case in the definition's order.
+-- Dropped messages, case by case in the order of the definition.
 use Rattle.std.proofs.Common.{◌≡◌, ◌≢◌, ℕ, ◌<◌, ◌≤◌, Bool, true, false, not, cond, ◌&&◌, ◌||◌, eqb, nat_lt, nat_le, refl, ◌∷◌, [], arith}
 use Rattle.std.proofs.lemmas.Bool.{lt-ltb, le-ltb, ne_eqb}
 use Rattle.wl_limits.specs.declared.tabs.TheConstants.{LAST_NUMBER}
@@ -10,7 +10,7 @@ use Rattle.wl_broker.specs.declared.dropped.Dropped.TheVariants.{OldGeneration, 
 use Rattle.wl_grammar.specs.Generation.{generation_of}
 use Rattle.wl_broker.specs.Broker.{BrokerState, Does, Drops, IsTaken, seat_of, partial_of, manager_of, next_of, limit_of, is_joined, is_dead, is_active, is_listed, listed_at, is_misplaced, is_lock, taking, take_inner, keeping, join_if, take_told, take_command, join, perform, later_answer}
 
--- ---- any message
+-- Any message
 
 pub old_generation : (b : BrokerState) (s : Stamped) → generation_of s.inner < b.generation → taking b s ≡ Drops OldGeneration
 unfolding taking
@@ -33,7 +33,7 @@ module _ (b : BrokerState) (s : Stamped) (old : b.generation ≤ generation_of s
   unfolding taking
   inner_taken h k = rw (le-ltb (generation_of s.inner) b.generation old, le-ltb b.generation (generation_of s.inner) later, h, k) refl
 
--- ---- reports
+-- Reports
 
 module _ (b : BrokerState) (t p : ℕ) (x : Told) where
   pub already_joined : is_joined (seat_of b t) ≡ true → take_told b t p x ≡ Drops AlreadyJoined
@@ -57,7 +57,7 @@ module _ (b : BrokerState) (t p : ℕ) (x : Told) (new : is_joined (seat_of b t)
   unfolding take_told
   told_taken h k = rw (new, newcomer, h, k) refl
 
--- ---- commands
+-- Commands
 
 module _ (b : BrokerState) (t p n : ℕ) (o : Operation) where
   pub not_joined : is_joined (seat_of b t) ≡ false → take_command b t p n o ≡ Drops NotJoined

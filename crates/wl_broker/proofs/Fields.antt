@@ -1,4 +1,4 @@
--- A broker's fields after a change, or after one that was taken back.
+-- Fields of a broker after a change, or after a change that was undone.
 use Rattle.std.proofs.Common.{◌≡◌, ◌≢◌, ℕ, ◌≤◌, nat_lt, nat_le, eqb, not, ◌&&◌, ◌||◌, Bool, true, false, List, [], ◌∷◌, Option, Some, None, IsSome, is_some, length, Result, Ok, Err, IfOk, IfErr, MatchResult, refl, sym, ap, ◌∙◌, subst, arith}
 use Rattle.std.specs.Result.{IsErrAnd}
 use Rattle.std.proofs.lemmas.Bool.{or_parts, false≢true, eqb-true, eqb-false, ltb-false, not-false}
@@ -32,7 +32,7 @@ pub same_fields : (g : ℕ) (listed : List (ℕ × ℕ)) (partial : Table Partia
 same_fields g listed partial {seats} {seats'} {partitions} {partitions'} s p =
     ap (λ ss. broker_of g listed ss partitions' partial) s ∙ ap (λ ps. broker_of g listed seats ps partial) p
 
--- what an `insert` of a seat leaves
+-- An `insert` of a seat is a `put`.
 pub seat_put : (t : ℕ) (s : Seat) (seats seats' : Table Seat) → seats' ≡ insert_entry nat_cmp seats t s → seats' ≡ put t s seats
 seat_put t s seats seats' e = e ∙ insert_entry-put t s seats
 
@@ -42,19 +42,19 @@ seat_there t s seats seats' e = ap (λ ss. is_some (find ss t)) (seat_put t s se
 no_row : (t : ℕ) (seats : Table Seat) → find seats t ≡ None → has_row seats t ≡ false
 no_row t seats e = sym (is_some-lookup Dead seats t) ∙ ap is_some (lookup-find seats t ∙ e)
 
--- a seat that was given back
+-- Restoring a seat undoes its insertion.
 pub given_back : (t : ℕ) (s : Seat) (before : Option Seat) (seats seats' seats'' : Table Seat) → before ≡ find seats t → IsStrictlySortedBy nat_cmp (keys_of seats) → seats' ≡ insert_entry nat_cmp seats t s → MatchOption before (seats'' ≡ remove_entry (is_at (nat_cmp t)) seats') (λ x. seats'' ≡ put t x seats') → seats'' ≡ seats
 given_back t s None seats seats' seats'' was o e back =
     back ∙ ap (remove_entry (is_at (nat_cmp t))) (seat_put t s seats seats' e) ∙ remove_entry-put t s seats (no_row t seats (sym was))
 given_back t s (Some x) seats seats' seats'' was o e back =
     back ∙ ap (put t x) (seat_put t s seats seats' e) ∙ put_put t s x seats ∙ put_itself t x seats o (sym was)
 
--- the answer to a command that was taken before
+-- The answer to a command that was taken before.
 pub again_is : (g : ℕ) (listed : List (ℕ × ℕ)) (seats : Table Seat) (partitions : Table PartitionState) (partial : Table Partial) (t p n : ℕ) (o : Operation) (upto : ℕ) (outcome : Outcome) (outs : List Addressed) → upto ≡ next_in (find seats t) → outcome ≡ outcome_at (at no_partition partitions p).locks t n o → outs ≡ answer_of g upto t n outcome ∷ [] → outs ≡ later_answer (broker_of g listed seats partitions partial) t p n o ∷ []
 again_is g listed seats partitions partial t p n o upto outcome outs u a e =
     rw (e, u, a, later_is (broker_of g listed seats partitions partial) t p n o, manager_of-fields g listed seats partitions partial p) refl
 
--- what a broker shows of a tab and of a partition
+-- The fields of a broker determine the seat of a tab.
 pub seat_seen : (g : ℕ) (listed : List (ℕ × ℕ)) (seats : Table Seat) (partitions : Table PartitionState) (partial : Table Partial) (b : BrokerState) (t : ℕ) (o : Option Seat) → broker_of g listed seats partitions partial ≡ b → o ≡ find seats t → seat_of b t ≡ o
 seat_seen g listed seats partitions partial b t o v e = ap (λ x. seat_of x t) (sym v) ∙ sym e
 
@@ -62,7 +62,7 @@ pub active_seen : (g : ℕ) (listed : List (ℕ × ℕ)) (seats : Table Seat) (p
 active_seen g listed seats partitions partial b p v e =
     sym (is_active-fields g listed seats partitions partial p) ∙ ap (λ x. is_active x p) v ∙ e
 
--- a tab that is not misplaced
+-- A tab that is not misplaced has joined in no other partition.
 pub placed_seen : (g : ℕ) (listed : List (ℕ × ℕ)) (seats : Table Seat) (partitions : Table PartitionState) (partial : Table Partial) (b : BrokerState) (t p : ℕ) → broker_of g listed seats partitions partial ≡ b → is_misplaced b t p ≡ false → elsewhere (seated_at (find seats t)) p ≡ false
 unfolding is_misplaced
 placed_seen g listed seats partitions partial b t p v e =
@@ -82,7 +82,8 @@ unseated None j d = refl
 unseated (Some (Joined q n l)) j d = absurd (false≢true (sym j))
 unseated (Some Dead) j d = absurd (false≢true (sym d))
 
--- a tab that has joined and is not misplaced has joined here, and the partition's row says whether it is active
+-- A tab that has joined and is not misplaced has joined in this partition. The partition's row
+-- states whether it is active.
 module _ (g : ℕ) (listed : List (ℕ × ℕ)) (seats : Table Seat) (partitions : Table PartitionState) (partial : Table Partial) (b : BrokerState) (t p : ℕ) (v : broker_of g listed seats partitions partial ≡ b) (placed : is_misplaced b t p ≡ false) (o : Option Seat) (same : o ≡ seat_of b t) (joined : is_joined o ≡ true) where
   in_seats : o ≡ find seats t
   in_seats = same ∙ ap (λ x. seat_of x t) (sym v)
@@ -104,22 +105,22 @@ module _ (g : ℕ) (listed : List (ℕ × ℕ)) (seats : Table Seat) (partitions
       ap (λ x. is_active x p) (sym v) ∙ is_active-fields g listed seats partitions partial p
       ∙ sym (IsConsistent-active t p (next_in o) (limit_in o) k (sym in_seats ∙ seated)) ∙ ap (λ (s : PartitionState). s.is_active) (sym r)
 
-  -- how many wait
+  -- The row determines the number of waiting requests.
   pub waiting_here : (row : PartitionState) → row ≡ at no_partition partitions p → length row.locks.waiting ≡ length (manager_of b p).waiting
   waiting_here row r = rw (← v, manager_of-fields g listed seats partitions partial p, ← r) refl
 
-  -- the number of its command is no later than the next one
+  -- The number of the command is not above the next one.
   pub turn_here : (next n : ℕ) (out : Bool) → next ≡ next_in o → out ≡ (nat_lt next n || eqb n LAST_NUMBER) → out ≡ false → (n ≤ next_of b t) × (n ≢ LAST_NUMBER)
   turn_here next n out e r f =
       let parts = or_parts (nat_lt next n) (eqb n LAST_NUMBER) (sym r ∙ f) in
       (omega (arith, ltb-false next n parts.0, e, next_here), eqb-false n LAST_NUMBER parts.1)
 
-  -- a tab may have one more lock, or may not
+  -- The row determines whether the tab has reached its limit of locks.
   pub live_here : (row : PartitionState) → row ≡ at no_partition partitions p → (limit : ℕ) (u : Operation) (many : Bool) → limit ≡ limit_in o → many ≡ (is_lock u && nat_le limit (live row.locks t)) → (is_lock u && nat_le (limit_of b t) (live (manager_of b p) t)) ≡ many
   live_here row r limit u many l e =
       rw (← v, manager_of-fields g listed seats partitions partial p, ← r, ← in_seats, ← l) (sym e)
 
--- what a report is judged by
+-- The seat determines whether the tab has joined.
 pub joined_seen : (o o' : Option Seat) (r : Bool) → o ≡ o' → r ≡ is_joined o → is_joined o' ≡ r
 joined_seen o o' r s e = ap is_joined (sym s) ∙ sym e
 
@@ -133,7 +134,7 @@ pub misplaced_seen : (g : ℕ) (listed : List (ℕ × ℕ)) (seats : Table Seat)
 unfolding is_misplaced
 misplaced_seen g listed seats partitions partial b t p place o r v x s q = rw (← v, ← x, ← s) (sym q)
 
--- ---- a result whose error is mapped
+-- Results with a mapped error
 
 pub if_ok_mapped : {T E D : Type 0} (r : Result T E) (s : Result T D) (Q : E → D → Type 0) (P : T → Type 0) → MatchResult r (λ x. s ≡ Ok x) (λ e. IsErrAnd s (Q e)) → IfOk r P → IfOk s P
 if_ok_mapped (Ok x) s Q P e h = subst (λ q. IfOk q P) (sym e) h

@@ -1,4 +1,4 @@
--- What becomes of an active partition: it is settled, and each new grant is told once.
+-- Active partitions: they are settled, and each new grant is sent once.
 use Rattle.std.proofs.Common.{◌≡◌, ◌≢◌, ◌⊎◌, ⊎_elim, ℕ, ◌+◌, ◌≤◌, ◌/◌, zero, suc, Bool, true, false, cond, eqb, ltb, length, Some, None, List, [], ◌∷◌, ◌++◌, map, refl, sym, ap, ◌∙◌, subst, append-nil, arith}
 use Rattle.std.specs.List.{AllByRecursion, range_with_len}
 use Rattle.std.proofs.lemmas.Bool.{both_ways, cases_eq, cond_both, eqb-false}
@@ -23,7 +23,7 @@ use Rattle.wl_broker.proofs.Others.{drafted-SameOfOthers, restored-SameOfOthers,
 use Rattle.wl_broker.proofs.SpeechLists.{AllByRecursion-range}
 use Rattle.wl_broker.proofs.Takings.{Takes, joins, keeps, repeats, performs, Buries, again, stranger, ends}
 
--- ---- active partitions are settled
+-- Active partitions are settled
 
 nothing_waits : (front back : List Row) (r : Row) → [] ≡ front ++ r ∷ back → ⊥
 nothing_waits [] back r e = cc
@@ -32,14 +32,14 @@ nothing_waits (x ∷ front) back r e = cc
 pub started-AreSettled : (g : ℕ) (listed : List (ℕ × ℕ)) → AreSettled (started g listed)
 started-AreSettled g listed p active = λ front back r e. absurd (nothing_waits front back r e)
 
--- where the partition is active its locks are settled
+-- The locks of an active partition are settled.
 settled_now : (b : BrokerState) (p : ℕ) (m : Locks) → is_active (settled_at b p m) p ≡ true → manager_of (settled_at b p m) p ≡ settle m
 settled_now b p m active = manager_of-settled_at b p m ∙ ap (λ now. settle_if now m) (sym (is_active-settled_at b p m p) ∙ active)
 
 settled_here : (b : BrokerState) (p : ℕ) (m : Locks) → is_active (settled_at b p m) p ≡ true → IsSettled (manager_of (settled_at b p m) p)
 settled_here b p m active = subst IsSettled (sym (settled_now b p m active)) (settle-IsSettled m)
 
--- and a partition that is left alone stays settled
+-- An unchanged partition stays settled.
 settled_elsewhere : (b after : BrokerState) (p : ℕ) → LeavesAlone p b after → AreSettled b → is_active after p ≡ true → IsSettled (manager_of after p)
 settled_elsewhere b after p alone h active = subst IsSettled (sym alone.manager) (h p (sym alone.active ∙ active))
 
@@ -72,7 +72,7 @@ Buries-AreSettled b t once (ends {p = p} alive place) h q active =
     (λ (ne : q ≡ p → ⊥). settled_elsewhere b _ q (Buries-LeavesAlone b t q once (ends alive place) (λ e. ne (some_same (sym e ∙ place)))) h active)
     (cases_eq q p)
 
--- ---- deaths
+-- Deaths
 
 ended-TakesOut : (t : ℕ) (m : Locks) → TakesOut t m (ended t m)
 unfolding ended
@@ -96,7 +96,7 @@ Buries-is_active b t p (again dead) e = e
 Buries-is_active b t p (stranger alive place) e = is_active-with_seat b t Dead p refl e
 Buries-is_active b t p (ends {p = r} alive place) e = is_active-settled_at _ r _ p ∙ is_active-with_seat b t Dead p refl e
 
--- ---- what is granted
+-- Granted requests
 
 settle-Grants : (m n : Locks) → n ≡ settle m → Grants m n (newly m)
 settle-Grants m n e =
@@ -113,7 +113,7 @@ newly_now : (b : BrokerState) (p : ℕ) (m : Locks) → is_active (settled_at b 
 unfolding newly_at
 newly_now b p m active = ap (λ now. newly_if now m) (sym (is_active-settled_at b p m p) ∙ active)
 
--- ---- the sender's answer
+-- The sender's answer
 
 not_empty : {X : Type 0} (x : X) (xs : List X) → x ∷ xs ≢ []
 not_empty x xs e = cc
@@ -146,13 +146,13 @@ later-own b t p n (Release number) = (refl, refl)
 later-own b t p n (Abort number) = (refl, refl)
 later-own b t p n Query = (refl, refl)
 
--- a report is not answered, and all that it grants is told
+-- A report is not answered, and all its grants are sent.
 told-own : (t : ℕ) (u : Upward) (x : Told) → told_of u ≡ Some x → IsOwnAnswer t u [] × ((rows : List Row) → to_tell t u rows ≡ rows)
 told-own t (up.Command c) x e = absurd (none-some e)
 told-own t (up.Report r) x e = (refl, λ rows. refl)
 told-own t (up.ReportPart r) x e = (refl, λ rows. refl)
 
--- ---- the laws
+-- The laws
 
 pub Takes-tells : (b : BrokerState) (t p : ℕ) {u : Upward} {after : BrokerState} {outs : List Addressed} → Takes b t p u after outs → is_active after p ≡ true
     → TellsGrants b (record { tab = t; partition = p; inner = u }) after outs

@@ -1,4 +1,4 @@
--- What stays true of the parts that a broker keeps, and what it shows of them.
+-- Invariant of the parts that a broker keeps, and lemmas on the broker's fields.
 use Rattle.std.proofs.Common.{◌≡◌, ⊎_elim, ℕ, Bool, true, false, not, ◌&&◌, List, [], Some, None, refl, sym, ap, ◌∙◌, subst, arith}
 use Rattle.std.proofs.lemmas.Bool.{cases_eq, eq-eqb, ne_eqb, cond-true, cond-false}
 use Rattle.wl_draft.specs.declared.row.Entry.{Entry}
@@ -13,9 +13,9 @@ use Rattle.wl_broker.specs.declared.seat.Seat.{Seat}
 use Rattle.wl_broker.specs.Broker.{BrokerState, partial_of, join, keeping, join_if, Does}
 use Rattle.wl_broker.specs.Kept.{PartitionState, broker_of, AwaitsParts}
 
--- ---- of a tab that has come no part is kept
+-- No part is kept of a tab that has arrived
 
--- a tab comes, and the parts of its report are given up
+-- When a tab arrives, the parts of its report are discarded.
 pub AwaitsParts-seat : {seats : Table Seat} {partial : Table Partial} (t : ℕ) (s : Seat) → AwaitsParts seats partial → AwaitsParts (put t s seats) (without_partial t partial)
 AwaitsParts-seat {seats} {partial} t s k =
     record {
@@ -26,7 +26,7 @@ AwaitsParts-seat {seats} {partial} t s k =
           (cases_eq u t);
     }
 
--- a tab that had come has another seat
+-- A new seat of a tab that has arrived keeps the invariant.
 pub AwaitsParts-again : {seats : Table Seat} {partial : Table Partial} (t : ℕ) (s old : Seat) → AwaitsParts seats partial → find seats t ≡ Some old → AwaitsParts (put t s seats) partial
 AwaitsParts-again {seats} {partial} t s old k e =
     subst (λ ks. AwaitsParts (put t s seats) ks) (without_none t partial (k.not_come t old e)) (AwaitsParts-seat t s k)
@@ -34,7 +34,7 @@ AwaitsParts-again {seats} {partial} t s old k e =
 none-some : {X : Type 0} {x : X} → None ≡ Some x → ⊥
 none-some e = cc
 
--- a part is kept of a tab that has not come
+-- Keeping a part of a tab that has not arrived keeps the invariant.
 pub AwaitsParts-kept : {seats : Table Seat} {partial : Table Partial} (t : ℕ) (x : Partial) → AwaitsParts seats partial → find seats t ≡ None → AwaitsParts seats (put t x partial)
 AwaitsParts-kept {seats} {partial} t x k new =
     record {
@@ -49,7 +49,7 @@ pub awaits_as : {seats seats' : Table Seat} {partial partial' : Table Partial} �
 awaits_as {seats} {seats'} {partial} {partial'} s p k =
     subst (λ ss. AwaitsParts ss partial') (sym s) (subst (λ ks. AwaitsParts seats ks) (sym p) k)
 
--- ---- whether the tab joins
+-- Tests whether the tab joins
 
 pub joins_whole : (b : BrokerState) (t p : ℕ) (k : Partial) → is_whole k ≡ true → join_if b t p k ≡ join b t p (whole_of k)
 unfolding join_if
@@ -59,7 +59,7 @@ pub keeps_part : (b : BrokerState) (t p : ℕ) (k : Partial) → is_whole k ≡ 
 unfolding join_if
 keeps_part b t p k e = rw e refl
 
--- ---- what a broker shows of the parts that are kept
+-- Kept parts in the broker's fields
 
 pub partial_seen : (g : ℕ) (listed : List (ℕ × ℕ)) (seats : Table Seat) (partitions : Table PartitionState) (partial : Table Partial) (b : BrokerState) (t : ℕ) → broker_of g listed seats partitions partial ≡ b → partial_of b t ≡ find partial t
 partial_seen g listed seats partitions partial b t v = ap (λ (x : BrokerState). partial_of x t) (sym v)

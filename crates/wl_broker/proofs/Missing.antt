@@ -1,4 +1,4 @@
--- How many listed tabs of a partition have not come, before and after one does.
+-- Number of a partition's listed tabs that have not arrived, before and after one arrives.
 use Rattle.std.proofs.Common.{◌≡◌, ◌⊎◌, ⊎_elim, ℕ, ◌+◌, ◌-◌, ◌<◌, ◌≤◌, Bool, true, false, not, ◌&&◌, ◌||◌, cond, eqb, List, [], ◌∷◌, ◌++◌, length, take, drop, get_or, Option, Some, None, unwrap_or, refl, sym, ap, ◌∙◌, subst, arith}
 use Rattle.std.proofs.lemmas.Bool.{cond_both, eqb-true, eqb-false, ne_eqb, le-ltb, eq-eqb}
 use Rattle.std.proofs.lemmas.List.{take_more, drop_more, take-append-drop, length-take-le}
@@ -11,7 +11,7 @@ use Rattle.wl_broker.specs.Broker.{has_come, listed_at}
 use Rattle.wl_broker.specs.Kept.{all_come, missing_in, awaited_at, one_at, AreCounts}
 use Rattle.wl_broker.proofs.Arrivals.{has_come_some}
 
--- ---- a partition is active where none of its tabs is missing
+-- A partition is active if none of its tabs is missing
 
 none_missing_step : (a c rest : Bool) (m : ℕ) → rest ≡ eqb m 0 → ((not a || c) && rest) ≡ eqb (cond (a && not c) 1 0 + m) 0
 none_missing_step true true rest m e = e ∙ ap (λ (n : ℕ). eqb n 0) (omega arith)
@@ -22,7 +22,7 @@ pub none_missing : (listed : List (ℕ × ℕ)) (seats : Table Seat) (p : ℕ) �
 none_missing [] seats p = refl
 none_missing (x ∷ xs) seats p = none_missing_step (eqb x.1 p) (has_come (find seats x.0)) _ _ (none_missing xs seats p)
 
--- ---- a tab comes
+-- A tab arrives
 
 missing-put_behind : (listed : List (ℕ × ℕ)) (seats : Table Seat) (t : ℕ) (s : Seat) (k p : ℕ) → TabsRiseFrom k listed → t < k → missing_in listed (put t s seats) p ≡ missing_in listed seats p
 missing-put_behind [] seats t s k p r h = refl
@@ -66,13 +66,13 @@ missing-put_as x xs seats t s p false e r below =
     ap (λ (o : Option Seat). cond {A = ℕ} (eqb x.1 p && not (has_come o)) 1 0) (find-put_other t s seats x.0 (eqb-false x.0 t e)) in
     omega (arith, head, below)
 
--- one fewer is missing where it was listed and had not come
+-- The number decreases by one if the tab is listed and had not arrived.
 missing-put : (listed : List (ℕ × ℕ)) (seats : Table Seat) (t : ℕ) (s : Seat) (k p : ℕ) → TabsRiseFrom k listed → missing_in listed (put t s seats) p + one_at (awaited_at (find seats t) (listed_at t listed)) p ≡ missing_in listed seats p
 missing-put [] seats t s k p r = omega (arith, one_nowhere (find seats t) p)
 missing-put (x ∷ xs) seats t s k p r =
     missing-put_as x xs seats t s p (eqb x.0 t) refl r.1 (missing-put xs seats t s (x.0 + 1) p r.1)
 
--- ---- the counts
+-- The counts
 
 abbrev HasArrived : Table ℕ → Table ℕ → Option ℕ → Type 0
 HasArrived missing missing' place = (p : ℕ) → at 0 missing' p ≡ at 0 missing p - one_at place p
@@ -80,32 +80,32 @@ HasArrived missing missing' place = (p : ℕ) → at 0 missing' p ≡ at 0 missi
 pub counts_as : (listed : List (ℕ × ℕ)) (seats seats' : Table Seat) (missing : Table ℕ) → seats' ≡ seats → AreCounts listed seats missing → AreCounts listed seats' missing
 counts_as listed seats seats' missing s k = subst (λ ss. AreCounts listed ss missing) (sym s) k
 
--- a tab comes that was missing at this place
+-- The counts stay correct when a missing tab arrives.
 pub AreCounts-arrival : (listed : List (ℕ × ℕ)) (seats : Table Seat) (missing missing' : Table ℕ) (t : ℕ) (s : Seat) (place : Option ℕ) → TabsRiseFrom 1 listed → AreCounts listed seats missing → place ≡ awaited_at (find seats t) (listed_at t listed) → HasArrived missing missing' place → AreCounts listed (put t s seats) missing'
 AreCounts-arrival listed seats missing missing' t s place r k e h = λ p.
     let one : one_at place p ≡ one_at (awaited_at (find seats t) (listed_at t listed)) p = ap (λ o. one_at o p) e in
     omega (arith, h p, k p, one, missing-put listed seats t s 1 p r)
 
--- a tab that had come comes again
+-- The counts stay correct when a tab that has arrived gets another seat.
 pub AreCounts-again : (listed : List (ℕ × ℕ)) (seats : Table Seat) (missing : Table ℕ) (t : ℕ) (s old : Seat) → TabsRiseFrom 1 listed → AreCounts listed seats missing → find seats t ≡ Some old → AreCounts listed (put t s seats) missing
 AreCounts-again listed seats missing t s old r k e = λ p.
     let none : one_at (awaited_at (find seats t) (listed_at t listed)) p ≡ 0 = ap (λ o. one_at (awaited_at o (listed_at t listed)) p) e in
     omega (arith, k p, none, missing-put listed seats t s 1 p r)
 
--- whether the partition is active once the tab has come
+-- The count determines whether the partition is active after the tab arrives.
 pub active_once : (listed : List (ℕ × ℕ)) (seats : Table Seat) (missing : Table ℕ) (t : ℕ) (s : Seat) (place : Option ℕ) (p n : ℕ) → TabsRiseFrom 1 listed → AreCounts listed seats missing → place ≡ awaited_at (find seats t) (listed_at t listed) → n ≡ at 0 missing p - one_at place p → eqb n 0 ≡ all_come listed (put t s seats) p
 active_once listed seats missing t s place p n r k e h =
     let one : one_at place p ≡ one_at (awaited_at (find seats t) (listed_at t listed)) p = ap (λ o. one_at o p) e in
     let same : n ≡ missing_in listed (put t s seats) p = omega (arith, h, k p, one, missing-put listed seats t s 1 p r) in
     ap (λ m. eqb m 0) same ∙ sym (none_missing listed (put t s seats) p)
 
--- where it had a place, that is where it was missing
+-- A tab with a partition is missing in that partition if it has not arrived.
 pub awaited_had : (o : Option Seat) (place : Option ℕ) (p : ℕ) → (((n l : ℕ) × (o ≡ Some (Joined p n l))) ⊎ ((o ≡ None) × (place ≡ Some p))) → awaited_at o (Some p) ≡ awaited_at o place
 awaited_had None place p had =
     ⊎_elim (λ (h : (n l : ℕ) × (None ≡ Some (Joined p n l))). cc) (λ (h : (◌≡◌ {A = Option Seat} None None) × (place ≡ Some p)). sym h.1) had
 awaited_had (Some s) place p had = refl
 
--- ---- the list, read tab by tab
+-- The list, read tab by tab
 
 missing_in-append : (xs : List (ℕ × ℕ)) (x : ℕ × ℕ) (p : ℕ) → missing_in (xs ++ x ∷ []) [] p ≡ missing_in xs [] p + cond (eqb x.1 p) 1 0
 missing_in-append [] x p = omega (arith, sym (one_alone (eqb x.1 p)))
@@ -116,7 +116,7 @@ missing_in-few [] p = omega arith
 missing_in-few (x ∷ xs) p =
     cond_both (eqb x.1 p && true) 1 0 (λ n. n + missing_in xs [] p ≤ length (x ∷ xs)) (λ _. omega (arith, missing_in-few xs p)) (λ _. omega (arith, missing_in-few xs p))
 
--- a tab behind all others
+-- A tab above all others is appended.
 put_last : (k : ℕ) (xs : List (ℕ × ℕ)) (x : ℕ × ℕ) (rest : List (ℕ × ℕ)) → TabsRiseFrom k (xs ++ x ∷ rest) → (k ≤ x.0) × (put x.0 x.1 xs ≡ xs ++ x ∷ [])
 put_last k [] x rest r = (r.0, refl)
 put_last k (y ∷ ys) x rest r =
@@ -125,7 +125,7 @@ put_last k (y ∷ ys) x rest r =
     let later = le-ltb x.0 y.0 (omega (arith, below.0)) in
     (omega (arith, r.0, below.0), rw (other, later) (ap (λ zs. y ∷ zs) below.1))
 
--- one tab more of the list
+-- One more tab of the list.
 pub read_one : (list : List (ℕ × ℕ)) (i : ℕ) (d : ℕ × ℕ) → TabsRiseFrom 1 list → i < length list → put (get_or list i d).0 (get_or list i d).1 (take i list) ≡ take (i + 1) list
 read_one list i d r lt =
     let split : list ≡ take i list ++ get_or list i d ∷ drop (i + 1) list = sym (take-append-drop i list) ∙ ap (λ (xs : List (ℕ × ℕ)). take i list ++ xs) (drop_more list i d lt) in
@@ -142,17 +142,17 @@ counted_one list i d missing n lt k e = λ p.
     at-put 0 x.1 n missing p
     ∙ counted_step x.1 p n (at 0 missing p) (at 0 missing x.1) _ (eqb x.1 p) e (λ same. ap (λ j. at 0 missing j) (sym (eqb-true x.1 p same))) (all ∙ ap (λ m. m + cond (eqb x.1 p) 1 0) (sym (k p)))
 
--- fewer are missing than there are tabs
+-- The number of missing tabs is at most the number of tabs read.
 pub missing_in-below : (list : List (ℕ × ℕ)) (i p : ℕ) → i < length list → missing_in (take i list) [] p < length list
 missing_in-below list i p lt = omega (arith, missing_in-few (take i list) p, length-take-le i list (omega arith))
 
--- ---- the list by tab
+-- The list by tab
 
 pub find-listed : (xs : List (ℕ × ℕ)) (t : ℕ) → find xs t ≡ listed_at t xs
 find-listed [] t = refl
 find-listed (x ∷ xs) t = ap (λ (o : Option ℕ). cond (eqb x.0 t) (Some x.1) o) (find-listed xs t)
 
--- ---- one count less
+-- One count less
 
 one_less : (q p : ℕ) (missing : Table ℕ) (n : ℕ) (b : Bool) → eqb q p ≡ b → n ≡ at 0 missing q - one_at (Some q) q → cond b n (at 0 missing p) ≡ at 0 missing p - cond b 1 0
 one_less q p missing n true e h =
@@ -174,7 +174,7 @@ none_less q p missing true e h =
     let old : at 0 missing p ≡ 0 = ap (λ j. at 0 missing j) (sym (eqb-true q p e)) ∙ h in omega (arith, old)
 none_less q p missing false e h = omega arith
 
--- where there is no count nothing is taken off
+-- If a partition has no count, nothing is subtracted.
 pub none_counted : (q : ℕ) (missing missing' : Table ℕ) → find missing q ≡ None → missing' ≡ missing → (p : ℕ) → at 0 missing' p ≡ at 0 missing p - one_at (Some q) p
 none_counted q missing missing' none e = λ p.
     ap (λ ps. at 0 ps p) e ∙ none_less q p missing (eqb q p) refl (at-none q missing none)

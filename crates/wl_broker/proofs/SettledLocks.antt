@@ -1,4 +1,5 @@
--- What settling leaves: nothing more is granted, and what cannot be granted stays so when more is held.
+-- Settled locks: nothing more is granted, and a request that is not grantable stays so when more
+-- locks are held.
 use Rattle.std.proofs.Common.{◌≡◌, ℕ, ◌≤◌, Bool, true, false, not, cond, List, [], ◌∷◌, ◌++◌, length, refl, sym, ap, ◌∙◌, subst, append_assoc, append-nil, eq-eqb, arith, IsTrue, Result, Ok, Err, OnOk, OnErr}
 use Rattle.std.specs.List.{filter}
 use Rattle.wl_draft.specs.declared.mode.Mode.{Mode}
@@ -9,7 +10,7 @@ use Rattle.wl_draft.specs.Settling.{IsSettled, Merges, none, left, right}
 use Rattle.wl_broker.specs.Kept.{PartitionState, state_of, is_grant_of}
 use Rattle.wl_draft.proofs.Settled.{Settles, done, grant, pass, Settles-all, settle-IsSettled, settle-MovesGrants, grantable_later}
 
--- where no request can be granted behind those ahead of it, none is
+-- If no request is grantable, settling grants none.
 Settles-none : {held ahead rs gs ws : List Row} → Settles held ahead rs gs ws → IsSettled (record { held = held; waiting = ahead ++ rs }) → gs ≡ []
 Settles-none done s = refl
 Settles-none (grant {held = held} {ahead = ahead} {rs = rs} {r = r} e t) s =
@@ -17,7 +18,7 @@ Settles-none (grant {held = held} {ahead = ahead} {rs = rs} {r = r} e t) s =
 Settles-none (pass {held = held} {ahead = ahead} {rs = rs} {r = r} e t) s =
     Settles-none t (subst (λ rows. IsSettled (record { held = held; waiting = rows })) (sym (append_assoc ahead (r ∷ []) rs)) s)
 
--- where none is granted, each goes on waiting
+-- If no request is granted, each keeps waiting.
 Settles-waiting : {held ahead rs gs ws : List Row} → Settles held ahead rs gs ws → gs ≡ [] → ws ≡ ahead ++ rs
 Settles-waiting (done {ahead = ahead}) e = sym (append-nil ahead)
 Settles-waiting (grant f t) e = cc
@@ -27,14 +28,14 @@ newly-IsSettled : (m : Locks) → IsSettled m → newly m ≡ []
 unfolding newly
 newly-IsSettled m s = Settles-none (Settles-all m.held [] m.waiting) s
 
--- settling settled locks changes nothing
+-- Settling settled locks changes nothing.
 pub settle_same : (m : Locks) → newly m ≡ [] → settle m ≡ m
 unfolding settle newly
 settle_same m e =
     let w = Settles-waiting (Settles-all m.held [] m.waiting) e in
     rw (e, append-nil, w) refl
 
--- nothing more is granted after settling
+-- After settling, nothing more is granted.
 pub newly-settle : (m : Locks) → newly (settle m) ≡ []
 newly-settle m = newly-IsSettled (settle m) (settle-IsSettled m)
 
@@ -42,7 +43,7 @@ pub newly-settle_if : (b : Bool) (m : Locks) → IsTrue b → newly (settle_if b
 newly-settle_if true m h = newly-settle m
 newly-settle_if false m h = cc
 
--- nor after a probe, which only adds to what is held
+-- More held locks do not make any request grantable.
 newly-held_more : (m : Locks) (more : List Row) → newly m ≡ [] → newly (record { held = m.held ++ more; waiting = m.waiting }) ≡ []
 newly-held_more m more e =
     let s : IsSettled m = subst IsSettled (settle_same m e) (settle-IsSettled m) in
@@ -56,7 +57,7 @@ pub newly-probed : (r : Row) (m : Locks) → newly m ≡ [] → newly (probed r 
 unfolding probed
 newly-probed r m e = newly-probed_as m r (is_grantable m.held m.waiting r) e
 
--- no more is granted than waits
+-- At most as many requests are granted as are waiting.
 length-Merges : {xs ys zs : List Row} → Merges xs ys zs → length xs ≤ length zs
 length-Merges none = omega arith
 length-Merges (left t) = omega (arith, length-Merges t)
@@ -65,13 +66,13 @@ length-Merges (right t) = omega (arith, length-Merges t)
 pub length-newly : (m : Locks) → length (newly m) ≤ length m.waiting
 length-newly m = length-Merges (settle-MovesGrants m).parts
 
--- ---- grants but for one pair
+-- Grants to other pairs
 
 pub filter-grants : (client number : ℕ) (rows : List Row) → filter (λ g. not (is_grant_of client number g)) (grants rows) ≡ grants (without client number rows)
 filter-grants client number [] = refl
 filter-grants client number (r ∷ rs) = grind (arith, filter-grants client number rs)
 
--- what a probe grants is its own lock
+-- A probe grants only its own lock.
 own_only : (client number : ℕ) (name : List ℕ) (mode : Mode) (b : Bool) → filter (λ g. not (is_grant_of client number g)) (cond b (grants (row_of client number name mode ∷ [])) []) ≡ []
 own_only client number name mode true = rw (eq-eqb client client refl, eq-eqb number number refl) refl
 own_only client number name mode false = refl
@@ -83,18 +84,18 @@ filter-probe client number name mode m b items n e =
 pub filter-granted : (client number : ℕ) (rows : List Row) (items : List Grant) → items ≡ grants rows → filter (λ g. not (is_grant_of client number g)) items ≡ grants (without client number rows)
 filter-granted client number rows items e = ap (filter (λ g. not (is_grant_of client number g))) e ∙ filter-grants client number rows
 
--- ---- after a call that may be refused
+-- State after a call that may fail
 
 pub either_way : {T E A B P : Type 0} (r : Result T E) → OnOk r A → OnErr r B → (A → P) → (B → P) → P
 either_way (Ok x) a b f h = f a
 either_way (Err e) a b f h = h b
 
--- what a probe leaves is settled
+-- Locks stay settled after a probe.
 pub settled_probe : (r : Row) (old new : Locks) (b : Bool) (s : PartitionState) → newly old ≡ [] → state_of old b ≡ s → new ≡ probed r old → state_of new b ≡ state_of (settle (probed r s.locks)) s.is_active
 settled_probe r old new b s n v e =
     let same : settle (probed r old) ≡ probed r old = settle_same _ (newly-probed r old n) in
     rw (← v, same, e) refl
 
--- and so are locks that stay as they are
+-- Unchanged locks stay settled.
 pub settled_still : (m : Locks) (b : Bool) (s : PartitionState) → newly m ≡ [] → state_of m b ≡ s → s ≡ state_of (settle s.locks) s.is_active
 settled_still m b s n v = rw (← v, settle_same m n) refl

@@ -1,4 +1,4 @@
--- A snapshot cut into parts.
+-- Division of a snapshot into parts.
 use Rattle.std.proofs.Common.{◌≡◌, ℕ, ◌+◌, ◌*◌, ◌≤◌, List, [], ◌∷◌, ◌++◌, length, map, take, drop, refl, sym, ap, ◌∙◌, append-nil, arith}
 use Rattle.std.proofs.lemmas.List.{take_at, drop_at, take_all, drop_all, drop-drop}
 use Rattle.std.proofs.lemmas.List.FromFn.{map-range_with_len_more}
@@ -9,12 +9,12 @@ use Rattle.wl_grammar.specs.declared.frame.Downward.TheVariants as down
 use Rattle.wl_grammar.specs.PartCount.{part_count}
 use Rattle.wl_broker.specs.Broker.{part_of}
 
--- a whole part was taken
+-- A full part takes the first entries, and leaves the rest.
 pub whole_part : {X : Type 0} (n : ℕ) (part rest all : List X) → part ++ rest ≡ all → length part ≡ n → (part ≡ take n all) × (rest ≡ drop n all)
 whole_part n part rest all e h =
     (sym (ap (take n) (sym e) ∙ take_at part rest n h), sym (ap (drop n) (sym e) ∙ drop_at part rest n h))
 
--- a last part was taken
+-- A list of length 0 is empty.
 nil_from_length : {X : Type 0} (xs : List X) → length xs ≡ 0 → xs ≡ []
 nil_from_length [] e = refl
 nil_from_length (x ∷ xs) e = absurd (omega arith)
@@ -25,12 +25,12 @@ last_part n part rest all e none h =
     let same : all ≡ part = sym e ∙ ap (λ ys. part ++ ys) nil ∙ append-nil part in
     (sym (ap (take n) same ∙ take_all n part h), nil ∙ sym (ap (drop n) same ∙ drop_all n part h))
 
--- one more part is made
+-- One more part appends its frame.
 pub part_more : (g t n : ℕ) (entries : List SnapshotEntry) (k parts : ℕ) (outs : List Addressed) (part rest : List SnapshotEntry) → outs ≡ map (part_of g t n entries) (range_with_len 0 k) → part ≡ take 64 rest → rest ≡ drop (64 * k) entries → parts ≡ part_count entries → outs ++ record { tab = t; inner = down.Snapshot (record { generation = g; number = n; part = k; parts = parts; entries = part }) } ∷ [] ≡ map (part_of g t n entries) (range_with_len 0 (k + 1))
 part_more g t n entries k parts outs part rest made taken left count =
     rw (made, taken, left, count) (sym (map-range_with_len_more (part_of g t n entries) 0 k k (omega arith)))
 
--- what is left after one more part
+-- The entries left after one more part.
 pub drop_part : {X : Type 0} (k : ℕ) (xs ys zs : List X) → ys ≡ drop (64 * k) xs → zs ≡ drop 64 ys → zs ≡ drop (64 * (k + 1)) xs
 drop_part k xs ys zs e f =
     let more : 64 * k + 64 ≡ 64 * (k + 1) = omega arith in

@@ -1,4 +1,4 @@
--- Which locks were asked for by commands that were taken, before and after a tab's seat changes.
+-- Locks that were requested by commands already taken, before and after a tab's seat changes.
 use Rattle.std.proofs.Common.{◌≡◌, ⊎_elim, ℕ, ◌<◌, ◌≤◌, Bool, true, false, not, ◌&&◌, ◌||◌, cond, eqb, ltb, List, [], ◌∷◌, ◌++◌, Some, refl, sym, ◌∙◌, subst, arith}
 use Rattle.std.specs.List.{list_all, filter}
 use Rattle.std.proofs.lemmas.Bool.{and_parts, and_from, cases_eq, both_ways, not-true, eqb-true, eq-eqb, ltb-true, lt-ltb, cond_both}
@@ -19,7 +19,7 @@ use Rattle.wl_broker.specs.declared.seat.Seat.{Seat}
 use Rattle.wl_broker.specs.Broker.{drafted}
 use Rattle.wl_broker.specs.Kept.{taken_in, was_taken, AllRows}
 
--- ---- which locks were asked for by commands that were taken
+-- Locks requested by commands already taken
 
 pub was_taken-put : (seats : Table Seat) (t : ℕ) (s : Seat) (p k n : ℕ) → taken_in (find seats t) p ≤ taken_in (Some s) p → ltb n (taken_in (find seats k) p) ≡ true → ltb n (taken_in (find (put t s seats) k) p) ≡ true
 was_taken-put seats t s p k n more h =
@@ -42,7 +42,7 @@ AllRows-put seats t s p m more h = (rows_taken-put seats t s p m.held more h.0, 
 or_none : (x y : Bool) → x ≡ false → y ≡ false → (x || y) ≡ false
 or_none x y h k = rw (h, k) refl
 
--- a pair whose number is no earlier one is new
+-- A pair whose number is not an earlier one is new.
 no_pair_as : (c n k : ℕ) (r : Row) (b : Bool) → (eqb r.client c && eqb r.number n) ≡ b → (r.client ≡ c → r.number < k) → k ≤ n → b ≡ false
 no_pair_as c n k r true e h le =
     let both = and_parts (eqb r.client c) (eqb r.number n) e in
@@ -58,7 +58,7 @@ no_pair seats p t n (r ∷ rs) h le =
 pub new_pair : (seats : Table Seat) (p t n : ℕ) (m : Locks) → AllRows (was_taken seats p) m → taken_in (find seats t) p ≤ n → standing m t n ≡ Absent
 new_pair seats p t n m h le = rw (no_pair seats p t n m.held h.0 le, no_pair seats p t n m.waiting h.1 le) refl
 
--- ---- what holds of each row
+-- Properties of all rows
 
 list_all-filter : {X : Type 0} (p q : X → Bool) (xs : List X) → list_all p xs ≡ true → list_all p (filter q xs) ≡ true
 list_all-filter p q [] h = refl
@@ -109,7 +109,7 @@ AllRows-drafted test t n (Release number) m new h = (list_all-filter test _ m.he
 AllRows-drafted test t n (Abort number) m new h = (list_all-filter test _ m.held h.0, list_all-filter test _ m.waiting h.1)
 AllRows-drafted test t n Query m new h = h
 
--- the rows of the entries of a report
+-- The rows of a report's entries have numbers below the base.
 rows_below : (test : Row → Bool) (t base : ℕ) (entries : List Entry) → ((n : ℕ) (name : List ℕ) (mode : Mode) → n < base → test (row_of t n name mode) ≡ true) → all_below base entries ≡ true → list_all test (rows_of t entries) ≡ true
 rows_below test t base [] new h = refl
 rows_below test t base (e ∷ es) new h =
@@ -123,7 +123,7 @@ AllRows-restored test t base entries m new below h = (
   list_all_both test m.waiting _ h.1 (rows_below test t base _ new (list_all-filter _ _ entries below)),
 )
 
--- the rows of a tab are gone when it dies
+-- When a tab dies, its rows are removed.
 rows_without : (seats : Table Seat) (t p : ℕ) (s : Seat) (rows : List Row) → list_all (was_taken seats p) rows ≡ true → list_all (was_taken (put t s seats) p) (without_client t rows) ≡ true
 rows_without seats t p s [] h = refl
 rows_without seats t p s (r ∷ rs) h =

@@ -1,4 +1,4 @@
--- What happens to a broker: messages come, and tabs are named dead.
+-- Events of a broker: messages that arrive, and deaths of tabs.
 use Rattle.std.specs.Prelude.{ℕ, List, [], ◌∷◌}
 use Rattle.wl_grammar.specs.declared.frame.Stamped.{Stamped}
 use Rattle.wl_broker.specs.Broker.{BrokerState, Taking, Drops, Does, taking, burial}
@@ -7,7 +7,7 @@ pub data Event : Type 0 where
   Comes : (message : Stamped) → Event
   Dies : (tab : ℕ) → Event
 
--- a message that is dropped changes nothing
+-- A dropped message changes nothing.
 abbrev pub broker_after : BrokerState → Taking → BrokerState
 broker_after b (Drops reason) = b
 broker_after b (Does after outs) = after

@@ -1,4 +1,5 @@
--- What becomes of an active partition: it is settled after each message and each death, and each new grant is told once.
+-- Laws of active partitions. They are settled after each message and each death, and each new grant
+-- is sent once.
 use Rattle.std.specs.Prelude.{◌≡◌, ◌≢◌, ◌⊎◌, ℕ, List, [], ◌++◌, true, false, Option, Some, None}
 use Rattle.std.specs.List.{AllByRecursion}
 use Rattle.wl_draft.specs.declared.row.Row.{Row}
@@ -13,9 +14,9 @@ use Rattle.wl_grammar.specs.declared.frame.Downward.TheVariants as down
 use Rattle.wl_broker.specs.Broker.{BrokerState, started, Does, taking, burial, is_active, is_dead, place_of, manager_of, seat_of, grants_to}
 use Rattle.wl_broker.specs.Laws.{IsListedOnce, SameOfOthers}
 
--- ---- active partitions are settled
+-- Active partitions are settled
 
--- in an active partition no request waits that could be granted
+-- No grantable request is waiting in an active partition.
 abbrev pub AreSettled : BrokerState → Type 0
 AreSettled b = (p : ℕ) → is_active b p ≡ true → IsSettled (manager_of b p)
 
@@ -29,35 +30,36 @@ TakesSettled b s =
 abbrev pub BuriesSettled : BrokerState → ℕ → Type 0
 BuriesSettled b t = IsListedOnce b → AreSettled b → AreSettled (burial b t).0
 
--- ---- deaths
+-- Deaths
 
--- these are the locks but for those of the client, each in its order
+-- The locks in `n` are those in `m` without the client's, in the same order.
 pub record TakesOut (client : ℕ) (m n : Locks) : Type 0 where
   pub held : n.held ≡ without_client client m.held
   pub waiting : n.waiting ≡ without_client client m.waiting
 
--- a death takes out all locks of the tab and no others, which move only by settling
+-- A death removes all locks of the tab and no others. Other locks change only by settling.
 abbrev pub BuriesItsOwn : BrokerState → ℕ → Type 0
 BuriesItsOwn b t =
     (p : ℕ) → is_dead (seat_of b t) ≡ false → place_of b t ≡ Some p
     → (m : Locks) × TakesOut t (manager_of b p) m × ((manager_of (burial b t).0 p ≡ m) ⊎ (manager_of (burial b t).0 p ≡ settle m))
 
--- the second time it changes nothing
+-- A second report of a death changes nothing.
 abbrev pub BuriesOnce : BrokerState → ℕ → Type 0
 BuriesOnce b t = is_dead (seat_of b t) ≡ true → burial b t ≡ (b, [])
 
--- a partition that is active stays so
+-- An active partition stays active when a tab dies.
 abbrev pub BuriesActive : BrokerState → ℕ → Type 0
 BuriesActive b t = (p : ℕ) → is_active b p ≡ true → is_active (burial b t).0 p ≡ true
 
--- ---- what is told
+-- Frames sent
 
--- what waited was granted or waits on, each in its order, and what was granted is held behind what was held
+-- Each waiting request is granted or keeps waiting, in order. Granted locks follow the locks held
+-- before.
 pub record Grants (m n : Locks) (granted : List Row) : Type 0 where
   pub parts : Merges granted n.waiting m.waiting
   pub behind : n.held ≡ m.held ++ granted
 
--- the number of the command that the frame answers
+-- The number of the command that the frame answers.
 abbrev pub answered_in : Downward → Option ℕ
 answered_in (down.Hello h) = None
 answered_in (down.Answer a) = Some a.number
@@ -66,20 +68,20 @@ answered_in (down.Snapshot s) = Some s.number
 abbrev pub IsTo : ℕ → ℕ → Addressed → Type 0
 IsTo t n x = (x.tab ≡ t) × (answered_in x.inner ≡ Some n)
 
--- a command is answered to its tab and under its number; a report is not answered
+-- A command is answered to its tab with its number. A report is not answered.
 abbrev pub IsOwnAnswer : ℕ → Upward → List Addressed → Type 0
 IsOwnAnswer t (up.Command c) outs = (outs ≢ []) × AllByRecursion (IsTo t c.number) outs
 IsOwnAnswer t (up.Report r) outs = outs ≡ []
 IsOwnAnswer t (up.ReportPart r) outs = outs ≡ []
 
--- what a command itself was granted is told by its answer
+-- A command's own grant is sent by its answer.
 abbrev pub to_tell : ℕ → Upward → List Row → List Row
 to_tell t (up.Command c) rows = without t c.number rows
 to_tell t (up.Report r) rows = rows
 to_tell t (up.ReportPart r) rows = rows
 
--- the message adds or removes locks of its tab alone, some requests are granted then, and what is sent is the sender's answer
--- and then one grant for each of them
+-- The message adds or removes only locks of its own tab, and then some requests are granted. The
+-- broker sends the sender's answer, and then one grant for each of these requests.
 pub record TellsGrants (b : BrokerState) (s : Stamped) (after : BrokerState) (outs : List Addressed) : Type 0 where
   pub own : List Addressed
   pub locks : Locks
@@ -93,7 +95,8 @@ abbrev pub TakesTelling : BrokerState → Stamped → Type 0
 TakesTelling b s =
     (after : BrokerState) (outs : List Addressed) → taking b s ≡ Does after outs → is_active after s.partition ≡ true → TellsGrants b s after outs
 
--- and so it is with a death, which is not answered
+-- The death removes only locks of the dead tab, and then some requests are granted. The broker
+-- sends one grant for each of them.
 pub record TellsOfDeath (b : BrokerState) (t p : ℕ) (after : BrokerState) (outs : List Addressed) : Type 0 where
   pub locks : Locks
   pub granted : List Row

@@ -1,4 +1,4 @@
--- The list that the frames are which are sent for one event.
+-- List of the frames that the broker sends for one event.
 use Rattle.std.specs.Prelude.{List, [], ◌∷◌}
 use Rattle.wl_grammar.specs.declared.frame.Addressed.{Addressed}
 use Rattle.wl_broker.specs.declared.outs.Frames.{Frames}

@@ -1,4 +1,4 @@
--- Worked rows: what the definition answers to short conversations.
+-- Worked examples: the results of the definition for short conversations.
 use Rattle.std.specs.Prelude.{◌≡◌, ℕ, List, [], ◌∷◌, ◌++◌, true, false, map}
 use Rattle.wl_draft.specs.declared.mode.Mode.{Mode}
 use Rattle.wl_draft.specs.declared.mode.Mode.TheVariants.{Shared, Exclusive}
@@ -16,7 +16,7 @@ use Rattle.wl_broker.specs.declared.dropped.Dropped.TheVariants.{Recovering, Out
 use Rattle.wl_broker.specs.Broker.{BrokerState, started, Taking, Drops, Does, taking, burial}
 use Rattle.wl_broker.specs.Events.{Event, Comes, Dies, happens}
 
--- ---- a conversation with a broker
+-- Conversation with a broker
 
 pub data Told : Type 0 where
   Dropping : (reason : Dropped) → Told
@@ -34,22 +34,22 @@ abbrev pub told : BrokerState → List Event → List Told
 told b [] = []
 told b (e ∷ es) = told_by b e ∷ told (happens b e) es
 
--- ---- words
+-- Abbreviations
 
 abbrev pub a : List ℕ
 a = 97 ∷ []
 
--- tab t of partition p reports in generation g
+-- Tab `t` of partition `p` reports in generation `g`.
 abbrev pub report : ℕ → ℕ → ℕ → ℕ → List Entry → Event
 report g t p base entries =
     Comes (record { tab = t; partition = p; inner = up.Report (record { generation = g; base = base; entries = entries }) })
 
--- tab t of partition p reports a part of so many in generation 2, under base 2
+-- Tab `t` of partition `p` reports part `k` of `parts` in generation 2, with base 2.
 abbrev pub part : ℕ → ℕ → ℕ → ℕ → List Entry → Event
 part t p k parts entries =
     Comes (record { tab = t; partition = p; inner = up.ReportPart (record { generation = 2; base = 2; part = k; parts = parts; entries = entries }) })
 
--- tab t of partition 1 sends command n of generation 1
+-- Tab `t` of partition 1 sends command `n` of generation 1.
 abbrev pub command : ℕ → ℕ → Operation → Event
 command t n operation =
     Comes (record { tab = t; partition = 1; inner = up.Command (record { generation = 1; number = n; operation = operation }) })
@@ -74,20 +74,21 @@ abbrev pub snapshot : ℕ → ℕ → List SnapshotEntry → Addressed
 snapshot t n entries =
     record { tab = t; inner = down.Snapshot (record { generation = 1; number = n; part = 0; parts = 1; entries = entries }) }
 
--- the first of these tabs join, with nothing to report
+-- The given tabs join, without locks to report.
 abbrev pub joins : List ℕ → List Event
 joins tabs = map (λ t. report 1 t 1 0 []) tabs
 
--- ---- the rows
+-- Examples
 
--- a shared lock, an exclusive request behind it, and a shared one behind that: it waits too
+-- An exclusive request waits behind a shared lock. A shared request behind it waits too.
 abbrev pub SharedThenExclusive : Type 0
 SharedThenExclusive =
     told (started 1 []) (joins (1 ∷ 2 ∷ 3 ∷ 4 ∷ []) ++ ask 1 0 Shared ∷ ask 2 0 Exclusive ∷ ask 3 0 Shared ∷ [])
     ≡ Sending [] ∷ Sending [] ∷ Sending [] ∷ Sending []
     ∷ Sending (answer 1 1 0 1 Granted ∷ []) ∷ Sending (answer 1 2 0 1 Waiting ∷ []) ∷ Sending (answer 1 3 0 1 Waiting ∷ []) ∷ []
 
--- then a probe gets nothing, an abort of the exclusive request unblocks the shared one, and releases hand the lock over
+-- A probe then gets nothing. An abort of the exclusive request unblocks the shared one. Releases
+-- hand the lock over.
 abbrev pub ReleaseHandsOver : Type 0
 ReleaseHandsOver =
     told (started 1 []) (joins (1 ∷ 2 ∷ 3 ∷ 4 ∷ []) ++ ask 1 0 Shared ∷ ask 2 0 Exclusive ∷ ask 3 0 Shared
@@ -100,7 +101,7 @@ ReleaseHandsOver =
     ∷ Sending (answer 1 1 1 2 Taken ∷ [])
     ∷ Sending (answer 1 3 1 2 Taken ∷ answer 1 2 2 3 Granted ∷ []) ∷ []
 
--- an abort that comes after the grant releases the lock
+-- An abort that arrives after the grant releases the lock.
 abbrev pub LateGrantAfterAbort : Type 0
 LateGrantAfterAbort =
     told (started 1 []) (joins (1 ∷ 2 ∷ []) ++ ask 1 0 Exclusive ∷ ask 2 0 Exclusive ∷ command 1 1 (Abort 0) ∷ [])
@@ -108,7 +109,7 @@ LateGrantAfterAbort =
     ∷ Sending (answer 1 1 0 1 Granted ∷ []) ∷ Sending (answer 1 2 0 1 Waiting ∷ [])
     ∷ Sending (answer 1 1 1 2 Taken ∷ answer 1 2 0 1 Granted ∷ []) ∷ []
 
--- a request that comes again is answered by its standing
+-- A repeated request is answered by its standing.
 abbrev pub RepeatedRequest : Type 0
 RepeatedRequest =
     told (started 1 []) (joins (1 ∷ []) ++ ask 1 0 Shared ∷ ask 1 0 Shared ∷ ask 1 0 Shared ∷ command 1 1 (Release 0) ∷ ask 1 0 Shared ∷ [])
@@ -116,7 +117,7 @@ RepeatedRequest =
     ∷ Sending (answer 1 1 0 1 Granted ∷ []) ∷ Sending (answer 1 1 0 1 Granted ∷ []) ∷ Sending (answer 1 1 0 1 Granted ∷ [])
     ∷ Sending (answer 1 1 1 2 Taken ∷ []) ∷ Sending (answer 1 1 0 2 Gone ∷ []) ∷ []
 
--- after a restart nothing is granted before the last listed tab has reported
+-- After a restart, nothing is granted before the last listed tab has reported.
 abbrev pub RestartWhileAsked : Type 0
 RestartWhileAsked =
     told (started 2 ((1, 1) ∷ (2, 1) ∷ [])) (report 2 2 1 1 (waiting_entry 0 ∷ []) ∷ report 2 1 1 1 (waiting_entry 0 ∷ []) ∷ [])
@@ -127,7 +128,7 @@ RestartWhileHeld =
     told (started 2 ((1, 1) ∷ (2, 1) ∷ [])) (report 2 2 1 1 (waiting_entry 0 ∷ []) ∷ report 2 1 1 1 (held_entry 0 ∷ []) ∷ [])
     ≡ Sending [] ∷ Sending [] ∷ []
 
--- a death hands the lock over, and what the dead tab sent is dropped
+-- A death hands the lock over. A later command of the dead tab is dropped.
 abbrev pub DeathHandsOver : Type 0
 DeathHandsOver =
     told (started 1 []) (joins (1 ∷ 2 ∷ []) ++ ask 1 0 Exclusive ∷ ask 2 0 Exclusive ∷ Dies 1 ∷ command 1 1 Query ∷ Dies 1 ∷ [])
@@ -135,7 +136,7 @@ DeathHandsOver =
     ∷ Sending (answer 1 1 0 1 Granted ∷ []) ∷ Sending (answer 1 2 0 1 Waiting ∷ [])
     ∷ Sending (answer 1 2 0 1 Granted ∷ []) ∷ Dropping DeadTab ∷ Sending [] ∷ []
 
--- a partition that recovers holds up no other
+-- A recovering partition does not block another one.
 abbrev pub OtherOriginUnblocked : Type 0
 OtherOriginUnblocked =
     told (started 2 ((1, 1) ∷ (2, 1) ∷ (3, 3) ∷ [])) (report 2 3 3 1 (waiting_entry 0 ∷ []) ∷ [])
@@ -144,7 +145,7 @@ OtherOriginUnblocked =
 abbrev pub entries : List SnapshotEntry
 entries = record { held = true; tab = 1; mode = Exclusive; name = a } ∷ record { held = false; tab = 2; mode = Shared; name = a } ∷ []
 
--- a snapshot shows held locks before waiting requests, and a query that comes again is gone
+-- A snapshot lists held locks before waiting requests. A repeated query is answered with Gone.
 abbrev pub SnapshotRow : Type 0
 SnapshotRow =
     told (started 1 []) (joins (1 ∷ 2 ∷ []) ++ ask 1 0 Exclusive ∷ ask 2 0 Shared ∷ command 1 1 Query ∷ command 2 1 Query ∷ command 2 1 Query ∷ [])
@@ -152,30 +153,32 @@ SnapshotRow =
     ∷ Sending (answer 1 1 0 1 Granted ∷ []) ∷ Sending (answer 1 2 0 1 Waiting ∷ [])
     ∷ Sending (snapshot 1 1 entries ∷ []) ∷ Sending (snapshot 2 1 entries ∷ []) ∷ Sending (answer 1 2 1 2 Gone ∷ []) ∷ []
 
--- a command ahead of its turn is dropped, and taken when its turn has come
+-- A command ahead of its turn is dropped. It is taken when its turn has come.
 abbrev pub OutOfTurnRow : Type 0
 OutOfTurnRow =
     told (started 1 []) (joins (1 ∷ []) ++ ask 1 1 Shared ∷ ask 1 0 Shared ∷ ask 1 1 Shared ∷ [])
     ≡ Sending [] ∷ Dropping OutOfTurn ∷ Sending (answer 1 1 0 1 Granted ∷ []) ∷ Sending (answer 1 1 1 2 Granted ∷ []) ∷ []
 
--- a tab that is not listed cannot have held a lock
+-- A tab that is not listed cannot report a held lock.
 abbrev pub HeldNewcomer : Type 0
 HeldNewcomer = told (started 1 []) (report 1 1 1 1 (held_entry 0 ∷ []) ∷ []) ≡ Dropping HeldByNewcomer ∷ []
 
--- a listed tab that is named dead is waited for no longer
+-- The broker does not wait for a listed tab that is dead.
 abbrev pub DeadTabUnblocks : Type 0
 DeadTabUnblocks =
     told (started 1 ((1, 1) ∷ [])) (report 1 2 1 0 [] ∷ ask 2 0 Exclusive ∷ Dies 1 ∷ ask 2 0 Exclusive ∷ report 1 2 1 0 [] ∷ [])
     ≡ Sending [] ∷ Dropping Recovering ∷ Sending [] ∷ Sending (answer 1 2 0 1 Granted ∷ []) ∷ Dropping AlreadyJoined ∷ []
 
--- the second part comes first and is kept, and the first one makes the tab join with the entries by part
+-- The second part arrives first and is kept. The first part then makes the tab join, with the
+-- entries in order.
 abbrev pub InTwoParts : Type 0
 InTwoParts =
     told (started 2 ((1, 1) ∷ [])) (part 1 1 1 2 (waiting_entry 1 ∷ []) ∷ part 1 1 1 2 (waiting_entry 1 ∷ []) ∷ part 1 1 0 2 (waiting_entry 0 ∷ []) ∷ part 1 1 0 2 [] ∷ [])
     ≡ Sending [] ∷ Dropping PartTwice ∷ Sending (answer 2 1 0 2 Granted ∷ []) ∷ Dropping AlreadyJoined ∷ []
 
--- beside a part that is kept: a whole report, a part of more parts, a number that is not below it, and another partition;
--- and what is kept of a tab goes with it
+-- Messages that do not fit a kept part are dropped. They are a whole report, a part with a
+-- different number of parts, an entry that is out of order, and a part under another partition. The
+-- kept part is discarded when the tab dies.
 abbrev pub PartsThatDoNotFit : Type 0
 PartsThatDoNotFit =
     told (started 2 ((1, 1) ∷ [])) (part 1 1 1 2 (waiting_entry 0 ∷ []) ∷ report 2 1 1 2 [] ∷ part 1 1 0 3 [] ∷ part 1 1 0 2 (waiting_entry 1 ∷ [])

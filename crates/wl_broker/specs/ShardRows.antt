@@ -1,4 +1,4 @@
--- Worked rows: two shards, one of the odd partitions and one of the even.
+-- Worked examples with two shards: one of the odd partitions, and one of the even partitions.
 use Rattle.std.specs.Prelude.{◌≡◌, ℕ, List, [], ◌∷◌, true, false}
 use Rattle.wl_draft.specs.declared.mode.Mode.TheVariants.{Exclusive}
 use Rattle.wl_draft.specs.Locks.{row_of}
@@ -13,29 +13,30 @@ use Rattle.wl_broker.specs.Events.{Event, Comes, Dies}
 use Rattle.wl_broker.specs.Rows.{a, answer}
 use Rattle.wl_broker.specs.Shards.{is_of, seen_at, stands_once, places, one_broker, shard_broker, sent_by_shards}
 
--- ---- words
+-- Abbreviations
 
--- tab t of partition p reports no locks
+-- Tab `t` of partition `p` reports no locks.
 abbrev pub reports : ℕ → ℕ → Stamped
 reports t p = record { tab = t; partition = p; inner = up.Report (record { generation = 1; base = 0; entries = [] }) }
 
--- it asks for the lock a
+-- Tab `t` of partition `p` requests the lock `a`.
 abbrev pub asks : ℕ → ℕ → Stamped
 asks t p = record { tab = t; partition = p; inner = up.Command (record { generation = 1; number = 0; operation = Request Exclusive false a }) }
 
--- ---- two shards
+-- Two shards
 
--- tabs 1 and 2 are listed; tabs 3 and 4 come later
+-- Tabs 1 and 2 are listed. Tabs 3 and 4 join later.
 abbrev pub listed : List (ℕ × ℕ)
 listed = (1, 1) ∷ (2, 2) ∷ []
 
--- all four ask for the one name, two in each partition; the tab that waits behind tab 2 dies
+-- All four tabs request the same name, two in each partition. Tab 4, which waits behind tab 2,
+-- dies.
 abbrev pub events : List Event
 events =
     Comes (reports 1 1) ∷ Comes (reports 2 2) ∷ Comes (reports 3 1) ∷ Comes (asks 1 1) ∷ Comes (reports 4 2) ∷ Comes (asks 2 2)
     ∷ Comes (asks 3 1) ∷ Comes (asks 4 2) ∷ Dies 4 ∷ []
 
--- what the shards have then: who was named dead is in both
+-- The resulting states of the two shards. The dead tab is in both.
 abbrev pub odd : BrokerState
 odd =
     record {
@@ -64,7 +65,7 @@ TwoShards =
     × (seen_at (is_of 2 0) (one_broker 1 listed events) ≡ even)
     × (shard_broker (is_of 2 0) 1 listed events ≡ even)
 
--- then the death of tab 1 grants tab 3 its lock, and the odd shard alone sends that
+-- The death of tab 1 then grants the lock to tab 3. Only the odd shard sends that grant.
 abbrev pub DeathInOneShard : Type 0
 DeathInOneShard =
     ((burial (one_broker 1 listed events) 1).1 ≡ answer 1 3 0 1 Granted ∷ [])
@@ -72,13 +73,14 @@ DeathInOneShard =
     × ((burial (shard_broker (is_of 2 0) 1 listed events) 1).1 ≡ [])
     × (sent_by_shards 2 1 listed events 1 ≡ answer 1 3 0 1 Granted ∷ [])
 
--- ---- a tab under two partitions
+-- A tab under two partitions
 
--- tab 3 joins under partition 1 and comes again under partition 2
+-- Tab 3 joins under partition 1, and reports again under partition 2.
 abbrev pub twice : List Event
 twice = Comes (reports 3 1) ∷ Comes (reports 3 2) ∷ []
 
--- the one broker drops its second report, and the even shard, which knows nothing of the first, lets it join
+-- The single broker drops the second report. The even shard lets the tab join, since it does not
+-- know the first report.
 abbrev pub UnderTwoPartitions : Type 0
 UnderTwoPartitions =
     (stands_once (places [] twice) ≡ false)

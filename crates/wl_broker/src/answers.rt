@@ -1,4 +1,4 @@
-//! What the broker sends: answers, grants, and snapshots in parts.
+//! Frames that the broker sends: hellos, answers, grants, and snapshots in parts.
 
 ghost use Rattle.std.specs.Prelude.{◌≡◌, ◌+◌, ◌≤◌, ◌++◌, IfOk, OnOk, length, map, take, drop, true, false};
 ghost use Rattle.std.specs.Vec.{vec_len, vec_capacity};
@@ -28,7 +28,7 @@ fn hello(generation: u32, tab: u16) -> Addressed
     }
 }
 
-/// An answer to a tab, which tells how many of its commands were taken.
+/// An answer to a tab, which states how many of its commands were taken.
 #[derive(Clone, Copy)]
 pub struct Reply {
     pub tab: u16,
@@ -38,6 +38,7 @@ pub struct Reply {
 }
 
 impl Reply {
+    /// Returns the frame of the answer in this generation.
     pub fn to_frame(self, generation: u32) -> Addressed
         ensures { result ≡ answer_of generation self.upto self.tab self.number self.outcome }
     {
@@ -45,7 +46,7 @@ impl Reply {
     }
 }
 
-/// Greets each listed tab.
+/// Returns a hello for each listed tab. Fails if out of memory.
 pub fn hellos(
     alloc: Global,
     generation: u32,
@@ -59,7 +60,7 @@ pub fn hellos(
         .collect(alloc)
 }
 
-/// An answer, which tells how many commands of its tab were taken.
+/// Returns an answer, which states how many commands of the tab were taken.
 fn answer(generation: u32, upto: u32, tab: u16, number: u32, outcome: Outcome) -> Addressed
     ensures { result ≡ answer_of generation upto tab number outcome }
 {
@@ -74,7 +75,7 @@ fn answer(generation: u32, upto: u32, tab: u16, number: u32, outcome: Outcome) -
     }
 }
 
-/// The answer to a request, by where it stands.
+/// Returns the outcome of a request, from the standing of its lock.
 pub fn outcome(standing: Standing) -> Outcome
     ensures { result ≡ outcome_of standing }
 {
@@ -85,7 +86,7 @@ pub fn outcome(standing: Standing) -> Outcome
     }
 }
 
-/// Tells each tab what it was granted. There is room for that.
+/// Appends a frame for each grant. Capacity must be reserved.
 pub fn push_grants(
     outs: &mut Vec<Addressed>,
     generation: u32,
@@ -124,7 +125,8 @@ fn snapshot_entry(held: bool, row: Row) -> SnapshotEntry
     }
 }
 
-/// The held locks, and then the waiting requests. Their names are moved.
+/// Returns the entries of a snapshot: the held locks, followed by the waiting requests. The names
+/// are moved.
 fn snapshot_entries(
     alloc: Global,
     held: Vec<Row>,
@@ -157,7 +159,7 @@ fn next_part(
     Ok(part)
 }
 
-/// How many parts a snapshot has. One without entries is one part.
+/// Returns the number of parts of a snapshot. A snapshot without entries is one part.
 fn part_count(entries: &[SnapshotEntry]) -> usize
     ensures { result ≡ part_count entries.now }
 {
@@ -168,7 +170,8 @@ fn part_count(entries: &[SnapshotEntry]) -> usize
     }
 }
 
-/// A snapshot's parts, or that it is gone where it has more parts than can be counted.
+/// Returns the parts of a snapshot, or the answer Gone if there are more parts than the protocol
+/// allows.
 fn snapshot_parts(
     alloc: Global,
     generation: u32,
@@ -205,7 +208,8 @@ fn snapshot_parts(
     Ok(outs)
 }
 
-/// The answer to a query: the held locks and the waiting requests, in parts.
+/// Returns the answer to a query: the held locks and the waiting requests, in parts. Fails if out
+/// of memory.
 pub fn snapshot(
     alloc: Global,
     generation: u32,

@@ -1,4 +1,4 @@
-//! The broker.
+//! Broker of one generation.
 
 ghost use Rattle.std.specs.Prelude.{◌≡◌, ◌≢◌, ◌<◌, IfOk, IfErr, OnErr, List, [], ◌∷◌, true, false, length, replicate};
 ghost use Rattle.wl_limits.specs.declared.tabs.TheConstants.{LAST_NUMBER};
@@ -32,20 +32,21 @@ use wl_parts::Heading;
 use wl_parts::kept::{Kept, give_up, is_last, is_there, keep, kept_of};
 use wl_table::LockTable;
 
-/// The broker of one generation, over lock tables of any kind. Contracts see it as the state of the definition.
+/// The broker (lock manager) of one generation, over any kind of lock table. Contracts see it as
+/// the state of the definition.
 #[derive(Drop)]
 pub struct Broker<T: LockTable> {
     alloc: Global,
     generation: u32,
-    /// The tabs that are waited for, each with its partition.
+    /// The tabs that the broker waits for, each with its partition.
     listed: BTreeMap<u16, u16>,
-    /// How many of these have not come, by partition.
+    /// Number of listed tabs that have not arrived, by partition.
     missing: BTreeMap<u16, usize>,
     seats: BTreeMap<u16, Seat>,
     partitions: BTreeMap<u16, Partition<T>>,
-    /// The reports of which a part is missing, by tab.
+    /// The incomplete reports, by tab.
     kept: BTreeMap<u16, Kept>,
-    /// Room for what a change makes it say.
+    /// Spare output buffers.
     rooms: Rooms,
 }
 
@@ -62,8 +63,9 @@ impl<T: LockTable> Model for Broker<T> {
 }
 
 impl<T: LockTable> Broker<T> {
-    /// Starts a generation: each listed tab, by its number and partition, is greeted, and no partition with a listed tab
-    /// is served before each of these has reported or was named dead.
+    /// Starts the broker of a generation, and returns it with a hello for each listed tab. A
+    /// partition is served only after each of its listed tabs has reported or died. Fails if out of
+    /// memory.
     pub fn start(
         alloc: Global,
         generation: u32,
@@ -88,13 +90,14 @@ impl<T: LockTable> Broker<T> {
         Ok((broker, Outs::new(hellos)))
     }
 
-    /// Takes a stamped command, report or part of a report. A command that was taken before is answered again, and changes
-    /// nothing. A part is kept until those that are missing have come.
+    /// Takes a stamped command, report or report part, and returns the frames to send. A repeated
+    /// command is answered again, and changes nothing. A report part is kept until all parts have
+    /// been received. Fails with a reason if the message is dropped, and then changes nothing.
     pub fn take(&mut self, stamped: &Stamped) -> Result<Outs, Dropped>
         ensures taken { IfOk result (λ outs. taking self.old stamped.now ≡ Does self.new outs) }
-        // It is dropped for the first cause that applies,
+        // The message is dropped for the first reason that applies.
         ensures dropped { IfErr result (λ d. d ≢ Dropped.Memory → taking self.old stamped.now ≡ Drops d) }
-        // and when out of memory only where no other cause does.
+        // It is dropped for lack of memory only if no other reason applies.
         ensures memory { IfErr result (λ d. d ≡ Dropped.Memory → IsTaken (taking self.old stamped.now)) }
         ensures err { OnErr result (self.new ≡ self.old) }
     {
@@ -104,13 +107,14 @@ impl<T: LockTable> Broker<T> {
         }
     }
 
-    /// Does what `take` does, and tells it in so many equal lists. All memory is taken before anything is changed.
+    /// Takes a message like `take`, and returns its frames in `copies` equal lists. It allocates
+    /// all memory before it changes anything.
     pub fn take_copies(&mut self, stamped: &Stamped, copies: usize) -> Result<Vec<Outs>, Dropped>
         ensures taken { IfOk result (λ all.
             copied copies (taking self.old stamped.now) ≡ Some (self.new, all.items)) }
-        // It is dropped for the first cause that applies,
+        // The message is dropped for the first reason that applies.
         ensures dropped { IfErr result (λ d. d ≢ Dropped.Memory → taking self.old stamped.now ≡ Drops d) }
-        // and when out of memory only where no other cause does.
+        // It is dropped for lack of memory only if no other reason applies.
         ensures memory { IfErr result (λ d. d ≡ Dropped.Memory → IsTaken (taking self.old stamped.now)) }
         ensures err { OnErr result (self.new ≡ self.old) }
     {
@@ -159,7 +163,8 @@ impl<T: LockTable> Broker<T> {
         }
     }
 
-    /// Names a tab dead: what it held and waited for is gone. A second time changes nothing.
+    /// Records the death of a tab, removes its locks and requests, and returns the frames to send.
+    /// A second call for the same tab changes nothing. Fails if out of memory.
     pub fn dead(&mut self, tab: u16) -> Result<Outs, AllocError>
         ensures dead { IfOk result (λ outs. burial self.old tab ≡ (self.new, outs)) }
         ensures err { OnErr result (self.new ≡ self.old) }
@@ -170,7 +175,8 @@ impl<T: LockTable> Broker<T> {
         }
     }
 
-    /// Does what `dead` does, and tells it in so many equal lists. All memory is taken before anything is changed.
+    /// Records a death like `dead`, and returns the frames in `copies` equal lists. It allocates
+    /// all memory before it changes anything.
     pub fn dead_copies(&mut self, tab: u16, copies: usize) -> Result<Vec<Outs>, AllocError>
         ensures dead { IfOk result (λ all. repeated copies (burial self.old tab) ≡ (self.new, all.items)) }
         ensures err { OnErr result (self.new ≡ self.old) }
@@ -185,21 +191,23 @@ impl<T: LockTable> Broker<T> {
         }
     }
 
-    /// Whether each listed tab of the partition has come, so that its locks are granted.
+    /// Returns whether the partition is active: each of its listed tabs has arrived, and locks are
+    /// granted.
     pub fn is_active(&self, partition: u16) -> bool
         ensures { result ≡ is_active self.now partition }
     {
         missing_at(&self.missing, partition) == 0
     }
 
-    /// Whether the tab has joined: its whole report was taken, and its death was not told since.
+    /// Returns whether the tab has joined: the broker has its whole report, and does not know it to
+    /// be dead.
     pub fn is_joined(&self, tab: u16) -> bool
         ensures { result ≡ is_joined (seat_of self.now tab) }
     {
         is_joined(seat_of(&self.seats, tab))
     }
 
-    /// Takes what a tab that is not dead and not misplaced reports, at once or in part.
+    /// Takes a report or a part of one, from a tab that is neither dead nor misplaced.
     fn take_told(
         &mut self,
         tab: u16,
@@ -239,7 +247,7 @@ impl<T: LockTable> Broker<T> {
             .map_err(|_| Dropped::Memory)
     }
 
-    /// Takes the command of a tab that is not dead and not misplaced.
+    /// Takes a command of a tab that is neither dead nor misplaced.
     fn take_command(
         &mut self,
         tab: u16,
@@ -285,7 +293,7 @@ impl<T: LockTable> Broker<T> {
             .map_err(|_| Dropped::Memory)
     }
 
-    /// The part that was missing last makes the tab join, and any other is kept.
+    /// Lets the tab join if this is the last missing part, and otherwise keeps the part.
     fn join_if(
         &mut self,
         tab: u16,
@@ -318,7 +326,7 @@ impl<T: LockTable> Broker<T> {
         }
     }
 
-    /// A part is kept until those that are missing have come.
+    /// Keeps a part until all parts have been received.
     fn keep(
         &mut self,
         tab: u16,
@@ -342,7 +350,7 @@ impl<T: LockTable> Broker<T> {
         Ok(all)
     }
 
-    /// A tab joins with what all parts of its report say.
+    /// Lets a tab join with the entries of its whole report.
     fn join(
         &mut self,
         tab: u16,
@@ -398,7 +406,7 @@ impl<T: LockTable> Broker<T> {
         }
     }
 
-    /// What a tab has in its partition is gone, now that it is dead.
+    /// Removes the locks and requests of a dead tab in its partition.
     fn bury(&mut self, tab: u16, partition: u16, copies: usize) -> Result<Vec<Outs>, AllocError>
         requires { Had self.old tab partition }
         ensures buried { IfOk result (λ all.
@@ -433,7 +441,7 @@ impl<T: LockTable> Broker<T> {
         }
     }
 
-    /// A tab is dead that belongs to no partition.
+    /// Records the death of a tab that belongs to no partition.
     fn bury_stranger(&mut self, tab: u16, copies: usize) -> Result<Vec<Outs>, AllocError>
         requires new { seat_of self.old tab ≡ None }
         requires unlisted { listed_at tab self.old.listed ≡ None }
@@ -449,6 +457,7 @@ impl<T: LockTable> Broker<T> {
         Ok(all)
     }
 
+    /// Returns `copies` empty lists.
     fn say_nothing(&mut self, copies: usize) -> Result<Vec<Outs>, AllocError>
         ensures nothing { IfOk result (λ all. all.items ≡ replicate copies []) }
         ensures same { self.new ≡ self.old }
@@ -493,7 +502,7 @@ impl<T: LockTable> Broker<T> {
         Ok(all)
     }
 
-    /// The next command of a tab is done.
+    /// Executes a tab's next command.
     fn perform(
         &mut self,
         tab: u16,
@@ -516,7 +525,7 @@ impl<T: LockTable> Broker<T> {
         if let Operation::Query = operation {
             return self.query(tab, partition, number, limit, copies);
         }
-        // Its answer, and a grant for each request that then waits, its own among them.
+        // Space for its answer, and for a grant of each request then waiting, including its own.
         let mut all = self.rooms.prepare(copies, 2, waiting)?;
         let (granted, outcome) = command_at(
             self.alloc,
@@ -550,7 +559,7 @@ impl<T: LockTable> Broker<T> {
         Ok(all)
     }
 
-    /// The next command of a tab is a query, which changes nothing but the tab's next number.
+    /// Executes a query, which changes only the tab's next number.
     fn query(
         &mut self,
         tab: u16,
@@ -587,7 +596,7 @@ impl<T: LockTable> Broker<T> {
     }
 }
 
-/// The one list.
+/// Returns the only list.
 fn only(mut all: Vec<Outs>) -> Outs
     requires { length all.items ≡ 1 }
     ensures { (outs : List Addressed) → all.items ≡ outs ∷ [] → result ≡ outs }

@@ -1,4 +1,4 @@
-//! What a report, a death and a command do to the partitions.
+//! Effects of reports, deaths and commands on the partitions.
 
 ghost use Rattle.std.specs.Prelude.{◌≡◌, IfOk, OnOk, OnErr, IsTrue, true, [], length, replicate, ◌&&◌, nat_le};
 ghost use Rattle.std.specs.Option.{option_copied};
@@ -18,7 +18,7 @@ use wl_draft::{Entry, Grant};
 use wl_grammar::{Operation, Outcome};
 use wl_table::LockTable;
 
-/// The partition, if one has come to it.
+/// Returns the partition, if any tab has used it.
 pub fn row_at<T: LockTable>(
     partitions: &BTreeMap<u16, Partition<T>>,
     partition: u16,
@@ -28,6 +28,7 @@ pub fn row_at<T: LockTable>(
     partitions.get(&partition)
 }
 
+/// Returns whether the partition is active.
 pub fn is_active_in<T: LockTable>(row: Option<&Partition<T>>) -> bool
     ensures { result ≡ (row_or (option_copied row.entry)).is_active }
 {
@@ -37,7 +38,7 @@ pub fn is_active_in<T: LockTable>(row: Option<&Partition<T>>) -> bool
     }
 }
 
-/// How many requests wait in the partition.
+/// Returns the number of waiting requests in the partition.
 pub fn waiting_in<T: LockTable>(row: Option<&Partition<T>>) -> usize
     ensures { result ≡ length (row_or (option_copied row.entry)).locks.waiting }
 {
@@ -47,7 +48,7 @@ pub fn waiting_in<T: LockTable>(row: Option<&Partition<T>>) -> usize
     }
 }
 
-/// How many locks the tab holds or waits for.
+/// Returns the number of locks that the tab holds or waits for.
 fn live_in<T: LockTable>(row: Option<&Partition<T>>, tab: u16) -> usize
     ensures { result ≡ live (row_or (option_copied row.entry)).locks tab }
 {
@@ -57,7 +58,7 @@ fn live_in<T: LockTable>(row: Option<&Partition<T>>, tab: u16) -> usize
     }
 }
 
-/// Whether the operation asks for a lock beyond those that a tab may have.
+/// Returns whether the operation requests a lock beyond the tab's limit.
 pub fn is_too_many<T: LockTable>(
     row: Option<&Partition<T>>,
     tab: u16,
@@ -70,7 +71,7 @@ pub fn is_too_many<T: LockTable>(
     is_lock(operation) && live_in(row, tab) >= usize::from(limit)
 }
 
-/// What is answered to a command that was taken, but to the first of a query.
+/// Returns the outcome of a command that was taken, except for the first answer to a query.
 pub fn outcome_in<T: LockTable>(
     row: Option<&Partition<T>>,
     tab: u16,
@@ -89,7 +90,7 @@ pub fn outcome_in<T: LockTable>(
     }
 }
 
-/// So many copies of the answer to a query of a partition that is active.
+/// Returns `copies` copies of the answer to a query in an active partition.
 pub fn snapshots_at<T: LockTable>(
     alloc: Global,
     partitions: &BTreeMap<u16, Partition<T>>,
@@ -112,7 +113,8 @@ pub fn snapshots_at<T: LockTable>(
     }
 }
 
-/// Appends what a tab reports to its partition, which is new where none had come to it.
+/// Adds a tab's reported locks to its partition. Creates the partition if needed. Returns the
+/// grants.
 pub fn restore_at<T: LockTable>(
     alloc: Global,
     partitions: &mut BTreeMap<u16, Partition<T>>,
@@ -140,7 +142,8 @@ pub fn restore_at<T: LockTable>(
     }
 }
 
-/// Takes out all that a tab has in its partition, which is new where none had come to it.
+/// Removes a tab's locks and requests from its partition. Creates the partition if needed. Returns
+/// the grants.
 pub fn end_at<T: LockTable>(
     alloc: Global,
     partitions: &mut BTreeMap<u16, Partition<T>>,
@@ -166,8 +169,8 @@ pub fn end_at<T: LockTable>(
     }
 }
 
-/// Does a tab's command, whose number is new, in its partition, which is active, and says what it granted beside it and
-/// what is answered to it.
+/// Executes a tab's command in its active partition. The number must be new. Returns the grants to
+/// other requests, and the command's outcome.
 pub fn command_at<T: LockTable>(
     alloc: Global,
     partitions: &mut BTreeMap<u16, Partition<T>>,

@@ -1,45 +1,46 @@
+//! Reasons why the broker drops a message.
 use thiserror::Error;
 
-/// Why the broker did not take a message. A message that is dropped changes nothing.
+/// Reason why the broker did not take a message. A dropped message changes nothing.
 #[derive(Clone, Copy, Debug, PartialEq, Eq, Error)]
 pub enum Dropped {
-    /// It belongs to an earlier generation.
+    /// The message belongs to an earlier generation.
     #[error("OldGeneration")]
     OldGeneration,
-    /// It belongs to a later generation.
+    /// The message belongs to a later generation.
     #[error("LaterGeneration")]
     LaterGeneration,
-    /// A command of a tab that has not reported in this generation.
+    /// The command's tab has not reported in this generation.
     #[error("NotJoined")]
     NotJoined,
-    /// A command in a partition of which not every listed tab has come.
+    /// The command's partition is recovering: not all its listed tabs have arrived.
     #[error("Recovering")]
     Recovering,
-    /// A command whose number is above the next one, or the last of all numbers.
+    /// The command's number is above the tab's next one, or is the last number of all.
     #[error("OutOfTurn")]
     OutOfTurn,
-    /// The tab was named dead.
+    /// The tab is dead.
     #[error("DeadTab")]
     DeadTab,
-    /// A second report of a tab.
+    /// The tab has already joined.
     #[error("AlreadyJoined")]
     AlreadyJoined,
-    /// A report of a tab that is not listed, with a held lock.
+    /// The tab is not listed, and reports a held lock.
     #[error("HeldByNewcomer")]
     HeldByNewcomer,
-    /// A report with an entry that is not below its base, or that does not fit the parts that are kept.
+    /// The report has an entry that is not below its base, or does not fit the parts kept of it.
     #[error("BadReport")]
     BadReport,
-    /// The tab is listed or has joined under another partition, or a part of its report has come under another one.
+    /// The tab is listed, has joined or has a part of its report kept under another partition.
     #[error("Misplaced")]
     Misplaced,
-    /// Memory was refused.
+    /// Out of memory.
     #[error("Memory")]
     Memory,
-    /// The tab has as many locks as it may.
+    /// The tab has reached its limit of locks.
     #[error("TooMany")]
     TooMany,
-    /// A part of a report that is kept already.
+    /// This part of the report is already kept.
     #[error("PartTwice")]
     PartTwice,
 }

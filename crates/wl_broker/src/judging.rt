@@ -1,4 +1,4 @@
-//! What decides whether a message is taken.
+//! Tests that decide whether the broker takes a message.
 
 ghost use Rattle.std.specs.Prelude.{◌≡◌, ◌&&◌, ◌||◌, ◌==◌, not, nat_lt};
 ghost use Rattle.wl_draft.specs.Tables.{find};
@@ -25,7 +25,8 @@ fn elsewhere(place: Option<u16>, partition: u16) -> bool
     }
 }
 
-/// Whether a tab is listed or has joined under another partition, or a part of its report is kept there.
+/// Returns whether a tab is listed, has joined or has a part of its report kept under another
+/// partition.
 pub fn is_misplaced(
     place: Option<u16>,
     seat: Option<Seat>,
@@ -48,7 +49,7 @@ fn has_held(entries: &[Entry]) -> bool
     entries.iter().any(|entry| entry.held)
 }
 
-/// Whether the tab is not listed, and reports a held lock.
+/// Returns whether the tab is not listed and reports a held lock.
 pub fn is_held_by_newcomer(place: Option<u16>, entries: &[Entry]) -> bool
     ensures { result ≡ (not (is_listed place) && has_held entries.now) }
 {
@@ -61,7 +62,8 @@ fn all_below(base: u32, entries: &[Entry]) -> bool
     entries.iter().all(|entry| entry.number < base)
 }
 
-/// Whether a number is not below the base, or the part is of no report whose parts are kept.
+/// Returns whether some entry is not below the base, or the part does not fit the parts kept of the
+/// report.
 pub fn is_bad_report(
     kept: &BTreeMap<u16, Kept>,
     tab: u16,
@@ -74,14 +76,15 @@ pub fn is_bad_report(
     !(all_below(heading.base, entries) && fits(kept, tab, heading, entries))
 }
 
-/// Whether the operation asks for a lock.
+/// Returns whether the operation requests a lock.
 pub fn is_lock(operation: &Operation) -> bool
     ensures { result ≡ is_lock operation.now }
 {
     matches!(operation, Operation::Request { .. })
 }
 
-/// Whether the number is above the next one, or the last, under which no command is taken.
+/// Returns whether the number is above the next one, or is the last number, with which no command
+/// is taken.
 pub fn is_out_of_turn(next: u32, number: u32) -> bool
     ensures { result ≡ (nat_lt next number || number == LAST_NUMBER) }
 {

@@ -1,4 +1,4 @@
-//! Laws over the broker's definition.
+//! Laws of the broker, stated over its definition.
 
 ghost use Rattle.std.specs.Prelude.{ℕ, List};
 ghost use Rattle.wl_grammar.specs.declared.frame.Stamped.{Stamped};
@@ -8,9 +8,10 @@ ghost use Rattle.wl_broker.specs.Grants.{StartsSettled, TakesSettled, BuriesSett
 ghost use Rattle.wl_broker.specs.Shards.{SeenAtEachShard, AnsweredByItsShard, DeathsSentByShards, DeathsSentByOneShard, HellosOfShards, InOneOrder};
 ghost use Rattle.wl_broker.specs.Speech.{SpellsStart, SpellsTaking, SpellsBurial};
 
-/// What any message and any death do: one partition at a time, nothing granted while recovering, each tab's locks moved by
-/// its own messages, held locks in conflict only if they were reported so, the kept parts of other tabs' reports left alone,
-/// and each command once.
+/// States the effects of any message and any death. Each changes only one partition. Nothing is
+/// granted while the partition recovers. A message adds or removes only locks of its own tab, and
+/// keeps the parts of other tabs' reports. Held locks conflict only if they were reported so. Each
+/// command takes effect once.
 pub fn law_broker()
     ensures one_partition { (b : BrokerState) (s : Stamped) → IsListedOnce b → TakesInOnePartition b s }
     ensures one_burial { (b : BrokerState) (t : ℕ) → IsListedOnce b → BuriesInOnePartition b t }
@@ -23,13 +24,15 @@ pub fn law_broker()
     ensures numbers { (b : BrokerState) (s : Stamped) → CountsCommands b s }
 {}
 
-/// A partition recovers on its own: the tabs of other partitions neither delay its first grant nor bring it forward.
+/// States that partitions recover independently: tabs of other partitions neither delay nor hasten
+/// a partition's first grant.
 pub fn law_recovery()
     ensures own_tabs { (b : BrokerState) (p : ℕ) → WaitsForItsOwn b p }
 {}
 
-/// What becomes of an active partition: no request waits there that could be granted; a death takes out the dead tab's locks and
-/// no others; and the sender's answer is sent, and then one grant for each request that was newly granted.
+/// States the laws of active partitions. No grantable request is waiting. A death removes only the
+/// dead tab's locks. The broker sends the sender's answer, and then one grant for each newly
+/// granted request.
 pub fn law_grants()
     ensures start { (g : ℕ) (listed : List (ℕ × ℕ)) → StartsSettled g listed }
     ensures settled { (b : BrokerState) (s : Stamped) → TakesSettled b s }
@@ -41,27 +44,29 @@ pub fn law_grants()
     ensures telling_of_death { (b : BrokerState) (t : ℕ) → BuriesTelling b t }
 {}
 
-/// What the broker sends is well-formed, if what it was given is.
+/// States that the broker sends only well-formed frames if it receives only well-formed ones.
 pub fn law_speech()
     ensures start { (g : ℕ) (listed : List (ℕ × ℕ)) → SpellsStart g listed }
     ensures taking { (b : BrokerState) (s : Stamped) → SpellsTaking b s }
     ensures burial { (b : BrokerState) (t : ℕ) → SpellsBurial b t }
 {}
 
-/// How the brokers of the shards are one broker, for every start list and every list of messages and deaths in which each tab
-/// stands under one partition. A partition belongs to the shard of its remainder.
+/// States that the brokers of the shards behave as one broker. This holds for each start list and
+/// each list of events in which each tab has only one partition. Partition `p` belongs to shard `p`
+/// modulo the number of shards.
 pub fn law_shards()
-    // The one broker, seen at a shard, is one that was started with the shard's tabs, and to which its events alone happened.
+    // Restricted to a shard, the single broker's state is the state of a broker with only the
+    // shard's tabs and events.
     ensures state { SeenAtEachShard }
-    // A message is dropped by both for the same reason, or answered by the same.
+    // Both drop a message for the same reason, or send the same answer.
     ensures answers { AnsweredByItsShard }
-    // What the shards send on a death is together what the one broker sends.
+    // The frames that the shards send on a death are together those of the single broker.
     ensures deaths { DeathsSentByShards }
-    // The shard in which the dead tab had its place sends it all, every other one nothing.
+    // Only the shard of the dead tab's partition sends frames.
     ensures one_sends { DeathsSentByOneShard }
-    // The hellos of the shards, by rising shard, are those of the one broker in another order.
+    // The hellos of the shards, by rising shard, are those of the single broker in another order.
     ensures hellos { HellosOfShards }
-    // Whatever came first among messages of two shards, there is one list that gives each shard what came to it, if deaths came
-    // to all in one order.
+    // If all shards receive the deaths in the same order, a single list of events gives each shard
+    // its own events.
     ensures order { InOneOrder }
 {}

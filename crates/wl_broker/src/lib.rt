@@ -1,4 +1,4 @@
-//! The broker of one generation: which tabs have come, and the locks of each partition.
+//! Broker of one generation: the tabs that have arrived, and the locks of each partition.
 #![tactic(auto)]
 
 mod answers;

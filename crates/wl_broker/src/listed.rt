@@ -1,4 +1,5 @@
-//! The tabs that a generation waits for, and how many of a partition have not come.
+//! Start list of a generation, and the number of listed tabs of each partition that have not
+//! arrived.
 
 ghost use Rattle.std.specs.Prelude.{◌≡◌, ◌-◌, IfOk, ℕ, []};
 ghost use Rattle.wl_draft.specs.Tables.{at};
@@ -10,7 +11,8 @@ use crate::seat::Seat;
 use std::alloc::{AllocError, Global};
 use std::collections::BTreeMap;
 
-/// The list by tab, and how many tabs of each partition it has.
+/// Returns the start list by tab, and the number of listed tabs of each partition. Fails if out of
+/// memory.
 pub fn read_list(
     alloc: Global,
     list: &[(u16, u16)],
@@ -29,14 +31,14 @@ pub fn read_list(
     Ok((listed, missing))
 }
 
-/// The partition under which a tab is listed.
+/// Returns the partition under which a tab is listed.
 pub fn listed_at(listed: &BTreeMap<u16, u16>, tab: u16) -> Option<u16>
     ensures { result ≡ listed_at tab listed.now.entries }
 {
     listed.get(&tab).copied()
 }
 
-/// Where a tab is missing whose place is in this partition: nowhere, once it has come.
+/// Returns the partition that waits for the tab, or `None` if the tab has arrived.
 pub fn awaited_at(seat: Option<Seat>, partition: u16) -> Option<u16>
     ensures { result ≡ awaited_at seat (Some partition) }
 {
@@ -46,14 +48,14 @@ pub fn awaited_at(seat: Option<Seat>, partition: u16) -> Option<u16>
     }
 }
 
-/// How many listed tabs of the partition have not come.
+/// Returns the number of listed tabs of the partition that have not arrived.
 pub fn missing_at(missing: &BTreeMap<u16, usize>, partition: u16) -> usize
     ensures { result ≡ at 0 missing.now.entries partition }
 {
     missing.get(&partition).copied().unwrap_or(0)
 }
 
-/// How many of them have not come once the tab has that is missing at this place.
+/// Returns that number after the arrival of a tab for which the partition `place` waits.
 pub fn missing_without(missing: &BTreeMap<u16, usize>, place: Option<u16>, partition: u16) -> usize
     ensures { result ≡ at 0 missing.now.entries partition - one_at place partition }
 {
@@ -65,7 +67,8 @@ pub fn missing_without(missing: &BTreeMap<u16, usize>, place: Option<u16>, parti
     }
 }
 
-/// The tab has come that was missing at this place. Its partition has a count, so this takes no memory.
+/// Records the arrival of a tab for which the partition `place` waits. The partition has a count,
+/// so this does not allocate.
 pub fn count_arrival(missing: &mut BTreeMap<u16, usize>, place: Option<u16>)
     ensures { (p : ℕ) → at 0 missing.new.entries p ≡ at 0 missing.old.entries p - one_at place p }
 {

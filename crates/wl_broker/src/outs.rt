@@ -1,4 +1,4 @@
-//! What the broker sends for one event.
+//! Frames that the broker sends for one event.
 
 ghost use Rattle.std.specs.Prelude.{◌≡◌, [], ◌∷◌, length, IfOk, OnErr};
 ghost use Rattle.wl_broker.specs.Outs.{listed};
@@ -8,17 +8,17 @@ use std::marker::Model;
 use std::slice;
 use wl_grammar::Addressed;
 
-/// The frames that the broker sends for one event.
+/// The frames that the broker sends for one event, as stored.
 #[derive(Drop)]
 pub enum Frames {
-    /// One frame alone.
+    /// A single frame.
     One(Addressed),
-    /// Any number of frames, in memory of their own.
+    /// Any number of frames, on the heap.
     Listed(Vec<Addressed>),
 }
 
-/// What the broker sends for one event, each frame with the tab that it is for. One frame alone, as most events bring, takes no
-/// memory. Contracts see it as the list alone.
+/// The frames that the broker sends for one event, each with the tab that it is for. Most events
+/// send a single frame, which does not allocate. Contracts see it as the list alone.
 #[derive(Drop)]
 pub struct Outs {
     frames: Frames,
@@ -35,7 +35,7 @@ impl Model for Outs {
 }
 
 impl Outs {
-    /// The list of these frames. It takes no memory.
+    /// Wraps a list of frames. Does not allocate.
     pub fn new(frames: Vec<Addressed>) -> Outs
         ensures { result ≡ frames.items }
     {
@@ -44,7 +44,7 @@ impl Outs {
         }
     }
 
-    /// The list of this frame alone. It takes no memory.
+    /// Wraps a single frame. Does not allocate.
     pub fn one(frame: Addressed) -> Outs
         ensures { result ≡ frame ∷ [] }
     {
@@ -53,14 +53,15 @@ impl Outs {
         }
     }
 
-    /// The frames themselves. It takes no memory.
+    /// Returns the frames as stored. Does not allocate.
     pub fn into_frames(self) -> Frames
         ensures { listed result ≡ self }
     {
         self.frames
     }
 
-    /// The frames in a list of their own. Only one frame alone takes memory for it.
+    /// Returns the frames as a vector. Allocates only for a single frame, and fails if out of
+    /// memory.
     pub fn into_list(self, alloc: Global) -> Result<Vec<Addressed>, AllocError>
         ensures list { IfOk result (λ list. list.items ≡ self) }
         ensures refused { OnErr result (length self ≡ 1) }
@@ -71,6 +72,7 @@ impl Outs {
         }
     }
 
+    /// Returns the frames as a slice.
     pub fn as_slice(&self) -> &[Addressed]
         ensures { result.now ≡ self.now }
     {

@@ -1,4 +1,4 @@
-//! One partition: its locks, and whether they are granted.
+//! Locks of one partition.
 
 ghost use Rattle.std.specs.Prelude.{◌≡◌, length, replicate, IfOk, OnOk, OnErr, IsTrue, not, []};
 ghost use Rattle.std.specs.List.{filter};
@@ -15,11 +15,11 @@ use wl_draft::{Entry, Grant, Standing};
 use wl_grammar::Operation;
 use wl_table::LockTable;
 
-/// The locks of one partition. While it is active they are settled.
+/// The locks of one partition. They are settled while the partition is active.
 #[derive(Drop)]
 pub struct Partition<T: LockTable> {
     table: T,
-    /// Whether each listed tab of the partition has come.
+    /// Whether each listed tab of the partition has arrived.
     is_active: bool,
 }
 
@@ -36,7 +36,7 @@ impl<T: LockTable> Model for Partition<T> {
 }
 
 impl<T: LockTable> Partition<T> {
-    /// A partition with no lock.
+    /// Returns a partition without locks, which is not active.
     pub fn new(alloc: Global) -> Partition<T>
         ensures { result ≡ no_partition }
     {
@@ -46,31 +46,36 @@ impl<T: LockTable> Partition<T> {
         }
     }
 
+    /// Returns whether the partition is active.
     pub fn is_active(&self) -> bool
         ensures { result ≡ self.now.is_active }
     {
         self.is_active
     }
 
+    /// Returns the number of waiting requests.
     pub fn waiting(&self) -> usize
         ensures { result ≡ length self.now.locks.waiting }
     {
         self.table.waiting()
     }
 
+    /// Returns the number of locks that the tab holds or waits for.
     pub fn live(&self, tab: u16) -> usize
         ensures { result ≡ live self.now.locks tab }
     {
         self.table.live(tab)
     }
 
+    /// Returns whether the tab's lock with this number is held, waiting or absent.
     pub fn state(&self, tab: u16, number: u32) -> Standing
         ensures { result ≡ standing self.now.locks tab number }
     {
         self.table.state(tab, number)
     }
 
-    /// So many copies of the answer to a query: the held locks and the waiting requests, in parts.
+    /// Returns `copies` copies of the answer to a query: the held locks and the waiting requests,
+    /// in parts. Fails if out of memory.
     pub fn snapshots(
         &self,
         alloc: Global,
@@ -93,7 +98,8 @@ impl<T: LockTable> Partition<T> {
         Ok(all)
     }
 
-    /// Appends what a tab reports. From now on the partition is active or not, as is said.
+    /// Adds a tab's reported locks, and sets whether the partition is active. Returns the grants.
+    /// Fails if out of memory.
     pub fn restore(
         &mut self,
         tab: u16,
@@ -113,7 +119,8 @@ impl<T: LockTable> Partition<T> {
         Ok(granted)
     }
 
-    /// Takes out all that a tab has. From now on the partition is active or not, as is said.
+    /// Removes a tab's locks and requests, and sets whether the partition is active. Returns the
+    /// grants. Fails if out of memory.
     pub fn end_tab(&mut self, tab: u16, is_active: bool) -> Result<Vec<Grant>, AllocError>
         ensures grants { IfOk result (λ g. g.items ≡ grants (newly_if is_active (ended tab self.old.locks))) }
         ensures ok { OnOk result (self.new
@@ -125,7 +132,8 @@ impl<T: LockTable> Partition<T> {
         Ok(granted)
     }
 
-    /// Does a tab's command, whose number is new, and says what it granted beside it.
+    /// Executes a tab's command. The number must be new. Returns the grants to other requests.
+    /// Fails if out of memory.
     pub fn command(
         &mut self,
         alloc: Global,
@@ -146,7 +154,8 @@ impl<T: LockTable> Partition<T> {
         Ok(granted)
     }
 
-    /// Does a tab's command, whose number is new, and says what it granted.
+    /// Executes a tab's command. The number must be new. Returns the grants, which may include the
+    /// command's own.
     fn change(
         &mut self,
         alloc: Global,

@@ -1,4 +1,5 @@
-//! Room for what a change makes the broker say. It is made before the change, when nobody knows yet how much that will be.
+//! Output buffers for the frames of a change. They are allocated before the change, when the number
+//! of frames is unknown.
 
 ghost use Rattle.std.specs.Prelude.{◌≡◌, ◌≤◌, ◌<◌, ◌+◌, ◌++◌, [], IfOk, OnOk, length, map, replicate};
 ghost use Rattle.std.specs.List.{AllByRecursion};
@@ -14,9 +15,9 @@ use std::marker::Model;
 use wl_draft::Grant;
 use wl_grammar::Addressed;
 
-/// Empty lists, each with room for so many frames. What is said in a list takes one of its own that has room for just that, and
-/// one of these only where such a list is refused. So no change that was begun has to fail, and nobody who keeps what was
-/// said keeps more room than that.
+/// Spare output buffers, sized for the worst case. Output normally gets a buffer of exact size. A
+/// spare is used only if that allocation fails. So a change never fails after it has started, and
+/// the caller does not keep oversized buffers.
 #[derive(Drop)]
 pub struct Rooms {
     alloc: Global,
@@ -37,7 +38,7 @@ impl Model for Rooms {
     ghost invariant = { λ r. AllByRecursion (λ v. (v.items ≡ []) × (vec_len v ≡ 0) × (r.frames ≤ vec_capacity v)) r.lists.items };
 }
 
-/// So many empty lists, each with room for so many frames.
+/// Returns `lists` empty buffers, each with capacity for `frames` frames. Fails if out of memory.
 fn empty_lists(
     alloc: Global,
     lists: usize,
@@ -55,6 +56,7 @@ fn empty_lists(
 }
 
 impl Rooms {
+    /// Returns a set without buffers.
     pub fn new(alloc: Global) -> Rooms
         ensures { result ≡ no_rooms }
     {
@@ -65,7 +67,8 @@ impl Rooms {
         }
     }
 
-    /// Makes room for so many lists of so many frames. It grows by doubling, so a queue that gets longer costs little.
+    /// Ensures that there are `lists` spare buffers for `frames` frames each. The capacity at least
+    /// doubles when it grows, so a growing queue costs little.
     fn reserve(&mut self, lists: usize, frames: usize) -> Result<(), AllocError>
         ensures lists { OnOk result (lists ≤ self.new.lists) }
         ensures frames { OnOk result (frames ≤ self.new.frames) }
@@ -83,7 +86,8 @@ impl Rooms {
         Ok(())
     }
 
-    /// Makes room for so many lists, each of so many answers and grants, and for the list of these lists.
+    /// Allocates for `copies` lists of `answers` answers and `grants` grants each. Returns an empty
+    /// list with capacity for them. Fails if out of memory.
     pub fn prepare(
         &mut self,
         copies: usize,
@@ -100,7 +104,7 @@ impl Rooms {
         Vec::with_capacity(self.alloc, copies)
     }
 
-    /// An empty list with room for so many frames.
+    /// Returns an empty buffer with capacity for `frames` frames.
     fn list(&mut self, frames: usize) -> Vec<Addressed>
         requires lists { 0 < self.old.lists }
         requires frames { frames ≤ self.old.frames }
@@ -116,8 +120,8 @@ impl Rooms {
         }
     }
 
-    /// What is said: an answer, if there is one, and the grants. There is room for that. An answer alone, as most events bring,
-    /// takes none.
+    /// Returns the frames of an answer, if there is one, and of the grants. A spare buffer must be
+    /// available. An answer alone, as most events send, needs no buffer.
     fn said(
         &mut self,
         generation: u32,
@@ -138,7 +142,7 @@ impl Rooms {
         }
     }
 
-    /// The same in a list.
+    /// Returns these frames in a buffer.
     fn said_in_list(
         &mut self,
         generation: u32,
@@ -162,7 +166,7 @@ impl Rooms {
         outs
     }
 
-    /// So many lists of what is said. There is room for that.
+    /// Appends `copies` equal lists of these frames to `all`. The capacity must be prepared.
     pub fn tell(
         &mut self,
         all: &mut Vec<Outs>,

@@ -1,9 +1,9 @@
-//! Worked rows, computed on the broker's definition.
+//! Worked examples, computed on the broker's definition.
 
 ghost use Rattle.wl_broker.specs.Rows.{SharedThenExclusive, ReleaseHandsOver, LateGrantAfterAbort, RepeatedRequest, RestartWhileAsked, RestartWhileHeld, DeathHandsOver, OtherOriginUnblocked, SnapshotRow, OutOfTurnRow, HeldNewcomer, DeadTabUnblocks, InTwoParts, PartsThatDoNotFit};
 ghost use Rattle.wl_broker.specs.ShardRows.{TwoShards, DeathInOneShard, UnderTwoPartitions};
 
-/// What the definition answers to short conversations.
+/// States the results of the definition for short conversations.
 pub fn law_rows()
     ensures shared_then_exclusive { SharedThenExclusive }
     ensures release_hands_over { ReleaseHandsOver }
@@ -21,7 +21,8 @@ pub fn law_rows()
     ensures parts_that_do_not_fit { PartsThatDoNotFit }
 {}
 
-/// What two shards have and send. A tab under two partitions shows what the law of shards asks of a list.
+/// States the states and frames of two shards. An example with a tab under two partitions shows why
+/// the law of shards excludes it.
 pub fn law_shard_rows()
     ensures two_shards { TwoShards }
     ensures death_in_one_shard { DeathInOneShard }

@@ -1,14 +1,14 @@
-/// What the broker knows of a tab that has come.
+/// Seat of a tab that has joined or died.
 #[derive(Clone, Copy, Debug, PartialEq, Eq)]
 pub enum Seat {
-    /// It has reported in this generation.
+    /// The tab has reported in this generation.
     Joined {
         partition: u16,
-        /// The number of its next command.
+        /// Number of the tab's next command.
         next: u32,
-        /// How many locks it may have.
+        /// Maximum number of locks of the tab.
         limit: u16,
     },
-    /// It was named dead.
+    /// The tab is dead.
     Dead,
 }

@@ -1,4 +1,4 @@
-//! The tabs that have come.
+//! Seats of the tabs that have joined or died.
 
 ghost use Rattle.std.specs.Prelude.{◌≡◌, IsSome, MatchOption};
 ghost use Rattle.std.specs.Map.{remove_entry};
@@ -10,14 +10,14 @@ ghost use Rattle.wl_broker.specs.Broker.{is_joined, is_dead, next_in, limit_in, 
 use crate::seat::Seat;
 use std::collections::BTreeMap;
 
-/// What is known of a tab, if it has come.
+/// Returns the seat of a tab, if it has one.
 pub fn seat_of(seats: &BTreeMap<u16, Seat>, tab: u16) -> Option<Seat>
     ensures { result ≡ find seats.now.entries tab }
 {
     seats.get(&tab).copied()
 }
 
-/// The number of a tab's next command.
+/// Returns the number of a tab's next command, or 0 if it has not joined.
 pub fn next_in(seat: Option<Seat>) -> u32
     ensures { result ≡ next_in seat }
 {
@@ -27,7 +27,7 @@ pub fn next_in(seat: Option<Seat>) -> u32
     }
 }
 
-/// How many locks a tab may have.
+/// Returns the maximum number of locks of a tab, or 0 if it has not joined.
 pub fn limit_in(seat: Option<Seat>) -> u16
     ensures { result ≡ limit_in seat }
 {
@@ -37,7 +37,7 @@ pub fn limit_in(seat: Option<Seat>) -> u16
     }
 }
 
-/// The partition in which a tab has joined.
+/// Returns the partition in which a tab has joined.
 pub fn seated_at(seat: Option<Seat>) -> Option<u16>
     ensures { result ≡ seated_at seat }
 {
@@ -47,6 +47,7 @@ pub fn seated_at(seat: Option<Seat>) -> Option<u16>
     }
 }
 
+/// Returns whether the tab has joined.
 pub fn is_joined(seat: Option<Seat>) -> bool
     ensures { result ≡ is_joined seat }
 {
@@ -56,6 +57,7 @@ pub fn is_joined(seat: Option<Seat>) -> bool
     }
 }
 
+/// Returns whether the tab is dead.
 pub fn is_dead(seat: Option<Seat>) -> bool
     ensures { result ≡ is_dead seat }
 {
@@ -65,7 +67,7 @@ pub fn is_dead(seat: Option<Seat>) -> bool
     }
 }
 
-/// Sets the seat of a tab that has one, which takes no memory.
+/// Replaces the seat of a tab that has one. Does not allocate.
 pub fn set_seat(seats: &mut BTreeMap<u16, Seat>, tab: u16, seat: Seat)
     requires { IsSome (find seats.old.entries tab) }
     ensures { seats.new.entries ≡ put tab seat seats.old.entries }
@@ -73,7 +75,7 @@ pub fn set_seat(seats: &mut BTreeMap<u16, Seat>, tab: u16, seat: Seat)
     let _ = seats.insert(tab, seat);
 }
 
-/// Gives a tab that has a seat the one that it had before, or none.
+/// Restores the earlier seat of a tab, or removes its seat if it had none. Does not allocate.
 pub fn put_back(seats: &mut BTreeMap<u16, Seat>, tab: u16, before: Option<Seat>)
     requires { IsSome (find seats.old.entries tab) }
     ensures { MatchOption before

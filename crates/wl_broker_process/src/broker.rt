@@ -1,4 +1,5 @@
-//! The broker's process: it reads the Start frame of its generation, greets the listed tabs, and runs its lanes over the link.
+//! The broker's process: reads the Start frame of its generation, greets the listed tabs, and runs
+//! its lanes over the link.
 
 ghost use Rattle.std.specs.Prelude.{◌≡◌, ◌<◌, ◌≤◌, IfOk, length};
 ghost use Rattle.wl_grammar.specs.Grammar.{TabsRiseFrom};
@@ -32,7 +33,7 @@ impl Gate for Open {
     fn answered<R: Wait + Clock>(&self, _rt: &R, _lane: u16) {}
 }
 
-/// The Start frame that this frame has to be.
+/// Returns the frame as a Start frame. Fails with `Unexpected` if it is none, or is malformed.
 fn start_of(frame: Frame) -> Result<Start, ProcessFault>
     ensures { IfOk result (λ start. TabsRiseFrom 1 start.list) }
 {
@@ -43,7 +44,7 @@ fn start_of(frame: Frame) -> Result<Start, ProcessFault>
     }
 }
 
-/// Reads the Start frame, which has to come first, and gives the frames behind it that have come with it.
+/// Reads the Start frame, which must come first. Returns it with the frames read behind it.
 fn read_start<S: Read>(
     alloc: Global,
     incoming: &mut Incoming<S>,
@@ -63,8 +64,8 @@ fn read_start<S: Read>(
     Err(ProcessFault::TooManyReads)
 }
 
-/// Runs the broker of one generation, which the kernel's Start frame begins, over a socket, to the end of the input or of the
-/// generation.
+/// Runs the broker of one generation over a socket, until the input or the generation ends. The
+/// generation is the one that the kernel's Start frame names.
 pub fn run_broker<R: Host>(
     rt: R,
     alloc: Global,
@@ -80,8 +81,8 @@ pub fn run_broker<R: Host>(
     run_generation(&rt, alloc, &link, lanes, shards, limit, &Open)
 }
 
-/// Runs the broker of one generation over a link, to the end of the input or of the generation, and ends the link. The gate stands
-/// between each step and what is sent for it.
+/// Runs the broker of one generation over a link, until the input or the generation ends, and shuts
+/// the link down. The gate is passed between each step and the sending of its frames.
 pub fn run_generation<R: Threads + Wait + Clock + Sync, G: Gate + Sync>(
     rt: &R,
     alloc: Global,
@@ -145,7 +146,7 @@ fn serve<R: Threads + Wait + Clock + Sync, J: Shards + Send + Sync, G: Gate + Sy
     )
 }
 
-/// Greets the listed tabs, and serves what comes over the link.
+/// Greets the listed tabs and serves the link.
 fn serve_link<R: Threads + Wait + Clock + Sync, J: Shards + Send + Sync, G: Gate + Sync>(
     rt: &R,
     alloc: Global,
@@ -167,7 +168,7 @@ fn serve_link<R: Threads + Wait + Clock + Sync, J: Shards + Send + Sync, G: Gate
     let writing = link.try_clone().map_err(ProcessFault::of_device)?;
     greet(alloc, &writing, hellos)?;
     let inbox = Inbox::new(alloc, lanes, shards, incoming)?;
-    // What came with the Start frame waits for the lanes, which answer it also if a fault stands behind it.
+    // Frames read with the Start frame are answered even if a fault follows them.
     inbox.begin(rt, rest);
     let mut jobs = match jobs_of(alloc, &inbox, link, writing, shards, places) {
         Ok(jobs) => jobs,
@@ -177,7 +178,7 @@ fn serve_link<R: Threads + Wait + Clock + Sync, J: Shards + Send + Sync, G: Gate
     end_of(rt, &inbox, jobs.as_slice())
 }
 
-/// Greets the listed tabs, by one write.
+/// Greets the listed tabs in one write.
 fn greet(alloc: Global, mut link: &UnixStream, hellos: Outs) -> Result<(), ProcessFault> {
     let greeting = greeting_of(alloc, hellos)?;
     if link.write_all(greeting.as_slice()).is_err() {
@@ -186,7 +187,7 @@ fn greet(alloc: Global, mut link: &UnixStream, hellos: Outs) -> Result<(), Proce
     Ok(())
 }
 
-/// The bytes that greet the listed tabs.
+/// Encodes the hellos to the listed tabs.
 fn greeting_of(alloc: Global, hellos: Outs) -> Result<Vec<u8>, AllocError> {
     let mut bytes = Vec::new(alloc);
     for hello in hellos.into_list(alloc)? {

@@ -1,5 +1,7 @@
-//! What comes over the broker's link. The lanes take turns at reading it, each for all of them: so a lane that reads what is its
-//! own wakes nobody.
+//! The broker's input, read by its lanes in turn.
+//!
+//! The lane that reads distributes the works to all lanes. A lane that reads works of its own wakes
+//! no other thread.
 
 ghost use Rattle.std.specs.Prelude.{◌≡◌, ◌<◌, ◌%◌};
 
@@ -14,30 +16,31 @@ use wl_locked::{BookEvent, Work, deal};
 use wl_process::{Incoming, ProcessFault};
 use wl_process_rules::Dealt;
 
-/// For how many milliseconds a lane waits until all others have a thread.
+/// The time that a lane waits for the threads of all other lanes, in milliseconds.
 const MEETING: u64 = 5_000;
 
-/// The lanes before any of them reads.
+/// The rendezvous of the lanes before any of them reads.
 #[derive(Drop)]
 struct Meeting {
-    /// How many have a thread.
+    /// The number of lanes that have a thread.
     met: usize,
-    /// Whether they were waited for too long.
+    /// Whether the wait for the other lanes timed out.
     is_off: bool,
 }
 
-/// Whose turn it is to read the link.
+/// The turn to read the link.
 #[derive(Drop)]
 enum Turn<'a> {
-    /// Nobody's: whoever has nothing to do reads.
+    /// No lane reads. The next idle lane takes the turn.
     Free(Incoming<&'a UnixStream>),
-    /// That of a lane which reads now.
+    /// A lane is reading.
     Taken,
-    /// Nothing more is read, and this is why.
+    /// Reading has ended, with this result.
     Over(Result<(), ProcessFault>),
 }
 
-/// The link's reading end and the mailboxes of the lanes. The lock of the turn comes before those of the mailboxes.
+/// The link's reading end and the mailboxes of the lanes. The lock of the turn is taken before
+/// those of the mailboxes.
 #[derive(Drop)]
 pub(crate) struct Inbox<'a> {
     alloc: Global,
@@ -52,7 +55,7 @@ pub(crate) struct Inbox<'a> {
 }
 
 impl<'a> Inbox<'a> {
-    /// The inbox of so many lanes and shards.
+    /// Creates the inbox of a broker with these numbers of lanes and shards.
     pub(crate) fn new(
         alloc: Global,
         lanes: u16,
@@ -80,7 +83,8 @@ impl<'a> Inbox<'a> {
         })
     }
 
-    /// Waits until every lane has a thread. False where one gets none: what is dealt to that lane would wait for ever.
+    /// Waits until every lane has a thread. Returns false if a lane gets none, because works for
+    /// that lane would wait forever.
     pub(crate) fn meet<R: Wait + Clock>(&self, rt: &R) -> bool {
         let (lanes, most) = (self.mailboxes.len(), Duration::from_millis(MEETING));
         let mut meeting = self.meeting.lock(rt);
@@ -99,12 +103,12 @@ impl<'a> Inbox<'a> {
         !meeting.is_off
     }
 
-    /// Whether a lane got no thread, so that none reads.
+    /// Returns true if a lane got no thread, so no lane reads.
     pub(crate) fn is_off<R: Wait>(&self, rt: &R) -> bool {
         self.meeting.lock(rt).is_off
     }
 
-    /// Deals the frames that came before any lane was there.
+    /// Distributes frames that arrived before the lanes were started.
     pub(crate) fn begin<R: Wait>(&self, rt: &R, frames: Vec<Frame>) {
         let mut turn = self.turn.lock(rt);
         if let Err(fault) = self.deal_frames(rt, self.mailboxes.len(), frames) {
@@ -113,12 +117,13 @@ impl<'a> Inbox<'a> {
         }
     }
 
-    /// The next work of a lane, if there is one now.
+    /// Returns the next work of a lane, if there is one.
     pub(crate) fn take_now<R: Wait>(&self, rt: &R, lane: usize) -> Option<Work> {
         self.mailboxes.get(lane)?.take_now(rt)
     }
 
-    /// The next work of a lane, or None where no more will come. A lane without work reads the link, unless another one does.
+    /// Waits for the next work of a lane. Returns `None` if no more will come. A lane without works
+    /// reads the link, unless another lane does.
     pub(crate) fn take<R: Wait>(&self, rt: &R, lane: usize) -> Option<Work> {
         let mailbox = self.mailboxes.get(lane)?;
         for _turns in rt.forever() {
@@ -131,7 +136,8 @@ impl<'a> Inbox<'a> {
         None
     }
 
-    /// The next work of a lane, if there is one. Else it reads the link, if it may, and looks again, or sleeps until it is woken.
+    /// Returns the next work of a lane, if there is one. Otherwise the lane reads the link, if it
+    /// is free, or sleeps until it is woken.
     fn look<R: Wait>(&self, rt: &R, lane: usize, mailbox: &Mailbox) -> Woken {
         if let Some(work) = mailbox.take_now(rt) {
             return Woken::Work(work);
@@ -142,7 +148,7 @@ impl<'a> Inbox<'a> {
         mailbox.take(rt)
     }
 
-    /// Reads the link, if it is nobody's turn, and returns whether the lane goes on by itself then.
+    /// Reads the link if no lane reads. Returns true if the lane must look again without sleeping.
     fn reads_on<R: Wait>(&self, rt: &R, lane: usize, mailbox: &Mailbox) -> bool {
         match self.take_turn(rt, mailbox) {
             Some(incoming) => self.read(rt, lane, incoming),
@@ -150,14 +156,14 @@ impl<'a> Inbox<'a> {
         }
     }
 
-    /// No lane is to wait for anything any more.
+    /// Closes all mailboxes, so no lane waits for works.
     pub(crate) fn shut<R: Wait>(&self, rt: &R) {
         for mailbox in self.mailboxes.iter() {
             mailbox.close(rt);
         }
     }
 
-    /// The fault that ended the reading of the link; Ok where there is none.
+    /// Returns the fault that ended reading, if any.
     pub(crate) fn end<R: Wait>(&self, rt: &R) -> Result<(), ProcessFault> {
         match &*self.turn.lock(rt) {
             Turn::Over(Err(fault)) => Err(*fault),
@@ -165,8 +171,9 @@ impl<'a> Inbox<'a> {
         }
     }
 
-    /// What reads the link, if it is nobody's turn. A lane with a work in its mailbox does that first: it may have been dealt
-    /// since the lane looked, and whoever dealt it leaves the reading to this lane.
+    /// Takes the turn to read, if it is free. A lane with works in its mailbox does not read. The
+    /// works may have arrived since the lane looked, and the lane that put them left the turn to
+    /// this one.
     fn take_turn<R: Wait>(&self, rt: &R, mailbox: &Mailbox) -> Option<Incoming<&'a UnixStream>> {
         let mut turn = self.turn.lock(rt);
         if mailbox.has_work(rt) {
@@ -181,9 +188,10 @@ impl<'a> Inbox<'a> {
         }
     }
 
-    /// Reads once and deals what came, and returns whether the lane goes on by itself: where another has a few works, that one
-    /// reads on when it has done them. The turn's lock is held while works are dealt, so a lane that is woken by one finds the
-    /// turn free.
+    /// Reads once and distributes the works. Returns true if this lane must look again without
+    /// sleeping. Returns false if another lane reads next or the input has ended.
+    ///
+    /// The lock of the turn is held during distribution, so a woken lane finds the turn free.
     fn read<R: Wait>(&self, rt: &R, lane: usize, mut incoming: Incoming<&'a UnixStream>) -> bool {
         let came = incoming.next();
         let mut turn = self.turn.lock(rt);
@@ -199,7 +207,7 @@ impl<'a> Inbox<'a> {
         !dealt.leaves()
     }
 
-    /// Has another lane read on that has nothing to do, if there is one, while this one has much.
+    /// Asks an idle lane, if there is one, to read while this one has many works to do.
     fn offer_turn<R: Wait>(&self, rt: &R, lane: usize) {
         for (place, mailbox) in self.mailboxes.iter().enumerate() {
             if place != lane && mailbox.offer_turn(rt) {
@@ -208,7 +216,7 @@ impl<'a> Inbox<'a> {
         }
     }
 
-    /// Deals what has come with a read; None where it was the last one.
+    /// Distributes the frames of a read. Returns `None` if it was the last read.
     fn deal_all<R: Wait>(
         &self,
         rt: &R,
@@ -222,8 +230,8 @@ impl<'a> Inbox<'a> {
         }
     }
 
-    /// Puts each event of these frames into the mailbox of its tab's lane, and returns for whom there was work. An event that
-    /// memory refuses is lost.
+    /// Puts the works of these frames into the mailboxes of their tabs' lanes. Returns how the
+    /// works were distributed. An event is lost if memory runs out.
     fn deal_frames<R: Wait>(
         &self,
         rt: &R,
@@ -248,7 +256,7 @@ impl<'a> Inbox<'a> {
         Ok(dealt)
     }
 
-    /// Puts a work into the mailbox of this place, and returns for how many its lane will come now.
+    /// Puts a work into a lane's mailbox. Returns the number of works that the lane was woken for.
     fn put<R: Wait>(&self, rt: &R, place: usize, work: Work) -> usize {
         match self.mailboxes.get(place) {
             Some(mailbox) => mailbox.put(rt, work),
@@ -257,7 +265,7 @@ impl<'a> Inbox<'a> {
     }
 }
 
-/// The turn after what has come with a read was dealt.
+/// Returns the turn after a read and its distribution.
 fn turn_after<'a>(
     dealt: Result<Option<Dealt>, ProcessFault>,
     incoming: Incoming<&'a UnixStream>,
@@ -269,7 +277,7 @@ fn turn_after<'a>(
     }
 }
 
-/// Returns the lane that takes what a tab sends.
+/// Returns the lane that handles a tab's messages.
 fn lane_of(tab: u16, lanes: u16) -> u16
     requires { 0 < lanes }
     ensures { result ≡ tab % lanes }
@@ -277,7 +285,7 @@ fn lane_of(tab: u16, lanes: u16) -> u16
     tab % lanes
 }
 
-/// The event of a frame that is dealt, with its tab.
+/// Returns a frame's event with its tab. Fails with `Unexpected` if the frame is no event.
 fn event_of(frame: Frame) -> Result<(u16, BookEvent), ProcessFault> {
     match frame {
         Frame::Stamped(stamped) => Ok((stamped.tab, BookEvent::Take(stamped))),

@@ -1,4 +1,4 @@
-//! The lanes of the broker's process: what each of them takes from the link and sends over it, and how they have ended.
+//! The lanes of the broker's process: their intakes and outlets, and how they end.
 
 ghost use Rattle.std.specs.Prelude.{◌≡◌, IfOk, length};
 
@@ -16,11 +16,13 @@ use wl_locked::{ShardLane, Shards, Work};
 use wl_process::{ProcessFault, append};
 use wl_workers::{Cause, Intake, Job, LaneEnd, Outlet, OutletFault};
 
-/// After how many works a lane writes what it has gathered, though it has more to take.
+/// The number of works after which a lane writes its gathered frames, even if it has more works.
 const FLUSH_EVERY: u32 = 64;
 
-/// What a lane sends, gathered until it has nothing more to take, or has taken enough. The lock is the lane's own and never
-/// waited for; the link is shared by all lanes.
+/// Frames that a lane has gathered to send. They are written when the lane has no more works, or
+/// after `FLUSH_EVERY` works.
+///
+/// The lock of `gathered` is used by one lane only and never contended. All lanes share the link.
 #[derive(Drop)]
 struct Outbound {
     alloc: Global,
@@ -30,7 +32,7 @@ struct Outbound {
 }
 
 impl Outbound {
-    /// That of a lane: for its intake, and for its outlet.
+    /// Creates the output buffer of a lane, with one handle for its intake and one for its outlet.
     fn pair(
         alloc: Global,
         link: &Arc<Mutex<UnixStream>>,
@@ -47,7 +49,7 @@ impl Outbound {
         Ok((Arc::try_clone(&outbound)?, outbound))
     }
 
-    /// Writes what was gathered.
+    /// Writes the gathered frames.
     fn flush<R: Wait>(&self, rt: &R) -> Result<(), OutletFault> {
         let mut gathered = self.gathered.lock(rt);
         if gathered.is_empty() {
@@ -85,17 +87,18 @@ impl Outbound {
     }
 }
 
-/// The intake of a lane. Before the lane reads the link or sleeps it writes what it has gathered. Contracts see an intake as the
-/// number of its broker's shards.
+/// The intake of a lane. The lane's gathered frames are written before the lane reads the link or
+/// sleeps. Its value in contracts is the number of the broker's shards.
 #[derive(Drop)]
 pub(crate) struct LaneIntake<'a, 'l, J: Shards> {
     inbox: &'a Inbox<'l>,
     link: &'a UnixStream,
     lane: usize,
     outbound: Arc<Outbound>,
-    /// Whether the lane has met the others.
+    /// Whether the rendezvous with the other lanes succeeded.
     has_met: bool,
-    /// How often it asked for a work, counted round: at 0 it writes what was gathered first.
+    /// The number of works requested, modulo `FLUSH_EVERY`. At 0 the gathered frames are written
+    /// first.
     asked: u32,
     shards: u16,
     of: PhantomData<J>,
@@ -112,7 +115,7 @@ impl<'a, 'l, J: Shards> Model for LaneIntake<'a, 'l, J> {
 }
 
 impl<'a, 'l, J: Shards> LaneIntake<'a, 'l, J> {
-    /// Meets the other lanes, once, and returns whether all of them have a thread.
+    /// Waits once for all other lanes. Returns true if all of them have a thread.
     fn meets<R: Wait + Clock>(&mut self, rt: &R) -> bool {
         if !self.has_met {
             self.has_met = self.inbox.meet(rt);
@@ -120,7 +123,7 @@ impl<'a, 'l, J: Shards> LaneIntake<'a, 'l, J> {
         self.has_met
     }
 
-    /// The next work, or None if the link is shut.
+    /// Waits for the next work. Returns `None` if no more will come or a write failed.
     fn wait<R: Wait>(&mut self, rt: &R) -> Option<Work> {
         self.asked = self.asked.wrapping_add(1) % FLUSH_EVERY;
         if self.asked != 0 {
@@ -142,15 +145,16 @@ impl<'a, 'l, J: Shards> Intake for LaneIntake<'a, 'l, J> {
         if !self.meets(rt) {
             return None;
         }
-        // What stands in a mailbox was dealt; the lock round it cannot say so.
+        // Works in a mailbox were dealt to this shard count, but the mailbox's lock has no
+        // invariant that says so.
         match self.wait(rt) {
             Some(work) if work.is_dealt(self.shards) => Some(work),
             _ => None,
         }
     }
 
-    /// Writes what the lane has gathered last, and ends the waiting of the other lanes. A lane that ends before its works do, or
-    /// cannot send, ends the link too.
+    /// Writes the last gathered frames and wakes all other lanes. Shuts the link down if the lane
+    /// failed, or ended before its intake did.
     fn end<R: Wait + Clock>(&mut self, rt: &R, end: LaneEnd) {
         let _ = self.outbound.flush(rt);
         let has_failed = !self.has_met || self.outbound.fault(rt).is_some();
@@ -174,7 +178,7 @@ impl Outlet for LaneOutlet {
 
 type LaneJob<'a, 'l, J> = Job<J, LaneIntake<'a, 'l, J>, LaneOutlet>;
 
-/// The job of the lane at this place.
+/// Creates the job of a lane.
 fn job_of<'a, 'l, J: Shards>(
     inbox: &'a Inbox<'l>,
     link: &'a UnixStream,
@@ -203,7 +207,7 @@ fn job_of<'a, 'l, J: Shards>(
     }
 }
 
-/// The jobs of all lanes, which take turns at this inbox and write to this link.
+/// Creates the jobs of all lanes. They share this inbox and write to this link.
 pub(crate) fn jobs_of<'a, 'l, J: Shards>(
     alloc: Global,
     inbox: &'a Inbox<'l>,
@@ -225,7 +229,7 @@ pub(crate) fn jobs_of<'a, 'l, J: Shards>(
     Ok(jobs)
 }
 
-/// How a generation has ended, once all lanes have.
+/// Returns the result of a generation after all lanes have ended.
 pub(crate) fn end_of<R: Wait, J: Shards>(
     rt: &R,
     inbox: &Inbox<'_>,
@@ -245,7 +249,7 @@ pub(crate) fn end_of<R: Wait, J: Shards>(
     inbox.end(rt)
 }
 
-/// Whether a lane has ended because its generation is spent.
+/// Returns true if the lane ended because its generation is spent.
 fn is_spent(end: Option<LaneEnd>) -> bool {
     match end {
         Some(end) => end.why == Cause::Spent,
@@ -253,7 +257,7 @@ fn is_spent(end: Option<LaneEnd>) -> bool {
     }
 }
 
-/// Ends the reading and the writing of the link.
+/// Shuts the link down for reading and writing.
 pub(crate) fn shut_down(link: &UnixStream) {
     let _ = link.shutdown(Shutdown::Both);
 }

@@ -1,5 +1,5 @@
-//! The broker's process: threads and locks round the broker that the crates below prove. It is proved safe; what it does is
-//! tested.
+//! The broker's process: threads and locks around the verified broker. This crate is proved to be
+//! memory-safe and free of panics; its behavior is tested.
 #![tactic(auto)]
 
 pub mod broker;

@@ -1,4 +1,4 @@
-//! The mailbox of a lane: a list of works under a lock, which whichever lane reads the link fills and its own lane empties.
+//! The mailbox of a lane: a queue of works, filled by the lane that reads the link.
 
 use std::alloc::Global;
 use std::collections::VecDeque;
@@ -8,16 +8,16 @@ use wl_locked::Work;
 #[derive(Drop)]
 struct Queue {
     works: VecDeque<Work>,
-    /// Whether its lane has begun to ask for works.
+    /// Whether the lane has started to take works.
     is_served: bool,
-    /// Whether its lane is asked to read the link.
+    /// Whether the lane is asked to read the link.
     is_offered: bool,
     is_closed: bool,
 }
 
 impl Queue {
-    /// Puts a work behind the others, and returns for how many its lane will come now; 0 where it will not, and None where memory
-    /// is refused.
+    /// Appends a work. Returns the number of works that the lane will take, or 0 if it has not
+    /// started. Returns `None` if out of memory.
     fn put(&mut self, work: Work) -> Option<usize> {
         if self.works.push_back(work).is_err() {
             return None;
@@ -36,12 +36,12 @@ pub(crate) struct Mailbox {
     changed: Condvar,
 }
 
-/// What a lane is woken for.
+/// The reason why a lane was woken.
 #[derive(Drop)]
 pub(crate) enum Woken {
     /// The oldest work.
     Work(Work),
-    /// The link is to be read.
+    /// The lane must read the link.
     Turn,
     /// No more works will come.
     Closed,
@@ -60,8 +60,8 @@ impl Mailbox {
         }
     }
 
-    /// Puts a work behind the others, and returns for how many its lane will come now; 0 where it will not. When out of memory
-    /// the work is lost.
+    /// Appends a work and wakes the lane. Returns the number of works that the lane will take, or 0
+    /// if it has not started. The work is lost if memory runs out.
     pub(crate) fn put<R: Wait>(&self, rt: &R, work: Work) -> usize {
         let Some(coming) = self.queue.lock(rt).put(work) else {
             return 0;
@@ -70,7 +70,7 @@ impl Mailbox {
         coming
     }
 
-    /// Asks the lane to read the link, if it has nothing else to do, and returns whether it will.
+    /// Asks the lane to read the link. Returns false if the lane is busy or has not started.
     pub(crate) fn offer_turn<R: Wait>(&self, rt: &R) -> bool {
         let mut queue = self.queue.lock(rt);
         let is_coming = queue.is_served && queue.works.is_empty();
@@ -82,7 +82,7 @@ impl Mailbox {
         is_coming
     }
 
-    /// No more works will come.
+    /// Closes the mailbox: no more works will come.
     pub(crate) fn close<R: Wait>(&self, rt: &R) {
         let mut queue = self.queue.lock(rt);
         queue.is_closed = true;
@@ -90,19 +90,19 @@ impl Mailbox {
         self.changed.notify_all();
     }
 
-    /// The oldest work, if there is one now. From then on its lane comes for what is put there.
+    /// Removes and returns the oldest work, if there is one. Marks the lane as started.
     pub(crate) fn take_now<R: Wait>(&self, rt: &R) -> Option<Work> {
         let mut queue = self.queue.lock(rt);
         queue.is_served = true;
         queue.works.pop_front()
     }
 
-    /// Whether there is a work now.
+    /// Returns true if there is a work.
     pub(crate) fn has_work<R: Wait>(&self, rt: &R) -> bool {
         !self.queue.lock(rt).works.is_empty()
     }
 
-    /// What its lane has to do next, once there is something.
+    /// Waits for a work, an offer to read, or the close of the mailbox.
     pub(crate) fn take<R: Wait>(&self, rt: &R) -> Woken {
         let mut queue = self.changed.wait_while(rt, self.queue.lock(rt), |queue| {
             queue.works.is_empty() && !queue.is_offered && !queue.is_closed

@@ -1,5 +1,5 @@
--- What a command has at the end of a parse in which its grammar finds no fault: a row for each required argument, whose values that
--- argument takes.
+-- Lemmas on the end of a parse without a fault: each required argument has a row with values that
+-- it accepts.
 use Rattle.std.proofs.Common.{if◌then◌else◌, ◌≡◌, ◌∙◌, ◌<◌, ◌&&◌, ◌||◌, ◌++◌, not, ℕ, Bool, true, false, zero, suc, cond, nat_lt, length, List, [], ◌∷◌, Option, Some, None, is_some, find, filter, fold, slice_get, codes, bytes_eq, chars, refl, sym, ap, ap₂, subst, option_and_then, option_map, inl, ⊎_elim, append-nil, arith, true≢false}
 use Rattle.std.specs.List.{list_all}
 use Rattle.std.specs.Option.{option_map_or}
@@ -20,15 +20,15 @@ use Rattle.clap.proofs.SimpleLemmas.{is_nil}
 use Rattle.clap.proofs.WalkLemmas.{both}
 use Rattle.wl_command_line.proofs.Lists.{Each, Each-snoc, IsIn, IsIn-filter, filter-IsIn, find-Each, find-IsIn, list_all-IsIn, list_any-IsIn}
 
--- ---- kinds
+-- Kinds
 
 neither_kind : (a b : Kinds) → or_else a b ≡ [] → (a ≡ []) × (b ≡ [])
 neither_kind [] b e = (refl, e)
 neither_kind (k ∷ ks) b e = cc
 
--- ---- rows
+-- Rows
 
--- a row whose id is new comes last
+-- A row with a new id is appended.
 at_row-new : (id : Text) (change : Row → List Row) (missing rows : List Row) → has_row id rows ≡ false → at_row id change missing rows ≡ rows ++ missing
 at_row-new id change missing [] none = refl
 at_row-new id change missing (r ∷ rs) none = go (bytes_eq r.id id) (at_row-new id change missing rs) none
@@ -38,7 +38,7 @@ at_row-new id change missing (r ∷ rs) none = go (bytes_eq r.id id) (at_row-new
     go true rest e = absurd (true≢false e)
     go false rest e = ap (λ xs. r ∷ xs) (rest e)
 
--- the argument is set by its words, with a value at least, or asks for help
+-- The argument is set by words, rather than asking for help.
 abbrev is_set : ArgAction → Bool
 is_set action.Set = true
 is_set _ = false
@@ -52,7 +52,7 @@ reads x a = is_request x || (is_set x && nat_lt 0 (least_values a))
 abbrev pub is_reader : Rule → Bool
 is_reader a = is_empty a.defaults && reads (action_of a) a
 
--- the values of a use that passes its range
+-- A use that passes its range check has at least one value.
 some_values : (a : Rule) (most : ℕ) (values : List Text) → nat_lt 0 (least_values a) ≡ true → range_kinds (least_values a) most (length values) ≡ []
     → (values_or_missing a values ≡ values) × (0 < length values)
 some_values a most [] least e =
@@ -60,7 +60,7 @@ some_values a most [] least e =
     cc
 some_values a most (v ∷ vs) least e = (refl, omega arith)
 
--- no default is added
+-- Without defaults, no row is added.
 default_none : (rows : List Row) (a : Rule) → a.defaults ≡ [] → with_default rows a ≡ rows
 default_none rows a none = go (has_row a.id rows) a.defaults none
   where
@@ -75,19 +75,19 @@ defaults_none rows (a ∷ rest) all =
     let none = is_nil a.defaults (both _ _ (both _ _ all).0).0 in
     ap (λ xs. fold with_default xs rest) (default_none rows a none) ∙ defaults_none rows rest (both _ _ all).1
 
--- a name that is not `help`, or no call for help
+-- The name does not ask for help.
 abbrev pub IsNoCall : Shape → Text → Type 0
 IsNoCall s name = (bytes_eq name (codes "help") && not s.disable_help_subcommand) ≡ false
 
 module _ (s : Shape) (all : list_all is_reader s.rules ≡ true) (once : s.args_override_self ≡ false) where
-  -- the values of the row are those of one of the arguments, which takes them
+  -- The values of the row belong to an argument that accepts them.
   abbrev pub Fits : Row → Type 0
   Fits r = (a : Rule) × IsIn a s.rules × (a.id ≡ r.id) × (r.reading ≡ reading_by a) × (0 < length r.values) × (values_fault a r.values ≡ [])
 
   abbrev AllFit : Held → Type 0
   AllFit h = Each Fits h.rows
 
-  -- ---- one use of an argument
+  -- One use of an argument
 
   set_fits : (a : Rule) (values : List Text) (rows : List Row) → IsIn a s.rules → 0 < length values → Each Fits rows
       → set_fault s.args_override_self a values rows ≡ [] → Each Fits (used_as action.Set a.id (reading_by a) values rows)
@@ -125,7 +125,7 @@ module _ (s : Shape) (all : list_all is_reader s.rules ≡ true) (once : s.args_
       go action.HelpLong known none some = fit
       go action.Version known none some = fit
 
-  -- ---- the walk
+  -- The walk
 
   settled_fits : (h : Held) → AllFit h → settle_fault s.rules s.args_override_self h ≡ [] → AllFit (settled s.rules h)
   settled_fits h fit e = go h.pending e
@@ -195,9 +195,9 @@ module _ (s : Shape) (all : list_all is_reader s.rules ≡ true) (once : s.args_
       go (Some x) zero later e = short_fits (arg_by_short s.rules x) _ h _ _ (λ a is. find-IsIn _ s.rules a is) fit (λ h fit e. later _ 0 done h fit e) e
       go (Some x) (suc skip) later e = later _ skip so_far h fit e
 
-  -- ---- a word
+  -- A word
 
-  -- the rows fit after a step, which calls for no help
+  -- A step that does not ask for help keeps the rows valid.
   abbrev IsGoodStep : Step → Type 0
   IsGoodStep (subcommand name) = IsNoCall s name
   IsGoodStep _ = Unit {0}
@@ -252,7 +252,7 @@ module _ (s : Shape) (all : list_all is_reader s.rules ≡ true) (once : s.args_
   word_good names true waiting position word h fit e = (fit, tt)
   word_good names false waiting position word h fit e = other_good (subcommand_met names waiting word) waiting position word h fit e
 
-  -- the rows fit between two words, and the subcommand that was met is no call for help
+  -- Between two words the rows are valid, and the subcommand found does not ask for help.
   abbrev pub IsGoodStop : Option (Text × List Text) → Type 0
   IsGoodStop None = Unit {0}
   IsGoodStop (Some p) = IsNoCall s p.0
@@ -298,9 +298,9 @@ module _ (s : Shape) (all : list_all is_reader s.rules ≡ true) (once : s.args_
       let faults = neither_kind (turn_fault s names w word) _ e in
       walk_good names (walked s.rules names w word) rest (walked_good names w word good faults.0) faults.1
 
-  -- ---- after the walk
+  -- After the walk
 
-  -- the rows and the stop of a level whose words have no fault
+  -- If the words of a level have no fault, its rows are valid and its stop is no request for help.
   pub level_good : (names : Names) (words : List Text) (has : Bool) (below : Kinds) → level_fault s names nothing_held words has below ≡ []
       → Each Fits (finished s.rules (walk s.rules names nothing_held words).held) × IsGoodStop (walk s.rules names nothing_held words).stopped
       × (below ≡ []) × (check_fault s (finished s.rules (walk s.rules names nothing_held words).held) has ≡ [])
@@ -317,7 +317,7 @@ module _ (s : Shape) (all : list_all is_reader s.rules ≡ true) (once : s.args_
         fourth.1,
       )
 
-  -- a required argument that no other shares its id with has a value, which it takes
+  -- A required argument with a unique id has a value that it accepts.
   pub value_given : (rows : List Row) (a : Rule) → Each Fits rows → check_fault s rows false ≡ [] → a.required ≡ true
       → filter (λ b. bytes_eq b.id a.id) s.rules ≡ a ∷ []
       → (text : Text) × (first_of a.id rows ≡ Some text) × (one_of a.id rows ≡ Some (read_as (reading_by a) text)) × (value_kinds a.ignore_case (parser_of_value a.parser) text ≡ [])

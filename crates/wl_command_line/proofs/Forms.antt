@@ -1,4 +1,4 @@
--- The command line takes each command in its plain form.
+-- Lemmas that the grammar accepts every command in its plain form.
 use Rattle.std.proofs.Common.{◌≡◌, ◌∙◌, ◌<◌, ◌≤◌, ◌^◌, ◌==◌, ◌&&◌, ℕ, Bool, true, false, nat_lt, pos, List, [], ◌∷◌, ◌++◌, Some, None, is_some, fold, codes, bytes_eq, decimal, refl, sym, ap, ap₂, inl, inr, rules, arith}
 use Rattle.std.specs.List.{list_all}
 use Rattle.std.specs.Str.Parse.{IsNumeral, without_leading_plus}
@@ -19,23 +19,23 @@ use Rattle.clap.proofs.OnLiterals.{clap_on_literals}
 use Rattle.clap.proofs.WalkLemmas.{walk_stopped}
 use Rattle.clap.proofs.ValueTestLemmas.{Accepts-accepts}
 
--- ---- words
+-- Words
 
--- a text that begins with no hyphen is no flag
+-- A text that does not start with a hyphen is no flag.
 plain_word_is : (text : Text) → IsPlain text → (bytes_eq text (45 ∷ 45 ∷ []) ≡ false) × (long_of text ≡ None) × (short_of text ≡ None)
 plain_word_is [] plain = (refl, refl, refl)
 plain_word_is (x ∷ xs) plain = rw plain (refl, refl, refl)
 
--- ---- the walk
+-- The walk
 
--- a walk between two options, and before an option's value
+-- The walk between two options.
 abbrev between : Held → Walk
 between h = record { held = h; waiting = idle; position = 1; is_trailing = false; stopped = None }
 
 abbrev asking : Text → Held → Walk
 asking id h = record (between h) { waiting = option id }
 
--- the walk comes to `after` with the words of `rest` left
+-- The walk reaches the state `after` with the words `rest` left.
 abbrev ComesTo : Shape → Walk → List Text → Walk → List Text → Type 0
 ComesTo s w words after rest = (walk_passes s [] w words ≡ walk_passes s [] after rest)
     × (fold (walked s.rules []) w words ≡ fold (walked s.rules []) after rest)
@@ -43,7 +43,7 @@ ComesTo s w words after rest = (walk_passes s [] w words ≡ walk_passes s [] af
 then_comes : (s : Shape) (u v w : Walk) (a b c : List Text) → ComesTo s u a v b → ComesTo s v b w c → ComesTo s u a w c
 then_comes s u v w a b c first second = (first.0 ∙ second.0, first.1 ∙ second.1)
 
--- the word is the name n of an option, which takes one value
+-- The word is the name of an option that takes one value.
 abbrev IsOption : Shape → Text → Text → Rule → Type 0
 IsOption s word n a = (bytes_eq word (45 ∷ 45 ∷ []) ≡ false) × (long_of word ≡ Some (n, None)) × (arg_by_long s.rules n ≡ Some a) × (arg_by_id s.rules a.id ≡ Some a)
     × (takes_values a ≡ true) × (nat_lt 1 (most_values a) ≡ false) × (bytes_eq a.id a.id ≡ true)
@@ -69,7 +69,7 @@ option_read : (s : Shape) (h : Held) (name n : Text) (a : Rule) (word : Text) (r
 option_read s h name n a word rest is plain passes =
     then_comes s _ _ _ _ _ _ (option_named s h name n a (word ∷ rest) is passes) (option_valued s (settled s.rules h) name n a word rest is plain)
 
--- a word for the first positional, which takes one
+-- A word fills the first positional argument, which takes one value.
 option_placed : (s : Shape) (h : Held) (a : Rule) (word : Text) → arg_by_index s.rules 1 ≡ Some a → takes_several a ≡ false → is_append (action_of a) ≡ false
     → is_pending a h.pending ≡ false → a.trailing_var_arg ≡ false → IsPlain word → settle_passes s.rules s.args_override_self h ≡ true
     → ComesTo s (between h) (word ∷ []) (record (between (record (settled s.rules h) { pending = Some (a.id, word ∷ []) })) { position = 2 }) []
@@ -78,7 +78,7 @@ option_placed s h a word found one once other trails plain passes =
     let facts = plain_word_is word plain in
     rw (facts.0, facts.1, facts.2, found, one, once, other, trails, passes) (refl, refl)
 
--- a level whose walk comes to an end that passes
+-- A level is accepted if its walk ends in an acceptable state.
 level_taken : (s : Shape) (words : List Text) (after : Walk) → ComesTo s (between nothing_held) words after []
     → (settle_passes s.rules s.args_override_self after.held && (list_all default_passes s.rules && is_valid s (finished s.rules after.held) false)) ≡ true
     → level_passes s [] nothing_held words false ≡ true
@@ -87,7 +87,7 @@ level_taken s words after comes ends =
     ap₂ (λ (b : Bool) (w : Walk). b && (settle_passes s.rules s.args_override_self w.held && (list_all default_passes s.rules && is_valid s (finished s.rules w.held) false)))
     comes.0 comes.1 ∙ ends
 
--- ---- numbers
+-- Numbers
 
 no_sign : (ds : List ℕ) → IsNumeral 10 ds → IsPlain ds × (without_leading_plus ds ≡ ds)
 no_sign [] numeral = absurd (omega (arith, numeral.0))
@@ -97,7 +97,7 @@ no_sign (d ∷ ds) numeral =
     let plus : (d == 43) ≡ false = ne_eqb _ _ (λ e. omega (arith, digit)) in
     (minus, rw plus refl)
 
--- a number in its range, in decimal, is a plain word, which the parser takes
+-- A decimal number within its range is a plain word that the parser accepts.
 decimal_taken : (limit n : ℕ) → 1 ≤ n → n ≤ limit → limit < 2 ^ 63 → IsPlain (decimal n) × (accepts false (up_to limit) (decimal n) ≡ true)
 decimal_taken limit n least most fits =
     let small : n < 2 ^ 64 = omega arith in
@@ -106,7 +106,7 @@ decimal_taken limit n least most fits =
     let signed : IsSignedIn (pos 1) (pos limit) (decimal n) = rw (bare.0, bare.1, numeral.1) (numeral.0, record { sfits = omega arith }, search rules, search rules) in
     (bare.0, Accepts-accepts false (up_to limit) (decimal n) signed)
 
--- ---- the subcommands
+-- Subcommands
 
 abbrev text_rule : Text → Rule
 text_rule id = with_index 1 (filled (text_option id))
@@ -122,11 +122,11 @@ after_size s h lanes shards limit =
     after_option s (after_option s (after_option s h (number_rule (codes "lanes") LANE_LIMIT) (decimal lanes)) (number_rule (codes "shards") SHARD_LIMIT) (decimal shards))
     (number_rule (codes "limit") STEP_LIMIT) (decimal limit)
 
--- what passes as the next option is met
+-- The state is acceptable when the next option starts.
 abbrev passes_at : Shape → Held → Bool
 passes_at s h = settle_passes s.rules s.args_override_self h
 
--- the command has the options of a size, and after h each passes where its parser takes the value
+-- The command has the size options, and each is accepted if its parser accepts the value.
 record IsSized (s : Shape) (h : Held) : Type 0 where
   pub lanes : IsOption s (codes "--lanes") (codes "lanes") (number_rule (codes "lanes") LANE_LIMIT)
   pub shards : IsOption s (codes "--shards") (codes "shards") (number_rule (codes "shards") SHARD_LIMIT)
@@ -195,15 +195,15 @@ tab_passes socket script plain_socket plain_script =
     let placed = option_placed s _ script_rule script refl refl refl refl refl plain_script refl in
     level_taken s _ _ (then_comes s _ _ _ _ _ _ socket_read placed) refl
 
--- ---- the program
+-- The program
 
--- after a subcommand the words are left to it
+-- After a subcommand's name, the remaining words belong to the subcommand.
 stopped_passes : (s : Shape) (names : Names) (w : Walk) (p : Text × List Text) (words : List Text) → walk_passes s names (record w { stopped = Some p }) words ≡ true
 unfolding walk_passes walked
 stopped_passes s names w p [] = refl
 stopped_passes s names w p (x ∷ xs) = stopped_passes s names w (p.0, p.1 ++ x ∷ []) xs
 
--- a command takes the name of a subcommand with the words that this one takes
+-- A command accepts a subcommand's name followed by words that the subcommand accepts.
 named_taken : (b : App) (called : Text) (words : List Text)
     → walked b.top.rules (names_of b) (walk_from nothing_held) called ≡ record (walk_from nothing_held) { stopped = Some (called, []) }
     → turn_passes b.top (names_of b) (walk_from nothing_held) called ≡ true
@@ -246,7 +246,7 @@ takes_sim : (name : Text) → takes command_line (name ∷ codes "sim" ∷ []) �
 unfolding clap_on_literals
 takes_sim name = refl
 
--- each command in its plain form is taken
+-- Every command in its plain form is accepted.
 form_taken : (name : Text) (rest : List Text) → IsPlainForm rest → takes command_line (name ∷ rest) ≡ true
 form_taken name rest (inl none) = ap (λ words. takes command_line (name ∷ words)) none ∙ takes_none name
 form_taken name rest (inr (inl desk)) = ap (λ words. takes command_line (name ∷ words)) desk ∙ takes_desk name

@@ -1,4 +1,4 @@
--- Where the grammar finds no fault in the words, the subcommand that they name has all its values.
+-- If the grammar finds no fault in the words, the subcommand that they name has all its values.
 use Rattle.std.proofs.Common.{◌≡◌, ◌∙◌, ◌&&◌, ◌||◌, not, ℕ, Bool, true, false, cond, List, [], ◌∷◌, Option, Some, None, is_some, find, filter, unwrap_or, codes, bytes_eq, refl, sym, ap, ap₂, subst, Box, box_value, option_map, inl, inr, true≢false}
 use Rattle.std.specs.List.{list_all}
 use Rattle.std.specs.Option.{ForSome, option_map_or}
@@ -23,7 +23,7 @@ use Rattle.wl_command_line.specs.Words.{broker_command, command_line, kernel_com
 use Rattle.wl_command_line.proofs.FaultFree.{IsGoodStop, is_reader, level_good, value_given}
 use Rattle.wl_command_line.proofs.Lists.{IsIn, find-IsIn, find-passes}
 
--- the subcommand that a walk stopped at, and the words left to it
+-- The subcommand at which a walk stopped, and the words left to it.
 record Entry (b : App) (stop : Option (Text × List Text)) (name : Text) (rows : List Row) : Type 0 where
   pub shape : Shape
   pub called : Text
@@ -58,7 +58,7 @@ entry_of b (Some p) name rows e is = go (find (λ s. answers_to p.0 (label_of s)
           found = sym (ap (λ (q : Text × List Row). q.1) same);
         }
 
--- ---- each subcommand
+-- Subcommands
 
 abbrev pub built_sub : App → Shape
 built_sub sub = built_leaf (inherited (with_leaf_noted (marked_built command_line.top)) sub.top)
@@ -70,7 +70,7 @@ accepted ignore_case parser text e = accepts-Accepts ignore_case parser text (go
     go true e = refl
     go false e = cc
 
--- what a level of the parse has where its words have no fault
+-- The rows of a level whose words have no fault.
 module _ (s : Shape) (all : list_all is_reader s.rules ≡ true) (once : s.args_override_self ≡ false) (words : List Text)
     (faultless : level_fault s [] nothing_held words false [] ≡ []) where
   gives : (a : Rule) → a.required ≡ true → filter (λ b. bytes_eq b.id a.id) s.rules ≡ a ∷ []
@@ -120,13 +120,13 @@ tab_gives words faultless rows is =
     subst (λ (rows : List Row). GivesText rows (codes "socket") × GivesText rows (codes "script")) (sym is)
     (text (with_index 1 (filled (text_option (codes "socket")))) refl refl, text (with_index 1 (filled (placed (codes "script")))) refl refl)
 
--- ---- the program
+-- The program
 
--- two names that differ
+-- A name cannot equal two different names.
 differ : {name : Text} (a b : Text) → bytes_eq a a ≡ true → bytes_eq b a ≡ false → name ≡ a → name ≡ b → ⊥
 differ a b same other is_a is_b = true≢false (sym same ∙ ap (λ t. bytes_eq t a) (sym is_a ∙ is_b) ∙ other)
 
--- the call for help was no call for help
+-- A call of the help subcommand asks for help.
 no_help : (called : Text) → (bytes_eq (codes "help") called || false) ≡ true → (bytes_eq called (codes "help") && not false) ≡ false → ⊥
 no_help called answers calm =
     let is = (bytes_eq-Decides (codes "help") called).0 (left (bytes_eq (codes "help") called) answers) in
@@ -189,7 +189,7 @@ entry_gives stop name rows entry calm = go entry.is_in
         absurd (no_help entry.called answers (subst (IsGoodStop (built command_line).top refl refl) entry.stopped calm))
     go (inr (inr (inr (inr (inr (inr none)))))) = absurd none
 
--- words without a fault give their subcommand all its values
+-- Words without a fault give their subcommand all its values.
 pub given_all : (words : List Text) → fault_of command_line words ≡ [] → ForSome (subcommand_of command_line words) (λ found. GivesAll found.0 found.1)
 given_all words faultless found is =
     let b = built command_line in
@@ -204,7 +204,7 @@ module _ {Z : Type 0} where
   rows_from (Some b) name rows is_name is_rows =
       ap₂ (λ (n : Text) (r : List Row). Some (n, r)) (sym (ap (λ (o : Option Text). unwrap_or o name) is_name)) (sym (ap (λ (o : Option (List Row)). unwrap_or o rows) is_rows))
 
--- the name and the rows of the subcommand that a parse met
+-- The name and the rows of the subcommand that a parse found.
 pub found_is : (m : ArgMatches) (name : Text) (rows : List Row) → Some name ≡ subcommand_name_of m → Some rows ≡ option_map (λ p. p.1) (subcommand_rows_of m)
     → subcommand_rows_of m ≡ Some (name, rows)
 found_is m = rows_from (out-ArgMatches m).subcommand

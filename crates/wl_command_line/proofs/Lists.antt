@@ -1,4 +1,4 @@
--- What is in a list, and what holds of each of its elements.
+-- Lemmas on list membership, and on properties of all elements.
 use Rattle.std.proofs.Common.{◌≡◌, ◌∙◌, ◌⊎◌, ◌++◌, ◌||◌, Bool, true, false, cond, List, [], ◌∷◌, Option, Some, find, filter, unwrap_or, refl, sym, ap, subst, inl, inr, true≢false}
 use Rattle.std.specs.List.{list_all, list_any}
 use Rattle.clap.proofs.WalkLemmas.{both}

@@ -1,4 +1,4 @@
--- The numbers that are read from values in a range.
+-- Lemmas on numbers read from values within a range.
 use Rattle.std.proofs.Common.{◌≡◌, ◌∙◌, ◌<◌, ◌≤◌, ◌^◌, ◌==◌, ℕ, ℤ, Bool, true, false, cond, pos, neg_ℤ, ◌≤ℤ◌, List, [], ◌∷◌, Option, Some, None, Result, Ok, unwrap_or, option_map, codes, sym, ap, subst, arith}
 use Rattle.std.proofs.lemmas.Int.{ints}
 use Rattle.std.specs.Str.Parse.{ParsesUnsigned, digits_value, without_leading_plus}
@@ -11,7 +11,7 @@ use Rattle.wl_locked.specs.declared.locked.TheConstants.{LANE_LIMIT, STEP_LIMIT}
 use Rattle.wl_locked.specs.declared.shards.TheConstants.{SHARD_LIMIT}
 use Rattle.wl_command_line.specs.Words.{GivesNumber, GivesSize, HasNumber, HasSize, IsSizeInRange}
 
--- what `get_one` reads of a number that is given
+-- `get_one` returns the number of an option that is given.
 pub number_read : (E : Type 0) (G : List ℕ → Result ℕ E → Type 0) (k limit : ℕ) (values : List Row) (id : Text) (r : Option ℕ) → GivesNumber values id limit
     → limit < 2 ^ k → ((text : Text) → one_of id values ≡ Some text → ReadsOne G text r) → ((u : List ℕ) (x : Result ℕ E) → G u x → ParsesUnsigned k 10 u x)
     → (n : ℕ) × (r ≡ Some n) × HasNumber values id n
@@ -37,13 +37,13 @@ text_in_range limit n (x ∷ xs) passed is = go (x == 45) passed.2 passed.3 is
     go true low high is = absurd (omega (arith, ints, low))
     go false low high is = (omega (arith, ints, low, is), omega (arith, ints, high, is))
 
--- a number that is given is in its range
+-- A given number is within its range.
 in_range : (values : List Row) (id : Text) (limit n : ℕ) → GivesNumber values id limit → HasNumber values id n → (1 ≤ n) × (n ≤ limit)
 in_range values id limit n given has =
     let same = ap (option_map (λ (text : Text). digits_value 10 (without_leading_plus text))) (sym given.1) ∙ has in
     text_in_range limit n given.0 given.2 (ap (λ (o : Option ℕ). unwrap_or o n) same)
 
--- and in a wider one
+-- A given number is within any wider range.
 pub wider : (values : List Row) (id : Text) (limit more : ℕ) → limit ≤ more → GivesNumber values id limit → GivesNumber values id more
 wider values id limit more le given = (given.0, given.1, (given.2.0, given.2.1, given.2.2, omega (arith, ints, given.2.3, le)))
 

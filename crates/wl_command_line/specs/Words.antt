@@ -16,24 +16,25 @@ use Rattle.wl_locked.specs.declared.shards.TheConstants.{SHARD_LIMIT}
 use Rattle.wl_command_line.specs.declared.command.Line.{Line}
 use Rattle.wl_command_line.specs.declared.command.Line.TheVariants.{Desk, Sim, Kernel, Broker, Tab}
 
--- ---- the grammar
+-- Grammar
 
--- a required argument by its place
+-- A required positional argument.
 abbrev pub placed : Text → Rule
 placed id = record (new_rule id) { value_names = 1; required = true }
 
--- a required option with a text, and one with a value that a parser takes
+-- A required option with a text value.
 abbrev pub text_option : Text → Rule
 text_option id = record (placed id) { long = Some id }
 
+-- A required option with a value that a parser accepts.
 abbrev pub number_option : Text → ValueParser → Rule
 number_option id parser = record (text_option id) { parser = Some parser }
 
--- the parser of the numbers from 1 to a limit
+-- The parser of numbers from 1 to a limit.
 abbrev pub up_to : ℕ → ValueParser
 up_to limit = Signed (pos 1) (pos limit)
 
--- a command with the options that say how large a broker is
+-- A command with the options for the size of a broker.
 abbrev pub with_size : App → App
 with_size app =
     let with_lanes = with_rule app (number_option (codes "lanes") (up_to LANE_LIMIT)) in
@@ -49,7 +50,7 @@ broker_command = with_size (with_rule (new_app (codes "broker")) (text_option (c
 abbrev pub tab_command : App
 tab_command = with_rule (with_rule (new_app (codes "tab")) (text_option (codes "socket"))) (placed (codes "script"))
 
--- the program, and its subcommands
+-- The program with its subcommands.
 abbrev pub command_line : App
 command_line =
     let with_desk = with_subcommand (new_app (codes "wlb")) (new_app (codes "desk")).top in
@@ -58,23 +59,25 @@ command_line =
     let with_broker = with_subcommand with_kernel broker_command.top in
     with_subcommand with_broker tab_command.top
 
--- an argument has this rule, and a command this grammar, and nothing in them is global
+-- The argument follows this rule and is not global.
 abbrev pub HasRule : Rule → Arg → Type 0
 HasRule rule arg = (rule_of arg ≡ rule) × (arg.global ≡ false)
 
+-- The command follows this grammar and has no global arguments.
 abbrev pub HasGrammar : App → Command → Type 0
 HasGrammar app command = (app_of command ≡ app) × ((out-Command command).has_globals ≡ false)
 
--- ---- what the words mean
+-- Meaning of the words
 
--- the values that clap found for a command
+-- The values that clap found for a command.
 abbrev pub values_of : ArgMatches → List Row
 values_of matches = rows_of (found_of matches)
 
--- the text of an id, and the number that clap reads from its text
+-- The argument of this id has this text.
 abbrev pub HasText : List Row → Text → String Global → Type 0
 HasText values id text = first_of id values ≡ Some (string_bytes text)
 
+-- The argument of this id has this number, as clap reads it from the text.
 abbrev pub HasNumber : List Row → Text → ℕ → Type 0
 HasNumber values id number =
     option_map (λ text. digits_value 10 (without_leading_plus text)) (one_of id values) ≡ Some number
@@ -83,7 +86,7 @@ abbrev pub HasSize : List Row → ℕ → ℕ → ℕ → Type 0
 HasSize values lanes shards limit = HasNumber values (codes "lanes") lanes
     × HasNumber values (codes "shards") shards × HasNumber values (codes "limit") limit
 
--- the subcommand that clap finds, with its values, means the line
+-- The subcommand that clap found, with its values, means this line.
 abbrev pub Means : Option (Text × List Row) → Line → Type 0
 Means found Desk = (found ≡ None) ⊎ ((values : List Row) × (found ≡ Some (codes "desk", values)))
 Means found Sim = (values : List Row) × (found ≡ Some (codes "sim", values))
@@ -94,11 +97,11 @@ Means found (Broker socket lanes shards limit) = (values : List Row) × (found �
 Means found (Tab socket script) = (values : List Row) × (found ≡ Some (codes "tab", values))
     × HasText values (codes "socket") socket × HasText values (codes "script") script
 
--- the line is what the words mean
+-- The line is the meaning of the words.
 abbrev pub IsMeant : List Text → Line → Type 0
 IsMeant words = Means (subcommand_of command_line words)
 
--- the numbers of a line are within their limits
+-- The numbers for the size of a broker are within their limits.
 abbrev pub IsSizeInRange : ℕ → ℕ → ℕ → Type 0
 IsSizeInRange lanes shards limit = (1 ≤ lanes) × (lanes ≤ LANE_LIMIT)
     × (1 ≤ shards) × (shards ≤ SHARD_LIMIT) × (1 ≤ limit) × (limit ≤ STEP_LIMIT)
@@ -110,12 +113,13 @@ IsInRange (Kernel directory lanes shards limit script) = IsSizeInRange lanes sha
 IsInRange (Broker socket lanes shards limit) = IsSizeInRange lanes shards limit
 IsInRange (Tab socket script) = ⊤
 
--- ---- what clap's grammar makes sure of
+-- Guarantees of clap's grammar
 
--- the values have a text of this id, and a number from 1 to a limit
+-- The values include a text for this id.
 abbrev pub GivesText : List Row → Text → Type 0
 GivesText values id = IsSome (first_of id values)
 
+-- The values include a number from 1 to a limit for this id.
 abbrev pub GivesNumber : List Row → Text → ℕ → Type 0
 GivesNumber values id limit = (text : Text) × (one_of id values ≡ Some (without_minus text)) × IsSignedIn (pos 1) (pos limit) text
 
@@ -123,29 +127,29 @@ abbrev pub GivesSize : List Row → Type 0
 GivesSize values = GivesNumber values (codes "lanes") LANE_LIMIT
     × GivesNumber values (codes "shards") SHARD_LIMIT × GivesNumber values (codes "limit") STEP_LIMIT
 
--- the name is one of the subcommands'
+-- The name is that of a subcommand.
 abbrev pub IsKnown : Text → Type 0
 IsKnown name = (name ≡ codes "desk") ⊎ ((name ≡ codes "sim") ⊎ ((name ≡ codes "kernel") ⊎ ((name ≡ codes "broker") ⊎ (name ≡ codes "tab"))))
 
--- the name is known, and the values are all that this subcommand asks for
+-- The name is that of a subcommand, and the values include all that it requires.
 pub record GivesAll (name : Text) (values : List Row) : Type 0 where
   pub known : IsKnown name
   pub kernel : name ≡ codes "kernel" → GivesText values (codes "dir") × GivesSize values × GivesText values (codes "script")
   pub broker : name ≡ codes "broker" → GivesText values (codes "socket") × GivesSize values
   pub tab : name ≡ codes "tab" → GivesText values (codes "socket") × GivesText values (codes "script")
 
--- ---- what is a command
+-- Commands in plain form
 
--- a text that begins with no hyphen
+-- The text does not start with a hyphen.
 abbrev pub IsPlain : Text → Type 0
 IsPlain text = starts_with_minus text ≡ false
 
--- the options that say how large a broker is, in decimal, before the other words
+-- The options for the size of a broker, in decimal, followed by other words.
 abbrev pub size_words : ℕ → ℕ → ℕ → List Text → List Text
 size_words lanes shards limit rest =
     codes "--lanes" ∷ decimal lanes ∷ codes "--shards" ∷ decimal shards ∷ codes "--limit" ∷ decimal limit ∷ rest
 
--- the words of a command with options, written out in the order of its help
+-- The words of a `kernel` command, with all options in the order of its help.
 pub record IsKernelForm (words : List Text) : Type 0 where
   pub directory : Text
   pub lanes : ℕ
@@ -171,7 +175,8 @@ pub record IsTabForm (words : List Text) : Type 0 where
   pub plain : IsPlain socket × IsPlain script
   pub spelled : words ≡ codes "tab" ∷ codes "--socket" ∷ socket ∷ script ∷ []
 
--- the words behind the program's name: none, a subcommand's name alone, or one with its options written out
+-- The words after the program's name: none, a subcommand's name alone, or a subcommand with all its
+-- options.
 abbrev pub IsPlainForm : List Text → Type 0
 IsPlainForm words = (words ≡ []) ⊎ ((words ≡ codes "desk" ∷ []) ⊎ ((words ≡ codes "sim" ∷ [])
     ⊎ (IsKernelForm words ⊎ (IsBrokerForm words ⊎ IsTabForm words))))

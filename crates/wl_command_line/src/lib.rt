@@ -1,4 +1,5 @@
-//! The command line of `wlb`: what its words mean, in the grammar of clap's simple commands.
+//! The command line of `wlb`: the meaning of its arguments, in the grammar of clap's simple
+//! commands.
 #![tactic(auto)]
 
 pub mod command;

@@ -1,4 +1,4 @@
-//! Reading the words of the command line.
+//! Parsing of the command line.
 
 ghost use Rattle.std.specs.Prelude.{◌≡◌, ◌≢◌, [], codes, map, IfOk, IfErr, Some};
 ghost use Rattle.std.specs.Option.{ForSome};
@@ -16,17 +16,21 @@ use clap::{Arg, ArgMatches, Command, value_parser};
 use std::alloc::{AllocError, Global};
 use wl_locked::{LANE_LIMIT, SHARD_LIMIT, STEP_LIMIT};
 
-/// Reads the words, the program's name first. With none behind it the desk is meant.
+/// Parses the command line, whose first word is the program's name. Returns `Desk` if there are no
+/// other words.
+///
+/// Fails with `Usage` if the words are not a command or ask for help, and with `Memory` if out of
+/// memory.
 pub fn line(alloc: Global, words: &[String]) -> Result<Line, LineFault>
-    // The line is what clap's subcommand means with its values,
+    // The line is the meaning of clap's subcommand and its values.
     ensures meant { IfOk result (IsMeant (map string_bytes words.now)) }
-    // and its numbers are within their limits;
+    // All numbers are within their limits.
     ensures ranges { IfOk result IsInRange }
-    // what is a command in its plain form is refused only when out of memory,
+    // A command in its plain form is refused only if memory runs out.
     ensures command { IfErr result (λ e. IsCommand (map string_bytes words.now) → e ≡ LineFault.Memory) }
-    // what the command line's grammar refuses is no line,
+    // Words that the grammar refuses are never accepted.
     ensures refused { IfOk result (λ _. fault_of command_line (map string_bytes words.now) ≡ []) }
-    // and there is something to print only where the grammar finds a fault.
+    // A usage message is returned only if the grammar finds a fault.
     ensures usage { IfErr result (λ e.
         e ≢ LineFault.Memory → fault_of command_line (map string_bytes words.now) ≢ []) }
 {
@@ -36,7 +40,7 @@ pub fn line(alloc: Global, words: &[String]) -> Result<Line, LineFault>
     }
 }
 
-// ---- the grammar
+// Grammar
 
 fn program<'a>(alloc: Global) -> Result<Command<'a>, AllocError>
     ensures { IfOk result (λ program. app_of program ≡ command_line) }
@@ -98,7 +102,7 @@ fn tab<'a>(alloc: Global) -> Result<Command<'a>, AllocError>
         .arg(script(alloc))
 }
 
-/// The command with the options that say how large a broker is.
+/// Adds the options for the size of a broker to a command.
 fn with_size<'a>(alloc: Global, command: Command<'a>) -> Result<Command<'a>, AllocError>
     ensures { (app : App) → HasGrammar app command.entry → IfOk result (HasGrammar (with_size app)) }
 {
@@ -151,21 +155,21 @@ fn script<'a>(alloc: Global) -> Arg<'a>
     )
 }
 
-/// A required argument by its place.
+/// Returns a required positional argument.
 fn placed<'a>(alloc: Global, id: &'a str, value_name: &'a str) -> Arg<'a>
     ensures { HasRule (placed id.entry.now) result }
 {
     Arg::new(alloc, id).value_name(value_name).required(true)
 }
 
-/// A required option with a text.
+/// Returns a required option with a text value.
 fn text_option<'a>(alloc: Global, id: &'a str, value_name: &'a str) -> Arg<'a>
     ensures { HasRule (text_option id.entry.now) result }
 {
     placed(alloc, id, value_name).long(id)
 }
 
-/// A required option with a number that the parser takes.
+/// Returns a required option with a number value.
 fn number_option<'a>(
     alloc: Global,
     id: &'a str,
@@ -177,9 +181,9 @@ fn number_option<'a>(
     text_option(alloc, id, value_name).value_parser(parser)
 }
 
-// ---- what the words mean
+// Meaning of the words
 
-/// What the subcommand that clap found means with its values.
+/// Returns the line for the subcommand that clap found and its values.
 fn line_of(alloc: Global, matches: &ArgMatches<'_>) -> Result<Line, AllocError>
     requires { ForSome (subcommand_rows_of matches.now) (λ found. GivesAll found.0 found.1) }
     ensures meant { IfOk result (Means (subcommand_rows_of matches.now)) }
@@ -247,7 +251,7 @@ fn tab_line(alloc: Global, values: &ArgMatches<'_>) -> Result<Line, AllocError>
     })
 }
 
-/// The text of an id, a copy.
+/// Returns a copy of the text of an argument.
 fn text(alloc: Global, values: &ArgMatches<'_>, id: &str) -> Result<String, AllocError>
     requires { GivesText (values_of values.now) id.now }
     ensures { IfOk result (HasText (values_of values.now) id.now) }
@@ -255,7 +259,7 @@ fn text(alloc: Global, values: &ArgMatches<'_>, id: &str) -> Result<String, Allo
     String::from_str(alloc, values.get_str(id).unwrap())
 }
 
-/// The number of an id, of 16 bits.
+/// Returns the 16-bit number of an argument.
 fn short_number(values: &ArgMatches<'_>, id: &str) -> u16
     requires { GivesNumber (values_of values.now) id.now u16.MAX }
     ensures { HasNumber (values_of values.now) id.now result }
@@ -263,7 +267,7 @@ fn short_number(values: &ArgMatches<'_>, id: &str) -> u16
     values.get_one::<u16>(id).unwrap()
 }
 
-/// The number of an id, of 32 bits.
+/// Returns the 32-bit number of an argument.
 fn long_number(values: &ArgMatches<'_>, id: &str) -> u32
     requires { GivesNumber (values_of values.now) id.now u32.MAX }
     ensures { HasNumber (values_of values.now) id.now result }
@@ -271,9 +275,10 @@ fn long_number(values: &ArgMatches<'_>, id: &str) -> u32
     values.get_one::<u32>(id).unwrap()
 }
 
-// ---- faults
+// Faults
 
-/// What clap has to say, or that it lacked memory.
+/// Converts clap's error into a usage message. Returns `Memory` if clap or the conversion ran out
+/// of memory.
 fn line_fault(alloc: Global, error: &clap::Error) -> LineFault
     ensures { kind_of error.now ≡ ErrorKind.OutOfMemory → result ≡ LineFault.Memory }
 {

@@ -1,28 +1,28 @@
--- Tests, what stands in a list, and what becomes of lists by what stands in them.
+-- Lemmas on tests, on membership in lists, and on lists with given elements.
 use Rattle.std.proofs.Common.{◌≡◌, ◌⊎◌, inl, inr, ⊎_elim, ℕ, zero, suc, ◌<◌, Bool, true, false, cond, List, [], ◌∷◌, ◌++◌, ◌&&◌, length, map, filter, get_or, refl, sym, ap, ap₂, ◌∙◌, subst, arith}
 use Rattle.std.specs.List.{list_any, list_all}
 use Rattle.std.proofs.lemmas.Bool.{false≢true, cond_both, cond-true, cond-false, and_parts, or_cases}
 use Rattle.wl_draft.specs.Membership.{In, Here, Later}
 
--- ---- tests
+-- Tests
 
 pub apart : {b : Bool} → {A : Type 0} → b ≡ true → b ≡ false → A
 apart e f = absurd (false≢true (sym f ∙ e))
 
--- a choice has what both sides have
+-- A property of both alternatives is a property of the choice between them.
 pub either : {A : Type 0} (P : A → Type 0) (b : Bool) (x y : A) → (b ≡ true → P x) → (b ≡ false → P y) → P (cond b x y)
 either P b x y f g = cond_both b x y P f g
 
--- a statement on a test, by cases
+-- A statement about a test is proved by cases on the test.
 pub by_test : (P : Bool → Type 0) (b : Bool) → (b ≡ true → P true) → (b ≡ false → P false) → P b
 by_test P true y n = y refl
 by_test P false y n = n refl
 
--- a choice by the same test of what a function makes of the two
+-- A function commutes with a choice if both choices take the same test.
 pub along : {A B : Type 0} (F : A → B) (c d : Bool) (x y : B) (u v : A) → c ≡ d → (d ≡ true → x ≡ F u) → (d ≡ false → y ≡ F v) → cond c x y ≡ F (cond d u v)
 along F c d x y u v e g h = ap (λ z. cond z x y) e ∙ by_test (λ z. cond z x y ≡ F (cond z u v)) d g h
 
--- ---- membership
+-- Membership
 
 pub In-nil : {X : Type 0} {x : X} → In x [] → ⊥
 In-nil h = elim h [ ]
@@ -79,7 +79,7 @@ In-get_or [] n d x lt e = absurd (omega arith)
 In-get_or (y ∷ ys) zero d x lt e = In-head (sym e)
 In-get_or (y ∷ ys) (suc n) d x lt e = Later (In-get_or ys n d x (omega arith) e)
 
--- ---- tests over lists
+-- Tests over lists
 
 pub list_any-In : {X : Type 0} (p : X → Bool) (xs : List X) → list_any p xs ≡ true → (x : X) × In x xs × (p x ≡ true)
 list_any-In p [] h = apart h refl
@@ -95,13 +95,13 @@ pub all-In : {X : Type 0} (p : X → Bool) (xs : List X) → ((x : X) → In x x
 all-In p [] h = refl
 all-In p (x ∷ xs) h = ap₂ ◌&&◌ (h x Here) (all-In p xs (λ y i. h y (Later i)))
 
--- ---- lists
+-- Lists
 
 pub map-same : {X Y : Type 0} (g h : X → Y) (xs : List X) → ((x : X) → In x xs → g x ≡ h x) → map g xs ≡ map h xs
 map-same g h [] e = refl
 map-same g h (x ∷ xs) e = ap₂ ◌∷◌ (e x Here) (map-same g h xs (λ y i. e y (Later i)))
 
--- two tests in either order
+-- Two filters commute at one more element.
 filter-swap_step : {X : Type 0} (b c : Bool) (x : X) (us vs : List X) (p q : X → Bool) → p x ≡ b → q x ≡ c → filter p vs ≡ filter q us → filter p (cond c (x ∷ vs) vs) ≡ filter q (cond b (x ∷ us) us)
 filter-swap_step true true x us vs p q e f h = cond-true _ _ _ e ∙ ap (λ ws. x ∷ ws) h ∙ sym (cond-true _ _ _ f)
 filter-swap_step true false x us vs p q e f h = h ∙ sym (cond-false _ _ _ f)

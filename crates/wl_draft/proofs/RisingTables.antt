@@ -1,4 +1,5 @@
--- Tables whose numbers rise: what a put, a removal and a filter make of them, and which rows are found.
+-- Tables with rising numbers: the effect of a put, a removal and a filter, and the rows that a
+-- lookup finds.
 use Rattle.std.proofs.Common.{◌≡◌, ◌≢◌, ◌⊎◌, inl, inr, ⊎_elim, ℕ, ◌+◌, ◌<◌, ◌≤◌, Bool, true, false, not, cond, eqb, ltb, [], ◌∷◌, map, filter, Some, None, refl, sym, ap, ◌∙◌, subst, arith}
 use Rattle.std.specs.Prelude.{◌==◌, nat_lt}
 use Rattle.std.proofs.lemmas.Bool.{ne_eqb, eq-eqb, eqb-true, eqb-false, ltb-true, ltb-false, lt-ltb, cond-true, cond-false}
@@ -11,7 +12,7 @@ use Rattle.wl_draft.specs.Tables.{Table, find, put, Rises, without_row}
 use Rattle.wl_draft.specs.Membership.{In, Here, Later}
 use Rattle.wl_draft.proofs.Membership.{either, In-nil, In-cons_cases, In-head}
 
--- ---- numbers that rise
+-- Rising numbers
 
 pub Rises-from : {X : Type 0} (least more : ℕ) (rows : Table X) → least ≤ more → Rises more rows → Rises least rows
 Rises-from least more [] le r = tt
@@ -43,7 +44,7 @@ Rises-map f least (p ∷ ps) r = (r.0, Rises-map f (p.0 + 1) ps r.1)
 pub Rises-without : {X : Type 0} (k least : ℕ) (ps : Table X) → Rises least ps → Rises least (without_row k ps)
 Rises-without k = Rises-filter (λ p. not (eqb p.0 k))
 
--- a row below the first is not there
+-- A number below the first row has no row.
 pub find_below : {X : Type 0} (k least : ℕ) (ps : Table X) → Rises least ps → k < least → find ps k ≡ None
 find_below k least [] r h = refl
 find_below k least (p ∷ ps) r h =
@@ -56,7 +57,7 @@ put-below k x (p ∷ ps) r =
     let l : k + 1 ≤ p.0 = r.0 in
     cond-false _ _ _ (ne_eqb p.0 k (λ e. omega arith)) ∙ cond-true _ _ _ (lt-ltb k p.0 (omega arith))
 
--- ---- which rows are found
+-- Rows that a lookup finds
 
 pub put-cases : {X : Type 0} {q : ℕ × X} (k : ℕ) (x : X) (ps : Table X) → In q (put k x ps) → (q ≡ (k, x)) ⊎ In q ps
 put-cases k x [] i = In-cons_cases i
@@ -82,7 +83,7 @@ In-below m k x (p ∷ ps) r i = ⊎_elim
     (λ j. let o : m ≤ p.0 = r.0 in let q : p.0 + 1 ≤ k = In-below (p.0 + 1) k x ps r.1 j in omega arith)
     (In-cons_cases i)
 
--- each row is the one that is found
+-- A lookup finds each row of the table.
 pub In-find : {X : Type 0} (m k : ℕ) (x : X) (ps : Table X) → Rises m ps → In (k, x) ps → find ps k ≡ Some x
 In-find m k x [] r i = absurd (In-nil i)
 In-find m k x (p ∷ ps) r i = ⊎_elim
@@ -92,12 +93,12 @@ In-find m k x (p ∷ ps) r i = ⊎_elim
     cond-false _ _ _ (ne_eqb p.0 k n) ∙ In-find (p.0 + 1) k x ps r.1 j)
     (In-cons_cases i)
 
--- ---- a row taken out
+-- Removing a row
 
 without_none_as : {X : Type 0} (k : ℕ) (p : ℕ × X) (ps : Table X) → (find ps k ≡ None → without_row k ps ≡ ps) → find (p ∷ ps) k ≡ None → without_row k (p ∷ ps) ≡ p ∷ ps
 without_none_as k p ps below none = grind (arith, nat_tests)
 
--- nothing is taken out where there is no row
+-- Removing a number without a row changes nothing.
 pub without_none : {X : Type 0} (k : ℕ) (ps : Table X) → find ps k ≡ None → without_row k ps ≡ ps
 without_none k [] none = refl
 without_none k (p ∷ ps) none = without_none_as k p ps (without_none k ps) none
@@ -105,7 +106,7 @@ without_none k (p ∷ ps) none = without_none_as k p ps (without_none k ps) none
 removed_as : {X : Type 0} (k : ℕ) (p : ℕ × X) (ps : Table X) → (p.0 ≡ k → without_row k ps ≡ ps) → remove_entry (is_at (nat_cmp k)) ps ≡ without_row k ps → remove_entry (is_at (nat_cmp k)) (p ∷ ps) ≡ without_row k (p ∷ ps)
 removed_as k p ps here below = grind (arith, nat_tests)
 
--- what a `remove` leaves
+-- A `remove` of the map leaves the rows of the other numbers.
 pub remove_entry-without : {X : Type 0} (k least : ℕ) (ps : Table X) → Rises least ps → remove_entry (is_at (nat_cmp k)) ps ≡ without_row k ps
 remove_entry-without k least [] r = refl
 remove_entry-without k least (p ∷ ps) r =
@@ -122,7 +123,7 @@ pub find-without : {X : Type 0} (k j : ℕ) (ps : Table X) → find (without_row
 find-without k j [] = either_same None (eqb k j)
 find-without k j (p ∷ ps) = find-without_as k j p ps (find-without k j ps)
 
--- ---- a row written where it is
+-- Overwriting a row
 
 pub written_same : {X : Type 0} (k : ℕ) (w x : X) (ps qs : Table X) → Some x ≡ lookup (is_at (nat_cmp k)) ps → qs ≡ set_value (is_at (nat_cmp k)) ps w → w ≡ x → qs ≡ ps
 written_same k w x ps qs e h same = h ∙ set_value_same (is_at (nat_cmp k)) ps w (sym e ∙ ap Some (sym same))

@@ -1,7 +1,7 @@
--- What stands in a list.
+-- Membership in a list.
 use Rattle.std.specs.Prelude.{List, ◌∷◌}
 
--- an element stands in a list
+-- An element is in a list if it is the head or is in the tail.
 pub data In {X : Type 0} (x : X) : List X → Type 0 where
   Here : {xs : List X} → In x (x ∷ xs)
   Later : {y : X} {xs : List X} → In x xs → In x (y ∷ xs)

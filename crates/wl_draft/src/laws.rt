@@ -1,11 +1,11 @@
-//! What settling means, as laws over its definition.
+//! Law of settling, stated over its definition.
 
 ghost use Rattle.wl_draft.specs.Locks.{Locks, settle};
 ghost use Rattle.wl_draft.specs.Settling.{IsSettled, GrantsWhatIsFree, GrantsPrefixes, MovesGrants, SettlesByName};
 
-/// Settling in the draft's words: it grants, of each name, a prefix of the waiting requests, each free when those
-/// before it are held, and stops only where no request can be granted. The rest waits on, and names do not touch each
-/// other.
+/// States the effect of settling. Of each name, it grants a prefix of the waiting requests, each
+/// free when the ones before it are held. It leaves no grantable request waiting. The other
+/// requests keep their order, and the result for one name does not depend on other names.
 pub fn law_settling()
     ensures settled { (m : Locks) → IsSettled (settle m) }
     ensures free { (m : Locks) → GrantsWhatIsFree m }

@@ -1,5 +1,5 @@
-//! The lock manager of the Web Locks API on plain data: names, modes, the rows of held locks in the order of granting,
-//! and the requests that wait, in the order of queueing.
+//! Lock manager of the Web Locks API on plain data. It has names, modes, the held locks in the
+//! order of granting, and the waiting requests in the order of queueing.
 #![tactic(auto)]
 
 pub mod laws;
@@ -15,5 +15,5 @@ pub use mode::Mode;
 pub use name::Name;
 pub use row::{Entry, Grant, Row, Standing};
 
-/// Out of memory.
+/// Error of a failed allocation.
 pub type Memory = std::alloc::AllocError;

@@ -1,4 +1,4 @@
-//! What the manager does to its two lists of rows.
+//! Operations of the lock manager on its two lists of rows.
 
 ghost use Rattle.std.specs.Prelude.{◌≡◌, ◌+◌, ◌≤◌, [], ◌++◌, IfOk, OnOk, length, vec_len, vec_capacity};
 ghost use Rattle.wl_draft.specs.Locks.{is_named, is_free, is_grantable, granted, left_waiting, grants, has_pair, without, without_client, count_of, grantable_behind, held_of, waiting_of};
@@ -21,7 +21,7 @@ fn is_free(name: &Name, mode: Mode, held: &[Row]) -> bool
         .all(|row| !(row.name == *name && row.mode.conflicts(mode)))
 }
 
-// Whether the row can be granted beside these held locks and behind these requests.
+// Returns whether the row is grantable, given the held locks and the requests ahead of it.
 #[tactic(auto, unfolding(crate::specs::Locks::is_grantable))]
 pub(crate) fn is_grantable(held: &[Row], ahead: &[Row], row: &Row) -> bool
     ensures { result ≡ is_grantable held.now ahead.now row.now }
@@ -42,7 +42,7 @@ pub(crate) fn count_of(client: u16, rows: &[Row]) -> usize
     rows.iter().filter(|row| row.client == client).count()
 }
 
-// Whether the pair is among the waiting requests and could be granted now.
+// Returns whether the pair is among the waiting requests and is grantable.
 pub(crate) fn is_grantable_pair(held: &[Row], waiting: &[Row], client: u16, number: u32) -> bool
     ensures { result ≡ grantable_behind held.now [] client number waiting.now }
 {
@@ -70,7 +70,7 @@ pub(crate) fn remove_client(client: u16, rows: &mut Vec<Row>)
     rows.retain(|row| row.client != client);
 }
 
-// Makes room to grant `count` requests: in `held`, and in the list of grants that it answers.
+// Reserves capacity for `count` grants in `held`, and in the list of grants that it returns.
 pub(crate) fn reserve_grants(
     alloc: Global,
     held: &mut Vec<Row>,
@@ -85,7 +85,7 @@ pub(crate) fn reserve_grants(
     Vec::with_capacity(alloc, count)
 }
 
-// Grants what can be granted, in the order of queueing.
+// Grants each grantable request, in the order of queueing.
 pub(crate) fn settle(held: &mut Vec<Row>, waiting: &mut Vec<Row>, newly: &mut Vec<Grant>)
     requires held_room { vec_len held.old + vec_len waiting.old ≤ vec_capacity held.old }
     requires newly_room { vec_len newly.old + vec_len waiting.old ≤ vec_capacity newly.old }
@@ -106,7 +106,8 @@ pub(crate) fn settle(held: &mut Vec<Row>, waiting: &mut Vec<Row>, newly: &mut Ve
     }
 }
 
-/// The rows of a client's report: those that are held, and those that wait.
+/// Returns the rows of a client's report: the held ones, and the waiting ones. Fails if out of
+/// memory.
 pub fn rows_of(
     alloc: Global,
     client: u16,

@@ -1,4 +1,4 @@
-//! The lock manager.
+//! Lock manager that keeps its locks in two plain lists.
 
 ghost use Rattle.std.specs.Prelude.{◌≡◌, [], ◌∷◌, IfOk, OnOk, OnErr, length, if◌then◌else◌};
 ghost use Rattle.wl_draft.specs.declared.row.Standing.TheVariants.{Absent};
@@ -11,8 +11,8 @@ use crate::row::{Entry, Grant, Row, Standing};
 use std::alloc::{AllocError, Global};
 use std::marker::Model;
 
-/// The locks of one partition, in two plain lists. Contracts see it as these lists. A call asks for all its memory
-/// before it changes them.
+/// The locks of one partition, in two plain lists. Contracts see it as these lists. Each call
+/// allocates all its memory before it changes them.
 #[derive(Drop)]
 pub struct Manager {
     alloc: Global,
@@ -29,7 +29,7 @@ impl Model for Manager {
 }
 
 impl Manager {
-    /// A manager with no lock.
+    /// Returns a manager without locks.
     pub fn new(alloc: Global) -> Manager
         ensures { result ≡ no_locks }
     {
@@ -40,7 +40,8 @@ impl Manager {
         }
     }
 
-    /// Queues a request, and settles. Answers what is granted, in the order of queueing. The pair is new.
+    /// Queues a request, and settles. The pair must be new. Returns the grants in the order of
+    /// queueing. Fails if out of memory.
     #[tactic(auto, unfolding(crate::specs::Locks::settle, crate::specs::Locks::newly, crate::specs::Locks::queued))]
     pub fn request(
         &mut self,
@@ -70,7 +71,8 @@ impl Manager {
         Ok(granted)
     }
 
-    /// Grants a lock if that can be done now, and else does nothing. Answers the pair if it is granted. The pair is new.
+    /// Grants a lock if it is grantable, and otherwise does nothing. The pair must be new. Returns
+    /// the pair if it is granted. Fails if out of memory.
     #[tactic(auto, unfolding(crate::specs::Locks::probed))]
     pub fn probe(
         &mut self,
@@ -100,7 +102,8 @@ impl Manager {
         Ok(granted)
     }
 
-    /// Takes a held lock out, and settles. Where the pair is not held, only settles. Answers what is granted.
+    /// Releases a held lock, and settles. If the pair holds no lock, it only settles. Returns the
+    /// grants. Fails if out of memory.
     #[tactic(auto, unfolding(crate::specs::Locks::settle, crate::specs::Locks::newly, crate::specs::Locks::released))]
     pub fn release(&mut self, client: u16, number: u32) -> Result<Vec<Grant>, AllocError>
         ensures grants { IfOk result
@@ -114,7 +117,7 @@ impl Manager {
         Ok(granted)
     }
 
-    /// Takes a pair out, held or waiting, and settles. Answers what is granted.
+    /// Removes a pair's lock or request, and settles. Returns the grants. Fails if out of memory.
     #[tactic(auto, unfolding(crate::specs::Locks::settle, crate::specs::Locks::newly, crate::specs::Locks::aborted))]
     pub fn abort(&mut self, client: u16, number: u32) -> Result<Vec<Grant>, AllocError>
         ensures grants { IfOk result
@@ -129,7 +132,8 @@ impl Manager {
         Ok(granted)
     }
 
-    /// Takes out all that the client has, and settles if `settle` says so. Answers what is granted.
+    /// Removes all locks and requests of a client, and settles if `settle` is set. Returns the
+    /// grants. Fails if out of memory.
     #[tactic(auto, unfolding(crate::specs::Locks::settle, crate::specs::Locks::newly, crate::specs::Locks::ended))]
     pub fn end_client(&mut self, client: u16, settle: bool) -> Result<Vec<Grant>, AllocError>
         ensures grants { IfOk result
@@ -146,7 +150,8 @@ impl Manager {
         Ok(granted)
     }
 
-    /// Appends the entries of a client's report, and settles if `settle` says so. Answers what is granted.
+    /// Appends the entries of a client's report, and settles if `settle` is set. Returns the
+    /// grants. Fails if out of memory.
     #[tactic(auto, unfolding(crate::specs::Locks::settle, crate::specs::Locks::newly, crate::specs::Locks::restored))]
     pub fn restore(
         &mut self,
@@ -173,14 +178,14 @@ impl Manager {
         Ok(granted)
     }
 
-    /// Whether the pair waits and could be granted now.
+    /// Returns whether the pair is waiting and is grantable.
     pub fn grantable(&self, client: u16, number: u32) -> bool
         ensures { result ≡ grantable self.now client number }
     {
         lists::is_grantable_pair(&self.held, &self.waiting, client, number)
     }
 
-    /// Where the pair stands.
+    /// Returns whether the pair's lock is held, waiting or absent.
     pub fn state(&self, client: u16, number: u32) -> Standing
         ensures { result ≡ standing self.now client number }
     {
@@ -193,21 +198,23 @@ impl Manager {
         }
     }
 
-    /// How many locks the client holds or waits for.
+    /// Returns the number of locks that the client holds or waits for.
     pub fn live(&self, client: u16) -> usize
         ensures { result ≡ live self.now client }
     {
         lists::count_of(client, &self.held) + lists::count_of(client, &self.waiting)
     }
 
-    /// How many requests wait: no call grants more of them.
+    /// Returns the number of waiting requests, which is the most that one release or abort can
+    /// grant.
     pub fn waiting(&self) -> usize
         ensures { result ≡ length self.now.waiting }
     {
         self.waiting.len()
     }
 
-    /// Copies of the held locks, in the order of granting, and of the waiting requests, in the order of queueing.
+    /// Returns copies of the held locks, in the order of granting, and of the waiting requests, in
+    /// the order of queueing. Fails if out of memory.
     pub fn snapshot(&self) -> Result<(Vec<Row>, Vec<Row>), AllocError>
         ensures { IfOk result (λ s. (s.0.items ≡ self.now.held) × (s.1.items ≡ self.now.waiting)) }
     {

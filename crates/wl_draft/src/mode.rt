@@ -1,17 +1,18 @@
+//! Mode of a lock.
 ghost use Rattle.std.specs.Prelude.{◌≡◌};
 ghost use Rattle.wl_draft.specs.Locks.{conflict};
 
-/// How a lock is held: the LockMode of the Web Locks API.
+/// The mode of a lock: LockMode of the Web Locks API.
 #[derive(Clone, Copy, Debug, PartialEq, Eq)]
 pub enum Mode {
-    /// Many may hold it at once.
+    /// Several clients may hold the lock at the same time.
     Shared,
-    /// Its holder holds it alone.
+    /// Only one client may hold the lock.
     Exclusive,
 }
 
 impl Mode {
-    /// Whether locks of one name in these two modes keep each other out.
+    /// Returns whether two locks of one name in these modes cannot both be held.
     pub fn conflicts(self, other: Mode) -> bool
         ensures { result ≡ conflict self other }
     {

@@ -1,3 +1,4 @@
+//! Name of a lock or of a channel.
 ghost use Rattle.std.specs.Prelude.{◌≡◌, IfOk, bytes_eq};
 ghost use Rattle.std.specs.String.{string_bytes};
 ghost use Rattle.std.specs.Str.{IsUtf8};
@@ -7,7 +8,7 @@ ghost use Rattle.std.proofs.Common.{rules};
 use std::alloc::{AllocError, Global};
 use std::marker::Model;
 
-/// The name of a lock or of a channel: any text. Contracts see it as its bytes.
+/// The name of a lock or of a channel, which may be any text. Contracts see it as its bytes.
 #[derive(Clone, Debug, Drop)]
 pub struct Name {
     text: String,
@@ -23,19 +24,21 @@ impl Model for Name {
 }
 
 impl Name {
+    /// Wraps a text. Does not allocate.
     pub fn new(text: String) -> Name
         ensures { result ≡ string_bytes text }
     {
         Name { text }
     }
 
-    /// The text itself, which takes no memory.
+    /// Returns the text. Does not allocate.
     pub fn into_string(self) -> String
         ensures { string_bytes result ≡ self }
     {
         self.text
     }
 
+    /// Returns the name as a string slice.
     pub fn as_str(&self) -> &str
         ensures value { result.now ≡ self.now }
         ensures utf8 { IsUtf8 self.now }
@@ -43,7 +46,7 @@ impl Name {
         self.text.as_str()
     }
 
-    /// An equal name, in memory of its own.
+    /// Returns a copy. Fails if out of memory.
     pub fn copy(&self, _alloc: Global) -> Result<Name, AllocError>
         ensures { IfOk result (λ copy. copy ≡ self.now) }
     {

@@ -1,3 +1,4 @@
+//! Rows, report entries, grants and standings of locks.
 ghost use Rattle.std.specs.Prelude.{◌≡◌, IfOk};
 ghost use Rattle.wl_draft.specs.Locks.{is_pair};
 
@@ -5,26 +6,26 @@ use crate::mode::Mode;
 use crate::name::Name;
 use std::alloc::{AllocError, Global};
 
-/// A lock of the manager: held, or waited for.
+/// A held lock or a waiting request.
 #[derive(Clone, Debug, Drop, PartialEq, Eq)]
 pub struct Row {
-    /// Whose it is.
+    /// The client that requested the lock.
     pub client: u16,
-    /// The client's number of the command that asked for it.
+    /// The client's number of the command that requested the lock.
     pub number: u32,
     pub name: Name,
     pub mode: Mode,
 }
 
 impl Row {
-    /// Whether it is the lock of this pair.
+    /// Returns whether the row belongs to the pair.
     pub fn is_pair(&self, client: u16, number: u32) -> bool
         ensures { result ≡ is_pair client number self.now }
     {
         self.client == client && self.number == number
     }
 
-    /// An equal row, in memory of its own.
+    /// Returns a deep copy. Fails if out of memory.
     pub fn copy(&self, _alloc: Global) -> Result<Row, AllocError>
         ensures { IfOk result (λ copy. copy ≡ self.now) }
     {
@@ -32,18 +33,18 @@ impl Row {
     }
 }
 
-/// A lock of one client as it reports it.
+/// A lock in a client's report.
 #[derive(Clone, Debug, Drop, PartialEq, Eq)]
 pub struct Entry {
     pub number: u32,
-    /// Whether it is held; else it is waited for.
+    /// Whether the lock is held. If not, its request is waiting.
     pub held: bool,
     pub mode: Mode,
     pub name: Name,
 }
 
 impl Entry {
-    /// An equal entry, in memory of its own.
+    /// Returns a deep copy. Fails if out of memory.
     pub fn copy(&self, _alloc: Global) -> Result<Entry, AllocError>
         ensures { IfOk result (λ copy. copy ≡ self.now) }
     {
@@ -51,7 +52,7 @@ impl Entry {
     }
 }
 
-/// A lock that was granted just now.
+/// A lock that a call has granted.
 #[derive(Clone, Copy, Debug, PartialEq, Eq)]
 pub struct Grant {
     pub client: u16,
@@ -69,7 +70,7 @@ impl From<&Row> for Grant {
     }
 }
 
-/// Where a client's number stands with the manager.
+/// State of a client's command number at the manager.
 #[derive(Clone, Copy, Debug, PartialEq, Eq)]
 pub enum Standing {
     Held,

@@ -1,4 +1,4 @@
--- How long the bodies of frames are.
+-- Lengths of the bodies of frames.
 use Rattle.std.proofs.Common.{◌≡◌, ℕ, ◌*◌, ◌≤◌, Bool, true, false, List, [], ◌∷◌, length, refl, arith, length-append}
 use Rattle.std.specs.List.{flat_map, AllByRecursion}
 use Rattle.wl_draft.specs.declared.mode.Mode.{Mode}
@@ -25,7 +25,7 @@ use Rattle.wl_grammar.specs.declared.frame.Frame.TheVariants as frame
 use Rattle.wl_grammar.specs.Grammar.{spelled_mode, spelled_flag, spelled_held, spelled_outcome, operation, IsOperation, entry, IsEntry, snapshot_entry, IsSnapshotEntry, place, command, IsCommand, report, IsReport, report_part, IsReportPart, post, IsPost, hello, answer, snapshot, IsSnapshot, heard, IsHeard, welcome, pair_welcome, upward, IsUpward, downward, IsDownward, stamped, start, addressed, dead, body, IsWellFormed}
 use Rattle.wl_encoding.specs.Lengths.{IsLength}
 
--- ---- fields
+-- Fields
 
 length-spelled_mode : (mode : Mode) → length (spelled_mode mode) ≡ 1
 length-spelled_mode Shared = refl
@@ -52,9 +52,9 @@ operation_within (op.Release number) h = omega arith
 operation_within (op.Abort number) h = omega arith
 operation_within op.Query h = omega arith
 
--- ---- lists of entries
+-- Lists of entries
 
--- each entry has at most 262 bytes
+-- Entries of at most 262 bytes each take at most 262 bytes times their number.
 entries_within : {X : Type 0} (f : X → List ℕ) (IsX : X → Type 0) → ((x : X) → IsX x → length (f x) ≤ 262)
     → (xs : List X) → AllByRecursion IsX xs → length (flat_map f xs) ≤ 262 * length xs
 entries_within f IsX each [] h = omega arith
@@ -71,7 +71,7 @@ length-places : (places : List (ℕ × ℕ)) → length (flat_map place places) 
 length-places [] = refl
 length-places (p ∷ ps) = omega (arith, length-places ps)
 
--- ---- bodies, an inner one with room for what stands before it
+-- Bodies. An inner body leaves room for the fields of the outer one.
 
 abbrev IsShort : ℕ → Type 0
 IsShort n = (2 ≤ n) × (n ≤ 60000)

@@ -1,8 +1,8 @@
--- The length at the front of a frame.
+-- Length field at the front of a frame.
 use Rattle.std.proofs.Common.{◌≡◌, ℕ, ◌+◌, List, ◌++◌, length, take, drop, refl, sym, ◌∙◌, append_assoc}
 use Rattle.std.proofs.Math.Seq.{take-append_seam, drop-append_seam, drop-append-add}
 
--- a length that is written over four bytes behind the first ones
+-- Overwriting the four zero bytes with the length leaves the bytes before and after them unchanged.
 pub length_set : (old zeros b now new counted : List ℕ) (start : ℕ) → start ≡ length old → length zeros ≡ 4
     → now ≡ (old ++ zeros) ++ b → new ≡ take start now ++ counted ++ drop (start + 4) now → new ≡ old ++ counted ++ b
 length_set old zeros b now new counted start e z whole set =

@@ -1,6 +1,6 @@
--- Prefixes of bytes.
+-- Prefixes of byte strings.
 use Rattle.std.specs.Prelude.{◌≡◌, ℕ, List, ◌++◌}
 
--- these bytes are a prefix of those
+-- The bytes `part` are a prefix of `bytes`.
 abbrev pub IsPrefixOf : List ℕ → List ℕ → Type 0
 IsPrefixOf part bytes = (rest : List ℕ) × (bytes ≡ part ++ rest)

@@ -1,4 +1,4 @@
-//! How each frame is spelled as bytes.
+//! Encoder of frames.
 #![tactic(auto)]
 
 pub mod writing;

@@ -1,4 +1,4 @@
-//! Spelling frames.
+//! Encoder of frames: one function for each field and each body.
 
 ghost use Rattle.std.specs.Prelude.{◌≡◌, ◌≤◌, ◌<◌, ◌+◌, ◌^◌, ◌++◌, ◌∷◌, [], length, take, drop, IfOk, OnOk, OnErr};
 ghost use Rattle.std.specs.List.{flat_map, AllByRecursion};
@@ -19,7 +19,7 @@ use wl_grammar::kinds::{
     REPORT_PART, SECOND_VERSION, SNAPSHOT, STAMPED, START, WELCOME,
 };
 
-/// The one spelling of a frame: the length of its body and the body.
+/// Returns the encoding of a frame: the length of its body, and the body. Fails if out of memory.
 pub fn encode(alloc: Global, frame: &Frame) -> Result<Vec<u8>, AllocError>
     requires { IsWellFormed frame.now }
     ensures { IfOk result (λ bytes. bytes.items ≡ spelling frame.now) }
@@ -29,7 +29,7 @@ pub fn encode(alloc: Global, frame: &Frame) -> Result<Vec<u8>, AllocError>
     Ok(bytes)
 }
 
-/// Appends the one spelling of a frame. Where memory is refused, the bytes are as they were.
+/// Appends the encoding of a frame. Fails if out of memory, and then leaves `out` unchanged.
 pub fn encode_into(out: &mut Vec<u8>, frame: &Frame) -> Result<(), AllocError>
     requires { IsWellFormed frame.now }
     ensures spelled { OnOk result (out.new.items ≡ out.old.items ++ spelling frame.now) }
@@ -43,7 +43,7 @@ pub fn encode_into(out: &mut Vec<u8>, frame: &Frame) -> Result<(), AllocError>
     put
 }
 
-/// Appends the spelling of a frame, or some of it.
+/// Appends the encoding of a frame. If out of memory, it may have appended some of it.
 #[tactic(auto, using(crate::proofs::Framing::length_set), unfolding(wl_grammar::specs::Grammar::spelling))]
 fn put_frame(out: &mut Vec<u8>, frame: &Frame) -> Result<(), AllocError>
     requires { IsWellFormed frame.now }
@@ -51,7 +51,7 @@ fn put_frame(out: &mut Vec<u8>, frame: &Frame) -> Result<(), AllocError>
     ensures kept { IsPrefixOf out.old.items out.new.items }
 {
     let start = out.len();
-    // The length is known once the body stands behind it.
+    // The length is known only after the body is written.
     out.extend_from_slice(&[0; 4])?;
     put_body(out, frame)?;
     let length = (out.len() - start - 4) as u32;
@@ -59,7 +59,7 @@ fn put_frame(out: &mut Vec<u8>, frame: &Frame) -> Result<(), AllocError>
     Ok(())
 }
 
-/// Writes the length over the four bytes from this place on.
+/// Overwrites the four bytes at `start` with the length.
 fn set_length(bytes: &mut [u8], start: usize, count: u32)
     requires { start + 4 ≤ length bytes.old }
     ensures { bytes.new ≡ take start bytes.old ++ u32 count ++ drop (start + 4) bytes.old }
@@ -91,7 +91,7 @@ fn put_body(out: &mut Vec<u8>, frame: &Frame) -> Result<(), AllocError>
     }
 }
 
-// ---- fields
+// Fields
 
 fn put_u16(out: &mut Vec<u8>, number: u16) -> Result<(), AllocError>
     ensures spelled { OnOk result (out.new.items ≡ out.old.items ++ u16 number) }
@@ -107,7 +107,7 @@ fn put_u32(out: &mut Vec<u8>, number: u32) -> Result<(), AllocError>
     out.extend_from_slice(&number.to_be_bytes())
 }
 
-/// The version and the kind of a body.
+/// Appends the version and the kind of a body.
 fn put_kind(out: &mut Vec<u8>, version: u8, kind: u8) -> Result<(), AllocError>
     ensures spelled { OnOk result (out.new.items ≡ out.old.items ++ (version ∷ kind ∷ [])) }
     ensures kept { IsPrefixOf out.old.items out.new.items }
@@ -159,7 +159,7 @@ fn put_outcome(out: &mut Vec<u8>, outcome: Outcome) -> Result<(), AllocError>
     Ok(())
 }
 
-/// Text behind one byte of length.
+/// Appends a text after its length in one byte.
 fn put_short_text(out: &mut Vec<u8>, text: &str) -> Result<(), AllocError>
     requires { length text.now ≤ NAME_LIMIT }
     ensures spelled { OnOk result (out.new.items ≡ out.old.items ++ short_text text.now) }
@@ -169,7 +169,7 @@ fn put_short_text(out: &mut Vec<u8>, text: &str) -> Result<(), AllocError>
     out.extend_from_slice(text.as_bytes())
 }
 
-/// Text or data behind two bytes of length.
+/// Appends text or data after its length in two bytes.
 fn put_long_text(out: &mut Vec<u8>, bytes: &[u8]) -> Result<(), AllocError>
     requires { length bytes.now < 2 ^ 16 }
     ensures spelled { OnOk result (out.new.items ≡ out.old.items ++ long_text bytes.now) }
@@ -179,7 +179,7 @@ fn put_long_text(out: &mut Vec<u8>, bytes: &[u8]) -> Result<(), AllocError>
     out.extend_from_slice(bytes)
 }
 
-// ---- operations and entries
+// Operations and entries
 
 fn put_operation(out: &mut Vec<u8>, asked: &Operation) -> Result<(), AllocError>
     requires { IsOperation asked.now }
@@ -275,7 +275,7 @@ fn put_places(out: &mut Vec<u8>, places: &[(u16, u16)]) -> Result<(), AllocError
     Ok(())
 }
 
-/// A tab and its partition.
+/// Appends a tab and its partition.
 fn put_place(out: &mut Vec<u8>, p: &(u16, u16)) -> Result<(), AllocError>
     ensures spelled { OnOk result (out.new.items ≡ out.old.items ++ place p.now) }
     ensures kept { IsPrefixOf out.old.items out.new.items }
@@ -284,7 +284,7 @@ fn put_place(out: &mut Vec<u8>, p: &(u16, u16)) -> Result<(), AllocError>
     put_u16(out, p.1)
 }
 
-// ---- bodies
+// Bodies
 
 #[tactic(auto, unfolding(wl_grammar::specs::Grammar::command))]
 fn put_command(out: &mut Vec<u8>, c: &Command) -> Result<(), AllocError>

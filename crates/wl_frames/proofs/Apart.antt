@@ -1,4 +1,4 @@
--- No spelling of a frame begins another.
+-- Lemmas on encodings: no encoding of a frame is a prefix of another.
 use Rattle.std.proofs.Common.{◌≡◌, ℕ, List, ◌++◌, length, take, drop, Some, refl, sym, ap, ◌∙◌, arith}
 use Rattle.std.specs.Int.{w32}
 use Rattle.std.proofs.lemmas.List.{take_at, drop_at}
@@ -10,7 +10,7 @@ use Rattle.wl_frames.proofs.Fields.{u32_form}
 use Rattle.wl_frames.proofs.Frames.{one_frame}
 use Rattle.wl_encoding.proofs.BodyLength.{body_length}
 
--- the length and what stands behind it, read from the front of a spelling
+-- Decoding the front of an encoding yields the length and the bytes after it.
 length_read : (f : Frame) (x : List ℕ) → IsWellFormed f → number_at w32 (spelling f ++ x) ≡ Some (length (body f), body f ++ x)
 unfolding spelling
 length_read f x h = u32_form.again (length (body f)) (body f ++ x) (omega (arith, body_length f h)) tt

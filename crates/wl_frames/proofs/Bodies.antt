@@ -1,4 +1,4 @@
--- The forms of the fields of each kind of frame.
+-- Forms of the fields of each kind of frame.
 use Rattle.std.proofs.Common.{◌≡◌, ℕ, ◌+◌, ◌<◌, ◌≤◌, Bool, true, false, not, cond, ltb, eqb, List, [], ◌∷◌, ◌++◌, length, Option, Some, refl, sym, ap, subst, ◌∙◌, append_assoc, arith, inl, inr}
 use Rattle.std.specs.Prelude.{⊤, ◌⊎◌}
 use Rattle.std.specs.List.{flat_map, AllByRecursion}
@@ -27,14 +27,14 @@ use Rattle.wl_frames.specs.Bodies.{request_at, operation_fields_at, operation_at
 use Rattle.wl_frames.proofs.Forms.{IsBytes, Any, Takes, IsForm, bind_some, some_is, then_form, last_form, same_form, tested_form, within, wrapped_again}
 use Rattle.wl_frames.proofs.Fields.{byte_form, u16_form, u32_form, generation_form, tab_form, coded_form, mode_form, flag_form, held_form, channel_form, lock_name_form, data_form, origin_form, list_form}
 
--- ---- commands
+-- Commands
 
 request_form : IsForm (λ (r : Mode × Bool × List ℕ). spelled_mode r.0 ++ (spelled_flag r.1 ++ short_text r.2)) (λ r. ⊤ × (⊤ × (⊤ × IsLockName r.2))) Any request_at
 unfolding request_at
 request_form =
     then_form _ (λ r. r.0) mode_form (λ m. then_form _ (λ r. r.1) flag_form (λ f. last_form (λ r. r.2) (λ n. (m, f, n)) lock_name_form (λ r k. rw (← k.0, ← k.1.0) refl) (λ n. ((refl, (refl, tt)), refl))))
 
--- which way a test went
+-- A choice takes its first value or its second one.
 chosen : {A : Type 0} (b : Bool) (x y z : A) → cond b x y ≡ z → ((b ≡ true) × (x ≡ z)) ⊎ ((b ≡ false) × (y ≡ z))
 chosen true x y z e = inl (refl, e)
 chosen false x y z e = inr (refl, e)
@@ -42,7 +42,7 @@ chosen false x y z e = inr (refl, e)
 abbrev OperationTaken : ℕ → List ℕ → Operation → List ℕ → Type 0
 OperationTaken code bytes o rest = Takes (λ o. operation o) (λ o. IsOperation o) Any (code ∷ bytes) o rest
 
--- the code before the fields
+-- The code of an operation comes before its fields.
 coded : {X : Type 0} {s : X → List ℕ} {F : X → Type 0} {r : List ℕ → Option (X × List ℕ)} (make : X → Operation) (code : ℕ) (b : ℕ) → eqb b code ≡ true → IsForm s F Any r
     → ((x : X) → operation (make x) ≡ code ∷ s x) → ((x : X) → F x → IsOperation (make x))
     → (bytes : List ℕ) (o : Operation) (rest : List ℕ) → IsBytes bytes → within make (r bytes) ≡ Some (o, rest) → OperationTaken b bytes o rest
@@ -115,7 +115,7 @@ command_form =
     (λ c h. record { generation = h.1.0; number = h.1.1.0; operation = h.1.1.1 })
     (λ c h. (tt, (h.generation, (h.number, h.operation))))
 
--- ---- reports
+-- Reports
 
 entry_form : IsForm entry IsEntry Any entry_at
 unfolding entry_at
@@ -155,7 +155,7 @@ report_form =
     (λ r h. record { generation = h.1.0; base = h.1.1.0; count = h.1.1.1.1.0; entries = h.1.1.1.1.1; rise = h.1.1.1.0 })
     (λ r h. (tt, (h.generation, (h.base, (h.rise, (h.count, h.entries))))))
 
--- ---- parts, and parts of reports
+-- Parts, and parts of reports
 
 pair_form : IsForm (λ (p : ℕ × ℕ). u16 p.0 ++ u16 p.1) (λ p. ⊤ × (IsU16 p.0 × IsU16 p.1)) Any pair_at
 pair_form = then_form _ (λ p. p.0) u16_form (λ a. last_form (λ p. p.1) (λ b. (a, b)) u16_form (λ p k. rw (← k.0) refl) (λ b. ((refl, tt), refl)))
@@ -179,7 +179,7 @@ report_part_form =
     (λ r h. record { generation = h.1.0; base = h.1.1.0; part = h.1.1.1.0.1.0; parts = h.1.1.1.0.0; count = h.1.1.1.1.1.0; entries = h.1.1.1.1.1.1; rise = h.1.1.1.1.0 })
     (λ r h. (tt, (h.generation, (h.base, ((h.parts, (h.part, (tt, (omega (arith, h.part, h.parts), omega (arith, h.parts))))), (h.rise, (h.count, h.entries)))))))
 
--- ---- posts
+-- Posts
 
 pub post_form : IsForm (λ p. u32 p.number ++ short_text p.channel ++ long_text p.bytes) IsPost Any post_at
 unfolding post_at
@@ -201,7 +201,7 @@ heard_form =
     (λ x h. record { source = h.1.0; number = h.1.1.0; channel = h.1.1.1.0; bytes = h.1.1.1.1 })
     (λ x h. (tt, (h.source, (h.number, (h.channel, h.bytes)))))
 
--- ---- what a broker tells
+-- Frames from the broker to a tab
 
 pub hello_form : IsForm (λ h. u32 h.generation) IsHello Any hello_at
 unfolding hello_at
@@ -246,7 +246,7 @@ snapshot_form =
     (λ s h. record { generation = h.1.0; number = h.1.1.0; part = h.1.1.1.0.0; parts = h.1.1.1.0.1.1.1; count = h.1.1.1.1.0; entries = h.1.1.1.1.1 })
     (λ s h. (tt, (h.generation, (h.number, ((h.part, (tt, (omega (arith, h.part, h.parts), h.parts))), (h.count, h.entries))))))
 
--- ---- what the kernel tells
+-- Frames from the kernel
 
 pub welcome_form : IsForm (λ w. u16 w.tab ++ long_text w.origin) IsWelcome Any welcome_at
 unfolding welcome_at

@@ -1,4 +1,4 @@
--- What decoding answers, from what was read of the bytes.
+-- Results of `decode`, from the parts of a body.
 use Rattle.std.proofs.Common.{◌≡◌, ℕ, ◌+◌, ◌-◌, ◌<◌, ◌≤◌, List, [], ◌∷◌, ◌++◌, length, get_or, take, drop, Option, Some, None, refl, sym, ap, subst, ◌∙◌, arith, inl, inr}
 use Rattle.std.proofs.lemmas.List.{append-nil, take_rest, nil_from_length, get_or-drop}
 use Rattle.wl_frames.specs.declared.fault.FrameFault.TheVariants.{BadKind, LeftOver}
@@ -13,7 +13,7 @@ use Rattle.wl_frames.specs.Bodies.{frame_at}
 use Rattle.wl_frames.proofs.Forms.{IsBytes}
 use Rattle.wl_frames.proofs.Frames.{begins, begun, no_kind, IsKind-from_kind}
 
--- what stands behind the version and the kind
+-- The bytes after the version and the kind.
 abbrev pub rest_of : List ℕ → List ℕ
 rest_of bytes = take (length bytes - 2) (drop 2 bytes)
 
@@ -25,7 +25,7 @@ parts_of (b ∷ c ∷ bs) h = ap (λ (w : List ℕ). b ∷ c ∷ w) (sym (take_r
 IsBytes-rest_of : (bytes : List ℕ) → IsBytes bytes → IsBytes (rest_of bytes)
 IsBytes-rest_of bytes h i = subst (λ (w : List ℕ). get_or w i 0 < 256) (sym (take_rest bytes 2)) (rw get_or-drop (h (2 + i)))
 
--- the kind that the first two bytes name
+-- The kind that the first two bytes name.
 abbrev pub kind_in : List ℕ → Option Kind
 kind_in bytes = kind_at (get_or bytes 0 0) (get_or bytes 1 0)
 

@@ -1,4 +1,4 @@
--- The forms of the fields that several kinds of frames have.
+-- Forms of the fields that several kinds of frames share.
 use Rattle.std.proofs.Common.{◌≡◌, ℕ, zero, suc, ◌+◌, ◌^◌, ◌<◌, ◌≤◌, true, false, cond, ltb, eqb, List, [], ◌∷◌, ◌++◌, length, take, drop, All, Option, Some, None, refl, sym, ap, subst, ◌∙◌, append_assoc, arith, inl, inr}
 use Rattle.std.specs.Prelude.{⊤}
 use Rattle.std.specs.Int.{Width, w16, w32, byte_len, from_be_bytes, to_be_bytes}
@@ -28,7 +28,7 @@ IsBytes-take n bytes h i =
 IsBytes-rest : (b : ℕ) (bytes : List ℕ) → IsBytes (b ∷ bytes) → IsBytes bytes
 IsBytes-rest b bytes h i = h (suc i)
 
--- ---- numbers
+-- Numbers
 
 byte_takes : (bytes : List ℕ) (x : ℕ) (rest : List ℕ) → IsBytes bytes → byte_at bytes ≡ Some (x, rest) → Takes (λ b. b ∷ []) (λ b. ⊤) Any bytes x rest
 byte_takes [] x rest fits e = absurd cc
@@ -99,7 +99,7 @@ pub tab_form : IsForm u16 IsTab Any tab_at
 unfolding tab_at
 tab_form = tested_form (λ n. 1 ≤ n) (λ n. eqb n 0) (λ n e. omega (arith, eqb-false n 0 e)) (λ n le. ne_eqb n 0 (λ e. omega arith)) u16_form
 
--- ---- values by code
+-- Values with a code
 
 abbrev AreCodes : {X : Type 0} → (X → List ℕ) → List (ℕ × X) → Type 0
 AreCodes spell table = AllByRecursion (λ e. spell e.1 ≡ e.0 ∷ []) table
@@ -110,7 +110,7 @@ some_of x = Some x
 abbrev none_of : {A : Type 0} → Option A
 none_of = None
 
--- what is true of each code and its value is true of a code and the value found by it
+-- A property of each row of a table holds of a code and the value found by it.
 pub value_is : {X : Type 0} (P : ℕ → X → Type 0) (table : List (ℕ × X)) (code : ℕ) (x : X) → AllByRecursion (λ e. P e.0 e.1) table → value_of table code ≡ Some x → P code x
 value_is P [] code x all e = absurd cc
 value_is {X} P (p ∷ ps) code x all e =
@@ -126,7 +126,7 @@ value_is {X} P (p ∷ ps) code x all e =
 code_is : {X : Type 0} (spell : X → List ℕ) (table : List (ℕ × X)) (code : ℕ) (x : X) → AreCodes spell table → value_of table code ≡ Some x → spell x ≡ code ∷ []
 code_is spell table code x all e = value_is (λ n y. spell y ≡ n ∷ []) table code x all e
 
--- each value has one code of the table
+-- A value with a unique code in the table has a form.
 pub coded_form : {X : Type 0} (spell : X → List ℕ) (table : List (ℕ × X)) → AreCodes spell table
     → ((x : X) → (code : ℕ) × (spell x ≡ code ∷ []) × (value_of table code ≡ Some x)) → IsForm spell (λ x. ⊤) Any (coded_at table)
 coded_form {X} spell table all each = record {
@@ -158,7 +158,7 @@ pub held_form : IsForm spelled_held (λ b. ⊤) Any held_at
 unfolding held_at
 held_form = coded_form spelled_held held_codes (refl, (refl, tt)) (elim [ true ↦ (1, refl, refl) | false ↦ (2, refl, refl) ])
 
--- ---- texts
+-- Texts
 
 taken : (n : ℕ) (bytes : List ℕ) (text rest : List ℕ) → IsBytes bytes → taken_at n bytes ≡ Some (text, rest) → Takes (λ (t : List ℕ). t) (λ t. (length t ≡ n) × IsBytes t) Any bytes text rest
 unfolding taken_at
@@ -179,7 +179,7 @@ taken_again text rest =
     let long : ltb (length (text ++ rest)) (length text) ≡ false = le-ltb _ _ (omega (arith, length-append text rest)) in
     rw (long, take_at text rest (length text) refl, drop_at text rest (length text) refl) refl
 
--- bytes behind their number, in one byte
+-- Bytes after their length in one byte have a form.
 short_form : IsForm short_text (λ t. length t ≤ 255) Any short_text_at
 unfolding short_text_at
 short_form = record {
@@ -198,7 +198,7 @@ short_form = record {
   again = λ text rest fits ends. taken_again text rest;
 }
 
--- bytes behind their number, in two bytes
+-- Bytes after their length in two bytes have a form.
 long_form : (most : ℕ) → most < 2 ^ 16 → IsForm long_text (λ t. (length t ≤ most) × IsBytes t) Any (long_text_at most)
 unfolding long_text_at
 long_form most lt = record {
@@ -275,7 +275,7 @@ pub data_form : IsForm long_text IsData Any data_at
 unfolding data_at
 data_form = same_form (long_form 16384 (omega arith)) (λ t. refl) (λ t h. (h.0, All-bytes t h.1)) (λ t h. (h.0, IsBytes-from_all t h.1))
 
--- ASCII as a test
+-- A text that passes the test is ASCII.
 pub IsAscii-from_test : (text : List ℕ) → is_ascii text ≡ true → IsAscii text
 IsAscii-from_test [] e = IsAscii-nil
 IsAscii-from_test (b ∷ bs) e =
@@ -308,9 +308,9 @@ origin_form =
     same_form (checked_form IsAscii origin_text_of origin_text_of-Some origin_text_of-again (long_form 4096 (omega arith)))
     (λ t. refl) (λ t h. (h.0.0, h.1)) (λ t h. ((h.0, λ i. omega (arith, h.1 i)), h.1))
 
--- ---- lists
+-- Lists
 
--- the items of a list that has a known length
+-- The items of a list of known length are decoded one after another.
 items_taken : {X : Type 0} (s : X → List ℕ) (F : X → Type 0) (read : List ℕ → Option (X × List ℕ)) → IsForm s F Any read
     → (n : ℕ) (bytes : List ℕ) (xs : List X) (rest : List ℕ) → IsBytes bytes → items_at read n bytes ≡ Some (xs, rest)
     → Takes (flat_map s) (λ xs. (length xs ≡ n) × AllByRecursion F xs) Any bytes xs rest

@@ -1,5 +1,5 @@
--- A form of bytes: how a value is spelled, which values have a spelling, and what reads them. Its two laws, and forms
--- made of others.
+-- Forms of bytes. A form has an encoding, the values that have an encoding, and a decoder, and
+-- satisfies two laws. Forms are combined into others.
 use Rattle.std.proofs.Common.{◌≡◌, ℕ, ◌<◌, Bool, true, false, not, cond, eqb, List, [], ◌++◌, length, get_or, Option, Some, None, refl, sym, ap, subst, ◌∙◌, append_assoc}
 use Rattle.std.specs.Prelude.{⊤}
 use Rattle.std.proofs.lemmas.Bool.{eqb-true, not-false}
@@ -7,36 +7,37 @@ use Rattle.std.proofs.lemmas.List.{nil_from_length}
 use Rattle.wl_frames.specs.Reading.{◌>>=◌}
 use Rattle.wl_frames.specs.Bodies.{all_of}
 
--- each is below 256
+-- Each byte is below 256.
 abbrev pub IsBytes : List ℕ → Type 0
 IsBytes bytes = (i : ℕ) → get_or bytes i 0 < 256
 
--- any bytes may follow; none may
+-- `Any` allows any bytes to follow, and `Nothing` allows none.
 abbrev pub Any : List ℕ → Type 0
 Any rest = ⊤
 
 abbrev pub Nothing : List ℕ → Type 0
 Nothing rest = rest ≡ []
 
--- a value was read from the front of the bytes, and the rest stands after its spelling
+-- A value was decoded from the front of the bytes, and the rest follows its encoding.
 pub record Takes {X : Type 0} (spell : X → List ℕ) (Fits : X → Type 0) (Ends : List ℕ → Type 0) (bytes : List ℕ) (x : X) (rest : List ℕ) : Type 0 where
   pub parts : bytes ≡ spell x ++ rest
   pub fits : Fits x
   pub ends : Ends rest
   pub rest_fits : IsBytes rest
 
--- what is read is spelled so, and what is spelled so is read
+-- Each decoded value has the encoding it was decoded from, and each encoding is decoded to its
+-- value.
 pub record IsForm {X : Type 0} (spell : X → List ℕ) (Fits : X → Type 0) (Ends : List ℕ → Type 0) (read : List ℕ → Option (X × List ℕ)) : Type 0 where
   pub takes : (bytes : List ℕ) (x : X) (rest : List ℕ) → IsBytes bytes → read bytes ≡ Some (x, rest) → Takes spell Fits Ends bytes x rest
   pub again : (x : X) (rest : List ℕ) → Fits x → Ends rest → read (spell x ++ rest) ≡ Some (x, rest)
 
--- ---- steps of a reading
+-- Steps of decoding
 
 pub bind_some : {A B : Type 0} (r : Option A) (f : A → Option B) (y : B) → (r >>= f) ≡ Some y → (x : A) × (r ≡ Some x) × (f x ≡ Some y)
 bind_some (Some x) f y e = (x, refl, e)
 bind_some None f y e = absurd cc
 
--- a test that did not fail
+-- The result of a test that did not fail is the value after it.
 pub guard_some : {A : Type 0} (b : Bool) (x : Option A) (y : A) → cond b None x ≡ Some y → (b ≡ false) × (x ≡ Some y)
 guard_some true x y e = absurd cc
 guard_some false x y e = (refl, e)
@@ -47,9 +48,9 @@ some x = Some x
 pub some_is : {A : Type 0} (x y : A) → some x ≡ some y → x ≡ y
 some_is x y e = cc
 
--- ---- forms made of others
+-- Combined forms
 
--- a field, and then the others
+-- A field followed by the other fields has a form.
 pub then_form : {X Y : Type 0} {s : X → List ℕ} {F : X → Type 0} {r : List ℕ → Option (X × List ℕ)} {t : Y → List ℕ} {Known G : Y → Type 0} {Ends : List ℕ → Type 0} (k : X × List ℕ → Option (Y × List ℕ))
     (field : Y → X) → IsForm s F Any r → ((x : X) → IsForm t (λ y. ((field y ≡ x) × Known y) × G y) Ends (λ rest. k (x, rest)))
     → IsForm (λ y. s (field y) ++ t y) (λ y. Known y × (F (field y) × G y)) Ends (λ bytes. r bytes >>= k)
@@ -70,7 +71,7 @@ then_form {X} {Y} {s} {F} {r} {t} {Known} {G} {Ends} k field first others = reco
       ∙ (others (field y)).again y rest ((refl, fits.0), fits.1.1) ends;
 }
 
--- the last field
+-- The last field has a form.
 pub last_form : {X Y : Type 0} {s : X → List ℕ} {F : X → Type 0} {r : List ℕ → Option (X × List ℕ)} {Known : Y → Type 0} {Ends : List ℕ → Type 0}
     (field : Y → X) (make : X → Y) → IsForm s F Ends r → ((y : Y) → Known y → y ≡ make (field y)) → ((x : X) → Known (make x) × (field (make x) ≡ x))
     → IsForm (λ y. s (field y)) (λ y. Known y × F (field y)) Ends (λ bytes. r bytes >>= λ x. Some (make x.0, x.1))
@@ -92,7 +93,7 @@ last_form {X} {Y} {s} {F} {r} {Known} {Ends} field make last known made = record
       ∙ ap (λ (z : Y). some (z, rest)) (sym (known y fits.0));
 }
 
--- the same form, said otherwise
+-- The same form in other terms is a form.
 pub same_form : {X : Type 0} {s t : X → List ℕ} {F G : X → Type 0} {Ends : List ℕ → Type 0} {r : List ℕ → Option (X × List ℕ)}
     → IsForm s F Ends r → ((x : X) → t x ≡ s x) → ((x : X) → F x → G x) → ((x : X) → G x → F x) → IsForm t G Ends r
 same_form {X} {s} {t} {F} {G} {Ends} {r} form spelled into out = record {
@@ -107,7 +108,7 @@ same_form {X} {s} {t} {F} {G} {Ends} {r} form spelled into out = record {
   again = λ x rest fits ends. ap (λ (w : List ℕ). r (w ++ rest)) (spelled x) ∙ form.again x rest (out x fits) ends;
 }
 
--- a form with a condition that is tested
+-- A form with a condition that is tested is a form.
 pub tested_form : {X : Type 0} {s : X → List ℕ} {F : X → Type 0} {Ends : List ℕ → Type 0} {r : List ℕ → Option (X × List ℕ)}
     (P : X → Type 0) (fails : X → Bool) → ((x : X) → fails x ≡ false → P x) → ((x : X) → P x → fails x ≡ false) → IsForm s F Ends r
     → IsForm s (λ x. P x × F x) Ends (λ bytes. r bytes >>= λ x. cond (fails x.0) None (Some x))
@@ -128,7 +129,7 @@ tested_form {X} {s} {F} {Ends} {r} P fails passed passes form = record {
       ∙ ap (λ (b : Bool). cond b None (some (x, rest))) (passes x fits.0);
 }
 
--- a form with a check, which lets a value through as it is
+-- A form with a check that lets a value pass unchanged is a form.
 pub checked_form : {X : Type 0} {s : X → List ℕ} {F : X → Type 0} {Ends : List ℕ → Type 0} {r : List ℕ → Option (X × List ℕ)}
     (P : X → Type 0) (check : X → Option X) → ((x y : X) → check x ≡ Some y → (x ≡ y) × P x) → ((x : X) → P x → check x ≡ Some x) → IsForm s F Ends r
     → IsForm s (λ x. F x × P x) Ends (λ bytes. r bytes >>= λ x. check x.0 >>= λ y. Some (y, x.1))
@@ -150,7 +151,7 @@ checked_form {X} {s} {F} {Ends} {r} P check passed passes form = record {
       ∙ ap (λ (o : Option X). o >>= λ y. some (y, rest)) (passes x fits.1);
 }
 
--- a form to the end of the bytes
+-- A form that extends to the end of the bytes is a form.
 pub whole_form : {X : Type 0} {s : X → List ℕ} {F : X → Type 0} {r : List ℕ → Option (X × List ℕ)} → IsForm s F Any r → IsForm s F Nothing (λ bytes. r bytes >>= all_of)
 whole_form {X} {s} {F} {r} form = record {
   takes = λ bytes x rest fits e.
@@ -171,7 +172,7 @@ whole_form {X} {s} {F} {r} form = record {
       ∙ ap (λ (w : List ℕ). some (x, w)) (sym ends);
 }
 
--- what was read, within a variant of an enum
+-- The decoded value, wrapped in a variant of an enum.
 abbrev pub within : {X Y : Type 0} → (X → Y) → Option (X × List ℕ) → Option (Y × List ℕ)
 within make read = read >>= λ x. Some (make x.0, x.1)
 

@@ -1,4 +1,4 @@
--- Frames: what is read is spelled so, and what is spelled so is read.
+-- Lemmas on frames: each decoded frame has its encoding, and each encoding is decoded to its frame.
 use Rattle.std.proofs.Common.{◌≡◌, ℕ, Bool, true, false, cond, eqb, List, [], ◌∷◌, ◌++◌, length, Option, Some, None, refl, sym, ap, subst, ◌∙◌}
 use Rattle.std.specs.Prelude.{⊤}
 use Rattle.std.specs.List.{flat_map, AllByRecursion}
@@ -23,7 +23,7 @@ use Rattle.wl_frames.proofs.Forms.{IsBytes, Any, Nothing, Takes, IsForm, bind_so
 use Rattle.wl_frames.proofs.Fields.{value_is, byte_form, tab_form}
 use Rattle.wl_frames.proofs.Bodies.{command_form, report_form, report_part_form, post_form, hello_form, answer_form, snapshot_form, heard_form, welcome_form, pair_welcome_form, start_form, dead_form}
 
--- ---- versions and kinds
+-- Versions and kinds
 
 abbrev pub code_of : Kind → ℕ
 code_of kind.Command = COMMAND
@@ -156,7 +156,7 @@ no_kind version code e is =
     let same : none_of ≡ some_of k.0 = sym e ∙ k.1 in
     absurd cc
 
--- ---- inner bodies
+-- Inner bodies
 
 inner_kind_form : IsForm (λ k. version_of k ∷ code_of k ∷ []) (λ k. ⊤) Any inner_kind_at
 unfolding inner_kind_at
@@ -281,7 +281,7 @@ addressed_form =
     then_form _ (λ a. a.tab) tab_form (λ t. last_form (λ a. a.inner) (λ i. record { tab = t; inner = i }) downward_form (λ a k. rw (← k.0) refl) (λ i. ((refl, tt), refl))) in
     same_form parts (λ a. refl) (λ a h. record { tab = h.1.0; inner = h.1.1 }) (λ a h. (tt, (h.tab, h.inner)))
 
--- ---- frames
+-- Frames
 
 abbrev pub kind_of : Frame → Kind
 kind_of (frame.Command c) = kind.Command
@@ -299,7 +299,7 @@ kind_of (frame.Start s) = kind.Start
 kind_of (frame.Addressed a) = kind.Addressed
 kind_of (frame.Dead d) = kind.Dead
 
--- the fields, behind the version and the kind
+-- The encoded fields of a frame, after its version and its kind.
 abbrev pub fields : Frame → List ℕ
 fields (frame.Command c) = u32 c.generation ++ u32 c.number ++ operation c.operation
 fields (frame.Report r) = u32 r.generation ++ u32 r.base ++ u16 (length r.entries) ++ flat_map entry r.entries
@@ -333,7 +333,7 @@ body_is (frame.Start s) = refl
 body_is (frame.Addressed a) = refl
 body_is (frame.Dead d) = refl
 
--- what may follow the fields of a kind
+-- The bytes that may follow the fields of a kind: none after an inner body, and any otherwise.
 abbrev pub Ends : Kind → List ℕ → Type 0
 Ends kind.Stamped rest = Nothing rest
 Ends kind.Addressed rest = Nothing rest
@@ -384,9 +384,9 @@ frame_again (frame.Start s) rest h e = wrapped_again (λ s. frame.Start s) start
 frame_again (frame.Addressed a) rest h e = wrapped_again (λ a. frame.Addressed a) addressed_form (fields (frame.Addressed a)) a rest refl h e
 frame_again (frame.Dead d) rest h e = wrapped_again (λ d. frame.Dead d) dead_form (fields (frame.Dead d)) d rest refl h e
 
--- ---- bodies
+-- Bodies
 
--- what was read begins the body
+-- The encoding of a decoded frame is at the front of the body.
 pub begins : (version code : ℕ) (k : Kind) (bytes : List ℕ) (f : Frame) (rest : List ℕ) → IsBytes bytes → kind_at version code ≡ Some k → frame_at k bytes ≡ Some (f, rest) → Begins (version ∷ code ∷ bytes) f rest
 begins version code k bytes f rest fits is e =
     let one = frame_takes k bytes f rest fits e in
@@ -399,11 +399,11 @@ begins version code k bytes f rest fits is e =
       inner_to_the_end = ends_at_envelope f rest (subst (λ (k : Kind). Ends k rest) (sym one.fits.0) one.ends);
     }
 
--- the parts of a body that begins with two given bytes
+-- Two equal bodies have equal versions, equal kinds and equal fields.
 same_head : (l m n o : ℕ) (x y : List ℕ) → l ∷ m ∷ x ≡ n ∷ o ∷ y → (l ≡ n) × (m ≡ o) × (x ≡ y)
 same_head l m n o x y e = (cc, cc, cc)
 
--- what begins a body is read
+-- A frame at the front of a body is decoded.
 pub begun : (version code : ℕ) (k : Kind) (bytes : List ℕ) (f : Frame) (rest : List ℕ) → kind_at version code ≡ Some k → Begins (version ∷ code ∷ bytes) f rest → frame_at k bytes ≡ Some (f, rest)
 begun version code k bytes f rest is b =
     let of_f = kind_of f in
@@ -411,11 +411,11 @@ begun version code k bytes f rest is b =
     let kind_is : of_f ≡ k = some_is of_f k (sym (kind_at-code of_f) ∙ ap (kind_at (version_of of_f)) (sym head.1) ∙ ap (λ (n : ℕ). kind_at n code) (sym head.0) ∙ is) in
     ap (frame_at k) head.2 ∙ subst (λ (k : Kind). frame_at k (fields f ++ rest) ≡ Some (f, rest)) kind_is (frame_again f rest b.well_formed (Ends-from_envelope f rest b.inner_to_the_end))
 
--- a whole body begins itself, and nothing follows
+-- A complete body is at its own front, and nothing follows.
 begins_whole : (bytes : List ℕ) (f : Frame) → IsWellFormed f → bytes ≡ body f → Begins bytes f []
 begins_whole bytes f h e = record { well_formed = h; spelled = e ∙ sym (append-nil (body f)); inner_to_the_end = λ _. refl }
 
--- a body is the body of one frame
+-- A body is the body of only one frame.
 pub one_frame : (bytes : List ℕ) (f g : Frame) → IsBody bytes f → IsBody bytes g → f ≡ g
 one_frame bytes f g a b =
     let k = kind_of f in

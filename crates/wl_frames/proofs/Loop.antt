@@ -1,11 +1,11 @@
--- Reading the items of a list one after another, as a loop does.
+-- Decoding of a list's items one after another, in a loop.
 use Rattle.std.proofs.Common.{◌≡◌, ℕ, suc, ◌-◌, ◌+◌, ◌≤◌, ◌<◌, List, [], ◌∷◌, ◌++◌, Option, Some, None, refl, sym, ap, ◌∙◌, append_assoc, arith}
 use Rattle.std.proofs.lemmas.List.{append-nil}
 use Rattle.wl_frames.specs.declared.reading.fault.ReadFault.{ReadFault}
 use Rattle.wl_frames.specs.declared.reading.fault.ReadFault.TheVariants as read_fault
 use Rattle.wl_frames.specs.Reading.{◌>>=◌, Fails, items_at}
 
--- what was read before, and what is still read
+-- The items decoded before, followed by those still to be decoded.
 abbrev pub with_front : {X : Type 0} → List X → Option (List X × List ℕ) → Option (List X × List ℕ)
 with_front front read = read >>= λ x. Some (front ++ x.0, x.1)
 

@@ -1,4 +1,4 @@
--- A body has one fault, or it is the body of a frame.
+-- Lemmas on faults: a body has only one fault, and none if it is the body of a frame.
 use Rattle.std.proofs.Common.{◌≡◌, ℕ, List, [], ◌∷◌, ◌++◌, Bool, true, false, refl, sym, ap, ◌∙◌, subst, inl, inr}
 use Rattle.std.proofs.lemmas.List.{append-nil}
 use Rattle.wl_grammar.specs.declared.frame.Frame.{Frame}
@@ -9,7 +9,7 @@ use Rattle.wl_grammar.specs.Grammar.{IsBody, body, command, report, report_part,
 use Rattle.wl_frames.specs.Stream.{IsVersion, IsKind, is_envelope, Begins, HasFault}
 use Rattle.wl_frames.proofs.OneFrame.{no_body_begins_another}
 
--- a body begins with its version and its kind
+-- A body starts with its version and its kind.
 record HasKind (bytes : List ℕ) : Type 0 where
   version : ℕ
   kind : ℕ
@@ -55,7 +55,7 @@ no_kind bytes k (version, kind, rest, e, known, unknown) =
     let same_kind : k.kind ≡ kind = cc in
     unknown (subst (IsKind version) same_kind (subst (λ (n : ℕ). IsKind n k.kind) same_version k.is_kind))
 
--- whole and begun
+-- A complete body is at its own front.
 begins_whole : (bytes : List ℕ) (f : Frame) → IsBody bytes f → Begins bytes f []
 begins_whole bytes f p = record { well_formed = p.well_formed; spelled = p.spelled ∙ sym (append-nil (body f)); inner_to_the_end = λ _. refl }
 
@@ -77,7 +77,7 @@ no_fault bytes f Truncated p h = h
 no_fault bytes f Memory p h = h
 no_fault bytes f Failed p h = h
 
--- the kind of a body whose fields are at fault, or that goes on behind them
+-- A body with a faulty field, or with bytes left over, has a known kind.
 kind_of_field : (bytes : List ℕ) → HasFault bytes BadField → HasKind bytes
 kind_of_field bytes (version, kind, rest, e, known, none) = record { version = version; kind = kind; fields = rest; spelled = e; is_kind = known }
 

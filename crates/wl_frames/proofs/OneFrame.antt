@@ -1,4 +1,5 @@
--- No body is the body of two frames, and none begins another but for what an envelope's inner body takes to the end.
+-- Lemmas on bodies: none is the body of two frames. None is a prefix of another, except for an
+-- envelope's inner body.
 use Rattle.std.proofs.Common.{◌≡◌, ℕ, List, [], ◌∷◌, ◌++◌, false, refl, sym, ap, ◌∙◌}
 use Rattle.std.proofs.lemmas.Bool.{both_ways}
 use Rattle.std.proofs.lemmas.List.{append-nil}

@@ -1,4 +1,4 @@
--- A stream has one reading.
+-- Lemmas on streams: each is decoded in only one way.
 use Rattle.std.proofs.Common.{◌≡◌, ℕ, ◌^◌, ◌<◌, List, [], ◌∷◌, ◌++◌, length, take, drop, refl, sym, ap, ◌∙◌, subst, append_assoc, arith, inl, inr}
 use Rattle.std.specs.Int.{w32, from_be_bytes}
 use Rattle.std.specs.List.{flat_map, AllByRecursion}
@@ -13,7 +13,7 @@ use Rattle.wl_encoding.proofs.BodyLength.{body_length}
 use Rattle.wl_frames.proofs.Apart.{apart}
 use Rattle.wl_frames.proofs.OneFault.{no_fault, one_fault}
 
--- ---- the front of a stream
+-- Front of a stream
 
 same_length : (n m : ℕ) (x y : List ℕ) → n < 2 ^ 32 → m < 2 ^ 32 → u32 n ++ x ≡ u32 m ++ y → (n ≡ m) × (x ≡ y)
 same_length n m x y p q e =
@@ -26,7 +26,7 @@ same_front xs ys more rest len e = (
   sym (drop_at xs more (length ys) len) ∙ ap (drop (length ys)) e ∙ drop_at ys rest (length ys) refl,
 )
 
--- a whole body stands at the front
+-- A complete body is at the front of the stream.
 record IsWhole (bytes front rest : List ℕ) : Type 0 where
   spelled : bytes ≡ u32 (length front) ++ (front ++ rest)
   len : IsLength (length front)
@@ -40,7 +40,7 @@ whole_frame : (bytes more : List ℕ) (f : Frame) → IsWellFormed f → bytes �
 unfolding spelling
 whole_frame bytes more f p e = record { spelled = e; len = body_length f p }
 
--- ---- what stands next is one thing
+-- The next frame, fault or rest is unique
 
 partial_or_whole : (bytes front rest : List ℕ) → IsPartial bytes → IsWhole bytes front rest → ⊥
 partial_or_whole bytes front rest (inl short) q = omega (arith, ap length q.spelled)
@@ -77,8 +77,7 @@ one_fault_next bytes d e (inr (front, rest, p, len, fault)) (inr (other, more, q
     let same = one_whole bytes front rest other more (record { spelled = p; len = len }) (record { spelled = q; len = length }) in
     one_fault other d e (subst (λ (b : List ℕ). HasFault b d) same.0 fault) also
 
--- frames that begin one stream are one, and what follows them too
--- ---- readings
+-- Decoded streams
 
 one_stop : (bytes : List ℕ) (s t : Stop) → StopsAt bytes s → StopsAt bytes t → s ≡ t
 one_stop bytes (Rest x) (Rest y) p q = ap Rest (sym p.0 ∙ q.0)

@@ -1,4 +1,5 @@
--- Reading the fields of each kind of frame, as a function on lists. These are helpers, as those of Reading are.
+-- Decoding of the fields of each kind of frame, as functions on lists. These are helpers, like
+-- those of Reading.
 use Rattle.std.specs.Prelude.{ℕ, ◌+◌, ◌==◌, nat_lt, Bool, true, false, not, List, [], ◌∷◌, length, Option, Some, None, if◌then◌else◌}
 use Rattle.std.specs.Int.{w16, w32}
 use Rattle.wl_limits.specs.declared.frames.TheConstants.{ENTRY_LIMIT, LIST_LIMIT, REPORT_PART_LIMIT}
@@ -33,7 +34,7 @@ use Rattle.wl_frames.specs.declared.reading.kind.Kind.{Kind}
 use Rattle.wl_frames.specs.declared.reading.kind.Kind.TheVariants as kind
 use Rattle.wl_frames.specs.Reading.{◌>>=◌, byte_at, number_at, generation_at, tab_at, coded_at, mode_at, flag_at, held_at, channel_at, lock_name_at, data_at, origin_at, list_at, kind_at}
 
--- ---- commands
+-- Commands
 
 unfoldable pub request_at : List ℕ → Option ((Mode × Bool × List ℕ) × List ℕ)
 request_at bytes = do
@@ -42,7 +43,7 @@ request_at bytes = do
   name ← lock_name_at if_available.1
   Some ((mode.0, if_available.0, name.0), name.1)
 
--- the fields behind the code of an operation
+-- The fields after the code of an operation.
 abbrev pub operation_fields_at : ℕ → List ℕ → Option (Operation × List ℕ)
 operation_fields_at code bytes =
     if code == 1 then (request_at bytes >>= λ r. Some (op.Request r.0.0 r.0.1 r.0.2, r.1))
@@ -62,7 +63,7 @@ command_at bytes = do
   operation ← operation_at number.1
   Some (record { generation = generation.0; number = number.0; operation = operation.0 }, operation.1)
 
--- ---- reports
+-- Reports
 
 unfoldable pub entry_at : List ℕ → Option (Entry × List ℕ)
 entry_at bytes = do
@@ -88,7 +89,7 @@ report_at bytes = do
   entries ← rising_entries_at base.1
   Some (record { generation = generation.0; base = base.0; entries = entries.0 }, entries.1)
 
--- ---- parts, and parts of reports
+-- Parts, and parts of reports
 
 abbrev pub pair_at : List ℕ → Option ((ℕ × ℕ) × List ℕ)
 pair_at bytes = do
@@ -101,7 +102,7 @@ part_at bytes = do
   pair ← pair_at bytes
   if not (nat_lt pair.0.0 pair.0.1) then None else Some pair
 
--- a part of a report, of which there are few
+-- The index and number of a report's parts. The number is at most REPORT_PART_LIMIT.
 unfoldable pub few_parts_at : List ℕ → Option ((ℕ × ℕ) × List ℕ)
 few_parts_at bytes = do
   part ← part_at bytes
@@ -115,7 +116,7 @@ report_part_at bytes = do
   entries ← rising_entries_at part.1
   Some (record { generation = generation.0; base = base.0; part = part.0.0; parts = part.0.1; entries = entries.0 }, entries.1)
 
--- ---- posts
+-- Posts
 
 unfoldable pub post_at : List ℕ → Option (Post × List ℕ)
 post_at bytes = do
@@ -132,7 +133,7 @@ heard_at bytes = do
   bytes ← data_at channel.1
   Some (record { source = source.0; number = number.0; channel = channel.0; bytes = bytes.0 }, bytes.1)
 
--- ---- what a broker tells
+-- Frames from the broker to a tab
 
 unfoldable pub hello_at : List ℕ → Option (Hello × List ℕ)
 hello_at bytes = do
@@ -169,7 +170,7 @@ snapshot_at bytes = do
   entries ← list_at snapshot_entry_at ENTRY_LIMIT part.1
   Some (record { generation = generation.0; number = number.0; part = part.0.0; parts = part.0.1; entries = entries.0 }, entries.1)
 
--- ---- what the kernel tells
+-- Frames from the kernel
 
 unfoldable pub welcome_at : List ℕ → Option (Welcome × List ℕ)
 welcome_at bytes = do
@@ -210,7 +211,7 @@ dead_at bytes = do
   tab ← tab_at bytes
   Some (record { tab = tab.0 }, tab.1)
 
--- ---- inner bodies, which go to the end
+-- Inner bodies, which extend to the end of the frame
 
 unfoldable pub inner_kind_at : List ℕ → Option (Kind × List ℕ)
 inner_kind_at bytes = do
@@ -219,7 +220,7 @@ inner_kind_at bytes = do
   kind ← kind_at version.0 code.0
   Some (kind, code.1)
 
--- nothing is left
+-- No bytes are left over.
 abbrev pub all_of : {X : Type 0} → X × List ℕ → Option (X × List ℕ)
 all_of read = if not (length read.1 == 0) then None else Some read
 
@@ -260,7 +261,7 @@ addressed_at bytes = do
   inner ← downward_at tab.1
   Some (record { tab = tab.0; inner = inner.0 }, inner.1)
 
--- ---- frames: the fields of a kind
+-- Frames: the fields of each kind
 
 abbrev pub frame_at : Kind → List ℕ → Option (Frame × List ℕ)
 frame_at kind.Command bytes = command_at bytes >>= λ c. Some (frame.Command c.0, c.1)

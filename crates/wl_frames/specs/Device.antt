@@ -1,4 +1,4 @@
--- A reader that counts its reads, a writer, and whether each has failed.
+-- Reader that counts its reads, and writer. Both record whether they have failed.
 use Rattle.std.specs.Prelude.{ℕ, List, Bool, false, Option}
 use Rattle.std.specs.Io.KnownBytes.{Appends}
 use Rattle.wl_encoding.specs.Prefixes.{IsPrefixOf}
@@ -18,6 +18,6 @@ fresh_reader reader = record { reader = reader; reads = 0; has_failed = false }
 abbrev pub fresh_writer : {W : Type 0} → W → Writing W
 fresh_writer writer = record { writer = writer; has_failed = false }
 
--- a prefix of the bytes was written
+-- The writer has received a prefix of the bytes.
 abbrev pub WritesPrefix : Option (List ℕ) → Option (List ℕ) → List ℕ → Type 0
 WritesPrefix old new bytes = (front : List ℕ) × IsPrefixOf front bytes × Appends old new front

@@ -1,5 +1,6 @@
--- Reading as a function on lists, field by field from left to right. These are helpers: each function of the code that
--- reads gives what the function here gives, and what they read is proved to be what the grammar spells.
+-- Decoding as functions on lists, field by field from left to right. These are helpers: each
+-- decoding function of the code returns the result of the function here. The proofs show that the
+-- values decoded have the encoding of the grammar.
 use Rattle.std.specs.Prelude.{◌≡◌, ℕ, ◌==◌, nat_lt, Bool, true, false, List, [], ◌∷◌, length, take, drop, zero, suc, Option, Some, None, option_and_then, Result, Ok, Err, ⊤, if◌then◌else◌}
 use Rattle.std.specs.Int.{Width, w16, w32, byte_len, from_be_bytes}
 use Rattle.std.specs.List.{list_all}
@@ -19,7 +20,7 @@ infixl 10 ◌>>=◌
 abbrev pub ◌>>=◌ : {A B : Type 0} → Option A → (A → Option B) → Option B
 o >>= f = option_and_then f o
 
--- What a function returned, seen by view, is what reading gives, unless memory ran out.
+-- The function's result, seen through `view`, is the result of decoding, unless memory ran out.
 abbrev pub Fails : {Y : Type 0} → ReadFault → Option Y → Type 0
 Fails read_fault.Memory read = ⊤
 Fails read_fault.Field read = read ≡ None
@@ -28,17 +29,17 @@ abbrev pub Gives : {X Y : Type 0} → (X → Y) → Result X ReadFault → Optio
 Gives view (Ok x) read = read ≡ Some (view x)
 Gives view (Err e) read = Fails e read
 
--- what a fault among the fields says of the frame
+-- The fault of a frame, from the fault of one of its fields.
 abbrev pub frame_fault : ReadFault → FrameFault
 frame_fault read_fault.Memory = frame_faults.Memory
 frame_fault read_fault.Field = frame_faults.BadField
 
--- the value of a code, in a table of codes
+-- The value of a code in a table of codes.
 abbrev pub value_of : {X : Type 0} → List (ℕ × X) → ℕ → Option X
 value_of [] code = None
 value_of (e ∷ es) code = if code == e.0 then Some e.1 else value_of es code
 
--- ---- fields: a value and the bytes after it
+-- Fields: a value and the bytes after it
 
 abbrev pub byte_at : List ℕ → Option (ℕ × List ℕ)
 byte_at [] = None
@@ -48,7 +49,7 @@ abbrev pub number_at : Width → List ℕ → Option (ℕ × List ℕ)
 number_at w bytes =
     if nat_lt (length bytes) (byte_len w) then None else Some (from_be_bytes w (take (byte_len w) bytes), drop (byte_len w) bytes)
 
--- the value, unless it is 0
+-- The value, unless it is 0.
 abbrev pub from_one_on : ℕ × List ℕ → Option (ℕ × List ℕ)
 from_one_on n = if n.0 == 0 then None else Some n
 
@@ -58,7 +59,7 @@ generation_at bytes = number_at w32 bytes >>= from_one_on
 unfoldable pub tab_at : List ℕ → Option (ℕ × List ℕ)
 tab_at bytes = number_at w16 bytes >>= from_one_on
 
--- a value by its code
+-- The value whose code comes first.
 abbrev pub coded_at : {X : Type 0} → List (ℕ × X) → List ℕ → Option (X × List ℕ)
 coded_at table bytes = do
   code ← byte_at bytes
@@ -96,7 +97,7 @@ long_text_at most bytes = do
   n ← number_at w16 bytes
   if nat_lt most n.0 then None else taken_at n.0 n.1
 
--- text, if it is UTF-8
+-- The text, if it is valid UTF-8.
 abbrev pub text_of : List ℕ → Option (List ℕ)
 text_of text = if is_utf8 text then Some text else None
 
@@ -134,7 +135,7 @@ origin_at bytes = do
   origin ← origin_text_of text.0
   Some (origin, text.1)
 
--- ---- lists
+-- Lists
 
 unfoldable pub items_at : {X : Type 0} → (List ℕ → Option (X × List ℕ)) → ℕ → List ℕ → Option (List X × List ℕ)
 items_at read zero bytes = Some ([], bytes)
@@ -148,7 +149,7 @@ list_at read most bytes = do
   n ← number_at w16 bytes
   if nat_lt most n.0 then None else items_at read n.0 n.1
 
--- ---- kinds, by version
+-- Kinds, by version
 
 abbrev pub first_kinds : List (ℕ × Kind)
 first_kinds =

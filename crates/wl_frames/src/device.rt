@@ -1,4 +1,4 @@
-//! Readers that are read so often and no more, and writers, each of which remembers whether it failed.
+//! Readers with a limit of reads, and writers. Both record whether they have failed.
 
 ghost use Rattle.std.specs.Prelude.{◌≡◌, ◌≤◌, ◌<◌, ◌+◌, length, take, true, false, Err, IfOk, OnOk, OnErr};
 ghost use Rattle.std.specs.Io.KnownBytes.{Consumes, IsAtEnd, Keeps, Appends};
@@ -9,32 +9,32 @@ use std::io::{Read, Write};
 use std::marker::Model;
 use thiserror::Error;
 
-/// How many times a reader is read at most.
+/// Maximum number of reads of one reader.
 pub const READ_LIMIT: u32 = 1_000_000;
 
-/// How many bytes are asked of a reader at once.
+/// Number of bytes requested from a reader by one read.
 pub const PIECE_LEN: usize = 4_096;
 
-/// How many bytes are gathered before they are written, where there is more to say.
+/// Number of bytes collected before they are written, if more output follows.
 pub const BUNDLE_LEN: usize = 32_768;
 
-/// Why nothing was read.
+/// Reason why nothing was read.
 #[derive(Clone, Copy, Debug, PartialEq, Eq, Error)]
 pub enum ReadFault {
-    /// The reader failed; an interrupted read is a failure too.
+    /// The reader failed. An interrupted read counts as a failure.
     #[error("Read")]
     Failed,
-    /// It was read as often as it may be.
+    /// The reader has reached its limit of reads.
     #[error("TooManyReads")]
     TooManyReads,
 }
 
-/// Why not all was written.
+/// Error if not all bytes were written.
 #[derive(Clone, Copy, Debug, PartialEq, Eq, Error)]
 #[error("Write")]
 pub struct WriteFault;
 
-/// A reader, how often it was read, and whether it has failed.
+/// A reader, with the number of its reads, and whether it has failed.
 #[derive(Drop)]
 pub struct Source<R> {
     reader: R,
@@ -55,6 +55,7 @@ impl<R> Model for Source<R> {
 }
 
 impl<R> Source<R> {
+    /// Wraps a reader that has not been read yet.
     pub fn new(reader: R) -> Source<R>
         ensures { result ≡ fresh_reader reader }
     {
@@ -67,7 +68,9 @@ impl<R> Source<R> {
 }
 
 impl<R: Read> Source<R> {
-    /// Reads once, at most as many bytes as the buffer has. None are read only at the end.
+    /// Reads once, at most as many bytes as the buffer holds. Returns the number of bytes, which is
+    /// 0 only at the end of input. Fails with `Failed` if the reader fails, and with `TooManyReads`
+    /// after READ_LIMIT reads.
     pub fn read(&mut self, buffer: &mut [u8]) -> Result<usize, ReadFault>
         requires { 0 < length buffer.old }
         ensures bound { IfOk result (λ n. n ≤ length buffer.new) }
@@ -112,6 +115,7 @@ impl<W> Model for Sink<W> {
 }
 
 impl<W> Sink<W> {
+    /// Wraps a writer.
     pub fn new(writer: W) -> Sink<W>
         ensures { result ≡ fresh_writer writer }
     {
@@ -123,12 +127,13 @@ impl<W> Sink<W> {
 }
 
 impl<W: Write> Sink<W> {
-    /// Writes the bytes, in as many writes as the writer needs. A write that takes nothing is a failure.
+    /// Writes all bytes, in as many writes as the writer needs. Fails if the writer fails or
+    /// accepts no byte.
     pub fn write(&mut self, bytes: &[u8]) -> Result<(), WriteFault>
         ensures written { OnOk result
             (Appends (W.contents self.old.writer) (W.contents self.new.writer) bytes.now) }
         ensures sound { OnOk result (self.new.has_failed ≡ self.old.has_failed) }
-        // What was written before the failure is a prefix of the bytes.
+        // The bytes written before a failure are a prefix of all bytes.
         ensures failed { OnErr result ((self.new.has_failed ≡ true)
             × WritesPrefix (W.contents self.old.writer) (W.contents self.new.writer) bytes.now) }
     {

@@ -1,38 +1,38 @@
-//! Why a stream could not be read.
+//! Faults of a stream of frames.
 
 use thiserror::Error;
 use wl_grammar::frame::Frame;
 
-/// What is wrong with a stream of frames, or why it could not be read on.
+/// Fault of a stream of frames, or reason why it could not be read further.
 #[derive(Clone, Copy, Debug, PartialEq, Eq, Error)]
 pub enum FrameFault {
     /// The length of a body is below 2 or above 65,536.
     #[error("BadLength")]
     BadLength,
-    /// There is no such version.
+    /// The version is unknown.
     #[error("BadVersion")]
     BadVersion,
-    /// There is no such kind of frame in its version.
+    /// The kind is unknown in its version.
     #[error("BadKind")]
     BadKind,
-    /// A field is outside its form, or cut off by the end of the body.
+    /// A field has an invalid value, or is cut off by the end of the body.
     #[error("BadField")]
     BadField,
-    /// Bytes stand after the last field.
+    /// Bytes follow the last field.
     #[error("LeftOver")]
     LeftOver,
     /// The stream ended within a frame.
     #[error("Truncated")]
     Truncated,
-    /// Memory was refused.
+    /// Out of memory.
     #[error("Memory")]
     Memory,
-    /// An earlier fault ended the reading.
+    /// An earlier fault has ended the stream.
     #[error("Failed")]
     Failed,
 }
 
-/// A fault in a piece of a stream, behind the frames of that piece that stood before it.
+/// A fault in a piece of a stream, with the frames of that piece in front of the fault.
 #[derive(Drop)]
 pub struct PushFault {
     pub before: Vec<Frame>,

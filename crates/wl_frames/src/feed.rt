@@ -1,4 +1,4 @@
-//! Reading a stream of frames that comes in pieces.
+//! Decoder of a stream of frames that arrives in pieces.
 
 ghost use Rattle.std.specs.Prelude.{◌≡◌, ◌++◌, ◌<◌, ◌≤◌, ◌^◌, ◌⊎◌, [], length, drop, IfOk, IfErr, OnOk, MatchOption};
 ghost use Rattle.wl_frames.specs.declared.fault.FrameFault.TheVariants.{Memory};
@@ -12,7 +12,8 @@ use std::marker::Model;
 use wl_grammar::frame::Frame;
 use wl_limits::frames::{BODY_LIMIT, LEAST_BODY};
 
-/// The length at the front of a stream, and what follows it; none before all its bytes are there.
+/// Returns the length at the front of a stream and the bytes after it, or `None` if it is
+/// incomplete.
 fn length_at(bytes: &[u8]) -> Option<(usize, &[u8])>
     ensures { MatchOption result (length bytes.now < 4) (λ x.
         (bytes.now ≡ spelled_u32 x.0 ++ x.1.now) × (x.0 < 2 ^ 32)) }
@@ -25,7 +26,8 @@ fn length_at(bytes: &[u8]) -> Option<(usize, &[u8])>
     Some((len as usize, rest))
 }
 
-/// The frame at the front of a stream, and what follows it; none before all its bytes are there.
+/// Returns the frame at the front of a stream and the bytes after it, or `None` if it is
+/// incomplete.
 fn frame_at(alloc: Global, bytes: &[u8]) -> Result<Option<(Frame, &[u8])>, FrameFault>
     ensures frame { IfOk result (λ next. MatchOption next (IsPartial bytes.now) (λ x.
         IsWellFormed x.0 × (bytes.now ≡ spelling x.0 ++ x.1.now))) }
@@ -45,8 +47,8 @@ fn frame_at(alloc: Global, bytes: &[u8]) -> Result<Option<(Frame, &[u8])>, Frame
     Ok(Some((frame, after)))
 }
 
-/// Reads the whole frames at the front of a stream into an empty list, and answers how many bytes they take. A fault
-/// leaves the frames before it.
+/// Decodes the complete frames at the front of a stream into an empty list, and returns their
+/// length in bytes. On a fault, the list holds the frames in front of it.
 fn read_frames(alloc: Global, frames: &mut Vec<Frame>, bytes: &[u8]) -> Result<usize, FrameFault>
     requires { frames.old.items ≡ [] }
     ensures length { IfOk result (λ taken. taken ≤ length bytes.now) }
@@ -61,7 +63,7 @@ fn read_frames(alloc: Global, frames: &mut Vec<Frame>, bytes: &[u8]) -> Result<u
     Ok(bytes.len() - rest.len())
 }
 
-/// A frame for which there was no room is lost.
+/// Drops a frame that could not be stored, and returns `Memory`.
 fn unstored(failed: AllocFailed<Frame>) -> FrameFault
     ensures { result ≡ Memory }
 {
@@ -69,7 +71,7 @@ fn unstored(failed: AllocFailed<Frame>) -> FrameFault
     FrameFault::Memory
 }
 
-/// Reads frames from a stream that comes in pieces of any size.
+/// Decoder of a stream that arrives in pieces of any size.
 #[derive(Drop)]
 pub struct Feed {
     alloc: Global,
@@ -86,7 +88,7 @@ impl Model for Feed {
 }
 
 impl Feed {
-    /// The start of a stream.
+    /// Returns a decoder at the start of a stream.
     pub fn new(alloc: Global) -> Feed
         ensures { result ≡ at_start }
     {
@@ -97,8 +99,9 @@ impl Feed {
         }
     }
 
-    /// Takes the next piece, and answers the frames that are whole now. A fault comes with the frames of the piece that
-    /// stood before it. After a fault other than out of memory every later call answers `Failed`.
+    /// Consumes the next piece, and returns the frames that it completes. A fault comes with the
+    /// frames of the piece in front of it. If it fails with `Memory`, nothing is consumed, and the
+    /// piece may be pushed again. After any other fault, each later call fails with `Failed`.
     pub fn push(&mut self, piece: &[u8]) -> Result<Vec<Frame>, PushFault>
         ensures frames { IfOk result (λ frames. Takes self.old self.new piece.now frames.items) }
         ensures fault { IfErr result (λ e. Refuses self.old self.new piece.now e.before.items e.fault) }
@@ -113,7 +116,7 @@ impl Feed {
         }
     }
 
-    /// Takes the next piece, and puts the frames that are whole now into an empty list.
+    /// Consumes the next piece, and puts the frames that it completes into an empty list.
     fn take(&mut self, piece: &[u8], frames: &mut Vec<Frame>) -> Result<(), FrameFault>
         requires { frames.old.items ≡ [] }
         ensures frames { OnOk result (Takes self.old self.new piece.now frames.new.items) }
@@ -132,7 +135,7 @@ impl Feed {
                 Ok(())
             }
             Err(FrameFault::Memory) => {
-                // The piece may be pushed again, and its frames come then.
+                // The piece may be pushed again, and yields its frames then.
                 frames.clear();
                 self.rest.truncate(old_len);
                 Err(FrameFault::Memory)
@@ -145,7 +148,8 @@ impl Feed {
         }
     }
 
-    /// Ends the stream: `Truncated` if a frame was cut short, `Failed` after an earlier fault.
+    /// Ends the stream. Fails with `Truncated` if a frame is incomplete, and with `Failed` after an
+    /// earlier fault.
     pub fn end(self) -> Result<(), FrameFault>
         ensures { result ≡ end_of self }
     {

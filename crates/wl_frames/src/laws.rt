@@ -1,4 +1,4 @@
-//! What the grammar promises of itself.
+//! Laws of the grammar and of decoding.
 
 ghost use Rattle.std.specs.Prelude.{◌≡◌, ◌++◌, ℕ, List, length};
 ghost use Rattle.wl_grammar.specs.declared.frame.Frame.{Frame};
@@ -7,7 +7,7 @@ ghost use Rattle.wl_encoding.specs.Lengths.{IsLength};
 ghost use Rattle.wl_frames.specs.Stream.{Reads, Rest, Stop};
 ghost use Rattle.wl_frames.specs.declared.device.TheConstants.{READ_LIMIT, PIECE_LEN, BUNDLE_LEN};
 
-/// No two frames have one spelling, and no spelling begins another.
+/// States that no two frames have the same encoding, and that no encoding is a prefix of another.
 pub fn law_spelling()
     ensures one_frame { (bytes : List ℕ) (f g : Frame) → IsBody bytes f → IsBody bytes g → f ≡ g }
     ensures length { (f : Frame) → IsWellFormed f → IsLength (length (body f)) }
@@ -15,7 +15,8 @@ pub fn law_spelling()
         → IsWellFormed g → spelling f ++ x ≡ spelling g ++ y → (f ≡ g) × (x ≡ y) }
 {}
 
-/// A stream has one reading, and reading it in pieces is reading the whole.
+/// States that a stream is decoded in only one way, and that decoding it in pieces gives the same
+/// frames.
 pub fn law_reading()
     ensures one { (stream : List ℕ) (fs gs : List Frame) (s t : Stop)
         → Reads stream fs s → Reads stream gs t → (fs ≡ gs) × (s ≡ t) }
@@ -23,7 +24,7 @@ pub fn law_reading()
         → Reads stream fs (Rest rest) → Reads (rest ++ piece) gs s → Reads (stream ++ piece) (fs ++ gs) s }
 {}
 
-/// The value of each limit of this crate. All other contracts cite the limits by name.
+/// States the value of each limit of this crate. All other contracts cite the limits by name.
 pub fn law_limits()
     ensures reads { READ_LIMIT ≡ 1000000 }
     ensures piece { PIECE_LEN ≡ 4096 }

@@ -1,4 +1,4 @@
-//! Frames as bytes: how they are read again, and what bytes are read from and written to.
+//! Decoder of frames, and the readers and writers for their bytes.
 #![tactic(auto)]
 
 pub mod device;

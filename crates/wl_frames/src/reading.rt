@@ -1,4 +1,4 @@
-//! Reading the body of a frame.
+//! Decoder of a frame's body.
 
 ghost use Rattle.std.specs.Prelude.{◌≤◌, length, IfOk, IfErr};
 ghost use Rattle.wl_grammar.specs.Grammar.{IsBody};
@@ -13,7 +13,8 @@ use crate::fault::FrameFault;
 use std::alloc::Global;
 use wl_grammar::frame::Frame;
 
-/// The frame whose body the bytes are, or the first fault of the body. There are at least two bytes.
+/// Returns the frame that has this body. The body has at least two bytes. Fails with the first
+/// fault of the body, or with `Memory` if out of memory.
 pub fn decode(alloc: Global, body: &[u8]) -> Result<Frame, FrameFault>
     requires { 2 ≤ length body.now }
     ensures frame { IfOk result (λ f. IsBody body.now f) }

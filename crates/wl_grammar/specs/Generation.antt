@@ -1,4 +1,4 @@
--- The generation that a tab has sent something for.
+-- Generation of a frame from a tab.
 use Rattle.std.specs.Prelude.{ℕ}
 use Rattle.wl_grammar.specs.declared.frame.Upward.{Upward}
 use Rattle.wl_grammar.specs.declared.frame.Upward.TheVariants as up

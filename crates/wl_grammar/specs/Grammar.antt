@@ -1,4 +1,4 @@
--- The grammar of frames: which frames there are, and the one spelling of each.
+-- Grammar of the frames: the kinds of frames, and the unique encoding of each frame.
 use Rattle.std.specs.Prelude.{◌≡◌, ℕ, ◌+◌, ◌^◌, ◌<◌, ◌≤◌, List, [], ◌∷◌, ◌++◌, Bool, true, false, length, All, ⊤}
 use Rattle.std.specs.Int.{w16, w32, to_be_bytes}
 use Rattle.std.specs.List.{flat_map, AllByRecursion}
@@ -35,9 +35,9 @@ use Rattle.wl_grammar.specs.declared.frame.Downward.TheVariants as down
 use Rattle.wl_grammar.specs.declared.frame.Frame.{Frame}
 use Rattle.wl_grammar.specs.declared.frame.Frame.TheVariants as frame
 
--- ---- fields: which values have a spelling, and the spelling of each
+-- Fields: their valid values and their encodings
 
--- a number of two or of four bytes, the greatest first
+-- A number is encoded in two or in four bytes, most significant byte first.
 abbrev pub u16 : ℕ → List ℕ
 u16 n = to_be_bytes w16 n
 
@@ -50,7 +50,7 @@ IsU16 n = n < 2 ^ 16
 abbrev pub IsU32 : ℕ → Type 0
 IsU32 n = n < 2 ^ 32
 
--- a generation; a tab or a partition: from 1 on
+-- Generations, tabs and partitions are numbered from 1.
 abbrev pub IsGeneration : ℕ → Type 0
 IsGeneration n = (1 ≤ n) × IsU32 n
 
@@ -61,7 +61,7 @@ abbrev pub spelled_mode : Mode → List ℕ
 spelled_mode Shared = 1 ∷ []
 spelled_mode Exclusive = 2 ∷ []
 
--- a flag; and held or waiting
+-- A flag is 0 or 1. A lock's state is 1 if it is held and 2 if it is waiting.
 abbrev pub spelled_flag : Bool → List ℕ
 spelled_flag false = 0 ∷ []
 spelled_flag true = 1 ∷ []
@@ -70,34 +70,35 @@ abbrev pub spelled_held : Bool → List ℕ
 spelled_held true = 1 ∷ []
 spelled_held false = 2 ∷ []
 
--- text or data behind its length, in one byte or in two
+-- Text or data follows its length, which takes one byte in `short_text` and two bytes in
+-- `long_text`.
 abbrev pub short_text : List ℕ → List ℕ
 short_text bytes = length bytes ∷ bytes
 
 abbrev pub long_text : List ℕ → List ℕ
 long_text bytes = u16 (length bytes) ++ bytes
 
--- a channel's name: so many bytes of UTF-8
+-- A channel's name is UTF-8 text of at most NAME_LIMIT bytes.
 abbrev pub IsChannel : List ℕ → Type 0
 IsChannel name = (length name ≤ NAME_LIMIT) × IsUtf8 name
 
--- the first byte is no U+002D
+-- The first byte is not U+002D.
 abbrev pub HasNoDash : List ℕ → Type 0
 HasNoDash [] = ⊤
 HasNoDash (b ∷ bs) = b ≡ 45 → ⊥
 
--- a lock's name
+-- A lock's name is valid as a channel's name and does not start with U+002D.
 abbrev pub IsLockName : List ℕ → Type 0
 IsLockName name = IsChannel name × HasNoDash name
 
--- the bytes of a post
+-- The data of a post is at most DATA_LIMIT bytes.
 abbrev pub IsData : List ℕ → Type 0
 IsData bytes = (length bytes ≤ DATA_LIMIT) × All (λ b. b < 256) bytes
 
 abbrev pub IsOrigin : List ℕ → Type 0
 IsOrigin text = (length text ≤ ORIGIN_LIMIT) × IsAscii text
 
--- ---- operations and entries
+-- Operations and entries
 
 abbrev pub operation : Operation → List ℕ
 operation (op.Request mode if_available name) = 1 ∷ spelled_mode mode ++ spelled_flag if_available ++ short_text name
@@ -117,7 +118,7 @@ entry e = u32 e.number ++ spelled_held e.held ++ spelled_mode e.mode ++ short_te
 abbrev pub IsEntry : Entry → Type 0
 IsEntry e = IsU32 e.number × IsLockName e.name
 
--- numbers strictly rise
+-- The numbers of the entries strictly rise, starting at `least` or above.
 abbrev pub RiseFrom : ℕ → List Entry → Type 0
 RiseFrom least [] = ⊤
 RiseFrom least (e ∷ es) = (least ≤ e.number) × RiseFrom (e.number + 1) es
@@ -128,14 +129,14 @@ snapshot_entry e = spelled_held e.held ++ u16 e.tab ++ spelled_mode e.mode ++ sh
 abbrev pub IsSnapshotEntry : SnapshotEntry → Type 0
 IsSnapshotEntry e = IsTab e.tab × IsLockName e.name
 
--- a listed tab and its partition
+-- An entry of a start list is a tab and its partition.
 abbrev pub place : ℕ × ℕ → List ℕ
 place p = u16 p.0 ++ u16 p.1
 
 abbrev pub IsPlace : ℕ × ℕ → Type 0
 IsPlace p = IsTab p.0 × IsTab p.1
 
--- tabs strictly rise
+-- The tabs of the entries strictly rise, starting at `least` or above.
 abbrev pub TabsRiseFrom : ℕ → List (ℕ × ℕ) → Type 0
 TabsRiseFrom least [] = ⊤
 TabsRiseFrom least (p ∷ ps) = (least ≤ p.0) × TabsRiseFrom (p.0 + 1) ps
@@ -146,7 +147,7 @@ spelled_outcome outcome.Granted = 2 ∷ []
 spelled_outcome outcome.Gone = 3 ∷ []
 spelled_outcome outcome.Taken = 4 ∷ []
 
--- ---- bodies: the version, the kind, and the fields of the kind
+-- Bodies: the version, the kind, and the fields of that kind
 
 unfoldable pub command : Command → List ℕ
 command c = FIRST_VERSION ∷ COMMAND ∷ (u32 c.generation ++ u32 c.number ++ operation c.operation)
@@ -167,7 +168,7 @@ pub record IsReport (r : Report) : Type 0 where
   pub entries : AllByRecursion IsEntry r.entries
   pub rise : RiseFrom 0 r.entries
 
--- a part of a report is of version 2
+-- A report part belongs to version 2.
 unfoldable pub report_part : ReportPart → List ℕ
 report_part r =
     SECOND_VERSION ∷ REPORT_PART
@@ -233,7 +234,7 @@ pub record IsWelcome (w : Welcome) : Type 0 where
   pub tab : IsTab w.tab
   pub origin : IsOrigin w.origin
 
--- and so is the welcome to a page under another top
+-- The welcome to a page under another top-level origin belongs to version 2.
 unfoldable pub pair_welcome : PairWelcome → List ℕ
 pair_welcome w = SECOND_VERSION ∷ PAIR_WELCOME ∷ (u16 w.tab ++ long_text w.top ++ long_text w.own)
 
@@ -242,7 +243,7 @@ pub record IsPairWelcome (w : PairWelcome) : Type 0 where
   pub top : IsOrigin w.top
   pub own : IsOrigin w.own
 
--- the bodies that may stand within a stamped frame, and within an addressed one
+-- A stamped frame carries an `upward` body, and an addressed frame carries a `downward` body.
 unfoldable pub upward : Upward → List ℕ
 upward (up.Command c) = command c
 upward (up.Report r) = report r
@@ -293,9 +294,9 @@ dead d = FIRST_VERSION ∷ DEAD ∷ u16 d.tab
 abbrev pub IsDead : Dead → Type 0
 IsDead d = IsTab d.tab
 
--- ---- frames
+-- Frames
 
--- the body of a frame
+-- The body of a frame is its version, its kind, and the fields of that kind.
 unfoldable pub body : Frame → List ℕ
 body (frame.Command c) = command c
 body (frame.Report r) = report r
@@ -312,7 +313,7 @@ body (frame.Start s) = start s
 body (frame.Addressed a) = addressed a
 body (frame.Dead d) = dead d
 
--- each field has its form
+-- A frame is well-formed if each of its fields has a valid value.
 abbrev pub IsWellFormed : Frame → Type 0
 IsWellFormed (frame.Command c) = IsCommand c
 IsWellFormed (frame.Report r) = IsReport r
@@ -329,11 +330,11 @@ IsWellFormed (frame.Start s) = IsStart s
 IsWellFormed (frame.Addressed a) = IsAddressed a
 IsWellFormed (frame.Dead d) = IsDead d
 
--- the bytes are the body of the frame
+-- The bytes are the body of this well-formed frame.
 pub record IsBody (bytes : List ℕ) (f : Frame) : Type 0 where
   pub well_formed : IsWellFormed f
   pub spelled : bytes ≡ body f
 
--- a frame on its way: the length of its body in four bytes, and the body
+-- A frame is sent as the length of its body, in four bytes, followed by the body.
 unfoldable pub spelling : Frame → List ℕ
 spelling f = u32 (length (body f)) ++ body f

@@ -1,9 +1,10 @@
+//! Boxed value for large frame variants.
 ghost use Rattle.std.specs.Prelude.{◌≡◌, IfOk};
 
 use std::alloc::{AllocError, Global};
 use std::marker::Model;
 
-/// A value in memory of its own, so that what has it is small. Contracts see it as the value alone.
+/// A value on the heap, which keeps its owner small. Contracts see it as the value alone.
 #[derive(Clone, Debug, Drop)]
 pub struct Boxed<T> {
     value: Box<T>,
@@ -16,13 +17,14 @@ impl<T> Model for Boxed<T> {
 }
 
 impl<T> Boxed<T> {
-    /// The value itself. It takes no memory.
+    /// Returns the value. Does not allocate.
     pub fn into_inner(self) -> T
         ensures { result ≡ self }
     {
         Box::into_inner(self.value)
     }
 
+    /// Returns a reference to the value.
     pub fn get(&self) -> &T
         ensures { result.now ≡ self.now }
     {
@@ -31,7 +33,7 @@ impl<T> Boxed<T> {
 }
 
 impl<T: Drop> Boxed<T> {
-    /// Puts the value into memory of its own.
+    /// Moves the value to the heap. Fails if out of memory.
     pub fn new(alloc: Global, value: T) -> Result<Boxed<T>, AllocError>
         ensures { IfOk result (λ b. b ≡ value) }
     {

@@ -1,4 +1,4 @@
-//! Frames equal to others, in memory of their own.
+//! Copy functions of frames, which fail if out of memory.
 
 ghost use Rattle.std.specs.Prelude.{◌≡◌, IfOk};
 
@@ -8,7 +8,8 @@ use crate::frame::{
 use std::alloc::{AllocError, Global};
 
 impl Frame {
-    /// An equal frame. The bytes of posts are shared with this one, and all else is in memory of its own.
+    /// Returns an equal frame. The data of posts is shared with this frame; all else is a deep
+    /// copy. Fails if out of memory.
     pub fn copy(&self, _alloc: Global) -> Result<Frame, AllocError>
         ensures { IfOk result (λ copy. copy ≡ self.now) }
     {
@@ -17,6 +18,7 @@ impl Frame {
 }
 
 impl Operation {
+    /// Returns a deep copy. Fails if out of memory.
     pub fn copy(&self, _alloc: Global) -> Result<Operation, AllocError>
         ensures { IfOk result (λ copy. copy ≡ self.now) }
     {
@@ -25,6 +27,7 @@ impl Operation {
 }
 
 impl Report {
+    /// Returns a deep copy. Fails if out of memory.
     pub fn copy(&self, _alloc: Global) -> Result<Report, AllocError>
         ensures { IfOk result (λ copy. copy ≡ self.now) }
     {
@@ -33,6 +36,7 @@ impl Report {
 }
 
 impl ReportPart {
+    /// Returns a deep copy. Fails if out of memory.
     pub fn copy(&self, _alloc: Global) -> Result<ReportPart, AllocError>
         ensures { IfOk result (λ copy. copy ≡ self.now) }
     {
@@ -41,6 +45,7 @@ impl ReportPart {
 }
 
 impl Post {
+    /// Returns an equal post that shares the data with this one. Fails if out of memory.
     pub fn copy(&self, _alloc: Global) -> Result<Post, AllocError>
         ensures { IfOk result (λ copy. copy ≡ self.now) }
     {
@@ -49,6 +54,7 @@ impl Post {
 }
 
 impl Snapshot {
+    /// Returns a deep copy. Fails if out of memory.
     pub fn copy(&self, _alloc: Global) -> Result<Snapshot, AllocError>
         ensures { IfOk result (λ copy. copy ≡ self.now) }
     {
@@ -57,6 +63,7 @@ impl Snapshot {
 }
 
 impl Heard {
+    /// Returns an equal frame that shares the data with this one. Fails if out of memory.
     pub fn copy(&self, _alloc: Global) -> Result<Heard, AllocError>
         ensures { IfOk result (λ copy. copy ≡ self.now) }
     {
@@ -65,6 +72,7 @@ impl Heard {
 }
 
 impl Upward {
+    /// Returns a deep copy. Fails if out of memory.
     pub fn copy(&self, _alloc: Global) -> Result<Upward, AllocError>
         ensures { IfOk result (λ copy. copy ≡ self.now) }
     {
@@ -73,6 +81,7 @@ impl Upward {
 }
 
 impl Stamped {
+    /// Returns a deep copy. Fails if out of memory.
     pub fn copy(&self, _alloc: Global) -> Result<Stamped, AllocError>
         ensures { IfOk result (λ copy. copy ≡ self.now) }
     {
@@ -81,6 +90,7 @@ impl Stamped {
 }
 
 impl Addressed {
+    /// Returns a deep copy. Fails if out of memory.
     pub fn copy(&self, _alloc: Global) -> Result<Addressed, AllocError>
         ensures { IfOk result (λ copy. copy ≡ self.now) }
     {

@@ -1,4 +1,4 @@
-//! The frames of the protocol, one struct for each kind.
+//! Frames of the protocol, with one struct for each kind.
 
 use crate::boxed::Boxed;
 use crate::origin::Origin;
@@ -6,24 +6,24 @@ use crate::sequence::Sequence;
 use bytes::Bytes;
 use wl_draft::{Entry, Mode, Name};
 
-/// What a command of a tab asks the lock manager for.
+/// Operation that a tab's command asks of the lock manager.
 #[derive(Clone, Drop, PartialEq, Eq)]
 pub enum Operation {
-    /// A lock, to be waited for, or under `if_available` to be had at once or not at all.
+    /// Requests a lock. If `if_available` is set, the broker grants it at once or not at all.
     Request {
         mode: Mode,
         if_available: bool,
         name: Name,
     },
-    /// That the lock of an earlier number be released.
+    /// Releases the lock that the command `number` requested.
     Release {
         number: u32,
     },
-    /// That the request of an earlier number be taken back.
+    /// Aborts the request that the command `number` made.
     Abort {
         number: u32,
     },
-    /// A snapshot of the partition's locks.
+    /// Asks for a snapshot of the partition's locks.
     Query,
 }
 
@@ -35,28 +35,29 @@ pub struct Command {
     pub operation: Operation,
 }
 
-/// What a tab says on entering a generation: how many commands it has issued, and its live locks.
+/// Report of a tab that enters a generation: the number of commands it has issued, and its live
+/// locks.
 #[derive(Clone, Drop, PartialEq, Eq)]
 pub struct Report {
     pub generation: u32,
     pub base: u32,
-    /// By strictly rising number.
+    /// Sorted by strictly rising number.
     pub entries: Sequence<Entry>,
 }
 
-/// A part of what a tab says on entering a generation: how many commands it has issued, and some of its live locks.
+/// One part of a tab's report: the number of commands it has issued, and some of its live locks.
 #[derive(Clone, Drop, PartialEq, Eq)]
 pub struct ReportPart {
     pub generation: u32,
     pub base: u32,
-    /// Counted from 0.
+    /// Index of the part, counted from 0.
     pub part: u16,
     pub parts: u16,
-    /// By strictly rising number.
+    /// Sorted by strictly rising number.
     pub entries: Sequence<Entry>,
 }
 
-/// A broadcast message of a tab.
+/// A tab's message to the other tabs of its partition (HTML Standard 9.5 BroadcastChannel).
 #[derive(Clone, Drop)]
 pub struct Post {
     pub number: u32,
@@ -64,75 +65,75 @@ pub struct Post {
     pub bytes: Bytes,
 }
 
-/// Tells a tab that a generation has begun.
+/// Message to a tab that a generation has begun.
 #[derive(Clone, Drop, PartialEq, Eq)]
 pub struct Hello {
     pub generation: u32,
 }
 
-/// What became of a command.
+/// Result of a command.
 #[derive(Clone, Copy, Debug, PartialEq, Eq)]
 pub enum Outcome {
-    /// The request waits.
+    /// The request is waiting.
     Waiting,
     /// The lock is held.
     Granted,
-    /// There is no such request, lock or answer any more.
+    /// The request, lock or answer does not exist. For a probe, the lock was not available.
     Gone,
-    /// The release or abort was done.
+    /// The release or abort is done.
     Taken,
 }
 
-/// The broker's answer to the command of a number.
+/// The broker's answer to one command.
 #[derive(Clone, Drop, PartialEq, Eq)]
 pub struct Answer {
     pub generation: u32,
-    /// How many commands of the tab the broker has taken.
+    /// Number of the tab's commands that the broker has taken.
     pub upto: u32,
     pub number: u32,
     pub outcome: Outcome,
 }
 
-/// A lock of a snapshot.
+/// One lock in a snapshot.
 #[derive(Clone, Drop, PartialEq, Eq)]
 pub struct SnapshotEntry {
-    /// Whether it is held; else it is waited for.
+    /// Whether the lock is held. If not, its request is waiting.
     pub held: bool,
     pub tab: u16,
     pub mode: Mode,
     pub name: Name,
 }
 
-/// One part of the answer to a query: the held locks in the order of granting, then the waiting requests in the order
-/// of queueing.
+/// One part of the answer to a query. It lists the held locks in the order of granting, then the
+/// waiting requests in the order of queueing.
 #[derive(Clone, Drop, PartialEq, Eq)]
 pub struct Snapshot {
     pub generation: u32,
     pub number: u32,
-    /// Counted from 0.
+    /// Index of the part, counted from 0.
     pub part: u16,
     pub parts: u16,
     pub entries: Sequence<SnapshotEntry>,
 }
 
-/// A post on its way to a tab.
+/// A post as it is delivered to a tab.
 #[derive(Clone, Drop)]
 pub struct Heard {
-    /// The tab that posted it.
+    /// The tab that sent the post.
     pub source: u16,
     pub number: u32,
     pub channel: Name,
     pub bytes: Bytes,
 }
 
-/// Tells a tab process who it is.
+/// The kernel's first frame to a tab's process: the tab's number and its origin.
 #[derive(Clone, Drop)]
 pub struct Welcome {
     pub tab: u16,
     pub origin: Origin,
 }
 
-/// Tells a tab process who it is, and what stands at the top of its page.
+/// The kernel's first frame to a tab's process whose page has another top-level origin.
 #[derive(Clone, Drop)]
 pub struct PairWelcome {
     pub tab: u16,
@@ -140,7 +141,7 @@ pub struct PairWelcome {
     pub own: Origin,
 }
 
-/// What a tab sends to the broker.
+/// A frame's content from a tab to the broker.
 #[derive(Clone, Drop, PartialEq, Eq)]
 pub enum Upward {
     Command(Command),
@@ -148,7 +149,7 @@ pub enum Upward {
     ReportPart(ReportPart),
 }
 
-/// What the broker sends to a tab.
+/// A frame's content from the broker to a tab.
 #[derive(Clone, Drop, PartialEq, Eq)]
 pub enum Downward {
     Hello(Hello),
@@ -156,7 +157,7 @@ pub enum Downward {
     Snapshot(Boxed<Snapshot>),
 }
 
-/// A frame of a tab, with the tab and the partition that the kernel set for it.
+/// A tab's frame with the tab's number and its partition, which the kernel adds.
 #[derive(Clone, Drop, PartialEq, Eq)]
 pub struct Stamped {
     pub tab: u16,
@@ -164,22 +165,23 @@ pub struct Stamped {
     pub inner: Upward,
 }
 
-/// Starts a broker.
+/// The kernel's first frame to a broker: its generation and its start list.
 #[derive(Clone, Drop)]
 pub struct Start {
     pub generation: u32,
-    /// The listed tabs, by strictly rising number, each with its partition.
+    /// The tabs that the broker waits for, each with its partition, sorted by strictly rising tab
+    /// number.
     pub list: Sequence<(u16, u16)>,
 }
 
-/// A frame of the broker, with the tab that it is for.
+/// A broker's frame with the number of the tab that it is for.
 #[derive(Clone, Drop, PartialEq, Eq)]
 pub struct Addressed {
     pub tab: u16,
     pub inner: Downward,
 }
 
-/// Tells the broker that a tab is dead.
+/// Message to the broker that a tab is dead.
 #[derive(Clone, Drop)]
 pub struct Dead {
     pub tab: u16,

@@ -1,4 +1,4 @@
-//! For which generation a tab has sent something.
+//! Generation of a frame from a tab.
 
 ghost use Rattle.std.specs.Prelude.{◌≡◌};
 ghost use Rattle.wl_grammar.specs.Generation.{generation_of};
@@ -6,7 +6,7 @@ ghost use Rattle.wl_grammar.specs.Generation.{generation_of};
 use crate::frame::Upward;
 
 impl Upward {
-    /// The generation that it is sent for.
+    /// Returns the generation for which the tab sent the frame.
     pub fn generation(&self) -> u32
         ensures { result ≡ generation_of self.now }
     {

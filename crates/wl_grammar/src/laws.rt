@@ -1,10 +1,10 @@
-//! The numbers behind the names of versions and kinds.
+//! Law that fixes the numbers of the versions and kinds.
 
 ghost use Rattle.std.specs.Prelude.{◌≡◌};
 ghost use Rattle.wl_grammar.specs.declared.kinds.TheConstants.{FIRST_VERSION, SECOND_VERSION, COMMAND, REPORT, POST, HELLO, ANSWER, SNAPSHOT, HEARD, WELCOME, STAMPED, START, ADDRESSED, DEAD, REPORT_PART, PAIR_WELCOME};
 
-/// The first two bytes of each kind of body: its version, and its code in that version. All other contracts cite them by name,
-/// and would be proved for other numbers too.
+/// States the version and the code of each kind of body. All other contracts cite them by name, and
+/// would hold for other numbers too.
 pub fn law_codes()
     ensures versions { (FIRST_VERSION ≡ 1) × (SECOND_VERSION ≡ 2) }
     ensures from_tabs { (COMMAND ≡ 1) × (REPORT ≡ 2) × (POST ≡ 3) }

@@ -1,4 +1,5 @@
-//! Frames as values: what tabs, the kernel and the broker send each other, and which of these can be spelled.
+//! Frames as values: the messages between the tabs, the kernel and the broker, and the conditions
+//! for their encoding.
 #![tactic(auto)]
 
 pub mod boxed;

@@ -1,3 +1,4 @@
+//! Text of an origin.
 ghost use Rattle.std.specs.Prelude.{◌≡◌, IfOk};
 ghost use Rattle.std.specs.String.{string_bytes};
 ghost use Rattle.std.specs.Str.{IsUtf8};
@@ -5,7 +6,7 @@ ghost use Rattle.std.specs.Str.{IsUtf8};
 use std::alloc::{AllocError, Global};
 use std::marker::Model;
 
-/// The text of an origin as it stands in a frame. Contracts see it as its bytes.
+/// The text of an origin in a frame. Contracts see it as its bytes.
 #[derive(Clone, Drop)]
 pub struct Origin {
     text: String,
@@ -21,19 +22,21 @@ impl Model for Origin {
 }
 
 impl Origin {
+    /// Wraps a text. Does not allocate.
     pub fn new(text: String) -> Origin
         ensures { result ≡ string_bytes text }
     {
         Origin { text }
     }
 
-    /// The text itself, which takes no memory.
+    /// Returns the text. Does not allocate.
     pub fn into_string(self) -> String
         ensures { string_bytes result ≡ self }
     {
         self.text
     }
 
+    /// Returns the text as a string slice.
     pub fn as_str(&self) -> &str
         ensures value { result.now ≡ self.now }
         ensures utf8 { IsUtf8 self.now }
@@ -41,7 +44,7 @@ impl Origin {
         self.text.as_str()
     }
 
-    /// An equal text, in memory of its own.
+    /// Returns a copy. Fails if out of memory.
     pub fn copy(&self, _alloc: Global) -> Result<Origin, AllocError>
         ensures { IfOk result (λ copy. copy ≡ self.now) }
     {

@@ -1,8 +1,9 @@
+//! List of a frame's entries.
 ghost use Rattle.std.specs.Prelude.{◌≡◌, IfOk, OnErr};
 
 use std::marker::Model;
 
-/// A list of values. Contracts see it as the list alone, whatever room it has.
+/// A list of values. Contracts see it as the list alone, regardless of its capacity.
 #[derive(Clone, Debug, Drop)]
 pub struct Sequence<T> {
     items: Vec<T>,
@@ -17,20 +18,21 @@ impl<T> Model for Sequence<T> {
 }
 
 impl<T> Sequence<T> {
-    /// The list of these items. It takes no memory.
+    /// Wraps a vector. Does not allocate.
     pub fn new(items: Vec<T>) -> Sequence<T>
         ensures { result ≡ items.items }
     {
         Sequence { items }
     }
 
-    /// The items themselves. It takes no memory.
+    /// Returns the vector. Does not allocate.
     pub fn into_vec(self) -> Vec<T>
         ensures { result.items ≡ self }
     {
         self.items
     }
 
+    /// Returns the values as a slice.
     pub fn as_slice(&self) -> &[T]
         ensures { result.now ≡ self.now }
     {

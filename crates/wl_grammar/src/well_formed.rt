@@ -1,4 +1,4 @@
-//! Which frames have a spelling.
+//! Tests whether frames are well-formed, that is, whether they have an encoding.
 
 ghost use Rattle.std.specs.Prelude.{◌↔◌, IsTrue};
 ghost use Rattle.std.specs.List.{AllByRecursion};
@@ -14,7 +14,7 @@ use wl_limits::frames::{ENTRY_LIMIT, LIST_LIMIT, REPORT_PART_LIMIT};
 use wl_limits::texts::{DATA_LIMIT, NAME_LIMIT, ORIGIN_LIMIT};
 
 impl Frame {
-    /// Whether each field has its form, so that the frame can be spelled.
+    /// Returns whether each field has a valid value, so that the frame can be encoded.
     pub fn is_well_formed(&self) -> bool
         ensures { IsTrue result ↔ IsWellFormed self.now }
     {
@@ -37,7 +37,7 @@ impl Frame {
     }
 }
 
-// ---- fields
+// Fields
 
 fn is_generation(number: u32) -> bool
     ensures { IsTrue result ↔ IsGeneration number }
@@ -79,13 +79,13 @@ fn is_origin(origin: &Origin) -> bool
     text.len() <= ORIGIN_LIMIT && text.is_ascii()
 }
 
-// ---- lists
+// Lists
 
-/// Whether each entry has its form, and their numbers strictly rise.
+/// Returns whether each entry is valid and the numbers strictly rise.
 fn are_entries(entries: &[Entry]) -> bool
     ensures { IsTrue result ↔ (AllByRecursion IsEntry entries.now × RiseFrom 0 entries.now) }
 {
-    // The least number that may come next. It may be past the numbers of four bytes.
+    // The least valid number of the next entry. It may exceed the range of `u32`.
     let mut least = 0u64;
     for e in entries {
         let number = u64::from(e.number);
@@ -108,7 +108,7 @@ fn are_snapshot_entries(entries: &[SnapshotEntry]) -> bool
     true
 }
 
-/// Whether these are tabs and partitions, and the tabs strictly rise.
+/// Returns whether each entry is a valid tab and partition and the tabs strictly rise.
 fn are_places(places: &[(u16, u16)]) -> bool
     ensures { IsTrue result ↔ (AllByRecursion IsPlace places.now × TabsRiseFrom 1 places.now) }
 {
@@ -123,7 +123,7 @@ fn are_places(places: &[(u16, u16)]) -> bool
     true
 }
 
-// ---- bodies
+// Bodies
 
 impl Operation {
     fn is_well_formed(&self) -> bool
@@ -131,7 +131,7 @@ impl Operation {
     {
         match self {
             Operation::Request { name, .. } => is_lock_name(name),
-            // Each number of four bytes has a spelling.
+            // Each `u32` is a valid number.
             Operation::Release { number } | Operation::Abort { number } => {
                 let _number = *number;
                 true

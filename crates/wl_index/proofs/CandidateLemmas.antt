@@ -1,4 +1,4 @@
--- The candidates of settling: whatever can be granted stays among them.
+-- Candidates for granting: each grantable request stays among them.
 use Rattle.std.proofs.Common.{append_assoc, ◌≡◌, ℕ, ◌+◌, ◌<◌, ◌≤◌, Bool, true, false, ◌&&◌, ◌||◌, not, cond, List, [], ◌∷◌, ◌++◌, Option, Some, None, refl, sym, ap, ◌∙◌, arith}
 use Rattle.std.specs.Prelude.{◌==◌, bytes_eq, count_by, IsPermutation}
 use Rattle.std.specs.List.{list_any}
@@ -19,7 +19,7 @@ use Rattle.wl_ordered.proofs.WithoutLemmas.{count-one}
 use Rattle.wl_index.proofs.NextLemmas.{IsGrant, next-split, next-row, next-at, stuck-nexts, stuck-rows, grantable-next, append-cons, rising-apart, find-split, not-true, next-stuck_step, text-same, text-self}
 use Rattle.wl_index.proofs.RemovalLemmas.{if-without, first-without}
 
--- ---- numbers in another order
+-- Numbers in another order
 
 any-count_step : {X : Type 0} (t : X → Bool) (x : X) (xs : List X) → list_any t xs ≡ not (count_by t xs == 0) → count_by t (x ∷ xs) ≡ cond (t x) 1 0 + count_by t xs → list_any t (x ∷ xs) ≡ not (count_by t (x ∷ xs) == 0)
 any-count_step t x xs below one = grind (arith, nat_tests)
@@ -32,7 +32,7 @@ pub among-permutation : (k : ℕ) (xs ys : List ℕ) → IsPermutation xs ys →
 among-permutation k xs ys p =
     any-count (λ j. j == k) xs ∙ ap (λ n. not (n == 0)) (sym (sum_by-IsPermutation (λ j. cond (j == k) 1 0) xs ys p)) ∙ sym (any-count (λ j. j == k) ys)
 
--- ---- a number put in
+-- Adding a number
 
 pub pushed-here : (order k : ℕ) (b : Bool) → order ≡ k → (order == k || b) ≡ true
 pushed-here order k b e = grind (arith, nat_tests)
@@ -40,12 +40,12 @@ pushed-here order k b e = grind (arith, nat_tests)
 pub pushed-kept : (order k : ℕ) (b : Bool) → b ≡ true → (order == k || b) ≡ true
 pushed-kept order k b e = grind (arith, nat_tests)
 
--- ---- the least candidate
+-- Least candidate
 
 false-true : false ≡ true → ⊥
 false-true e = cc
 
--- where none is left, all that waits is stuck
+-- If there is no candidate, no waiting request is grantable.
 pub no-candidates : (held waiting : Table Row) → AreCandidates [] held waiting → AreStuck (values_in held) [] (values_in waiting)
 no-candidates held waiting all =
     stuck-nexts held waiting (λ name. next-stuck_step held waiting (next_in name held waiting) (λ k e. false-true (all name k e)))
@@ -56,7 +56,7 @@ number-is (Some j) k e =
     let same : j ≡ k = grind (arith, nat_tests) in
     ap (λ (i : ℕ). Some i) same
 
--- the request of a number that can be granted
+-- The number belongs to a grantable request.
 record IsFound (held waiting : Table Row) (order : ℕ) : Type 0 where
   row : Row
   next : is_number (next_in row.name held waiting) order ≡ true
@@ -68,7 +68,7 @@ found-step held waiting order (Some r) e = record { row = r; next = e }
 too-late : (order k : ℕ) → order ≤ k → k < order → ⊥
 too-late order k l m = omega (arith, l, m)
 
--- the least candidate, if it can be granted, is the first that can
+-- If the least candidate is grantable, it is the first grantable request.
 pub next-grant : (orders : List ℕ) (held waiting : Table Row) (order : ℕ) → is_rising waiting ≡ true → AreCandidates orders held waiting → ((k : ℕ) → is_among k orders ≡ true → order ≤ k) → is_next order held waiting ≡ true → IsGrant held waiting order
 next-grant orders held waiting order rise all least e =
     let i = found-step held waiting order (find waiting order) e in
@@ -86,7 +86,7 @@ next-grant orders held waiting order rise all least e =
       free = n.free;
     }
 
--- ---- a candidate taken out
+-- Removing a candidate
 
 popped-step : (o k : ℕ) (b : Bool) → (o == k || b) ≡ true → (o == k) ≡ false → b ≡ true
 popped-step o k b e f = grind (arith, nat_tests)
@@ -109,7 +109,7 @@ same-number j k e = grind (arith, nat_tests)
 self-number : (k : ℕ) → is_number (Some k) k ≡ true
 self-number k = grind (arith, nat_tests)
 
--- the next of a name can be granted, by its number
+-- The next request of a name is grantable.
 next-is : (name : List ℕ) (held waiting : Table Row) (k : ℕ) → is_rising waiting ≡ true → next_in name held waiting ≡ Some k → is_next k held waiting ≡ true
 next-is name held waiting k rise e =
     let i = next-row name held waiting k rise e in
@@ -124,12 +124,12 @@ passed-step orders held waiting order name k true s rise not e others =
     absurd (true-false (is_next order held waiting) n not)
 passed-step orders held waiting order name k false s rise not e others = others s
 
--- a candidate that cannot be granted is passed over
+-- Removing a candidate that is not grantable keeps all grantable requests among the candidates.
 pub candidates-passed : (orders : List ℕ) (held waiting : Table Row) (order : ℕ) → is_rising waiting ≡ true → is_next order held waiting ≡ false → AreOthers order orders held waiting → AreCandidates orders held waiting
 candidates-passed orders held waiting order rise not others =
     λ name k e. passed-step orders held waiting order name k (order == k) refl rise not e (others name k e)
 
--- ---- a row taken out, and the front of its name put in
+-- Removing a row, and adding the front request of its name
 
 not-named : (r row : Row) (name : List ℕ) → r ≡ row → row.name ≡ name → bytes_eq r.name name ≡ false → ⊥
 not-named r row name s n e =
@@ -170,7 +170,7 @@ candidates-let_go orders after held waiting order r rise f all kept front =
 pub others-all : (orders : List ℕ) (held waiting : Table Row) (order : ℕ) → AreCandidates orders held waiting → AreOthers order orders held waiting
 others-all orders held waiting order all = λ name k e f. all name k e
 
--- ---- a row put last
+-- Appending a row
 
 both-free : (a b : Bool) (x k : ℕ) → cond (a && b) (Some x) None ≡ Some k → cond a (Some x) None ≡ Some k
 both-free true true x k e = e
@@ -189,7 +189,7 @@ held-step : (name : List ℕ) (held : Table Row) (order : ℕ) (r : Row) (k : �
 held-step name held order r k None e = e
 held-step name held order r k (Some p) e = free-more name p.1.mode held order r p.0 k e
 
--- one more lock frees nobody
+-- One more held lock makes no request grantable.
 pub candidates-held : (orders : List ℕ) (held waiting : Table Row) (order : ℕ) (r : Row) → AreCandidates orders held waiting → AreCandidates orders (held ++ (order, r) ∷ []) waiting
 candidates-held orders held waiting order r all =
     λ name k e. all name k (held-step name held order r k (first_named name waiting) e)
@@ -220,12 +220,12 @@ queued-step orders after held waiting order r name k None f all kept here e =
 queued-step orders after held waiting order r name k (Some q) f all kept here e =
     kept k (all name k (ap (λ o. if_free name held o) (f ∙ sym (first-some name q (order, r) waiting f)) ∙ e))
 
--- one more request is a candidate itself
+-- One more request becomes a candidate itself.
 pub candidates-queued : (orders after : List ℕ) (held waiting : Table Row) (order : ℕ) (r : Row) → AreCandidates orders held waiting → ((j : ℕ) → is_among j orders ≡ true → is_among j after ≡ true) → is_among order after ≡ true → AreCandidates after held (waiting ++ (order, r) ∷ [])
 candidates-queued orders after held waiting order r all kept here =
     λ name k e. queued-step orders after held waiting order r name k (first_named name waiting) refl all kept here e
 
--- ---- whether a pair can be granted, by the place of its first request
+-- A pair is grantable, depending on the place of its first request
 
 place-true : (client number : ℕ) (p : ℕ × Row) (ps : Table Row) → is_pair client number p.1 ≡ true → first_place (Some number) (places_in client (p ∷ ps)) ≡ Some p.0
 place-true client number p ps e = grind (arith, nat_tests)

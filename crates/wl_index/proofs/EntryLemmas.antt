@@ -1,4 +1,4 @@
--- What the index says of a table from which a row was taken out, and how much room there is.
+-- Index of a table after a row is removed, and the capacity that is left.
 use Rattle.std.proofs.Common.{◌≡◌, ℕ, ◌+◌, ◌<◌, ◌≤◌, suc, Bool, true, false, ◌&&◌, cond, eqb, List, [], ◌∷◌, Option, Some, None, length, length-append, refl, sym, ap, ◌∙◌, arith}
 use Rattle.std.specs.Prelude.{◌==◌, bytes_eq, filter, map, IsSome}
 use Rattle.std.proofs.Common.{rules}
@@ -16,7 +16,7 @@ use Rattle.wl_index.specs.Index.{line_of, places_in, places_of, is_shared, is_ex
 use Rattle.std.proofs.lemmas.Slice.Eq.{bytes_eq-Decides}
 use Rattle.wl_ordered.proofs.WithoutLemmas.{without-above, count-without, filter-without, orders-without}
 
--- ---- room
+-- Capacity
 
 pub room-step : (client k : ℕ) (w room room' : ℕ → ℕ) → w client < room client → w k ≤ room k → room k ≤ room' k + cond (eqb client k) 1 0 → w k ≤ room' k
 room-step client k w room room' l m n = grind (arith, nat_tests)
@@ -36,7 +36,7 @@ pub has-line : (o : Option Line) → (length (option_map_or line_seen o nobody).
 has-line (Some x) f = search rules
 has-line None f = absurd (f refl)
 
--- ---- a lock taken out
+-- Removing a lock
 
 held-count_true : (s e s' e' : ℕ) (mode : Mode) (queue : List ℕ) → s' + cond (is_shared mode) 1 0 ≡ s → e' + cond (is_exclusive mode) 1 0 ≡ e → without_holder (record { shared = s; exclusive = e; queue = queue }) mode ≡ record { shared = s'; exclusive = e'; queue = queue }
 held-count_true s e s' e' Shared queue h k = grind arith
@@ -91,7 +91,7 @@ pub line-take_out : (name : List ℕ) (held waiting : Table Row) (order : ℕ) (
 line-take_out name held waiting order r rise f =
     cond_queue (bytes_eq r.name name) _ _ _ order ∙ ap (λ q. record { shared = (line_of name held waiting).shared; exclusive = (line_of name held waiting).exclusive; queue = q }) (sym (queue-without name order r waiting (bytes_eq r.name name) refl rise f))
 
--- ---- fewer wait for a client
+-- Fewer requests of a client are waiting
 
 length-kept_step : (order : ℕ) (p : ℕ × ℕ) (ps : Table ℕ) → length (without_order order ps) ≤ length ps → length (without_order order (p ∷ ps)) ≤ length (p ∷ ps)
 length-kept_step order p ps below = grind (arith, nat_tests)
@@ -108,7 +108,7 @@ pub length-dropped_held : (b : Bool) (s : Places) (order : ℕ) → length (cond
 length-dropped_held true s order = refl
 length-dropped_held false s order = refl
 
--- ---- a request that is there, and its line
+-- A waiting request, and its line
 
 line-named_step : (order : ℕ) (r : Row) (p : ℕ × Row) (ps : Table Row) → (p.0 ≡ order → p.1 ≡ r → bytes_eq p.1.name r.name ≡ true) → (find ps order ≡ Some r → length (orders_in (filter (λ (q : ℕ × Row). bytes_eq q.1.name r.name) ps)) ≡ 0 → ⊥) → find (p ∷ ps) order ≡ Some r → length (orders_in (filter (λ (q : ℕ × Row). bytes_eq q.1.name r.name) (p ∷ ps))) ≡ 0 → ⊥
 line-named_step order r p ps at below f e = grind (arith, nat_tests)
@@ -135,7 +135,7 @@ places-fewer order r [] rise f = absurd (no_request order r f)
 places-fewer order r (p ∷ ps) rise f =
     places-fewer_step order r p ps (client-self p.1 r) (places-fewer order r ps) (without-above p.0 ps) rise f
 
--- ---- room in a line
+-- Capacity of a line
 
 no_room : 0 < 0 → ⊥
 no_room l = omega (arith, l)
@@ -144,7 +144,7 @@ pub room-line : (o : Option Line) → 0 < option_map_or line_room o 0 → IsSome
 room-line (Some x) l = search rules
 room-line None l = absurd (no_room l)
 
--- ---- a client's places are below the next order number
+-- A client's places are below the next order number
 
 below-places_step : (client k : ℕ) (p : ℕ × Row) (ps : Table Row) → (is_below ps k ≡ true → is_below (places_in client ps) k ≡ true) → is_below (p ∷ ps) k ≡ true → is_below (places_in client (p ∷ ps)) k ≡ true
 below-places_step client k p ps below b = grind (arith, nat_tests)

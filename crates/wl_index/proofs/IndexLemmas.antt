@@ -1,4 +1,4 @@
--- What the index of a table says of its two lists.
+-- Agreement of a table's index with its two lists.
 use Rattle.std.proofs.Common.{append-nil, ◌≡◌, ℕ, ◌+◌, ◌≤◌, Bool, true, false, ◌&&◌, not, cond, List, [], ◌∷◌, ◌++◌, length, refl, sym, ap, ◌∙◌, arith}
 use Rattle.std.specs.Prelude.{◌==◌, bytes_eq, filter, map, count_by}
 use Rattle.wl_ordered.specs.Places.{has_number}
@@ -17,7 +17,7 @@ use Rattle.wl_index.specs.Lines.{LineState, lets_in, with_holder, with_waiter}
 use Rattle.wl_index.specs.Clients.{Places, with_held, with_waiting}
 use Rattle.wl_index.specs.Index.{line_of, places_in, places_of, locks_in, is_shared, is_exclusive}
 
--- ---- a client's places
+-- Places of a client
 
 any-places_step : (client number : ℕ) (p : ℕ × Row) (ps : Table Row) → has_number number (places_in client ps) ≡ has_pair client number (values_in ps) → has_number number (places_in client (p ∷ ps)) ≡ has_pair client number (values_in (p ∷ ps))
 any-places_step client number p ps below = grind (arith, nat_tests)
@@ -46,7 +46,7 @@ pub live-places : (held waiting : Table Row) (places : Places) (client : ℕ) �
 live-places held waiting places client e =
     rw (e, count-places client held, count-places client waiting) refl
 
--- ---- a name's line
+-- Line of a name
 
 named-queue_step : (name : List ℕ) (p : ℕ × Row) (ps : Table Row) → is_named name (values_in ps) ≡ not (length (orders_in (filter (λ (q : ℕ × Row). bytes_eq q.1.name name) ps)) == 0) → is_named name (values_in (p ∷ ps)) ≡ not (length (orders_in (filter (λ (q : ℕ × Row). bytes_eq q.1.name name) (p ∷ ps))) == 0)
 named-queue_step name p ps below = grind (arith, nat_tests)
@@ -75,7 +75,7 @@ free-exclusive : (name : List ℕ) (rows : Table Row) → is_free name Exclusive
 free-exclusive name [] = refl
 free-exclusive name (p ∷ ps) = free-exclusive_step name p ps p.1.mode refl (free-exclusive name ps)
 
--- a line says whether a row of its name can be granted
+-- A line determines whether a row with its name conflicts with no held lock.
 pub free-line : (name : List ℕ) (mode : Mode) (held waiting : Table Row) → is_free name mode (values_in held) ≡ lets_in (line_of name held waiting) mode
 free-line name Shared held waiting = free-shared name held
 free-line name Exclusive held waiting = free-exclusive name held
@@ -85,7 +85,7 @@ unfolding is_grantable
 grantable-line held waiting r =
     rw (named-queue r.name waiting, free-line r.name r.mode held waiting) (grind (arith, nat_tests))
 
--- ---- one more lock
+-- One more lock
 
 count-last : {X : Type 0} (t : X → Bool) (x : X) (xs : List X) → count_by t (xs ++ x ∷ []) ≡ count_by t xs + cond (t x) 1 0
 count-last t x [] = grind (arith, count-cons t x [])
@@ -155,7 +155,7 @@ grantable-index held waiting s r e = rw e (grantable-line held waiting r)
 pub grantable-known : (held waiting : Table Row) (s : LineState) (r : Row) (b known : Bool) → s ≡ line_of r.name held waiting → b ≡ (length s.queue == 0 && lets_in s r.mode) → b ≡ known → is_grantable (values_in held) (values_in waiting) r ≡ known
 grantable-known held waiting s r b known e next k = grantable-index held waiting s r e ∙ sym next ∙ k
 
--- ---- one more request
+-- One more request
 
 line-queued_step : (b : Bool) (s e : ℕ) (queue : List ℕ) (p : ℕ × Row) → cond b (with_waiter (record { shared = s; exclusive = e; queue = queue }) p.0) (record { shared = s; exclusive = e; queue = queue }) ≡ record { shared = s; exclusive = e; queue = queue ++ orders_in (cond b (p ∷ []) []) }
 line-queued_step true s e queue p = refl
@@ -177,7 +177,7 @@ pub length-queued : (waiting : Table Row) (order : ℕ) (r : Row) → length (wa
 length-queued [] order r = refl
 length-queued (p ∷ ps) order r = grind (arith, length-queued ps order r)
 
--- ---- the draft's words
+-- The draft's terms
 
 pub queued-in : (held waiting : Table Row) (order : ℕ) (r : Row) → locks_in held (waiting ++ (order, r) ∷ []) ≡ queued r (locks_in held waiting)
 unfolding queued

@@ -1,4 +1,4 @@
--- Names and clients that are kept without an entry.
+-- Names and clients that are stored without an entry.
 use Rattle.std.proofs.Common.{◌≡◌, ℕ, Bool, true, false, ◌&&◌, ◌||◌, not, List, [], ◌∷◌, ◌++◌, Option, Some, None, length, zero, suc, take, refl, sym, ap, ◌∙◌, arith}
 use Rattle.std.specs.Prelude.{◌==◌, bytes_eq}
 use Rattle.std.specs.Option.{option_map_or}
@@ -45,7 +45,7 @@ idle-within old part all e f = grind arith
 pub idle-fewer : (before old named more here : Bool) → (before && not here) ≡ true → (before ≡ true → (old && not named) ≡ true) → more ≡ (named || here) → (old && not more) ≡ true
 idle-fewer before old named more here e f g = grind arith
 
--- ---- an index without idle names and clients
+-- Lean indexes
 
 first : (a b : Bool) → (a && b) ≡ true → a ≡ true
 first a b e = grind arith
@@ -68,14 +68,14 @@ held_step old here rest more e f = grind arith
 queued_step : (old here rest : Bool) → (old && not here) ≡ true → (old ≡ true → (here || rest) ≡ true) → rest ≡ true
 queued_step old here rest e f = grind arith
 
--- what was emptied is filled again
+-- Filling a row's name and client again after emptying them keeps the index lean.
 pub lean-moved : (t u v : Index) (r : Row) → Empties t u r → Fills u v r → IsLean t → IsLean v
 lean-moved t u v r m f l = record {
   names = λ n e. moved_step _ _ _ (f.names n e) (m.names n) (l.names n);
   clients = λ c e. moved_step _ _ _ (f.clients c e) (m.clients c) (l.clients c);
 }
 
--- what was emptied is forgotten; all is of one client
+-- Forgetting the row's name after emptying it leaves at most its client idle.
 pub lean-dropped : (t u v : Index) (r : Row) (client : ℕ) → r.client ≡ client → Empties t u r → ((n : List ℕ) → is_idle_line v.lines n ≡ (is_idle_line u.lines n && not (bytes_eq r.name n))) → ((c : ℕ) → is_idle_client v.clients c ≡ is_idle_client u.clients c) → IsLeanBut t (λ n. false) (λ c. client == c) → IsLeanBut v (λ n. false) (λ c. client == c)
 lean-dropped t u v r client s m names clients l = record {
   names = λ n e. moved_step _ _ _ (sym (names n) ∙ e) (m.names n) (l.names n);
@@ -94,7 +94,7 @@ lean-queued t u r rest client f l = record {
   clients = λ c e. l.clients c (first _ _ (f.clients c e));
 }
 
--- the one name and the one client that may be idle are filled
+-- Filling the only name and the only client that may be idle makes the index lean.
 pub lean-filled : (t u : Index) (r : Row) (client : ℕ) (name : List ℕ) → r.client ≡ client → r.name ≡ name → Fills t u r → IsLeanBut t (λ n. bytes_eq name n) (λ c. client == c) → IsLean u
 lean-filled t u r client name same_client same_name f l = record {
   names = λ n e. other _ _ (f.names n e) (ap (λ m. bytes_eq m n) same_name ∙ l.names n (first _ _ (f.names n e)));

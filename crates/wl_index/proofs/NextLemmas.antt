@@ -1,4 +1,4 @@
--- Which request is granted next: what the index finds, and that it is the first that can be granted.
+-- Next request to grant. The index finds it, and it is the first grantable request.
 use Rattle.std.proofs.Common.{append_assoc, append-nil, ◌≡◌, ℕ, ◌<◌, Bool, true, false, ◌&&◌, not, cond, List, [], ◌∷◌, ◌++◌, Option, Some, None, refl, sym, ap, ◌∙◌, arith}
 use Rattle.std.specs.Prelude.{bytes_eq, filter, slice_get}
 use Rattle.std.proofs.lemmas.Bool.Decides.{nat_tests}
@@ -17,7 +17,7 @@ use Rattle.wl_index.proofs.SettleLemmas.{newly-first, settle-first}
 use Rattle.wl_ordered.proofs.WithoutLemmas.{without-above}
 use Rattle.wl_index.proofs.IndexLemmas.{free-line}
 
--- ---- what the index finds
+-- Requests that the index finds
 
 abbrev front_number : Option (ℕ × Row) → Option ℕ
 front_number None = None
@@ -70,7 +70,7 @@ pub next-absent : (name : List ℕ) (held waiting : Table Row) (order : ℕ) →
 next-absent name held waiting order rise e f =
     absent-front waiting order (first_named name waiting) (λ q g. first-find name q waiting rise g) (e ∙ first-front name waiting) f
 
--- ---- the next of a name can be granted, and what can be granted is the next of its name
+-- A request is grantable if and only if it is the next of its name
 
 pub text-same : (a b : List ℕ) → bytes_eq a b ≡ true → a ≡ b
 text-same a b e = (bytes_eq-Decides a b).0 e
@@ -99,7 +99,7 @@ grantable-next held front back p e =
     let parts = grantable-parts held front p.1 e in
     ap (λ o. if_free p.1.name held o) (passed-over p.1.name front (p ∷ back) parts.0) ∙ (rw (text-self p.1.name, parts.1) refl)
 
--- where a name's first row stands
+-- The position of the first row with a given name.
 pub record IsFirst (name : List ℕ) (ps : Table Row) (q : ℕ × Row) : Type 0 where
   pub front : Table Row
   pub back : Table Row
@@ -121,7 +121,7 @@ first-split name q [] f = absurd (no_first q f)
 first-split name q (p ∷ ps) f =
     first-split_step name p q ps (bytes_eq p.1.name name) refl f (first-split name q ps)
 
--- the next of a name, where it stands
+-- The position of the next request of a name.
 pub record IsNext (held waiting : Table Row) (order : ℕ) : Type 0 where
   pub front : Table Row
   pub back : Table Row
@@ -158,7 +158,7 @@ pub next-split : (name : List ℕ) (held waiting : Table Row) (order : ℕ) → 
 next-split name held waiting order e =
     next-split_step name held waiting order (first_named name waiting) refl e
 
--- the next of a name, as it is found by its number
+-- The next request of a name, found by its order number.
 pub record IsNextRow (name : List ℕ) (waiting : Table Row) (order : ℕ) : Type 0 where
   pub row : Row
   pub found : find waiting order ≡ Some row
@@ -185,12 +185,12 @@ front-of_step name held order k (Some q) f e =
     let g = free-number name held q k e in
     cc
 
--- what a name grants next is the first that waits for it
+-- The next request of a name is the first one that waits for it.
 pub front-of : (name : List ℕ) (held waiting : Table Row) (order k : ℕ) → Some order ≡ slice_get (line_of name held waiting).queue 0 → next_in name held waiting ≡ Some k → order ≡ k
 front-of name held waiting order k f e =
     front-of_step name held order k (first_named name waiting) (f ∙ first-front name waiting) e
 
--- ---- what is stuck, by the rows of a table
+-- Requests that are not grantable
 
 pub append-cons : {X : Type 0} (xs ys zs : List X) (x : X) → (xs ++ x ∷ ys) ++ zs ≡ xs ++ x ∷ (ys ++ zs)
 append-cons xs ys zs x = append_assoc xs (x ∷ ys) zs
@@ -209,7 +209,7 @@ not-true false f = refl
 some-none : (k : ℕ) → Some k ≡ None → ⊥
 some-none k e = cc
 
--- where no name has anything to grant, all that waits is stuck
+-- If no name has a next request, no waiting request is grantable.
 pub stuck-nexts : (held waiting : Table Row) → ((name : List ℕ) → next_in name held waiting ≡ None) → AreStuck (values_in held) [] (values_in waiting)
 stuck-nexts held waiting f =
     stuck-rows held [] waiting (λ front back p e. not-true (is_grantable (values_in held) (values_in front) p.1) (λ g. some-none p.0 (sym (ap (λ w. next_in p.1.name held w) e ∙ grantable-next held front back p g) ∙ f p.1.name)))
@@ -218,7 +218,7 @@ pub next-stuck_step : (held waiting : Table Row) (o : Option ℕ) → ((k : ℕ)
 next-stuck_step held waiting None f = refl
 next-stuck_step held waiting (Some k) f = absurd (f k refl)
 
--- ---- rows that stand apart
+-- Rows with different order numbers
 
 rising-apart_step : (p q : ℕ × Row) (f : ℕ × Row) (front back end : Table Row) → (is_rising (front ++ p ∷ (back ++ q ∷ end)) ≡ true → p.0 < q.0) → is_rising ((f ∷ front) ++ p ∷ (back ++ q ∷ end)) ≡ true → p.0 < q.0
 rising-apart_step p q f front back end below r = below (grind (arith, nat_tests))
@@ -240,9 +240,9 @@ pub rising-apart : (p q : ℕ × Row) (front back end : Table Row) → is_rising
 rising-apart p q [] back end r = above-apart p.0 q back end (rising-head p (back ++ q ∷ end) r)
 rising-apart p q (f ∷ front) back end r = rising-apart_step p q f front back end (rising-apart p q front back end) r
 
--- ---- the first request that can be granted
+-- First grantable request
 
--- a request behind which the others wait, where it stands
+-- The position of a grantable request with no grantable request in front of it.
 pub record IsGrant (held waiting : Table Row) (order : ℕ) : Type 0 where
   pub front : Table Row
   pub back : Table Row
@@ -251,7 +251,7 @@ pub record IsGrant (held waiting : Table Row) (order : ℕ) : Type 0 where
   pub stuck : AreStuck (values_in held) [] (values_in front)
   pub free : is_grantable (values_in held) (values_in front) row ≡ true
 
--- ---- one grant
+-- One grant
 
 pub values-append : (front back : Table Row) → values_in (front ++ back) ≡ values_in front ++ values_in back
 values-append [] back = refl
@@ -299,9 +299,9 @@ pub grant-settle : (held waiting : Table Row) (order k : ℕ) (g : IsGrant held 
 grant-settle held waiting order k g rise =
     ap (λ w. settle (locks_in held w)) g.split ∙ ap (λ v. settle (record { held = values_in held; waiting = v })) (values-append g.front ((order, g.row) ∷ g.back)) ∙ settle-first (values_in held) (values_in g.front) (values_in g.back) g.row g.stuck g.free ∙ ap (λ m. settle m) (sym (after-grant held waiting order k g rise))
 
--- ---- whether a request can be granted, by its number
+-- Whether a request is grantable, by its order number
 
--- a row of this name that stands before a number
+-- A row with this name comes before the order number.
 pub record IsEarlier (name : List ℕ) (rows : Table Row) (order : ℕ) : Type 0 where
   pub row : ℕ × Row
   pub first : first_named name rows ≡ Some row
@@ -353,7 +353,7 @@ next-at_step held front back order r false e rise =
     let here : first_named r.name ((order, r) ∷ back) ≡ Some (order, r) = rw (text-self r.name) refl in
     grantable-alone held front r e ∙ sym (ap (λ o. is_number (if_free r.name held o) order) (passed-over r.name front ((order, r) ∷ back) e ∙ here) ∙ number-here order (is_free r.name r.mode (values_in held)))
 
--- a request can be granted just where it is the next of its name
+-- A request is grantable if and only if it is the next of its name.
 pub next-at : (held front back : Table Row) (order : ℕ) (r : Row) → is_rising (front ++ (order, r) ∷ back) ≡ true → is_grantable (values_in held) (values_in front) r ≡ is_number (next_in r.name held (front ++ (order, r) ∷ back)) order
 next-at held front back order r rise =
     next-at_step held front back order r (is_named r.name (values_in front)) refl rise

@@ -1,4 +1,4 @@
--- Taking out a client's rows one by one.
+-- Removal of a client's rows, one by one.
 use Rattle.std.proofs.Common.{◌≡◌, ℕ, Bool, true, false, ◌&&◌, not, cond, List, [], ◌∷◌, Option, Some, None, refl, sym, ap, ◌∙◌, arith}
 use Rattle.std.specs.Prelude.{◌==◌, bytes_eq}
 use Rattle.std.proofs.lemmas.Bool.Decides.{nat_tests}
@@ -13,7 +13,7 @@ use Rattle.wl_index.specs.Nexts.{first_named, if_free, is_meant, without_meant}
 use Rattle.wl_ordered.proofs.OrderLemmas.{find-above}
 use Rattle.wl_ordered.proofs.WithoutLemmas.{without-above, filter-without}
 
--- a row that is meant, in the list that its place was read off
+-- A selected row, in the list from which its place was computed.
 pub record IsMeant (client : ℕ) (which : Option ℕ) (rows : Table Row) (order : ℕ) : Type 0 where
   pub row : Row
   pub found : find rows order ≡ Some row
@@ -67,7 +67,7 @@ row-found client which number order [] rise m f = absurd (no-number number f)
 row-found client which number order (p ∷ ps) rise m f =
     row-step client which number order p ps (p.1.client == client) (p.0 == order) refl refl rise m f (row-found client which number order ps (rising-parts p ps rise).1 m)
 
--- a client's place is that of a row that is meant
+-- A client's place belongs to a selected row.
 pub place-meant : (client : ℕ) (which : Option ℕ) (rows : Table Row) (order : ℕ) → is_rising rows ≡ true → IsPlace which (places_in client rows) order → IsMeant client which rows order
 place-meant client which rows order rise p =
     row-found client which p.number order rows rise p.meant p.found
@@ -86,7 +86,7 @@ none-step client which p ps false d e m f below =
     let o : first_place which (places_in client (p ∷ ps)) ≡ first_place which (places_in client ps) = rw e refl in
     rw e (ap (λ qs. p ∷ qs) (below (sym o ∙ f)))
 
--- where no place is left, nothing is to be taken out
+-- If no place is left, no row has to be removed.
 pub none-meant : (client : ℕ) (which : Option ℕ) (rows : Table Row) → first_place which (places_in client rows) ≡ None → without_meant client which rows ≡ rows
 none-meant client which [] f = refl
 none-meant client which (p ∷ ps) f =
@@ -95,7 +95,7 @@ none-meant client which (p ∷ ps) f =
 not-meant : (b : Bool) → b ≡ true → not b ≡ false
 not-meant b e = rw e refl
 
--- one row that is meant, taken out
+-- Removing one selected row first does not change the result.
 pub one-meant : (client : ℕ) (which : Option ℕ) (rows : Table Row) (order : ℕ) (m : IsMeant client which rows order) → is_rising rows ≡ true → without_meant client which (without_order order rows) ≡ without_meant client which rows
 one-meant client which rows order m rise =
     filter-without (λ (p : ℕ × Row). not (is_meant client which p.1)) order m.row rows (not-meant (is_meant client which m.row) m.meant) rise m.found
@@ -109,7 +109,7 @@ meant-client client which r e =
     let t = meant-client_step (r.client == client) (meets which r.number) e in
     grind (arith, nat_tests)
 
--- ---- nobody of another name is freed
+-- No request of another name becomes grantable
 
 free-without_step : (name : List ℕ) (mode : Mode) (order : ℕ) (r : Row) (p : ℕ × Row) (ps : Table Row) → (p.1 ≡ r → bytes_eq p.1.name name ≡ false) → (is_rising ps ≡ true → find ps order ≡ Some r → is_free name mode (values_in (without_order order ps)) ≡ is_free name mode (values_in ps)) → (is_above p.0 ps ≡ true → without_order p.0 ps ≡ ps) → is_rising (p ∷ ps) ≡ true → find (p ∷ ps) order ≡ Some r → is_free name mode (values_in (without_order order (p ∷ ps))) ≡ is_free name mode (values_in (p ∷ ps))
 free-without_step name mode order r p ps other below same rise f = grind (arith, nat_tests)
@@ -135,7 +135,7 @@ first-without name order r [] e rise f = refl
 first-without name order r (p ∷ ps) e rise f =
     first-without_step name order r p ps (name-other name p.1 r e) (first-without name order r ps e) (without-above p.0 ps) rise f
 
--- ---- the draft's words
+-- The draft's terms
 
 values-meant_step : (client number : ℕ) (p : ℕ × Row) (ps : Table Row) → values_in (without_meant client (Some number) ps) ≡ without client number (values_in ps) → values_in (without_meant client (Some number) (p ∷ ps)) ≡ without client number (values_in (p ∷ ps))
 values-meant_step client number p ps below = grind (arith, nat_tests)

@@ -1,4 +1,4 @@
--- The rows of a client's report.
+-- Rows of a client's report.
 use Rattle.std.proofs.Common.{◌≡◌, ℕ, ◌+◌, suc, Bool, true, false, ◌&&◌, not, List, [], ◌∷◌, ◌++◌, length, refl, ap, ◌∙◌, arith}
 use Rattle.std.specs.Prelude.{filter, ◌==◌}
 use Rattle.std.proofs.lemmas.Bool.Decides.{nat_tests}
@@ -34,7 +34,7 @@ rows-length : (client : ℕ) (es : List Entry) → length (rows_of client es) �
 rows-length client [] = refl
 rows-length client (e ∷ es) = ap suc (rows-length client es)
 
--- each entry of a report is one row
+-- Each entry of a report becomes one row.
 pub entries-length : (client : ℕ) (entries : List Entry) (held waiting : List Row) → held ≡ held_of client entries → waiting ≡ waiting_of client entries → length held + length waiting ≡ length entries
 entries-length client entries held waiting h w =
     omega (arith, ap (λ rs. length rs) h, ap (λ rs. length rs) w, rows-length client (filter (λ (x : Entry). x.held) entries), rows-length client (filter (λ (x : Entry). not x.held) entries), split-length entries)

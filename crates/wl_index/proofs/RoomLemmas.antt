@@ -1,4 +1,4 @@
--- Room for many entries: how it is counted beforehand, and what each entry leaves of it.
+-- Capacity for several entries: it is counted in advance, and each entry uses some of it.
 use Rattle.std.proofs.Common.{◌≡◌, ℕ, ◌+◌, ◌<◌, ◌≤◌, suc, Bool, true, false, ◌&&◌, ◌||◌, cond, List, [], ◌∷◌, ◌++◌, length, take, get_or, refl, sym, ap, ◌∙◌, arith}
 use Rattle.std.specs.Prelude.{◌==◌, bytes_eq}
 use Rattle.std.proofs.lemmas.Bool.Decides.{nat_tests}
@@ -16,7 +16,7 @@ use Rattle.wl_ordered.proofs.WithoutLemmas.{count-one}
 use Rattle.wl_index.proofs.NextLemmas.{text-same, text-self}
 use Rattle.wl_index.proofs.EntryLemmas.{room-line}
 
--- ---- counting
+-- Counting
 
 pub named-more : (name : List ℕ) (rows : List Row) (i : ℕ) (r : Row) → i < length rows → r ≡ get_or rows i r → is_named name (take (i + 1) rows) ≡ (is_named name (take i rows) || bytes_eq r.name name)
 named-more name rows i r l e =
@@ -37,7 +37,7 @@ pub count-upto : (name : List ℕ) (rows : List Row) (i : ℕ) → i ≤ length 
 count-upto name rows i l =
     omega (arith, count_by-le-length (λ x. bytes_eq name x.name) (take i rows), length-take-le i rows l)
 
--- ---- the first of some entries
+-- First of several entries
 
 text-turn_step : (a b : List ℕ) (x y : Bool) → bytes_eq a b ≡ x → bytes_eq b a ≡ y → x ≡ y
 text-turn_step a b true true e f = refl

@@ -1,18 +1,18 @@
--- Settling one grant at a time: what can't be granted is passed over, and the first request that can be granted is the
--- first that is granted.
+-- Settling by one grant at a time. Requests that are not grantable are passed over, and the first
+-- grantable request is granted first.
 use Rattle.std.proofs.Common.{◌≡◌, true, List, [], ◌∷◌, ◌++◌, refl, sym, ap, ◌∙◌, append_assoc, append-nil}
 use Rattle.wl_draft.specs.declared.row.Row.{Row}
 use Rattle.wl_draft.specs.Locks.{Locks, is_grantable, granted, left_waiting, newly, settle, queued, probed}
 use Rattle.wl_draft.proofs.Settled.{grantable_later}
 use Rattle.wl_index.proofs.Stuck.{AreStuck}
 
--- more locks free nobody
+-- More held locks make no request grantable.
 pub stuck-later : (held more ahead rs : List Row) → AreStuck held ahead rs → AreStuck (held ++ more) ahead rs
 stuck-later held more ahead [] s = s
 stuck-later held more ahead (r ∷ rs) s =
     (grantable_later held more ahead r s.0, stuck-later held more (ahead ++ r ∷ []) rs s.1)
 
--- what is stuck is passed over
+-- Requests that are not grantable are passed over.
 pub granted-stuck : (held ahead fs rs : List Row) → AreStuck held ahead fs → granted held ahead (fs ++ rs) ≡ granted held (ahead ++ fs) rs
 granted-stuck held ahead [] rs s = rw append-nil refl
 granted-stuck held ahead (f ∷ fs) rs s =
@@ -23,7 +23,7 @@ left-stuck held ahead [] rs s = rw append-nil refl
 left-stuck held ahead (f ∷ fs) rs s =
     rw s.0 (left-stuck held (ahead ++ f ∷ []) fs rs s.1 ∙ ap (λ a. left_waiting held a rs) (append_assoc ahead (f ∷ []) fs))
 
--- where all that waits is stuck, nothing is granted, and nothing changes
+-- If no waiting request is grantable, nothing is granted and nothing changes.
 pub newly-stuck : (m : Locks) → AreStuck m.held [] m.waiting → newly m ≡ []
 unfolding newly
 newly-stuck m s = ap (λ ws. granted m.held [] ws) (sym (append-nil m.waiting)) ∙ granted-stuck m.held [] m.waiting [] s
@@ -38,7 +38,7 @@ settle-stuck m s =
     let w : left_waiting m.held [] m.waiting ≡ m.waiting = left-all_stuck m.held m.waiting s in
     rw (g, w, append-nil) refl
 
--- the first request that can be granted, granted alone
+-- The first grantable request is granted first.
 pub granted-first : (held front back : List Row) (r : Row) → AreStuck held [] front → is_grantable held front r ≡ true → granted held [] (front ++ r ∷ back) ≡ r ∷ granted (held ++ r ∷ []) [] (front ++ back)
 granted-first held front back r s e =
     granted-stuck held [] front (r ∷ back) s ∙ (rw e (ap (λ gs. r ∷ gs) (sym (granted-stuck (held ++ r ∷ []) [] front back (stuck-later held (r ∷ []) [] front s)))))
@@ -47,7 +47,7 @@ pub left-first : (held front back : List Row) (r : Row) → AreStuck held [] fro
 left-first held front back r s e =
     left-stuck held [] front (r ∷ back) s ∙ (rw e (sym (left-stuck (held ++ r ∷ []) [] front back (stuck-later held (r ∷ []) [] front s))))
 
--- one grant of the first request that can be granted
+-- The locks after the grant of the first grantable request.
 abbrev after_grant : List Row → List Row → List Row → Row → Locks
 after_grant held front back r = record { held = held ++ r ∷ []; waiting = front ++ back }
 
@@ -60,7 +60,7 @@ unfolding settle newly
 settle-first held front back r s e =
     rw (granted-first held front back r s e, left-first held front back r s e, append_assoc held (r ∷ [])) refl
 
--- where nothing else can be granted, a request that can be is granted alone
+-- If nothing else is grantable, a new grantable request is granted alone.
 pub newly-alone : (m : Locks) (r : Row) → AreStuck m.held [] m.waiting → is_grantable m.held m.waiting r ≡ true → newly (queued r m) ≡ r ∷ []
 unfolding queued
 newly-alone m r s e =

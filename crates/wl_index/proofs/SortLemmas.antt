@@ -1,4 +1,4 @@
--- The rows of a table, read by its sorted numbers.
+-- Rows of a table, read in the order of its sorted numbers.
 use Rattle.std.proofs.Common.{◌≡◌, ℕ, ◌+◌, ◌<◌, suc, zero, Bool, true, ◌&&◌, cond, List, [], ◌∷◌, ◌++◌, Some, None, length, take, get_or, refl, sym, ap, ◌∙◌, arith}
 use Rattle.std.specs.Prelude.{nat_lt, nat_eq, is_some, IsPermutation}
 use Rattle.std.specs.Ordering.{nat_cmp}
@@ -17,7 +17,7 @@ use Rattle.wl_index.proofs.RemovalLemmas.{find-later}
 use Rattle.wl_index.proofs.NextLemmas.{rising-rest}
 use Rattle.wl_index.proofs.CandidateLemmas.{among-permutation}
 
--- ---- numbers as a table
+-- Numbers as a table
 
 abbrev numbered : List ℕ → Table ℕ
 numbered [] = []
@@ -50,7 +50,7 @@ rising-sorted [] s = refl
 rising-sorted (k ∷ ks) s =
     both-true (is_above k (numbered ks)) (is_rising (numbered ks)) (above-sorted k ks s.0) (rising-sorted ks s.1)
 
--- ---- the numbers of a table
+-- Numbers of a table
 
 among-orders_step : {X : Type 0} (j : ℕ) (p : ℕ × X) (ps : Table X) → is_among j (orders_in ps) ≡ is_some (find ps j) → is_among j (orders_in (p ∷ ps)) ≡ is_some (find (p ∷ ps) j)
 among-orders_step j p ps below = grind (arith, nat_tests)
@@ -78,7 +78,7 @@ rising-orders (p ∷ ps) =
 eq-flips : (x y : ℕ) → nat_eq x y ≡ nat_eq y x
 eq-flips x y = grind (arith, nat_tests)
 
--- the stored numbers, sorted, are those of the table in its order
+-- The stored numbers, sorted, are those of the table in its order.
 pub sorted-orders : {X : Type 0} (es : List (ℕ × X)) (ks : List ℕ) → IsDistinct nat_eq (keys_of es) → IsPermutation (keys_of es) ks → IsNonDecreasing ks → ks ≡ orders_in (ordered es)
 sorted-orders es ks distinct perm up =
     let apart : IsDistinct nat_eq ks = IsDistinct-IsPermutation nat_eq eq-flips (keys_of es) ks perm distinct in
@@ -88,9 +88,9 @@ sorted-orders es ks distinct perm up =
     find-numbered j ks ∙ ap (λ (b : Bool). cond b (Some 0) None) (sym (among-permutation j (keys_of es) ks perm) ∙ among-keys j es ∙ ap (λ o. is_some o) (sym (find-ordered es j)) ∙ sym (among-orders j (ordered es))) ∙ sym (find-numbered j (orders_in (ordered es)))) in
     sym (numbers-back ks) ∙ ap (λ ps. orders_in ps) same ∙ numbers-back (orders_in (ordered es))
 
--- ---- one row after another
+-- One row after another
 
--- the row under the number at an index, and the rows up to it
+-- The row whose number is at an index, and the rows up to it.
 pub record IsAt (rows : Table Row) (i : ℕ) : Type 0 where
   pub row : Row
   pub found : find rows (get_or (orders_in rows) i 0) ≡ Some row

@@ -1,4 +1,4 @@
--- A lean index keeps no names and clients but those of entries.
+-- Lean indexes, which store only names and clients of entries.
 use Rattle.std.proofs.Common.{◌≡◌, ℕ, ◌+◌, ◌≤◌, Bool, true, false, ◌&&◌, ◌||◌, not, List, [], ◌∷◌, Option, Some, None, length, refl, sym, ap, ◌∙◌, arith}
 use Rattle.std.specs.Prelude.{◌==◌, bytes_eq, count_by, nat_eq, IsSome}
 use Rattle.std.specs.HashMap.{get, get_by_text}

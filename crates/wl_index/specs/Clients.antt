@@ -1,4 +1,4 @@
--- What a table keeps of each client.
+-- Places of each client's entries.
 use Rattle.std.specs.Prelude.{ℕ, [], ◌∷◌, ◌++◌, length, Bool, false, ◌&&◌, ◌==◌, nat_eq, if◌then◌else◌}
 use Rattle.std.specs.Option.{option_map_or}
 use Rattle.std.specs.HashMap.{get}
@@ -10,7 +10,8 @@ use Rattle.wl_ordered.specs.Places.{has_number}
 use Rattle.wl_index.specs.declared.holdings.Holdings.{Holdings}
 use Rattle.wl_index.specs.declared.clients.Clients.{Clients}
 
--- the places of what a client holds, and of what it waits for, each in the table's order
+-- The places of the locks that a client holds and of the requests it waits for, each in the order
+-- of the table.
 pub record Places : Type 0 where
   pub held : Table ℕ
   pub waiting : Table ℕ
@@ -21,23 +22,23 @@ no_places = record { held = []; waiting = [] }
 abbrev pub places_seen : Holdings → Places
 places_seen h = record { held = h.held.items; waiting = h.waiting.items }
 
--- what is kept of a client
+-- The places of a client, which are empty if the client is not stored.
 abbrev pub places_at : Clients → ℕ → Places
 places_at cs client = option_map_or places_seen (get nat_eq cs.clients client) no_places
 
--- whether a client has no entry
+-- The client has no entry.
 abbrev pub has_no_places : Places → Bool
 has_no_places s = length s.held == 0 && length s.waiting == 0
 
--- whether a client is kept, though it has no entry
+-- The client is stored, but has no entry.
 abbrev pub is_idle_client : Clients → ℕ → Bool
 is_idle_client cs client = option_map_or (λ h. has_no_places (places_seen h)) (get nat_eq cs.clients client) false
 
--- where the lock of a number stands
+-- The standing of the client's lock with this number.
 abbrev pub standing_in : Places → ℕ → Standing
 standing_in s number = if has_number number s.held then Held else if has_number number s.waiting then Waiting else Absent
 
--- how many more locks fit with no allocation
+-- The number of locks that can be added without an allocation.
 abbrev pub held_room : Holdings → ℕ
 held_room h = h.held.room
 

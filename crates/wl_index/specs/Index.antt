@@ -1,4 +1,4 @@
--- What an indexed table keeps true: each line and each client's places are read off the two lists.
+-- Invariant of an index: each line and each client's places agree with the two lists.
 use Rattle.std.specs.Prelude.{◌≡◌, ◌≤◌, ◌<◌, ◌+◌, ℕ, List, Bool, true, false, not, length, map, filter, count_by, ◌==◌, ◌&&◌, ◌||◌, IsSome, nat_eq, bytes_eq, if◌then◌else◌}
 use Rattle.wl_draft.specs.declared.mode.Mode.{Mode}
 use Rattle.wl_draft.specs.declared.mode.Mode.TheVariants.{Shared, Exclusive}
@@ -20,7 +20,7 @@ abbrev pub is_exclusive : Mode → Bool
 is_exclusive Shared = false
 is_exclusive Exclusive = true
 
--- the line of a name, read off the two lists
+-- The line of a name, computed from the two lists.
 abbrev pub line_of : List ℕ → Table Row → Table Row → LineState
 line_of name held waiting = record {
   shared = count_by (λ p. bytes_eq p.1.name name && is_shared p.1.mode) held;
@@ -28,18 +28,18 @@ line_of name held waiting = record {
   queue = orders_in (filter (λ p. bytes_eq p.1.name name) waiting);
 }
 
--- a client's places in a list
+-- A client's places in a list.
 abbrev pub places_in : ℕ → Table Row → Table ℕ
 places_in client rows = map (λ p. (p.0, p.1.number)) (filter (λ p. p.1.client == client) rows)
 
 abbrev pub places_of : ℕ → Table Row → Table Row → Places
 places_of client held waiting = record { held = places_in client held; waiting = places_in client waiting }
 
--- the two lists
+-- The held locks and the waiting requests of the two lists.
 abbrev pub locks_in : Table Row → Table Row → Locks
 locks_in held waiting = record { held = values_in held; waiting = values_in waiting }
 
--- the index tells the truth of the two lists, and there is room to grant all that waits
+-- The index agrees with the two lists, and there is capacity to grant all waiting requests.
 pub record IsIndexed (t : Index) : Type 0 where
   pub held_rise : is_rising t.held.items ≡ true
   pub waiting_rise : is_rising t.waiting.items ≡ true
@@ -50,37 +50,39 @@ pub record IsIndexed (t : Index) : Type 0 where
   pub room : length t.waiting.items ≤ t.held.room
   pub client_room : (client : ℕ) → length (places_at t.clients client).waiting ≤ held_room_at t.clients client
 
--- each name that is kept without an entry is one of these, and so is each such client
+-- Each name stored without an entry satisfies `is_name`, and each client stored without an entry
+-- satisfies `is_client`.
 pub record IsLeanBut (t : Index) (is_name : List ℕ → Bool) (is_client : ℕ → Bool) : Type 0 where
   pub names : (name : List ℕ) → is_idle_line t.lines name ≡ true → is_name name ≡ true
   pub clients : (client : ℕ) → is_idle_client t.clients client ≡ true → is_client client ≡ true
 
--- no line says that nobody holds its name or waits for it, and no client is kept without places
+-- An index is lean if no name and no client is stored without an entry.
 abbrev pub IsLean : Index → Type 0
 IsLean t = IsLeanBut t (λ name. false) (λ client. false)
 
--- each name that has a line is the name of an entry, and each client that is kept has an entry
+-- Each name with a line is the name of an entry, and each stored client has an entry.
 pub record KeepsNoOthers (t : Index) : Type 0 where
   pub names : (name : List ℕ) → HasLine t.lines name → (is_named name (values_in t.held.items) || is_named name (values_in t.waiting.items)) ≡ true
   pub clients : (client : ℕ) → IsSome (get nat_eq t.clients.clients client) → 1 ≤ live (locks_in t.held.items t.waiting.items) client
 
--- the row's name and its client have an entry now, and no others have lost theirs
+-- The row's name and its client have an entry in the new index, and no other name or client has
+-- lost its entries.
 pub record Fills (old new : Index) (row : Row) : Type 0 where
   pub names : (name : List ℕ) → is_idle_line new.lines name ≡ true → (is_idle_line old.lines name && not (bytes_eq row.name name)) ≡ true
   pub clients : (client : ℕ) → is_idle_client new.clients client ≡ true → (is_idle_client old.clients client && not (row.client == client)) ≡ true
 
--- no others than the row's name and its client have lost their entries
+-- Only the row's name and its client may have lost their entries.
 pub record Empties (old new : Index) (row : Row) : Type 0 where
   pub names : (name : List ℕ) → is_idle_line new.lines name ≡ true → (is_idle_line old.lines name || bytes_eq row.name name) ≡ true
   pub clients : (client : ℕ) → is_idle_client new.clients client ≡ true → (is_idle_client old.clients client || row.client == client) ≡ true
 
--- there is room for one more lock of this client under this name
+-- There is capacity for one more lock of this client with this name.
 pub record IsHoldable (t : Index) (client : ℕ) (name : List ℕ) : Type 0 where
   pub held : length t.waiting.items < t.held.room
   pub client_held : length (places_at t.clients client).waiting < held_room_at t.clients client
   pub line : HasLine t.lines name
 
--- there is room for so many more entries of this client under this name, held or waiting
+-- There is capacity for `count` more entries of this client with this name, held or waiting.
 pub record IsReady (t : Index) (client : ℕ) (name : List ℕ) (count : ℕ) : Type 0 where
   pub held : length t.waiting.items + count ≤ t.held.room
   pub waiting : count ≤ t.waiting.room
@@ -89,11 +91,11 @@ pub record IsReady (t : Index) (client : ℕ) (name : List ℕ) (count : ℕ) : 
   pub line : HasLine t.lines name
   pub name_room : count ≤ room_at t.lines name
 
--- whether these rows are all of this client
+-- All rows belong to this client.
 abbrev pub are_of : ℕ → List Row → Bool
 are_of client rows = list_all (λ r. r.client == client) rows
 
--- there is room for these locks and these requests of this client
+-- There is capacity for these locks and requests of this client.
 pub record HasRoom (t : Index) (client : ℕ) (locks requests : List Row) : Type 0 where
   pub held : length t.waiting.items + length locks + length requests ≤ t.held.room
   pub waiting : length requests ≤ t.waiting.room
@@ -102,7 +104,7 @@ pub record HasRoom (t : Index) (client : ℕ) (locks requests : List Row) : Type
   pub lines : (name : List ℕ) → is_named name locks ≡ true → HasLine t.lines name
   pub names : (name : List ℕ) → count_named name requests ≤ room_at t.lines name
 
--- what a new lock, or a new request of this name, leaves of the room
+-- The capacity that remains after a new lock, or after a new request with this name.
 pub record TakesRoom (old new : Index) (locks requests : ℕ) (name : List ℕ) : Type 0 where
   pub held : old.held.room ≤ new.held.room + locks
   pub waiting : old.waiting.room ≤ new.waiting.room + requests

@@ -1,4 +1,4 @@
--- What a table keeps of each name.
+-- Line of each name: its holders and its queue.
 use Rattle.std.specs.Prelude.{ℕ, ◌+◌, ◌-◌, List, [], ◌∷◌, ◌++◌, count_by, length, Bool, false, ◌&&◌, ◌==◌, IsSome, bytes_eq}
 use Rattle.std.specs.Option.{option_map_or}
 use Rattle.std.specs.HashMap.{get_by_text}
@@ -9,7 +9,8 @@ use Rattle.wl_ordered.specs.Orders.{without_number}
 use Rattle.wl_index.specs.declared.line.Line.{Line}
 use Rattle.wl_index.specs.declared.lines.Lines.{Lines}
 
--- how many hold a name in each mode, and the numbers of the requests that wait for it, in the order of queueing
+-- The number of holders of a name in each mode, and the order numbers of its waiting requests, in
+-- the order of queueing.
 pub record LineState : Type 0 where
   pub shared : ℕ
   pub exclusive : ℕ
@@ -21,7 +22,7 @@ nobody = record { shared = 0; exclusive = 0; queue = [] }
 abbrev pub line_seen : Line → LineState
 line_seen l = record { shared = l.shared; exclusive = l.exclusive; queue = l.queue.items }
 
--- whether a lock in this mode conflicts with none that is held
+-- A lock in this mode conflicts with no held lock.
 abbrev pub lets_in : LineState → Mode → Bool
 lets_in s Shared = s.exclusive == 0
 lets_in s Exclusive = s.exclusive == 0 && s.shared == 0
@@ -40,11 +41,11 @@ without_holder s Exclusive = record { shared = s.shared; exclusive = s.exclusive
 abbrev pub without_waiter : LineState → ℕ → LineState
 without_waiter s order = record { shared = s.shared; exclusive = s.exclusive; queue = without_number order s.queue }
 
--- how many more may wait with no allocation
+-- The number of requests that can be queued without an allocation.
 abbrev pub line_room : Line → ℕ
 line_room l = l.queue.room
 
--- what is kept of a name
+-- The line of a name, which is empty if the name is not stored.
 abbrev pub line_at : Lines → List ℕ → LineState
 line_at ls name = option_map_or line_seen (get_by_text ls.lines name) nobody
 
@@ -54,14 +55,14 @@ room_at ls name = option_map_or line_room (get_by_text ls.lines name) 0
 abbrev pub HasLine : Lines → List ℕ → Type 0
 HasLine ls name = IsSome (get_by_text ls.lines name)
 
--- whether nobody holds or waits
+-- The name has no holder and no waiting request.
 abbrev pub is_nobody : LineState → Bool
 is_nobody s = length s.queue == 0 && s.shared == 0 && s.exclusive == 0
 
--- whether a name has a line, though nobody holds it or waits for it
+-- The name has a line, but no holder and no waiting request.
 abbrev pub is_idle_line : Lines → List ℕ → Bool
 is_idle_line ls name = option_map_or (λ l. is_nobody (line_seen l)) (get_by_text ls.lines name) false
 
--- how many of these rows have this name
+-- The number of rows with this name.
 abbrev pub count_named : List ℕ → List Row → ℕ
 count_named name rows = count_by (λ r. bytes_eq name r.name) rows

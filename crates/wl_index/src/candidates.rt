@@ -1,4 +1,4 @@
-//! The requests that settling looks at.
+//! Candidates for granting.
 
 ghost use Rattle.std.specs.Prelude.{◌≡◌, ◌+◌, ◌≤◌, ◌<◌, [], ℕ, true, ◌==◌, ◌||◌, length, OnOk, OnSome, IfSome, IfNone};
 ghost use Rattle.wl_index.specs.Nexts.{is_among};
@@ -8,7 +8,7 @@ use std::cmp::Reverse;
 use std::collections::BinaryHeap;
 use std::marker::Model;
 
-/// The numbers of requests that may have become grantable, least first. A number may stand in it more than once.
+/// Order numbers of requests that may be grantable, least first. A number may occur more than once.
 #[derive(Drop)]
 pub struct Candidates {
     orders: BinaryHeap<Reverse<u64>>,
@@ -29,6 +29,7 @@ impl Model for Candidates {
 }
 
 impl Candidates {
+    /// Returns an empty heap.
     pub fn new(alloc: Global) -> Candidates
         ensures { result.items ≡ [] }
     {
@@ -37,13 +38,14 @@ impl Candidates {
         }
     }
 
+    /// Returns whether there is no candidate.
     pub fn is_empty(&self) -> bool
         ensures { result ≡ (length self.now.items == 0) }
     {
         self.orders.is_empty()
     }
 
-    /// Makes room for so many more numbers.
+    /// Reserves capacity for `count` more candidates. Fails if out of memory.
     pub fn reserve(&mut self, count: usize) -> Result<(), AllocError>
         ensures items { self.new.items ≡ self.old.items }
         ensures room { OnOk result (count ≤ self.new.room) }
@@ -51,7 +53,7 @@ impl Candidates {
         self.orders.reserve(count)
     }
 
-    /// Puts a number in. There is room for it.
+    /// Adds a candidate. Capacity must be reserved.
     pub fn push(&mut self, order: u64)
         requires { 0 < self.old.room }
         ensures items { (k : ℕ) → is_among k self.new.items ≡ (order == k || is_among k self.old.items) }
@@ -61,7 +63,7 @@ impl Candidates {
         self.orders.push(Reverse(order)).unwrap();
     }
 
-    /// Takes the least number out.
+    /// Removes and returns the least candidate.
     pub fn pop(&mut self) -> Option<u64>
         ensures items { IfSome result (λ o.
             (k : ℕ) → is_among k self.old.items ≡ (o == k || is_among k self.new.items)) }

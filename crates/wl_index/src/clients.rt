@@ -1,4 +1,4 @@
-//! The entries of all clients.
+//! Entries of all clients.
 
 ghost use Rattle.std.specs.Prelude.{true, false, not, ◌&&◌, ◌||◌, ◌≡◌, ◌+◌, ◌<◌, ◌≤◌, ◌==◌, ℕ, length, OnOk, IfSome, IfNone, Some, None, if◌then◌else◌};
 ghost use Rattle.wl_ordered.specs.Orders.{is_below};
@@ -10,7 +10,7 @@ use indexmap::IndexMap;
 use std::alloc::{AllocError, Global};
 use wl_draft::Standing;
 
-/// For each client what it holds and waits for.
+/// The locks and requests of each client.
 #[derive(Drop)]
 pub struct Clients {
     pub alloc: Global,
@@ -18,6 +18,7 @@ pub struct Clients {
 }
 
 impl Clients {
+    /// Returns an index without clients.
     pub fn new(alloc: Global) -> Clients
         ensures places { (c : ℕ) → places_at result c ≡ no_places }
         ensures idle { (c : ℕ) → is_idle_client result c ≡ false }
@@ -28,7 +29,7 @@ impl Clients {
         }
     }
 
-    /// Where the client's lock of this number stands.
+    /// Returns whether the client's lock with this number is held, waiting or absent.
     pub fn standing(&self, client: u16, number: u32) -> Standing
         ensures { result ≡ standing_in (places_at self.now client) number }
     {
@@ -38,7 +39,7 @@ impl Clients {
         }
     }
 
-    /// How many entries the client has.
+    /// Returns the number of entries of the client.
     pub fn live(&self, client: u16) -> usize
         ensures { result
             ≡ length (places_at self.now client).held + length (places_at self.now client).waiting }
@@ -49,7 +50,7 @@ impl Clients {
         }
     }
 
-    /// Some lock of the client of the number that is meant.
+    /// Returns the order number of some held lock of the client with the selected number.
     pub fn find_held(&self, client: u16, which: Option<u32>) -> Option<u64>
         ensures some { IfSome result (λ order. IsPlace which (places_at self.now client).held order) }
         ensures none { IfNone result (first_place which (places_at self.now client).held ≡ None) }
@@ -60,7 +61,7 @@ impl Clients {
         }
     }
 
-    /// Some request of the client of the number that is meant.
+    /// Returns the order number of some waiting request of the client with the selected number.
     pub fn find_waiting(&self, client: u16, which: Option<u32>) -> Option<u64>
         ensures some { IfSome result (λ order. IsPlace which (places_at self.now client).waiting order) }
         ensures none { IfNone result (first_place which (places_at self.now client).waiting ≡ None) }
@@ -71,7 +72,7 @@ impl Clients {
         }
     }
 
-    /// The client's first request of a number.
+    /// Returns the order number of the client's first request with this number.
     pub fn first_waiting(&self, client: u16, number: u32) -> Option<u64>
         ensures { result ≡ first_place (Some number) (places_at self.now client).waiting }
     {
@@ -81,7 +82,7 @@ impl Clients {
         }
     }
 
-    /// Sees that the client is known.
+    /// Adds the client if it is not stored.
     fn open(&mut self, client: u16) -> Result<(), AllocError>
         ensures places { (c : ℕ) → places_at self.new c ≡ places_at self.old c }
         ensures held { (c : ℕ) → held_room_at self.old c ≤ held_room_at self.new c }
@@ -94,7 +95,8 @@ impl Clients {
         Ok(())
     }
 
-    /// Makes room for one more lock of the client, beside those that it waits for.
+    /// Reserves capacity for one more lock of the client and for the grants of its requests. Fails
+    /// if out of memory.
     pub fn reserve_lock(&mut self, client: u16) -> Result<(), AllocError>
         ensures places { (c : ℕ) → places_at self.new c ≡ places_at self.old c }
         ensures held { OnOk result
@@ -109,7 +111,8 @@ impl Clients {
         }
     }
 
-    /// Makes room for so many more entries of the client, held or waiting.
+    /// Reserves capacity for `count` more entries of the client, held or waiting. Fails if out of
+    /// memory.
     pub fn reserve(&mut self, client: u16, count: usize) -> Result<(), AllocError>
         ensures places { (c : ℕ) → places_at self.new c ≡ places_at self.old c }
         ensures held { OnOk result
@@ -126,7 +129,7 @@ impl Clients {
         }
     }
 
-    /// Puts a lock last in the client's. There is room for it.
+    /// Appends a lock to those of the client. Capacity must be reserved.
     pub fn hold(&mut self, client: u16, order: u64, number: u32)
         requires last { is_below (places_at self.old client).held order ≡ true }
         requires room { 0 < held_room_at self.old client }
@@ -143,7 +146,7 @@ impl Clients {
         }
     }
 
-    /// Puts a request last in the client's. There is room for it.
+    /// Appends a request to those of the client. Capacity must be reserved.
     pub fn wait(&mut self, client: u16, order: u64, number: u32)
         requires last { is_below (places_at self.old client).waiting order ≡ true }
         requires room { 0 < waiting_room_at self.old client }
@@ -160,7 +163,7 @@ impl Clients {
         }
     }
 
-    /// Takes a lock out of the client's.
+    /// Removes a lock from those of the client.
     pub fn drop_held(&mut self, client: u16, order: u64)
         ensures places { (c : ℕ) → places_at self.new c
             ≡ (if client == c then without_held (places_at self.old c) order else places_at self.old c) }
@@ -174,7 +177,7 @@ impl Clients {
         }
     }
 
-    /// Takes a request out of the client's.
+    /// Removes a request from those of the client.
     pub fn drop_waiting(&mut self, client: u16, order: u64)
         ensures places { (c : ℕ) → places_at self.new c
             ≡ (if client == c then without_waiting (places_at self.old c) order else places_at self.old c) }
@@ -188,7 +191,7 @@ impl Clients {
         }
     }
 
-    /// Forgets a client that has no entry.
+    /// Removes the client if it has no entry.
     pub fn forget(&mut self, client: u16)
         ensures places { (c : ℕ) → places_at self.new c ≡ places_at self.old c }
         ensures room { (c : ℕ) → length (places_at self.old c).waiting ≤ held_room_at self.old c
@@ -200,7 +203,7 @@ impl Clients {
         }
     }
 
-    // Whether the client is kept, though it has no entry.
+    // Returns whether the client is stored without an entry.
     fn is_idle(&self, client: u16) -> bool
         ensures { result ≡ is_idle_client self.now client }
     {

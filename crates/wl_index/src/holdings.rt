@@ -1,4 +1,4 @@
-//! The entries of one client: which numbers it holds, and which wait.
+//! Entries of one client.
 
 ghost use Rattle.std.specs.Prelude.{◌≡◌, true, ◌+◌, ◌<◌, ◌≤◌, OnOk, length};
 ghost use Rattle.wl_index.specs.Clients.{no_places, has_no_places, places_seen, standing_in, held_room, waiting_room};
@@ -7,7 +7,8 @@ use std::alloc::{AllocError, Global};
 use wl_draft::Standing;
 use wl_ordered::place_index::PlaceIndex;
 
-/// What a client holds and waits for, each in the table's order. `held` always has room for what waits.
+/// The locks that a client holds and the requests it waits for, each in the order of the table.
+/// `held` always has capacity for the grants of all waiting requests.
 #[derive(Drop)]
 pub struct Holdings {
     pub held: PlaceIndex,
@@ -15,6 +16,7 @@ pub struct Holdings {
 }
 
 impl Holdings {
+    /// Returns holdings without entries.
     pub fn new(alloc: Global) -> Holdings
         ensures { places_seen result ≡ no_places }
     {
@@ -24,12 +26,14 @@ impl Holdings {
         }
     }
 
+    /// Returns the number of entries.
     pub fn len(&self) -> usize
         ensures { result ≡ length (places_seen self.now).held + length (places_seen self.now).waiting }
     {
         self.held.len() + self.waiting.len()
     }
 
+    /// Returns whether the lock with this number is held, waiting or absent.
     pub fn standing(&self, number: u32) -> Standing
         ensures { result ≡ standing_in (places_seen self.now) number }
     {
@@ -42,13 +46,14 @@ impl Holdings {
         }
     }
 
+    /// Returns whether there is no entry.
     pub fn is_empty(&self) -> bool
         ensures { result ≡ has_no_places (places_seen self.now) }
     {
         self.held.is_empty() && self.waiting.is_empty()
     }
 
-    /// Makes room for so many more entries, wherever they go.
+    /// Reserves capacity for `count` more entries, held or waiting. Fails if out of memory.
     pub fn reserve(&mut self, count: usize) -> Result<(), AllocError>
         ensures places { places_seen self.new ≡ places_seen self.old }
         ensures held { OnOk result (length (places_seen self.new).waiting + count ≤ held_room self.new) }
@@ -63,7 +68,8 @@ impl Holdings {
         self.held.reserve(both)
     }
 
-    /// Makes room for one more lock, beside those that are waited for.
+    /// Reserves capacity for one more lock and for the grants of the waiting requests. Fails if out
+    /// of memory.
     pub fn reserve_lock(&mut self) -> Result<(), AllocError>
         ensures places { places_seen self.new ≡ places_seen self.old }
         ensures held { OnOk result (length (places_seen self.new).waiting < held_room self.new) }

@@ -1,4 +1,4 @@
-//! The two lists of a table, with an index of their names and one of their clients.
+//! Index of the two lists of a lock table, by name and by client.
 
 ghost use Rattle.std.specs.Prelude.{◌≡◌, ◌+◌, ◌-◌, ◌<◌, ◌≤◌, ◌^◌, [], ◌∷◌, ◌++◌, ℕ, List, ◌==◌, bytes_eq, OnOk, OnErr, IfOk, IfSome, IfNone};
 ghost use Rattle.wl_draft.specs.Tables.{find};
@@ -14,7 +14,8 @@ use crate::rows::Rows;
 use std::alloc::{AllocError, Global};
 use wl_draft::{Mode, Name, Row};
 
-/// Held locks and waiting requests, each under a number that rises, found by name and by client.
+/// Held locks and waiting requests with rising order numbers, which can be found by name and by
+/// client.
 #[derive(Drop)]
 pub struct Index {
     pub next: u64,
@@ -25,6 +26,7 @@ pub struct Index {
 }
 
 impl Index {
+    /// Returns an index without entries.
     pub fn new(alloc: Global) -> Index
         ensures indexed { IsIndexed result }
         ensures held { result.held.items ≡ [] }
@@ -40,7 +42,7 @@ impl Index {
         }
     }
 
-    /// Puts a lock last. There is room for it.
+    /// Appends a held lock. Capacity must be reserved.
     pub fn hold(&mut self, row: Row)
         requires indexed { IsIndexed self.old }
         requires holdable { IsHoldable self.old row.client row.name }
@@ -60,7 +62,7 @@ impl Index {
         self.held.push(order, row);
     }
 
-    /// Puts a request last. There is room for it.
+    /// Appends a waiting request. Capacity must be reserved.
     pub fn queue(&mut self, row: Row)
         requires indexed { IsIndexed self.old }
         requires ready { IsReady self.old row.client row.name 1 }
@@ -79,7 +81,7 @@ impl Index {
         self.waiting.push(order, row);
     }
 
-    /// Takes out a held lock.
+    /// Removes and returns a held lock.
     pub fn take_held(&mut self, order: u64) -> Option<Row>
         requires { IsIndexed self.old }
         ensures indexed { IsIndexed self.new }
@@ -99,7 +101,7 @@ impl Index {
         }
     }
 
-    /// Takes out a waiting request.
+    /// Removes and returns a waiting request.
     pub fn take_waiting(&mut self, order: u64) -> Option<Row>
         requires { IsIndexed self.old }
         ensures indexed { IsIndexed self.new }
@@ -123,7 +125,8 @@ impl Index {
         }
     }
 
-    /// Makes room for one more entry of the client under this name, held or waiting, and its row.
+    /// Reserves capacity for one more entry of the client with this name, held or waiting. Returns
+    /// its row. Fails if out of memory, and then keeps the index lean.
     pub fn ready(
         &mut self,
         alloc: Global,
@@ -151,7 +154,7 @@ impl Index {
         row
     }
 
-    // Like `ready`, but a refusal may leave a name or a client without an entry.
+    // Does the same as `ready`, but a failure may leave a name or a client without an entry.
     fn make_ready(
         &mut self,
         alloc: Global,
@@ -181,7 +184,8 @@ impl Index {
         new_row(alloc, client, number, name, mode)
     }
 
-    /// Makes room for one more lock of the client under this name, which need not wait, and its row.
+    /// Reserves capacity for one more lock of the client with this name, which does not have to
+    /// wait. Returns its row. Fails if out of memory, and then keeps the index lean.
     pub fn ready_lock(
         &mut self,
         alloc: Global,
@@ -209,7 +213,7 @@ impl Index {
         row
     }
 
-    // Like `ready_lock`, but a refusal may leave a name or a client without an entry.
+    // Does the same as `ready_lock`, but a failure may leave a name or a client without an entry.
     fn make_ready_lock(
         &mut self,
         alloc: Global,

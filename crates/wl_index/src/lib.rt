@@ -1,4 +1,4 @@
-//! The two lists of a partition's locks, with an index of their names and one of their clients.
+//! Index of a partition's locks and requests, by name and by client.
 #![tactic(auto)]
 
 pub mod candidates;

@@ -1,4 +1,4 @@
-//! The requests and locks of one name: its queue, and how many hold it.
+//! Line of one name: its queue, and the number of its holders.
 
 ghost use Rattle.std.specs.Prelude.{◌≡◌, true, ◌+◌, ◌<◌, ◌≤◌, ◌^◌, OnOk, length, ◌==◌, slice_get};
 ghost use Rattle.wl_draft.specs.declared.mode.Mode.TheVariants.{Shared, Exclusive};
@@ -9,7 +9,8 @@ use std::alloc::{AllocError, Global};
 use wl_draft::Mode;
 use wl_ordered::queue::Queue;
 
-/// How many hold a name in each mode, and the numbers of the requests that wait for it, rising.
+/// The number of holders of a name in each mode, and the order numbers of its waiting requests,
+/// rising.
 #[derive(Drop)]
 pub struct Line {
     pub shared: usize,
@@ -18,6 +19,7 @@ pub struct Line {
 }
 
 impl Line {
+    /// Returns a line without holders and requests.
     pub fn new(alloc: Global) -> Line
         ensures { line_seen result ≡ nobody }
     {
@@ -28,7 +30,7 @@ impl Line {
         }
     }
 
-    /// Whether a lock in this mode conflicts with none that is held.
+    /// Returns whether a lock in this mode conflicts with no held lock.
     pub fn is_free(&self, mode: Mode) -> bool
         ensures { result ≡ lets_in (line_seen self.now) mode }
     {
@@ -38,12 +40,14 @@ impl Line {
         }
     }
 
+    /// Returns the order number of the first waiting request.
     pub fn front(&self) -> Option<u64>
         ensures { result ≡ slice_get (line_seen self.now).queue 0 }
     {
         self.queue.front()
     }
 
+    /// Reserves capacity for `count` more requests. Fails if out of memory.
     pub fn reserve(&mut self, count: usize) -> Result<(), AllocError>
         ensures seen { line_seen self.new ≡ line_seen self.old }
         ensures room { OnOk result (count ≤ line_room self.new) }
@@ -52,6 +56,7 @@ impl Line {
         self.queue.reserve(count)
     }
 
+    /// Counts one more holder.
     pub fn hold(&mut self, mode: Mode)
         requires { self.old.shared + self.old.exclusive < 2 ^ 63 }
         ensures seen { line_seen self.new ≡ with_holder (line_seen self.old) mode }
@@ -63,7 +68,7 @@ impl Line {
         }
     }
 
-    /// Puts a request last. There is room for it.
+    /// Appends a request. Capacity must be reserved.
     pub fn push(&mut self, order: u64)
         requires { 0 < line_room self.old }
         ensures seen { line_seen self.new ≡ with_waiter (line_seen self.old) order }
@@ -72,19 +77,21 @@ impl Line {
         self.queue.push(order);
     }
 
+    /// Returns whether no request is waiting.
     pub fn is_queue_empty(&self) -> bool
         ensures { result ≡ (length (line_seen self.now).queue == 0) }
     {
         self.queue.is_empty()
     }
 
-    /// Whether nobody holds the name or waits for it.
+    /// Returns whether the name has no holder and no waiting request.
     pub fn is_idle(&self) -> bool
         ensures { result ≡ is_nobody (line_seen self.now) }
     {
         self.queue.is_empty() && self.shared == 0 && self.exclusive == 0
     }
 
+    /// Counts one holder less.
     pub fn let_go(&mut self, mode: Mode)
         ensures seen { line_seen self.new ≡ without_holder (line_seen self.old) mode }
         ensures room { line_room self.new ≡ line_room self.old }
@@ -95,7 +102,7 @@ impl Line {
         }
     }
 
-    /// Takes a request out, wherever it stands.
+    /// Removes a request at any position.
     pub fn take_out(&mut self, order: u64)
         requires { do_rise (line_seen self.old).queue ≡ true }
         ensures seen { line_seen self.new ≡ without_waiter (line_seen self.old) order }

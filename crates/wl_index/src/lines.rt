@@ -1,4 +1,4 @@
-//! The lines of all names.
+//! Lines of all names.
 
 ghost use Rattle.std.specs.Prelude.{◌≡◌, true, false, not, ◌||◌, ◌+◌, ◌<◌, ◌≤◌, ◌^◌, ℕ, List, OnOk, ◌==◌, ◌&&◌, length, slice_get, bytes_eq, if◌then◌else◌};
 ghost use Rattle.wl_draft.specs.Locks.{is_named};
@@ -10,7 +10,7 @@ use indexmap::IndexMap;
 use std::alloc::{AllocError, Global};
 use wl_draft::{Mode, Name, Row};
 
-/// For each name who holds it and who waits for it. A name without a line is held and waited for by nobody.
+/// The holders and the waiting requests of each name. A name without a line has none.
 #[derive(Drop)]
 pub struct Lines {
     pub alloc: Global,
@@ -18,6 +18,7 @@ pub struct Lines {
 }
 
 impl Lines {
+    /// Returns an index without names.
     pub fn new(alloc: Global) -> Lines
         ensures lines { (n : List ℕ) → line_at result n ≡ nobody }
         ensures idle { (n : List ℕ) → is_idle_line result n ≡ false }
@@ -28,7 +29,7 @@ impl Lines {
         }
     }
 
-    /// Whether a lock in this mode conflicts with none that is held.
+    /// Returns whether a lock in this mode conflicts with no held lock of the name.
     pub fn is_free(&self, name: &Name, mode: Mode) -> bool
         ensures { result ≡ lets_in (line_at self.now name.now) mode }
     {
@@ -38,7 +39,7 @@ impl Lines {
         }
     }
 
-    /// The number of the first that waits for the name.
+    /// Returns the order number of the first request that waits for the name.
     pub fn front(&self, name: &Name) -> Option<u64>
         ensures { result ≡ slice_get (line_at self.now name.now).queue 0 }
     {
@@ -64,7 +65,7 @@ impl Lines {
         }
     }
 
-    /// Puts a request last in the line of its name. There is room for it.
+    /// Appends a request to the line of its name. Capacity must be reserved.
     pub fn push(&mut self, name: &Name, order: u64)
         requires { 0 < room_at self.old name.now }
         ensures lines { (n : List ℕ) → line_at self.new n
@@ -80,7 +81,7 @@ impl Lines {
         }
     }
 
-    /// Whether nobody waits for the name.
+    /// Returns whether no request waits for the name.
     pub fn is_queue_empty(&self, name: &Name) -> bool
         ensures { result ≡ (length (line_at self.now name.now).queue == 0) }
     {
@@ -90,7 +91,7 @@ impl Lines {
         }
     }
 
-    /// Makes a line for the name, if there is none.
+    /// Adds a line for the name if there is none. Fails if out of memory.
     pub fn open(&mut self, name: &Name) -> Result<(), AllocError>
         ensures lines { (n : List ℕ) → line_at self.new n ≡ line_at self.old n }
         ensures there { OnOk result (HasLine self.new name.now) }
@@ -105,7 +106,7 @@ impl Lines {
         Ok(())
     }
 
-    /// Whether a request of this name and mode would be granted at once.
+    /// Returns whether a request with this name and mode would be granted at once.
     pub fn is_next(&self, name: &Name, mode: Mode) -> bool
         ensures { result
             ≡ (length (line_at self.now name.now).queue == 0 && lets_in (line_at self.now name.now) mode) }
@@ -113,7 +114,7 @@ impl Lines {
         self.is_queue_empty(name) && self.is_free(name, mode)
     }
 
-    /// Makes room for so many more requests for the name.
+    /// Reserves capacity for `count` more requests for the name. Fails if out of memory.
     pub fn reserve(&mut self, name: &Name, count: usize) -> Result<(), AllocError>
         ensures lines { (n : List ℕ) → line_at self.new n ≡ line_at self.old n }
         ensures room { OnOk result (count ≤ room_at self.new name.now) }
@@ -129,7 +130,7 @@ impl Lines {
         }
     }
 
-    /// Makes a line for each of these rows' names.
+    /// Adds a line for the name of each row. Fails if out of memory.
     pub fn open_all(&mut self, rows: &[Row]) -> Result<(), AllocError>
         ensures lines { (n : List ℕ) → line_at self.new n ≡ line_at self.old n }
         ensures there { OnOk result ((n : List ℕ) → is_named n rows.now ≡ true → HasLine self.new n) }
@@ -141,7 +142,7 @@ impl Lines {
         Ok(())
     }
 
-    /// Makes room for all these requests.
+    /// Reserves capacity for all these requests. Fails if out of memory.
     pub fn reserve_all(&mut self, rows: &[Row]) -> Result<(), AllocError>
         ensures lines { (n : List ℕ) → line_at self.new n ≡ line_at self.old n }
         ensures room { OnOk result ((n : List ℕ) → count_named n rows.now ≤ room_at self.new n) }
@@ -172,7 +173,7 @@ impl Lines {
         }
     }
 
-    /// Takes a request out of the line of its name.
+    /// Removes a request from the line of its name.
     pub fn take_out(&mut self, name: &Name, order: u64)
         requires { do_rise (line_at self.old name.now).queue ≡ true }
         ensures lines { (n : List ℕ) → line_at self.new n ≡ (if bytes_eq name.now n
@@ -187,7 +188,7 @@ impl Lines {
         }
     }
 
-    /// Forgets a name that nobody holds or waits for.
+    /// Removes the name's line if it has no holder and no waiting request.
     pub fn forget(&mut self, name: &Name)
         ensures lines { (n : List ℕ) → line_at self.new n ≡ line_at self.old n }
         ensures idle { (n : List ℕ)
@@ -198,7 +199,7 @@ impl Lines {
         }
     }
 
-    /// Forgets those of these rows' names that nobody holds or waits for.
+    /// Removes the lines of these rows' names that have no holder and no waiting request.
     pub fn forget_all(&mut self, rows: &[Row])
         ensures lines { (n : List ℕ) → line_at self.new n ≡ line_at self.old n }
         ensures idle { (n : List ℕ) → is_idle_line self.new n ≡ true
@@ -209,7 +210,7 @@ impl Lines {
         }
     }
 
-    // Whether the name has a line, though nobody holds it or waits for it.
+    // Returns whether the name has a line without holders and waiting requests.
     fn is_idle(&self, name: &Name) -> bool
         ensures { result ≡ is_idle_line self.now name.now }
     {

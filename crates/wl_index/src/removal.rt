@@ -1,4 +1,4 @@
-//! Takes out a client's entries.
+//! Removal of a client's entries.
 
 ghost use Rattle.std.specs.Prelude.{◌≡◌, ℕ, List, false, not, ◌&&◌, ◌||◌, ◌==◌, bytes_eq, ◌+◌, ◌<◌, ◌≤◌, ◌^◌, OnOk, length, vec_len, vec_capacity};
 ghost use Rattle.wl_draft.specs.Locks.{is_named};
@@ -13,7 +13,8 @@ use std::alloc::AllocError;
 use wl_draft::{Grant, Name, Row};
 
 impl Index {
-    /// Takes out the client's held locks of the number that is meant, or all of them.
+    /// Removes the client's held locks with the selected number, or all of them if `which` is
+    /// `None`. The front request of each name concerned becomes a candidate.
     pub fn take_all_held(&mut self, client: u16, which: Option<u32>, candidates: &mut Candidates)
         requires indexed { IsIndexed self.old }
         requires room { length (places_in client self.old.held.items)
@@ -38,7 +39,8 @@ impl Index {
         }
     }
 
-    /// Takes out the client's requests of the number that is meant, or all of them.
+    /// Removes the client's requests with the selected number, or all of them if `which` is `None`.
+    /// The front request of each name concerned becomes a candidate.
     pub fn take_all_waiting(&mut self, client: u16, which: Option<u32>, candidates: &mut Candidates)
         requires indexed { IsIndexed self.old }
         requires room { length (places_in client self.old.waiting.items) ≤ candidates.old.room }
@@ -62,7 +64,7 @@ impl Index {
         }
     }
 
-    // Forgets the name if nobody holds it or waits for it any more.
+    // Removes the name's line if it has no holder and no waiting request.
     fn forget_name(&mut self, name: &Name)
         requires { IsIndexed self.old }
         ensures indexed { IsIndexed self.new }
@@ -76,7 +78,7 @@ impl Index {
         self.lines.forget(name);
     }
 
-    /// Forgets the client if it has no entry any more.
+    /// Removes the client if it has no entry.
     pub fn forget_client(&mut self, client: u16)
         requires { IsIndexed self.old }
         ensures indexed { IsIndexed self.new }
@@ -90,7 +92,7 @@ impl Index {
         self.clients.forget(client);
     }
 
-    /// Forgets the client and the name if they have no entry.
+    /// Removes the client and the name if they have no entry.
     pub fn forget(&mut self, client: u16, name: &Name)
         requires { IsIndexed self.old }
         ensures indexed { IsIndexed self.new }
@@ -103,7 +105,7 @@ impl Index {
         self.forget_client(client);
     }
 
-    /// Forgets the client and these rows' names if they have no entry.
+    /// Removes the client and the names of these rows if they have no entry.
     pub fn forget_rows(&mut self, client: u16, held: &[Row], waiting: &[Row])
         requires { IsIndexed self.old }
         ensures indexed { IsIndexed self.new }
@@ -118,7 +120,8 @@ impl Index {
         self.forget_client(client);
     }
 
-    /// Makes room for what settling grants once so many more entries were put in, and sees that there are numbers for them.
+    /// Reserves capacity for all grants of a settling after `more` entries are added. Fails if out
+    /// of memory, or if too few order numbers are left.
     pub fn room_to_settle(&self, granted: &mut Vec<Grant>, more: usize) -> Result<(), AllocError>
         ensures items { granted.new.items ≡ granted.old.items }
         ensures room { OnOk result
@@ -133,8 +136,8 @@ impl Index {
     }
 }
 
-/// The order numbers that a table uses are below this one. No table lives long enough to reach it.
+/// Bound of the order numbers of a table. No table lives long enough to reach it.
 const LAST_ORDER: u64 = 1 << 62;
 
-/// No report has so many entries.
+/// Bound of the number of entries of a report.
 const MOST_ENTRIES: usize = 1 << 61;

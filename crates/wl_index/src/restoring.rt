@@ -1,4 +1,4 @@
-//! Puts the entries of a client's report into an index.
+//! Restoring of the entries of a client's report.
 
 ghost use Rattle.std.specs.Prelude.{◌≡◌, ◌+◌, ◌<◌, ◌≤◌, ◌^◌, ◌==◌, ◌||◌, ◌++◌, true, false, OnOk, OnErr, length};
 ghost use Rattle.wl_ordered.specs.Orders.{values_in};
@@ -12,7 +12,8 @@ use std::alloc::AllocError;
 use wl_draft::Row;
 
 impl Index {
-    /// Makes room for these locks and these requests of a client.
+    /// Reserves capacity for these locks and requests of a client. Fails if out of memory, and then
+    /// keeps the index lean.
     pub fn make_room(
         &mut self,
         client: u16,
@@ -37,7 +38,7 @@ impl Index {
         made
     }
 
-    // Like `make_room`, but a refusal may leave names or the client without an entry.
+    // Does the same as `make_room`, but a failure may leave names or the client without an entry.
     fn reserve(&mut self, client: u16, held: &[Row], waiting: &[Row]) -> Result<(), AllocError>
         requires indexed { IsIndexed self.old }
         requires small { length held.now + length waiting.now < 2 ^ 63 }
@@ -58,7 +59,8 @@ impl Index {
         self.lines.reserve_all(waiting)
     }
 
-    /// Puts locks of a client behind the held ones, and requests of it behind those that wait. There is room for them.
+    /// Appends locks of a client to the held locks, and requests to the waiting ones. Capacity must
+    /// be reserved.
     pub fn put_all(
         &mut self,
         client: u16,

@@ -1,5 +1,4 @@
-//! Rows under rising numbers: the order of a list whose rows are found, taken out and put last at no cost that grows
-//! with its length.
+//! Rows with rising order numbers. Finding, removing and appending a row take constant time.
 
 ghost use Rattle.std.specs.Prelude.{◌≡◌, ◌+◌, ◌≤◌, ◌<◌, ◌^◌, [], ◌∷◌, ◌++◌, true, length, OnOk, IfOk, option_copied};
 ghost use Rattle.wl_draft.specs.Tables.{find};
@@ -10,7 +9,7 @@ use std::alloc::{AllocError, Global};
 use std::marker::Model;
 use wl_draft::Row;
 
-/// The rows of a list, each under a number. Their order is that of the numbers.
+/// The rows of a list, each with an order number. They are sorted by order number.
 #[derive(Drop)]
 pub struct Rows {
     rows: IndexMap<u64, Row>,
@@ -28,6 +27,7 @@ impl Model for Rows {
 }
 
 impl Rows {
+    /// Returns an empty list.
     pub fn new(alloc: Global) -> Rows
         ensures { result.items ≡ [] }
     {
@@ -36,6 +36,7 @@ impl Rows {
         }
     }
 
+    /// Returns the number of rows.
     pub fn len(&self) -> usize
         ensures len { result ≡ length self.now.items }
         ensures small { result < 2 ^ 63 }
@@ -43,7 +44,7 @@ impl Rows {
         self.rows.len()
     }
 
-    /// Makes room for so many more rows.
+    /// Reserves capacity for `count` more rows. Fails if out of memory.
     pub fn reserve(&mut self, count: usize) -> Result<(), AllocError>
         ensures items { self.new.items ≡ self.old.items }
         ensures room { OnOk result (count ≤ self.new.room) }
@@ -52,7 +53,7 @@ impl Rows {
         self.rows.reserve(count)
     }
 
-    /// Puts a row last. Its number is above all that are there, and there is room for it.
+    /// Appends a row. Its order number must be above all others, and capacity must be reserved.
     pub fn push(&mut self, order: u64, row: Row)
         requires last { is_below self.old.items order ≡ true }
         requires room { 0 < self.old.room }
@@ -62,13 +63,14 @@ impl Rows {
         let _ = self.rows.insert(order, row);
     }
 
+    /// Returns the row with this order number.
     pub fn get(&self, order: u64) -> Option<&Row>
         ensures { option_copied result ≡ find self.now.items order }
     {
         self.rows.get(&order)
     }
 
-    /// Takes out the row of this number.
+    /// Removes and returns the row with this order number.
     pub fn remove(&mut self, order: u64) -> Option<Row>
         ensures value { result ≡ find self.old.items order }
         ensures items { self.new.items ≡ without_order order self.old.items }
@@ -77,7 +79,7 @@ impl Rows {
         self.rows.swap_remove(&order)
     }
 
-    // The numbers, rising.
+    // Returns the order numbers, rising.
     fn orders(&self, alloc: Global) -> Result<Vec<u64>, AllocError>
         ensures orders { IfOk result (λ orders. orders.items ≡ orders_in self.now.items) }
         ensures rising { OnOk result (is_rising self.now.items ≡ true) }
@@ -90,7 +92,7 @@ impl Rows {
         Ok(orders)
     }
 
-    /// Copies of the rows, in order.
+    /// Returns copies of the rows, in order. Fails if out of memory.
     pub fn copies(&self, alloc: Global) -> Result<Vec<Row>, AllocError>
         ensures { IfOk result (λ copies. copies.items ≡ values_in self.now.items) }
     {

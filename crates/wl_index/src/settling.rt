@@ -1,4 +1,4 @@
-//! Grants what can be granted of an index.
+//! Granting of requests.
 
 ghost use Rattle.std.specs.Prelude.{◌≡◌, ◌+◌, ◌<◌, ◌≤◌, ◌^◌, ◌++◌, ◌∷◌, [], ◌==◌, ℕ, true, Some, length, vec_len, vec_capacity};
 ghost use Rattle.wl_draft.specs.declared.row.Row.{Row};
@@ -13,7 +13,7 @@ use crate::index::Index;
 use wl_draft::{Grant, Name};
 
 impl Index {
-    // The number of the name's request that can be granted now.
+    // Returns the order number of the name's grantable request.
     fn next_of(&self, name: &Name) -> Option<u64>
         requires { IsIndexed self.now }
         ensures { result ≡ next_in name.now self.now.held.items self.now.waiting.items }
@@ -33,7 +33,7 @@ impl Index {
         }
     }
 
-    /// Whether the request of this number can be granted now.
+    /// Returns whether the request with this order number is grantable.
     pub fn is_next(&self, order: u64) -> bool
         requires { IsIndexed self.now }
         ensures { result ≡ is_next order self.now.held.items self.now.waiting.items }
@@ -47,7 +47,7 @@ impl Index {
         }
     }
 
-    /// Puts the number of the first that waits for the name among the candidates. There is room for it.
+    /// Adds the first request that waits for the name to the candidates. Capacity must be reserved.
     pub fn note_front(&self, name: &Name, candidates: &mut Candidates)
         requires indexed { IsIndexed self.now }
         requires room { 0 < candidates.old.room }
@@ -64,7 +64,8 @@ impl Index {
         }
     }
 
-    // Grants a request: takes it out, and puts it last among the held locks. There is room for that.
+    // Grants a request: moves it from the waiting requests to the end of the held locks. Capacity
+    // must be reserved.
     fn grant(&mut self, order: u64, candidates: &mut Candidates, granted: &mut Vec<Grant>)
         requires indexed { IsIndexed self.old }
         requires small { self.old.next + 1 < 2 ^ 64 }
@@ -95,7 +96,8 @@ impl Index {
         }
     }
 
-    /// Grants what can be granted, in the order of queueing. All of it is among the candidates, of whom none is left.
+    /// Grants each grantable request, in the order of queueing. All of them must be among the
+    /// candidates. No candidate is left afterwards.
     pub fn settle(&mut self, candidates: &mut Candidates, granted: &mut Vec<Grant>)
         requires indexed { IsIndexed self.old }
         requires small { self.old.next + length self.old.waiting.items < 2 ^ 64 }

@@ -1,4 +1,4 @@
--- The whole of what is kept, after an opening, after a death and after a stop.
+-- Consistency of the whole table, after an opening, a death and a stop.
 use Rattle.std.proofs.Common.{◌≡◌, ℕ, ◌<◌, ◌≤◌, true, false, ◌&&◌, cond, List, [], ◌∷◌, ◌++◌, length, set, slice_get, map, Some, None, option_map, refl, sym, ap, ◌∙◌, subst}
 use Rattle.std.proofs.lemmas.List.{length-map, map_push}
 use Rattle.wl_origin.specs.Order.{Pair}
@@ -11,7 +11,7 @@ use Rattle.wl_kernel.proofs.Living.{living_in-push, living_in-ended}
 use Rattle.wl_kernel.proofs.OpenedTabs.{tabs-push, tabs-ended, placed-push, place_in-ended, row_placed, has_home_at, have_homes-push, have_homes-set, have_homes-kept, seen-kept, rows_ended_at}
 use Rattle.wl_kernel.proofs.KeptHomes.{homes-push, homes-ended}
 
--- what is kept, by what the rows are seen as
+-- The table is consistent with the opened tabs that its rows stand for.
 record IsKept (os : List OpenedTab) (rows : List TabRow) (places : Table ℕ) (homes : HomeTable) (living : List ℕ) : Type 0 where
   tabs : AreTabs os
   placed : IsPlaced os places
@@ -31,7 +31,7 @@ consistent os rows places homes living g l is one last k = record {
   up_to_last = last;
 }
 
--- a new tab that is put behind all rows, into the home of its partition and among the living
+-- A new tab was appended to the rows, its partition's home and the living tabs.
 pub record IsEntered (rows : List TabRow) (homes : HomeTable) (r : TabRow) (p : Pair) (more : HomeTable) : Type 0 where
   pub from_one : 1 ≤ r.tab
   pub new : tab_in (all_seen homes rows) r.tab ≡ None
@@ -73,7 +73,7 @@ consistent-push rows places homes living g l r p after at more all c e behind th
     (consistent (all_seen homes rows ++ seen more r ∷ []) (rows ++ r ∷ []) (put r.tab (length rows) places) more (put_in r.tab living) g l
     (seen-push rows homes r more c.have_homes e.kept) c.from_one c.up_to_last (one_more rows places homes living g l r p more c e))
 
--- a tab's death, in its row at this place, in its partition's home and among the living
+-- A tab's death was recorded in its row, its partition's home and the living tabs.
 pub record IsBuried (rows : List TabRow) (homes : HomeTable) (t i : ℕ) (r : TabRow) (less : HomeTable) : Type 0 where
   pub placed : place_in (all_seen homes rows) t ≡ Some i
   pub there : slice_get rows i ≡ Some r
@@ -105,7 +105,7 @@ consistent-ended rows places homes living g l t i r less all c b gone =
       alive = gone ∙ ap (without t) c.alive ∙ sym (living_in-ended any_tab t os (λ o. refl) c.tabs);
     })
 
--- all as before
+-- A table with equal parts is consistent.
 pub consistent-same : (rows : List TabRow) (places : Table ℕ) (homes : HomeTable) (living : List ℕ) (g l : ℕ)
     (after : List TabRow) (at : Table ℕ) (same : HomeTable) (all : List ℕ)
     → IsConsistent rows places homes living g l → after ≡ rows → at ≡ places → same ≡ homes → all ≡ living

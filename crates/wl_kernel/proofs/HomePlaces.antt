@@ -1,4 +1,4 @@
--- Where the homes of partitions stand: after a home is written, and with one more.
+-- Indexes of the partitions' homes, after a home is written and after one is added.
 use Rattle.std.proofs.Common.{◌≡◌, ◌≢◌, ℕ, zero, suc, ◌+◌, ◌<◌, Bool, true, false, cond, eqb, List, [], ◌∷◌, ◌++◌, length, set, slice_get, Option, Some, None, option_map, refl, sym, ap, ◌∙◌, subst, arith}
 use Rattle.std.proofs.lemmas.Bool.Decides.{nat_tests}
 use Rattle.std.specs.declared.cmp.Ordering.{Ordering}
@@ -12,7 +12,7 @@ use Rattle.wl_origin.proofs.OrderLemmas.{pair_eq-decides}
 use Rattle.wl_kernel.specs.Kernel.{put_in}
 use Rattle.wl_kernel.specs.Kept.{HomeTable, home_place, home_at, home_of, partition_in, partition_at, AreHomePlaces, HasOneMore, SetsHome, joined, left}
 
--- ---- equal partitions
+-- Equal partitions
 
 pub same_key : (p q : Pair) → is_eq (pair_cmp p q) ≡ pair_eq p q
 same_key p q = sym (pairs_tied.ties p q)
@@ -26,7 +26,7 @@ same_partition p = (pair_eq-decides p p).1 refl
 apart : (p q : Pair) → pair_eq p q ≡ false → p ≢ q
 apart p q other same = let e : pair_eq p q ≡ true = (pair_eq-decides p q).1 same in cc
 
--- ---- the entries
+-- The entries
 
 abbrev AreBelow : ℕ → List (Pair × ℕ) → Type 0
 AreBelow n es = AllByRecursion (λ e. e.1 < n) es
@@ -70,14 +70,14 @@ partition_in-insert_by Less p n i e es rest place lt new below = refl
 partition_in-insert_by Equal p n i e es rest place lt new below = cc
 partition_in-insert_by Greater p n i e es rest place lt new below = partition_in-insert_later p n i e es rest lt (below new)
 
--- a new partition's home stands behind all others
+-- The home of a new partition is appended to all others.
 pub partition_in-insert : (p : Pair) (n : ℕ) (es : List (Pair × ℕ)) (i : ℕ) → AreBelow n es → home_place es p ≡ None
     → partition_in (insert_entry pair_cmp es p n) i ≡ cond (eqb n i) p (partition_in es i)
 partition_in-insert p n [] i all new = refl
 partition_in-insert p n (e ∷ es) i all new =
     partition_in-insert_by (pair_cmp p e.0) p n i e es (insert_entry pair_cmp es p n) (home_place es p) all.0 new (partition_in-insert p n es i all.1)
 
--- ---- one more home
+-- One more home
 
 placed_anew : (p : Pair) (n : ℕ) (es more : List (Pair × ℕ)) → HasOneMore p n es more → (q : Pair) → home_place more q ≡ cond (pair_eq p q) (Some n) (home_place es q)
 placed_anew p n es more m q = m.places q ∙ ap (λ b. cond b (Some n) (home_place es q)) (same_key p q)
@@ -155,7 +155,7 @@ home-push h k w p places behind m q =
     ∙ ap (home_at (h.homes ++ w ∷ [])) (placed_anew p (length h.homes) h.places k.places m q)
     ∙ home-push_by h w p q places (pair_eq p q)
 
--- ---- a home is written
+-- A home is written
 
 slice_get-set_same : {X : Type 0} (xs : List X) (i : ℕ) (x : X) → i < length xs → slice_get (set xs i x) i ≡ Some x
 slice_get-set_same [] i x lt = absurd (omega arith)
@@ -185,7 +185,7 @@ pub home-set : (h : HomeTable) (i : ℕ) (w : ℕ × List ℕ) → AreHomePlaces
     → SetsHome h (record h { homes = set h.homes i w }) (partition_at h i) (Some w)
 home-set h i w places lt q = home-set_by h i w q places lt (pair_eq (partition_at h i) q) refl
 
--- a tab joins a partition that has a home
+-- A tab joins a partition that has a home.
 pub home-join : (h : HomeTable) (p : Pair) (t i : ℕ) (x w : ℕ × List ℕ) → AreHomePlaces h.places (length h.homes) → home_place h.places p ≡ Some i → slice_get h.homes i ≡ Some x
     → w ≡ (x.0, put_in t x.1) → SetsHome h (record h { homes = set h.homes i w }) p (Some (joined t (home_of h p)))
 home-join h p t i x w places at there more =
@@ -194,13 +194,13 @@ home-join h p t i x w places at there more =
     subst (λ (v : ℕ × List ℕ). SetsHome h (record h { homes = set h.homes i w }) p (Some v)) now
     (subst (λ (q : Pair). SetsHome h (record h { homes = set h.homes i w }) q (Some w)) (places.own p i at) (home-set h i w places lt))
 
--- or one that has none yet
+-- A tab joins a partition that has no home.
 pub home-found : (h k : HomeTable) (p : Pair) (t : ℕ) → AreHomePlaces h.places (length h.homes) → k.homes ≡ h.homes ++ (t, t ∷ []) ∷ []
     → HasOneMore p (length h.homes) h.places k.places → SetsHome h k p (Some (joined t (home_of h p)))
 home-found h k p t places behind m =
     subst (λ o. SetsHome h k p (Some (joined t (home_at h.homes o)))) (sym m.new) (home-push h k (t, t ∷ []) p places behind m)
 
--- a tab leaves
+-- A tab leaves its partition.
 pub home-leave : (h : HomeTable) (t i : ℕ) (x w : ℕ × List ℕ) → AreHomePlaces h.places (length h.homes) → i < length h.homes → slice_get h.homes i ≡ Some x → w ≡ left t x
     → SetsHome h (record h { homes = set h.homes i w }) (partition_at h i) (option_map (left t) (home_of h (partition_at h i)))
 home-leave h t i x w places lt there less =
@@ -208,6 +208,6 @@ home-leave h t i x w places lt there less =
     ap Some less ∙ ap (option_map (left t)) (sym (ap (home_at h.homes) (places.there i lt) ∙ there)) in
     subst (SetsHome h (record h { homes = set h.homes i w }) (partition_at h i)) now (home-set h i w places lt)
 
--- what was written is there
+-- A home that was written is found.
 pub home-set_at : (h k : HomeTable) (p : Pair) (w : ℕ × List ℕ) → SetsHome h k p (Some w) → home_of k p ≡ Some w
 home-set_at h k p w written = written p ∙ ap (λ b. cond b (Some w) (home_of h p)) (same_partition p)

@@ -1,4 +1,4 @@
--- What is kept of partitions, after an opening and after a death.
+-- Homes of partitions, after an opening and after a death.
 use Rattle.std.proofs.Common.{◌≡◌, ℕ, Bool, true, false, ◌&&◌, ◌||◌, cond, List, [], ◌∷◌, ◌++◌, map, Some, None, option_map, refl, sym, ap, ◌∙◌, arith}
 use Rattle.std.proofs.Math.Bool.{and-false}
 use Rattle.std.proofs.lemmas.Bool.Decides.{nat_tests}
@@ -12,7 +12,7 @@ use Rattle.wl_kernel.proofs.RisingNumbers.{without, without_none}
 use Rattle.wl_kernel.proofs.Living.{passes, living_in-push, listed-living_in, living_in-ended}
 use Rattle.wl_kernel.proofs.OpenedTabs.{ended_of, any-ended, number-ended, any-push, number-push, number-any, number-none}
 
--- ---- one more tab
+-- One more tab
 
 living_none_step : (p : Pair) (x : OpenedTab) (xs : List OpenedTab) → (list_any (is_of p) xs ≡ false → living_in (is_of p) xs ≡ []) → list_any (is_of p) (x ∷ xs) ≡ false
     → living_in (is_of p) (x ∷ xs) ≡ []
@@ -59,7 +59,7 @@ joined_number_by : (t : ℕ) (p : Pair) (os : List OpenedTab) (b : Bool) → lis
 joined_number_by t p os true any = number-any 0 t p os any
 joined_number_by t p os false any = sym (number-none t p os any)
 
--- the number that a joining tab is told
+-- A joining tab gets the number of its partition.
 pub joined_number : (t : ℕ) (p : Pair) (os : List OpenedTab) (homes : HomeTable) → AreHomes os homes → (joined t (home_of homes p)).0 ≡ number_or t os p
 joined_number t p os homes housed = ap (λ h. (joined t h).0) (housed p) ∙ joined_number_by t p os (list_any (is_of p) os) refl
 
@@ -67,15 +67,15 @@ members_by : (p : Pair) (os : List OpenedTab) (b : Bool) → list_any (is_of p) 
 members_by p os true any = refl
 members_by p os false any = sym (living_none p os any)
 
--- the living tabs that are kept of a partition
+-- The living tabs in a home are the partition's living tabs.
 pub members_kept : (p : Pair) (os : List OpenedTab) (homes : HomeTable) → AreHomes os homes → members (home_of homes p) ≡ living_in (is_of p) os
 members_kept p os homes housed = ap members (housed p) ∙ members_by p os (list_any (is_of p) os) refl
 
--- what is kept of a partition that has a home
+-- The home of a partition has its number and its living tabs.
 pub home_is : (p : Pair) (os : List OpenedTab) (homes : HomeTable) (h : ℕ × List ℕ) → AreHomes os homes → home_of homes p ≡ Some h → h ≡ (number_or 0 os p, living_in (is_of p) os)
 home_is p os homes h housed there = sym (cond_some (list_any (is_of p) os) (number_or 0 os p, living_in (is_of p) os) h (sym (housed p) ∙ there)).1
 
--- ---- a death
+-- A death
 
 home_in-ended : (t : ℕ) (p : Pair) (os : List OpenedTab) → AreTabs os
     → home_in (map (ended t) os) p ≡ cond (list_any (is_of p) os) (Some (number_or 0 os p, without t (living_in (is_of p) os))) None

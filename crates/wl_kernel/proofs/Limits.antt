@@ -1,4 +1,4 @@
--- How many tabs live, over any calls, and which starts are never refused.
+-- Limits on living tabs after any calls, and starts that are never refused.
 use Rattle.std.proofs.Common.{◌≡◌, ℕ, ◌+◌, ◌≤◌, Bool, true, false, not, ◌&&◌, cond, List, [], ◌∷◌, length, Option, Some, None, is_some, if◌then◌else◌, nat_lt, nat_le, refl, sym, ◌∙◌, subst, arith}
 use Rattle.std.proofs.lemmas.Bool.Decides.{nat_tests}
 use Rattle.wl_origin.specs.Order.{Pair}
@@ -13,7 +13,7 @@ use Rattle.wl_kernel.proofs.OpenedTabs.{tabs-push, tabs-ended, ended_of, open_is
 use Rattle.wl_kernel.proofs.HomePlaces.{one_partition}
 use Rattle.wl_kernel.proofs.Calls.{Keeps, after_keeps, reached_tabs}
 
--- ---- one more, and one fewer
+-- One more tab, and one fewer
 
 one_more_step : (n m : ℕ) (ms : List ℕ) → length (put_in n ms) ≡ length ms + 1 → length (put_in n (m ∷ ms)) ≡ length (m ∷ ms) + 1
 one_more_step n m ms below = grind (arith, nat_tests)
@@ -29,7 +29,7 @@ fewer : (t : ℕ) (xs : List ℕ) → length (without t xs) ≤ length xs
 fewer t [] = omega arith
 fewer t (x ∷ xs) = fewer_step t x xs (fewer t xs)
 
--- ---- what an opening asks
+-- Conditions of an opening
 
 not_full : (a b c : Bool) → (if a then Some NumberTaken else (if b then Some TooManyLiving else (if c then Some PartitionFull else None))) ≡ None → (b ≡ false) × (c ≡ false)
 not_full true b c e = cc
@@ -46,9 +46,9 @@ room_for_one t p k allowed =
     let room = not_full _ (nat_le living_limit (length (living_tabs k))) (nat_le partition_limit (length (living_of k p))) allowed in
     (below (length (living_tabs k)) living_limit room.0, below (length (living_of k p)) partition_limit room.1)
 
--- ---- the limits
+-- The limits
 
--- not more living tabs pass the test than the limit
+-- The number of living tabs that pass the test is within the limit.
 record IsWithin (test : OpenedTab → Bool) (limit : ℕ) (k : KernelState) : Type 0 where
   tabs : AreTabs k.opened
   few : length (living_in test k.opened) ≤ limit
@@ -88,7 +88,7 @@ never_too_many_of_one last calls p =
     (λ t q k allowed own. subst (λ (r : Pair). length (living_of k r) + 1 ≤ partition_limit) (one_partition q p own) (room_for_one t q k allowed).1))
     calls (no_tabs last) (record { tabs = tt; few = omega arith })).few
 
--- ---- starts
+-- Starts
 
 first_none_step : (test : ℕ → Bool) (x : ℕ) (xs : List ℕ) → test x ≡ false → first_such test xs ≡ None → first_such test (x ∷ xs) ≡ None
 first_none_step test x xs fails below = grind (arith, nat_tests)
@@ -99,7 +99,7 @@ listed_first x xs = grind (arith, nat_tests)
 listed_rest : (t x : ℕ) (xs : List ℕ) → is_listed xs t ≡ true → is_listed (x ∷ xs) t ≡ true
 listed_rest t x xs there = grind (arith, nat_tests)
 
--- where no listed one passes, none is found
+-- If no listed number passes the test, none is found.
 first_none : (test : ℕ → Bool) (xs : List ℕ) → ((t : ℕ) → is_listed xs t ≡ true → test t ≡ false) → first_such test xs ≡ None
 first_none test [] fails = refl
 first_none test (x ∷ xs) fails =

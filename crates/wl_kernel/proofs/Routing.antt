@@ -1,4 +1,4 @@
--- What is passed on has a spelling where what came has one.
+-- Well-formedness of routed frames: each one is well-formed if the tab's frame was.
 use Rattle.std.proofs.Common.{◌≡◌, ◌≢◌, ℕ, Bool, List, [], ◌∷◌, length, map, filter, count_by, refl, sym, ap, ◌∙◌, arith}
 use Rattle.std.proofs.lemmas.List.Sums.{length-filter}
 use Rattle.std.specs.List.{AllByRecursion}
@@ -7,13 +7,13 @@ use Rattle.wl_grammar.specs.declared.frame.Frame.{Frame}
 use Rattle.wl_grammar.specs.Grammar.{IsTab, IsPost, IsWellFormed}
 use Rattle.wl_kernel.specs.Routes.{heard_of}
 
--- a post of a tab is heard as it was sent
+-- A well-formed post is well-formed as each receiver gets it.
 pub all_heard : (t : ℕ) (p : Post) (xs : List ℕ) → IsTab t → IsPost p → AllByRecursion (λ (h : ℕ × Frame). IsWellFormed h.1) (map (λ n. (n, heard_of t p)) xs)
 all_heard t p [] tab post = tt
 all_heard t p (x ∷ xs) tab post =
     (record { source = tab; number = post.number; channel = post.channel; bytes = post.bytes }, all_heard t p xs tab post)
 
--- ---- whether anybody hears
+-- Whether a post has a receiver
 
 empty : (xs : List ℕ) → length xs ≡ 0 → xs ≡ []
 empty [] none = refl

@@ -1,4 +1,4 @@
--- The frames that the kernel makes are well formed.
+-- Well-formedness of the frames that the kernel creates.
 use Rattle.std.proofs.Common.{◌≡◌, ℕ, ◌+◌, ◌≤◌, Bool, true, false, List, [], ◌∷◌, length, nat_lt, Option, Some, None, if◌then◌else◌, refl, sym, ap, subst, arith}
 use Rattle.std.proofs.lemmas.Bool.Decides.{nat_tests}
 use Rattle.std.proofs.lemmas.List.{length-map}
@@ -10,7 +10,7 @@ use Rattle.wl_kernel.specs.Kept.{AreTabs, Below, IsList}
 use Rattle.wl_kernel.proofs.RisingNumbers.{rises_first, rises_rest}
 use Rattle.wl_kernel.proofs.Calls.{any_of_tab, opened_some, named}
 
--- ---- numbers from 1 on
+-- Numbers of at least 1
 
 from_one_step : (t : ℕ) (o : OpenedTab) (os : List OpenedTab) (x : OpenedTab) → 1 ≤ o.tab → tab_in (o ∷ os) t ≡ Some x → (tab_in os t ≡ Some x → 1 ≤ t) → 1 ≤ t
 from_one_step t o os x one there below = grind (arith, nat_tests)
@@ -24,7 +24,7 @@ number_from_one k t x tabs there =
     let n = named x.partition k.opened tabs (any_of_tab k.opened t x there) in
     subst (λ m. 1 ≤ m) (sym (ap (number_beside k.opened) there)) (tab_from_one k.opened (number_or 0 k.opened x.partition) n.tab tabs n.there)
 
--- ---- what is listed
+-- Listed tabs
 
 known_step : (k : KernelState) (t : ℕ) (ts : List ℕ) → stranger k (t ∷ ts) ≡ None → (is_opened k t ≡ true) × (stranger k ts ≡ None)
 known_step k t ts none = grind (arith, nat_tests)
@@ -50,7 +50,7 @@ listed_rise k (t ∷ ts) tabs none up =
     let x = opened_some (tab_of k t) known.0 in
     placed_rise k 1 (t ∷ ts) (rises_one 0 t ts (tab_from_one k.opened t x.0 tabs x.1) up)
 
--- ---- a start that is allowed
+-- A start that is allowed
 
 pub record IsAllowed (k : KernelState) (listed : List ℕ) : Type 0 where
   pub count : length listed ≤ 1024

@@ -1,7 +1,8 @@
+//! Reasons for which the kernel refuses a call.
 use std::alloc::{AllocError, AllocFailed};
 use thiserror::Error;
 
-/// Why a tab was not opened.
+/// Reason for which a tab was not opened.
 #[derive(Clone, Copy, Debug, PartialEq, Eq, Error)]
 pub enum OpenFault {
     /// The number is 0, or a tab was opened with it before.
@@ -13,12 +14,12 @@ pub enum OpenFault {
     /// 64 tabs of the partition live.
     #[error("PartitionFull")]
     PartitionFull,
-    /// Memory was refused.
+    /// Out of memory.
     #[error("Memory")]
     Memory,
 }
 
-/// Why a tab was not killed.
+/// Reason for which a tab was not killed.
 #[derive(Clone, Copy, Debug, PartialEq, Eq, Error)]
 pub enum KillFault {
     /// No such tab was ever opened.
@@ -29,7 +30,7 @@ pub enum KillFault {
     AlreadyDead,
 }
 
-/// Why a broker was not started.
+/// Reason for which a broker was not started.
 #[derive(Clone, Copy, Debug, PartialEq, Eq, Error)]
 pub enum StartFault {
     /// More than 1,024 tabs are listed.
@@ -38,13 +39,13 @@ pub enum StartFault {
     /// The listed numbers do not strictly rise.
     #[error("NotRising")]
     NotRising,
-    /// This tab, the least such one, is listed and was never opened.
+    /// The least listed tab that was never opened.
     #[error("Stranger")]
     Stranger(u16),
-    /// This tab, the least such one, lives and was opened before the last stop, and is not listed.
+    /// The least living tab that was opened before the last stop and is not listed.
     #[error("Missing")]
     Missing(u16),
-    /// Memory was refused.
+    /// Out of memory.
     #[error("Memory")]
     Memory,
 }
@@ -54,13 +55,13 @@ pub enum StartFault {
 #[error("GenerationsUsedUp")]
 pub struct GenerationsUsedUp;
 
-/// Why a frame was not passed on.
+/// Reason for which a frame was not routed.
 #[derive(Clone, Copy, Debug, PartialEq, Eq, Error)]
 pub enum RouteFault {
-    /// It came over the link of another generation's broker than the current one.
+    /// The frame came over the link of a broker whose generation is not the current one.
     #[error("StaleLink")]
     StaleLink,
-    /// Such a frame does not go this way, or it is of another generation than its link.
+    /// No frame of this kind is routed in this direction, or its generation differs from its link's.
     #[error("WrongKind")]
     WrongKind,
     /// The tab was never opened.
@@ -69,7 +70,7 @@ pub enum RouteFault {
     /// The tab is dead.
     #[error("DeadTab")]
     DeadTab,
-    /// Memory was refused.
+    /// Out of memory.
     #[error("Memory")]
     Memory,
 }

@@ -1,4 +1,4 @@
-//! What is kept of each partition in which a tab was opened.
+//! Homes of partitions: the number and the living tabs of each partition in which a tab was opened.
 
 ghost use Rattle.std.specs.Prelude.{◌≡◌, ◌<◌, IfOk, OnOk, OnErr, Some, None, [], ◌∷◌, ◌++◌, length, option_map, true, vec_len, vec_capacity};
 ghost use Rattle.wl_kernel.specs.Kernel.{put_in, rises};
@@ -27,7 +27,7 @@ impl Model for Home {
 }
 
 impl Home {
-    /// That of a partition in which this is the first tab.
+    /// Returns the home of a partition whose first tab this is.
     fn new(alloc: Global, tab: u16) -> Result<Home, AllocError>
         ensures { IfOk result (λ home. home ≡ (tab, tab ∷ [])) }
     {
@@ -39,21 +39,21 @@ impl Home {
         })
     }
 
-    /// The partition's number.
+    /// Returns the partition's number.
     pub(crate) fn number(&self) -> u16
         ensures { result ≡ self.now.0 }
     {
         self.number
     }
 
-    /// The living tabs, by rising number.
+    /// Returns the living tabs, by rising number.
     pub(crate) fn members(&self) -> &[u16]
         ensures { result.now ≡ self.now.1 }
     {
         self.living.as_slice()
     }
 
-    /// A further tab joins.
+    /// Adds a further tab.
     fn join(&mut self, tab: u16) -> Result<(), AllocError>
         requires { rises self.old.1 ≡ true }
         ensures ok { OnOk result (self.new ≡ (self.old.0, put_in tab self.old.1)) }
@@ -64,7 +64,7 @@ impl Home {
         Ok(())
     }
 
-    /// A tab leaves, and the partition keeps its number. It takes no memory.
+    /// Removes a tab. The partition keeps its number. Allocates no memory.
     fn leave(&mut self, tab: u16)
         ensures { self.new ≡ left tab self.old }
     {
@@ -72,12 +72,12 @@ impl Home {
     }
 }
 
-/// The homes of all partitions in which a tab was opened. Each stays at its place.
+/// The homes of all partitions in which a tab was opened. The index of a home never changes.
 #[derive(Drop)]
 pub(crate) struct Homes {
-    /// In the order of their partitions' first tabs.
+    /// In the order in which the partitions got their first tab.
     list: Vec<Home>,
-    /// Where the home of a partition stands.
+    /// The index of each partition's home.
     places: BTreeMap<Partition, usize>,
 }
 
@@ -102,7 +102,7 @@ impl Homes {
         }
     }
 
-    /// The home at a place.
+    /// Returns the home at an index.
     pub(crate) fn at(&self, place: usize) -> &Home
         requires { place < length self.now.homes }
         ensures { home_of self.now (partition_at self.now place) ≡ Some result.now }
@@ -110,7 +110,7 @@ impl Homes {
         &self.list[place]
     }
 
-    /// The living tabs of a partition, by rising number.
+    /// Returns the living tabs of a partition, by rising number.
     pub(crate) fn members(&self, partition: &Partition) -> &[u16]
         ensures { result.now ≡ members (home_of self.now partition.now) }
     {
@@ -120,7 +120,7 @@ impl Homes {
         }
     }
 
-    /// A tab joins its partition, as its first one or among others. The place of the partition's home is answered.
+    /// Adds a tab to its partition, as its first or a further one. Returns the index of the partition's home.
     pub(crate) fn join(
         &mut self,
         alloc: Global,
@@ -145,7 +145,7 @@ impl Homes {
         }
     }
 
-    /// A tab leaves its partition, whose home stands at the place. It takes no memory.
+    /// Removes a tab from the partition whose home has this index. Allocates no memory.
     pub(crate) fn leave(&mut self, place: usize, tab: u16)
         requires { place < length self.old.homes }
         ensures left { SetsHome self.old self.new (partition_at self.old place)
@@ -156,7 +156,7 @@ impl Homes {
     }
 }
 
-/// Makes the home of a first tab, and room for it behind the others.
+/// Creates the home of a first tab, and reserves memory for it in the list.
 fn first_home(alloc: Global, list: &mut Vec<Home>, tab: u16) -> Result<Home, AllocError>
     ensures home { IfOk result (λ home. home ≡ (tab, tab ∷ [])) }
     ensures list { list.new.items ≡ list.old.items }
@@ -167,7 +167,7 @@ fn first_home(alloc: Global, list: &mut Vec<Home>, tab: u16) -> Result<Home, All
     Ok(home)
 }
 
-/// Puts the home of a partition's first tab behind the others, and answers its place.
+/// Appends the home of a partition's first tab and returns its index.
 fn found(
     alloc: Global,
     list: &mut Vec<Home>,
@@ -183,7 +183,7 @@ fn found(
     ensures err { OnErr result
         ((list.new.items ≡ list.old.items) × (places.new.entries ≡ places.old.entries)) }
 {
-    // The last growth is the first change, so a refused one changes nothing.
+    // The last allocation is the first change, so a failed one changes nothing.
     let home = match first_home(alloc, list, tab) {
         Ok(home) => home,
         Err(refused) => {

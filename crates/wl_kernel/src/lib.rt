@@ -1,5 +1,4 @@
-//! The kernel of the browser: which tabs there are and to which partitions they belong, which generation of the broker is
-//! current, and which way each frame takes.
+//! Kernel of the browser: the tabs and their partitions, the current generation of the broker, and the route of each frame.
 #![tactic(auto)]
 
 pub mod fault;

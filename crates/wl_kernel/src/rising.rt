@@ -4,7 +4,7 @@ ghost use Rattle.std.specs.Prelude.{◌≡◌, ◌==◌, ◌<◌, ◌≤◌, len
 ghost use Rattle.std.specs.List.{insert};
 ghost use Rattle.wl_kernel.specs.Kernel.{put_in, rises, is_listed};
 
-/// Whether the numbers strictly rise.
+/// Returns whether the numbers strictly rise.
 pub(crate) fn rises(numbers: &[u16]) -> bool
     ensures { result ≡ rises numbers.now }
 {
@@ -18,7 +18,7 @@ pub(crate) fn contains(numbers: &[u16], number: u16) -> bool
     numbers.binary_search(&number).is_ok()
 }
 
-/// Where the number stands, or would stand.
+/// Returns the index of the number, or the index at which it would be inserted.
 fn place_of(numbers: &[u16], number: u16) -> usize
     requires { rises numbers.now ≡ true }
     ensures within { result ≤ length numbers.now }
@@ -29,18 +29,18 @@ fn place_of(numbers: &[u16], number: u16) -> usize
     }
 }
 
-/// Puts the number at its place. It takes no memory.
+/// Inserts the number in order. Allocates no memory.
 pub(crate) fn put_in(numbers: &mut Vec<u16>, number: u16)
     requires rising { rises numbers.old.items ≡ true }
     requires room { vec_len numbers.old < vec_capacity numbers.old }
     ensures { numbers.new.items ≡ put_in number numbers.old.items }
 {
     let place = place_of(numbers, number);
-    // There is room, so this is never refused.
+    // The list has spare capacity, so the insertion never fails.
     let _ = numbers.insert(place, number);
 }
 
-/// Takes the number out. It takes no memory.
+/// Removes the number. Allocates no memory.
 pub(crate) fn take_out(numbers: &mut Vec<u16>, number: u16)
     ensures { numbers.new.items ≡ filter (λ n. not (n == number)) numbers.old.items }
 {

@@ -1,4 +1,4 @@
-//! The routes of frames, up from the tabs and down from the broker.
+//! Routes of frames, up from the tabs and down from the broker.
 
 ghost use Rattle.std.specs.Prelude.{◌≡◌, ◌≢◌, ◌==◌, ◌<◌, [], ◌∷◌, ◌++◌, ℕ, Some, IfOk, IfSome, IfNone, OnOk, OnErr, count_by, filter, map, not, vec_len, vec_capacity};
 ghost use Rattle.wl_grammar.specs.declared.frame.Frame.TheVariants as frame_with;
@@ -9,16 +9,16 @@ use crate::fault::RouteFault;
 use std::alloc::{AllocError, Global};
 use wl_grammar::{Addressed, Downward, Frame, Heard, Post, Sequence};
 
-/// Where a tab's frame goes.
+/// Destination of a tab's frame.
 #[derive(Drop)]
 pub enum Routed {
-    /// To the broker, if one runs.
+    /// The broker, if one runs.
     Broker(Frame),
-    /// To these tabs, by rising number.
+    /// These tabs, by rising number.
     Tabs(Sequence<(u16, Frame)>),
 }
 
-/// The generation of a broker's message.
+/// Returns the generation of a broker's message.
 pub(crate) fn generation_of(inner: &Downward) -> u32
     ensures { result ≡ generation_of inner.now }
 {
@@ -29,7 +29,7 @@ pub(crate) fn generation_of(inner: &Downward) -> u32
     }
 }
 
-/// What the broker says to one tab, where the frame is that.
+/// Returns the addressed message in the frame, or `None` for any other frame.
 pub(crate) fn addressed_in(frame: Frame) -> Option<Addressed>
     ensures some { IfSome result (λ addressed. frame ≡ frame_with.Addressed addressed) }
     ensures none { IfNone result
@@ -51,14 +51,14 @@ pub(crate) fn frame_of(inner: Downward) -> Frame
     }
 }
 
-/// How many of the members are not the source.
+/// Returns the number of members other than the source.
 fn others_of(source: u16, members: &[u16]) -> usize
     ensures { result ≡ count_by (λ n. not (n == source)) members.now }
 {
     members.iter().filter(|member| **member != source).count()
 }
 
-/// Puts a copy of a post, for this member, last.
+/// Appends a copy of a post for this member.
 fn copy_for(
     alloc: Global,
     member: u16,
@@ -73,7 +73,7 @@ fn copy_for(
     Ok(())
 }
 
-/// Copies of a post for each member that is not its source but the last such one, who is answered. There is room for one more.
+/// Clones the post for every recipient but the last, whose number is returned. The list has spare capacity for one more.
 fn copies(
     alloc: Global,
     post: &Heard,
@@ -99,7 +99,7 @@ fn copies(
     Ok((heard, last))
 }
 
-/// A post as other tabs hear it.
+/// Converts a post into the form that other tabs receive.
 fn as_heard(source: u16, post: Post) -> Heard
     ensures { frame_with.Heard result ≡ heard_of source post }
 {
@@ -116,7 +116,7 @@ fn as_heard(source: u16, post: Post) -> Heard
     }
 }
 
-/// Puts the post itself, for the member who was found last, behind the copies.
+/// Appends the post itself for the last recipient, if there is one.
 fn with_post(copies: (Vec<(u16, Frame)>, Option<u16>), post: Heard) -> Vec<(u16, Frame)>
     requires { vec_len copies.0 < vec_capacity copies.0 }
     ensures { result.items ≡ copies.0.items ++ waiting post copies.1 }
@@ -129,7 +129,7 @@ fn with_post(copies: (Vec<(u16, Frame)>, Option<u16>), post: Heard) -> Vec<(u16,
     heard
 }
 
-/// The post of a tab for each other member of its partition. The last one gets the post itself, the others copies.
+/// Returns the post for each other member of the partition. The last one gets the post itself, the others get copies.
 pub(crate) fn heard(
     alloc: Global,
     source: u16,

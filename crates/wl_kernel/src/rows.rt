@@ -1,4 +1,4 @@
-//! The rows of the tab table: one for each tab that was opened.
+//! Rows of the tab table, one for each tab that was opened.
 
 use crate::homes::Home;
 
@@ -6,14 +6,14 @@ use crate::homes::Home;
 #[derive(Drop)]
 pub(crate) struct TabRow {
     pub(crate) tab: u16,
-    /// Where the home of its partition stands.
+    /// The index of its partition's home.
     pub(crate) home: usize,
-    /// The kernel's generation when it was opened.
+    /// The kernel's generation when the tab was opened.
     pub(crate) generation: u32,
     pub(crate) is_living: bool,
 }
 
-/// What the table has of a tab: its row, and the home of its partition.
+/// Result of a lookup: the tab's row and its partition's home.
 #[derive(Clone, Copy)]
 pub(crate) struct Found<'a> {
     pub(crate) row: &'a TabRow,

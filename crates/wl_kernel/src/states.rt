@@ -1,4 +1,4 @@
-//! The states of the supervisor: no broker runs, or one does.
+//! States of the supervisor: a broker runs, or none does.
 
 ghost use Rattle.std.specs.Prelude.{◌≡◌, ◌≢◌, ◌<◌, ◌≤◌, length, None, Some, Err, IfOk, OnOk, IfErr, OnErr, IsTrue, false};
 ghost use Rattle.std.specs.Borrow.{sem};
@@ -14,7 +14,7 @@ use std::alloc::Global;
 use std::marker::Model;
 use wl_grammar::{Frame, Start};
 
-/// No broker runs. It is spent by `start`, or by `end`.
+/// State without a broker. `start` and `end` consume it.
 pub struct Down {
     tabs: Tabs,
 }
@@ -27,7 +27,7 @@ impl Model for Down {
     ghost view = { λ d. d.tabs };
 }
 
-/// The broker of the current generation runs. It is spent by `stop`, or by `end`.
+/// State in which the broker of the current generation runs. `stop` and `end` consume it.
 pub struct Up {
     tabs: Tabs,
 }
@@ -41,7 +41,7 @@ impl Model for Up {
 }
 
 impl Down {
-    /// No tab was opened, and the first generation, up to `last`, is still to be started.
+    /// Returns a state without tabs, before the first generation. `last` is the last generation that there may be.
     pub fn new(alloc: Global, last: u32) -> Down
         requires { 1 ≤ last }
         ensures { result ≡ no_tabs last }
@@ -51,7 +51,8 @@ impl Down {
         }
     }
 
-    /// Starts the broker of the generation, with the Start frame for it. Dead tabs may be listed.
+    /// Starts the broker of the current generation and returns its Start frame. The list may contain dead
+    /// tabs. Fails with the unchanged state.
     pub fn start(self, listed: &[u16]) -> Result<(Up, Frame), (Down, StartFault)>
         ensures up { IfOk result (λ r. r.0 ≡ self) }
         ensures frame { IfOk result (λ r. r.1 ≡ start_frame listed.now self) }
@@ -73,7 +74,7 @@ impl Down {
         Ok((Up { tabs }, frame))
     }
 
-    /// No broker runs, so nothing that comes over a link is passed on. It takes no memory.
+    /// Rejects the frame as from a stale link, since no broker runs. Allocates no memory.
     pub fn route_down(&self, _link: u32, frame: Frame) -> Result<(u16, Frame), RouteFault>
         ensures { result ≡ Err RouteFault.StaleLink }
     {
@@ -81,12 +82,14 @@ impl Down {
         Err(RouteFault::StaleLink)
     }
 
+    /// Returns the table of tabs.
     pub fn tabs(&self) -> &Tabs
         ensures { result.now ≡ self.now }
     {
         &self.tabs
     }
 
+    /// Lends the table of tabs for changes.
     pub fn tabs_mut(&mut self) -> &mut Tabs
         ensures* lends { sem 𝓛 (LendsDownTabs self.entry result) }
         ensures value { result.now ≡ self.old }
@@ -94,14 +97,15 @@ impl Down {
         &mut self.tabs
     }
 
-    /// Lets the supervisor go.
+    /// Drops the supervisor.
     pub fn end(self) {
         let Down { tabs: _ } = self;
     }
 }
 
 impl Up {
-    /// Stops the broker, so that the next generation is to be started. It takes no memory.
+    /// Stops the broker and advances to the next generation. Fails with the unchanged state if the current
+    /// generation is the last. Allocates no memory.
     pub fn stop(self) -> Result<Down, (Up, GenerationsUsedUp)>
         ensures ok { IfOk result (λ down. down ≡ stopped self) }
         ensures allowed { OnOk result (IsTrue (may_stop self)) }
@@ -115,7 +119,7 @@ impl Up {
         }
     }
 
-    /// Passes on what the broker behind a link says to a living tab. It takes no memory.
+    /// Routes a frame of the broker behind a link to a living tab. Allocates no memory.
     pub fn route_down(&self, link: u32, frame: Frame) -> Result<(u16, Frame), RouteFault>
         ensures routed { IfOk result (λ r. routed_down frame ≡ Some r) }
         ensures refused { RefusesOnlyBy result (route_down_refusal link frame self.now) }
@@ -124,12 +128,14 @@ impl Up {
         self.tabs.route_down(link, frame)
     }
 
+    /// Returns the table of tabs.
     pub fn tabs(&self) -> &Tabs
         ensures { result.now ≡ self.now }
     {
         &self.tabs
     }
 
+    /// Lends the table of tabs for changes.
     pub fn tabs_mut(&mut self) -> &mut Tabs
         ensures* lends { sem 𝓛 (LendsUpTabs self.entry result) }
         ensures value { result.now ≡ self.old }
@@ -137,7 +143,7 @@ impl Up {
         &mut self.tabs
     }
 
-    /// Lets the supervisor go. The broker runs on, and nothing that it says is passed on any more.
+    /// Drops the supervisor. The broker process keeps running, but its frames are not routed.
     pub fn end(self) {
         let Up { tabs: _ } = self;
     }

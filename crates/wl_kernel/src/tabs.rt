@@ -1,4 +1,4 @@
-//! The tab table, which belongs to the supervisor.
+//! Tab table, owned by the supervisor.
 
 ghost use Rattle.std.specs.Prelude.{◌≡◌, ◌≢◌, ◌<◌, ◌≤◌, [], length, None, Some, Err, IfOk, OnOk, IfErr, OnErr, IfSome, IsTrue, true, false, option_map, if◌then◌else◌, vec_len, vec_capacity};
 ghost use Rattle.std.specs.BTreeMap.{insert_entry};
@@ -24,16 +24,16 @@ use wl_limits::frames::LIST_LIMIT;
 use wl_limits::tabs::{LIVING_LIMIT, PARTITION_LIMIT};
 use wl_origin::Partition;
 
-/// The tabs that were ever opened, and the generation of the broker that runs or is the next to run. It stands in `Down`
-/// or `Up`, which lend it.
+/// All tabs that were ever opened, and the generation of the broker that runs or runs next. `Down` and `Up`
+/// own the table and lend it.
 #[derive(Drop)]
 pub struct Tabs {
     alloc: Global,
     /// In the order of opening.
     rows: Vec<TabRow>,
-    /// Where the row of a tab stands.
+    /// The index of each tab's row.
     places: BTreeMap<u16, usize>,
-    /// What is kept of each partition.
+    /// The number and the living tabs of each partition.
     homes: Homes,
     /// All living tabs, by rising number.
     living: Vec<u16>,
@@ -53,7 +53,7 @@ impl Model for Tabs {
 }
 
 impl Tabs {
-    /// No tabs, in generation 1.
+    /// Returns a table without tabs, in generation 1.
     pub(crate) fn new(alloc: Global, last: u32) -> Tabs
         requires { 1 ≤ last }
         ensures { result ≡ no_tabs last }
@@ -69,7 +69,7 @@ impl Tabs {
         }
     }
 
-    /// The generation of the broker that runs, or of the next one.
+    /// Returns the generation of the broker that runs, or of the next one.
     pub fn generation(&self) -> u32
         ensures value { result ≡ self.now.generation }
         ensures from_one { 1 ≤ result }
@@ -77,7 +77,7 @@ impl Tabs {
         self.generation
     }
 
-    /// Whether the tab was opened and not killed since.
+    /// Returns whether the tab was opened and has not died.
     pub fn is_living(&self, tab: u16) -> bool
         ensures { result ≡ is_living self.now tab }
     {
@@ -87,14 +87,15 @@ impl Tabs {
         }
     }
 
-    /// The living tabs, by rising number.
+    /// Returns the living tabs, by rising number.
     pub fn living(&self) -> &[u16]
         ensures { result.now ≡ living_tabs self.now }
     {
         self.living.as_slice()
     }
 
-    /// The number of a tab's partition, which is that of the first tab opened in it. A dead tab has it still.
+    /// Returns the number of a tab's partition, which is the number of the first tab opened in it. A dead tab
+    /// keeps it. Returns `None` if the tab was never opened.
     pub fn partition_number(&self, tab: u16) -> Option<u16>
         ensures { result ≡ (if is_opened self.now tab then Some (partition_number self.now tab) else None) }
     {
@@ -104,7 +105,7 @@ impl Tabs {
         }
     }
 
-    /// Opens a tab in a partition, whose number is answered.
+    /// Opens a tab in a partition and returns the partition's number.
     pub fn open(&mut self, tab: u16, partition: Partition) -> Result<u16, OpenFault>
         ensures ok { OnOk result (self.new ≡ opened tab partition self.old) }
         ensures number { IfOk result (λ n. n ≡ number_for tab partition self.old) }
@@ -136,7 +137,7 @@ impl Tabs {
         Ok(self.homes.at(home).number())
     }
 
-    /// A tab is dead from now on. It takes no memory.
+    /// Marks a tab as dead. Allocates no memory.
     pub fn kill(&mut self, tab: u16) -> Result<(), KillFault>
         ensures ok { OnOk result (self.new ≡ killed tab self.old) }
         ensures refused { RefusesOnlyBy result (kill_refusal tab self.old) }
@@ -150,8 +151,8 @@ impl Tabs {
         Ok(())
     }
 
-    /// Passes on what a tab sends: a command, a report or a part of one to the broker, a post to each other living tab of the
-    /// partition.
+    /// Routes a tab's frame. Commands, reports and parts of reports go to the broker. A post goes to each
+    /// other living tab of the partition.
     pub fn route_up(&self, tab: u16, frame: Frame) -> Result<Routed, RouteFault>
         ensures routed { IfOk result (λ routed. routed ≡ routed_up tab frame self.now) }
         ensures refused { RefusesBy result (route_up_refusal tab frame self.now) RouteFault.Memory }
@@ -167,7 +168,7 @@ impl Tabs {
         }
     }
 
-    /// Passes on what a broker says to a living tab. It takes no memory.
+    /// Routes a broker's frame to a living tab. Allocates no memory.
     pub(crate) fn route_down(&self, link: u32, frame: Frame) -> Result<(u16, Frame), RouteFault>
         ensures routed { IfOk result (λ r. routed_down frame ≡ Some r) }
         ensures refused { RefusesOnlyBy result (route_down_refusal link frame self.now) }
@@ -191,7 +192,7 @@ impl Tabs {
         Ok((addressed.tab, frame_of(addressed.inner)))
     }
 
-    /// The tabs that a broker is started with, each with the number of its partition.
+    /// Returns the start list for a broker: each listed tab with the number of its partition.
     pub(crate) fn listed(&self, listed: &[u16]) -> Result<Sequence<(u16, u16)>, StartFault>
         ensures placed { IfOk result (λ list. list ≡ placed listed.now self.now) }
         ensures well_formed { IfOk result IsList }
@@ -214,7 +215,7 @@ impl Tabs {
         Ok(Sequence::new(list))
     }
 
-    /// Goes on to the next generation. It takes no memory.
+    /// Advances to the next generation. Fails if the current one is the last. Allocates no memory.
     pub(crate) fn stop(&mut self) -> Result<(), GenerationsUsedUp>
         ensures ok { OnOk result ((self.new ≡ stopped self.old) × IsTrue (may_stop self.old)) }
         ensures refused { OnErr result ((self.new ≡ self.old) × (may_stop self.old ≡ false)) }
@@ -226,7 +227,7 @@ impl Tabs {
         Ok(())
     }
 
-    /// Why a tab is not opened, out of memory apart.
+    /// Returns the reason for which a tab cannot be opened, apart from out of memory.
     fn open_fault(&self, tab: u16, partition: &Partition) -> Option<OpenFault>
         ensures { result ≡ open_refusal tab partition.now self.now }
     {
@@ -242,14 +243,14 @@ impl Tabs {
         None
     }
 
-    /// The living tabs of a partition, by rising number.
+    /// Returns the living tabs of a partition, by rising number.
     fn members(&self, partition: &Partition) -> &[u16]
         ensures { result.now ≡ living_of self.now partition.now }
     {
         self.homes.members(partition)
     }
 
-    /// Where the row of a living tab stands.
+    /// Returns the index of a living tab's row.
     fn living_place(&self, tab: u16) -> Result<usize, KillFault>
         ensures place { IfOk result (λ place. place_in self.now.opened tab ≡ Some place) }
         ensures refused { RefusesOnlyBy result (kill_refusal tab self.now) }
@@ -263,7 +264,7 @@ impl Tabs {
         Ok(*place)
     }
 
-    /// The row of a tab and the home of its partition, if it was ever opened.
+    /// Returns the row of a tab and the home of its partition, if it was ever opened.
     fn found(&self, tab: u16) -> Option<Found<'_>>
         ensures row { option_map (λ found.
             seen_in (partition_of self.now tab) found.row.now) result ≡ tab_of self.now tab }
@@ -278,7 +279,7 @@ impl Tabs {
         Some(Found { row, home })
     }
 
-    /// The row of a living tab and the home of its partition.
+    /// Returns the row of a living tab and the home of its partition.
     fn found_living(&self, tab: u16) -> Result<Found<'_>, RouteFault>
         ensures row { IfOk result (λ found.
             tab_of self.now tab ≡ Some (seen_in (partition_of self.now tab) found.row.now)) }
@@ -296,7 +297,7 @@ impl Tabs {
         }
     }
 
-    /// What a living tab says to the broker, stamped.
+    /// Stamps a living tab's frame for the broker.
     fn to_broker(&self, tab: u16, inner: Upward) -> Result<Routed, RouteFault>
         ensures routed { IfOk result (λ routed. routed ≡ Broker (stamped self.now tab inner)) }
         ensures refused { RefusesOnlyBy result (tab_refusal self.now tab) }
@@ -312,7 +313,7 @@ impl Tabs {
         })))
     }
 
-    /// A living tab's post as the others of its partition hear it.
+    /// Routes a living tab's post to the other living tabs of its partition.
     fn to_others(&self, tab: u16, post: Post) -> Result<Routed, RouteFault>
         ensures routed { IfOk result (λ routed. routed ≡ routed_up tab (frame.Post post) self.now) }
         ensures refused { RefusesBy result (tab_refusal self.now tab) RouteFault.Memory }
@@ -325,7 +326,7 @@ impl Tabs {
         Ok(Routed::Tabs(Sequence::new(heard)))
     }
 
-    /// The least listed tab that was never opened.
+    /// Returns the least listed tab that was never opened.
     fn stranger(&self, listed: &[u16]) -> Option<u16>
         ensures { result ≡ stranger self.now listed.now }
     {
@@ -337,7 +338,7 @@ impl Tabs {
         None
     }
 
-    /// The least living tab that was opened before the last stop and is not listed.
+    /// Returns the least living tab that was opened before the last stop and is not listed.
     fn missing(&self, listed: &[u16]) -> Option<u16>
         requires { rises listed.now ≡ true }
         ensures { result ≡ missing self.now listed.now }
@@ -351,7 +352,7 @@ impl Tabs {
         None
     }
 
-    /// Whether a stop came after the tab was opened.
+    /// Returns whether a stop has occurred since the tab was opened.
     fn is_from_before(&self, tab: u16) -> bool
         ensures { result ≡ is_from_before self.now tab }
     {
@@ -361,7 +362,7 @@ impl Tabs {
         }
     }
 
-    /// Each of these tabs with the number of its partition.
+    /// Returns each of these tabs with the number of its partition.
     fn placed(&self, listed: &[u16]) -> Result<Vec<(u16, u16)>, AllocError>
         requires { start_refusal listed.now self.now ≡ None }
         ensures placed { IfOk result (λ list. list.items ≡ placed listed.now self.now) }
@@ -375,7 +376,7 @@ impl Tabs {
         Ok(list)
     }
 
-    /// The number of a tab's partition, and 0 where the tab was never opened.
+    /// Returns the number of a tab's partition, or 0 if the tab was never opened.
     fn number_of(&self, tab: u16) -> u16
         ensures { result ≡ partition_number self.now tab }
     {
@@ -386,7 +387,7 @@ impl Tabs {
     }
 }
 
-/// Makes room for the row of one more tab, and enters its place behind the others.
+/// Reserves memory for one more row and one more living tab, and records the index of the new row.
 fn enter(
     rows: &mut Vec<TabRow>,
     living: &mut Vec<u16>,

@@ -1,4 +1,5 @@
-//! The reading end of a child's link, whoever else holds its other end.
+//! The reading end of a child's link, which ends with the child even if another process holds the
+//! link open.
 
 ghost use Rattle.std.specs.Io.{ReadsAtMost};
 
@@ -12,19 +13,20 @@ use std::sync::Wait;
 use std::time::{Duration, Instant};
 use wl_process_rules::{LOOK_INTERVAL, is_look_due};
 
-/// The process of a child, as the reader of its link sees it.
+/// A child's process, as seen by the reader of its link.
 pub(crate) trait Watched {
+    /// Returns true if the process has ended.
     fn has_ended<R: Wait>(&self, rt: &R) -> bool;
 }
 
-/// The reading end of a child's link. It ends with the child's process, though a descendant of the child may keep the link open
-/// and send on it. What was sent before that is still read.
+/// The reading end of a child's link. It ends when the child's process ends, although a descendant
+/// of the child may keep the link open and send on it. Data sent before the end is still read.
 #[derive(Drop)]
 pub(crate) struct ChildLink<'a, R, P> {
     rt: R,
     link: &'a UnixStream,
     process: &'a P,
-    /// When the process was looked at last.
+    /// The time of the last look at the process.
     looked: Option<Instant>,
 }
 
@@ -43,8 +45,8 @@ impl<'a, R: Wait + Clock + Drop, P: Watched> ChildLink<'a, R, P> {
         })
     }
 
-    /// Looks at the process if that is due. If it has ended, nobody can send on the link any more; a read gives what was sent
-    /// before, and then the end.
+    /// Looks at the process if a look is due. If the process has ended, shuts down reading: later
+    /// reads return the data sent before, and then the end of input.
     fn watch(&mut self) {
         if !is_look_due(milliseconds_since(&self.rt, self.looked)) {
             return;
@@ -55,7 +57,7 @@ impl<'a, R: Wait + Clock + Drop, P: Watched> ChildLink<'a, R, P> {
         }
     }
 
-    /// Reads what comes next, and looks at the process while nothing comes.
+    /// Reads once. Looks at the process while no data arrives.
     fn read_watching(&mut self, buffer: &mut [u8]) -> io::Result<usize>
         ensures bound { ReadsAtMost result buffer.new }
     {
@@ -71,7 +73,7 @@ impl<'a, R: Wait + Clock + Drop, P: Watched> ChildLink<'a, R, P> {
     }
 }
 
-/// Whether a read is to be made again: nothing came for a while, or the kernel was stopped and goes on.
+/// Returns true if a read should be repeated: it timed out, or a signal interrupted it.
 fn is_passing(error: &io::Error) -> bool {
     matches!(
         error.kind(),

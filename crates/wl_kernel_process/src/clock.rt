@@ -1,9 +1,9 @@
-//! Times by the clock.
+//! Elapsed times.
 
 use std::rt::Clock;
 use std::time::Instant;
 
-/// Returns how many milliseconds have passed since then; very many without a clock.
+/// Returns the milliseconds since `then`, or `u64::MAX` if either time is unknown.
 pub(crate) fn milliseconds_since<R: Clock>(rt: &R, then: Option<Instant>) -> u64 {
     match (Instant::now(rt).ok(), then) {
         (Some(now), Some(then)) => {

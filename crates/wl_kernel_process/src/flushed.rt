@@ -1,4 +1,4 @@
-//! A look at a tab's life, before which the tab's writer finishes what it can without waiting.
+//! A look at a tab's life that first finishes the writer's pending work.
 
 use crate::post::Post;
 use std::rt::Clock;
@@ -7,7 +7,7 @@ use wl_board::Life;
 use wl_process::bundle::Bundle;
 use wl_workers::Lives;
 
-/// Looks that first write what is gathered and put the Hello that the tab is owed.
+/// Looks that first flush the writer's buffer and put the Hello owed to the tab.
 #[derive(Drop)]
 pub(crate) struct Flushed<'a, L> {
     pub(crate) bundle: &'a Bundle<'a>,
@@ -18,8 +18,10 @@ pub(crate) struct Flushed<'a, L> {
 impl<L: Lives> Lives for Flushed<'_, L> {
     ghost answered = { λ f. L.answered f.lives };
 
-    /// The writer looks only after it has found the outbox empty, so there is room for a Hello. A Hello that is refused after this
-    /// comes with a ring of the bell, and the look then ends without sleeping.
+    /// Flushes, puts the owed Hello, and looks.
+    ///
+    /// The writer looks only after finding the outbox empty, so there is room for the Hello. If a
+    /// later Hello is refused, its put rings the bell, and this look does not sleep.
     fn look<R: Wait + Clock>(&mut self, rt: &R, tab: u16) -> Life {
         self.bundle.flush();
         self.post.put_owed(rt);

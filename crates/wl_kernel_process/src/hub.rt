@@ -1,5 +1,8 @@
-//! What the kernel's threads share. Locks are taken in the order in which they stand here. While a device is called none is held
-//! but the link's and the broker's, and the supervisor's while the Start frame is written, which a fresh socket takes.
+//! State shared by the kernel's threads.
+//!
+//! Locks are taken in the order of the fields of `Hub`. During a device call a thread holds no
+//! locks but those of `link` and `broker`. The one exception is the Start frame, which is written
+//! under the supervisor's lock and always fits into a fresh socket.
 
 ghost use Rattle.std.specs.Prelude.{◌≡◌, ◌++◌, IfOk, OnOk, IfErr, OnErr};
 ghost use Rattle.wl_grammar.specs.Grammar.{IsTab};
@@ -33,7 +36,7 @@ use wl_process::{Host, ProcessFault, append};
 use wl_process_rules::Ends;
 use wl_workers::BoardSeat;
 
-/// The current broker's link, for writing.
+/// The writing end of the current broker's link.
 #[derive(Drop)]
 struct Link {
     generation: u32,
@@ -41,7 +44,8 @@ struct Link {
 }
 
 impl Link {
-    /// Writes these bytes, or ends the link. After a failed write the broker may lack a death, so its generation must not go on.
+    /// Writes bytes, and shuts the link down if that fails. A failed write may lose a tab's death,
+    /// so the broker's generation must not go on.
     fn write_or_end(&self, bytes: &[u8]) {
         let mut writer = &*self.stream;
         if writer.write_all(bytes).is_err() {
@@ -50,7 +54,7 @@ impl Link {
     }
 }
 
-/// The current broker's process, with its link, for the end of both.
+/// The current broker's process and its link, kept to end both.
 #[derive(Drop)]
 pub(crate) struct BrokerProcess {
     child: Child,
@@ -62,13 +66,13 @@ impl BrokerProcess {
         BrokerProcess { child, link }
     }
 
-    /// Kills the process and ends the link, whoever waits for it.
+    /// Kills the process and shuts its link down, which wakes threads blocked on the link.
     fn stop(&mut self) {
         let _ = self.child.kill();
         let _ = self.link.shutdown(Shutdown::Both);
     }
 
-    /// Stops the process, and waits for its end.
+    /// Stops the process and waits for it.
     pub(crate) fn end(mut self) {
         self.stop();
         let _ = self.child.wait();
@@ -79,7 +83,7 @@ impl BrokerProcess {
     }
 }
 
-/// The process of the current broker.
+/// Access to the current broker's process.
 #[derive(Drop)]
 pub(crate) struct CurrentBroker<'a> {
     pub(crate) hub: &'a Hub,
@@ -94,18 +98,19 @@ impl Watched for CurrentBroker<'_> {
     }
 }
 
-/// A tab that was opened, and not started yet.
+/// A tab that was opened but whose process has not been started.
 #[derive(Drop)]
 pub(crate) struct Opened {
     pub(crate) tab: u16,
     pub(crate) post: Arc<Post>,
     pub(crate) taking: Taking,
-    /// What tells the broker that the tab is dead, spelled while its opening can still be refused when out of memory.
+    /// The encoded Dead frame for the broker. It is encoded at the opening, which may fail for lack
+    /// of memory; a burial must not.
     pub(crate) death: Vec<u8>,
 }
 
 impl Opened {
-    /// A tab of the partition of this number, for which nothing is put yet.
+    /// Creates the state of a tab in this partition, with an empty outbox.
     fn new(alloc: Global, tab: u16, partition: u16) -> Result<Opened, AllocError>
         requires { IsTab tab }
         ensures tab { IfOk result (λ o. o.tab ≡ tab) }
@@ -162,7 +167,7 @@ impl Hub {
         })
     }
 
-    /// The seat that threads take turns at who look at this tab.
+    /// Returns the board seat used for looks at this tab. Several tabs share a seat.
     pub(crate) fn seat_of(&self, tab: u16) -> Result<Arc<Mutex<BoardSeat>>, AllocError> {
         match self.seats.get(usize::from(tab % SEAT_LIMIT)) {
             Some(seat) => Arc::try_clone(seat),
@@ -170,9 +175,10 @@ impl Hub {
         }
     }
 
-    // ---- tabs
+    // Tabs
 
-    /// Draws a number and opens a tab with it, welcomes the tab, and greets it where a broker is up.
+    /// Draws a tab number, opens the tab and sends it a welcome. Sends a Hello too if a broker is
+    /// up.
     pub(crate) fn open<R: Host>(
         &self,
         rt: &R,
@@ -196,7 +202,8 @@ impl Hub {
         Ok(opened)
     }
 
-    /// Begins the life of a tab of the partition of this number: it has an outbox, and its end can be waited for.
+    /// Starts the life of a tab in this partition: it gets an outbox, and its end can be waited
+    /// for.
     fn begin<R: Wait>(&self, rt: &R, tab: u16, partition: u16) -> Result<Opened, AllocError>
         requires { IsTab tab }
         ensures tab { IfOk result (λ o. o.tab ≡ tab) }
@@ -214,7 +221,8 @@ impl Hub {
         Ok(())
     }
 
-    /// Draws a number, enters the tab in the table, and brings it to life on the board.
+    /// Draws a tab number, adds the tab to the table and brings it to life on the board. Returns
+    /// the tab and its partition's number.
     fn enter<R: Host>(
         &self,
         rt: &R,
@@ -246,7 +254,7 @@ impl Hub {
         }
     }
 
-    /// Puts a frame that comes from the partition of this number into a tab's outbox.
+    /// Puts a frame from this partition into a tab's outbox.
     fn put<R: Wait>(&self, rt: &R, tab: u16, partition: u16, frame: Frame) {
         match self.post_of(rt, tab) {
             Some(post) => post.put(rt, partition, frame),
@@ -254,8 +262,10 @@ impl Hub {
         }
     }
 
-    /// What a tab sends goes on its way: to the other tabs of its partition, or, stamped with its number and its partition's,
-    /// behind these bytes, which go to the broker. Who sent it for a generation that has ended is told of the current one.
+    /// Forwards a frame that a tab sent. A post goes to the other tabs of the partition. Any other
+    /// frame is stamped and appended to `bytes`, which go to the broker.
+    ///
+    /// A tab that sent for an ended generation is sent a Hello of the current one.
     pub(crate) fn up<R: Wait>(
         &self,
         rt: &R,
@@ -272,7 +282,7 @@ impl Hub {
         Ok(())
     }
 
-    /// What a tab has sent goes on its way.
+    /// Forwards a routed frame.
     fn pass_on<R: Wait>(
         &self,
         rt: &R,
@@ -303,14 +313,15 @@ impl Hub {
         }
     }
 
-    /// Puts frames that come from the partition of this number into the outboxes of these tabs.
+    /// Puts frames from this partition into the outboxes of these tabs.
     fn put_all<R: Wait>(&self, rt: &R, partition: u16, heard: Vec<(u16, Frame)>) {
         for (target, frame) in heard {
             self.put(rt, target, partition, frame);
         }
     }
 
-    /// What the broker of this generation sends goes into its tab's outbox. A frame that is refused is lost.
+    /// Puts a frame from the broker of this generation into its tab's outbox. A refused frame is
+    /// lost.
     pub(crate) fn down<R: Wait>(&self, rt: &R, generation: u32, frame: Frame) {
         let delivered = self.supervisor.lock(rt).deliver(generation, frame);
         if let Ok(
@@ -325,7 +336,8 @@ impl Hub {
         }
     }
 
-    /// A tab is dead: on the board, in the table, and for the broker, which these bytes tell. Its end is noted.
+    /// Buries a tab: marks it dead on the board and in the table, sends `death` to the broker, and
+    /// records its exit status.
     pub(crate) fn bury<R: Host>(&self, rt: &R, tab: u16, death: &[u8], status: u8)
         requires { IsDeathOf tab death.now }
     {
@@ -349,7 +361,7 @@ impl Hub {
             .wait_while(rt, self.ends.lock(rt), |ends| ends.is_running(tab));
     }
 
-    /// Waits until all tabs have been buried, and gives those whose ends are not told yet.
+    /// Waits until all tabs have been buried. Returns the tabs whose ends have not been reported.
     pub(crate) fn wait_for_all<R: Host>(&self, rt: &R) -> Result<Vec<(u16, u8)>, AllocError> {
         let mut ends = self
             .ended
@@ -357,18 +369,20 @@ impl Hub {
         ends.tell(self.alloc)
     }
 
+    /// Drops a tab's end, so that it will not be reported.
     pub(crate) fn forget_end<R: Host>(&self, rt: &R, tab: u16) {
         self.ends.lock(rt).forget(tab);
     }
 
+    /// Returns true if the tab's process runs.
     pub(crate) fn is_running<R: Host>(&self, rt: &R, tab: u16) -> bool {
         self.ends.lock(rt).is_running(tab)
     }
 
-    // ---- the broker's link
+    // The broker's link
 
-    /// Writes to the current broker, if there is one. A write that fails ends the link: the keeper reads its end, and starts the
-    /// next generation with the living tabs.
+    /// Writes to the current broker, if there is one. A failed write shuts the link down. The
+    /// keeper then reads the end of the link and starts the next generation with the living tabs.
     pub(crate) fn write<R: Wait>(&self, rt: &R, bytes: &[u8]) {
         if bytes.is_empty() {
             return;
@@ -378,12 +392,12 @@ impl Hub {
         }
     }
 
-    /// The generation of the broker that runs, or of the next one.
+    /// Returns the generation of the running broker, or of the next one.
     pub(crate) fn generation<R: Wait>(&self, rt: &R) -> u32 {
         self.supervisor.lock(rt).generation()
     }
 
-    /// Starts the next generation over this link. Nothing is sent over it before its Start frame.
+    /// Starts the next generation over this link, and sends the Start frame first.
     pub(crate) fn install<R: Host>(
         &self,
         rt: &R,
@@ -398,14 +412,15 @@ impl Hub {
         Ok(generation)
     }
 
-    /// Makes this the current broker's link, and writes these bytes first. If that fails, the link is ended, as in `write`.
+    /// Makes this the current broker's link and writes `bytes` to it first. Shuts the link down if
+    /// that fails, as `write` does.
     fn set_link<R: Host>(&self, rt: &R, current: Link, bytes: &[u8]) {
         let mut link = self.link.lock(rt);
         current.write_or_end(bytes);
         *link = Some(current);
     }
 
-    /// The broker of this generation has no link any more.
+    /// Removes the link of this generation's broker.
     pub(crate) fn uninstall<R: Host>(&self, rt: &R, generation: u32) {
         let mut link = self.link.lock(rt);
         let is_installed = match &*link {
@@ -417,17 +432,17 @@ impl Hub {
         }
     }
 
-    /// This is the current broker's process from now on.
+    /// Records the current broker's process.
     pub(crate) fn hold<R: Host>(&self, rt: &R, process: BrokerProcess) {
         *self.broker.lock(rt) = Some(process);
     }
 
-    /// There is no current broker's process from now on.
+    /// Takes the current broker's process, if any.
     pub(crate) fn let_go<R: Host>(&self, rt: &R) -> Option<BrokerProcess> {
         self.broker.lock(rt).take()
     }
 
-    /// Kills the current broker's process and ends its link, also where a write to it waits.
+    /// Kills the current broker's process and shuts its link down, even while a write to it blocks.
     fn hang_up<R: Host>(&self, rt: &R) {
         if let Some(process) = &mut *self.broker.lock(rt) {
             process.stop();
@@ -435,7 +450,7 @@ impl Hub {
     }
 }
 
-/// Starts the next generation, gives its number, and appends its Start frame, if there is memory for that.
+/// Starts the next generation, appends its Start frame if memory allows, and returns its number.
 fn start(
     alloc: Global,
     supervisor: &mut Supervisor,

@@ -1,4 +1,4 @@
-//! The keeper of the broker: one thread that starts each generation's process, and reads its link to its end.
+//! The keeper: the thread that starts the broker's process of each generation and reads its link.
 
 use crate::child_link::ChildLink;
 use crate::clock::milliseconds_since;
@@ -15,13 +15,13 @@ use wl_process::children::{NotStarted, Started, end, front_of, start_child};
 use wl_process::{Host, Incoming, ProcessFault};
 use wl_process_rules::Restarts;
 
-/// How often a broker's process is started at most, where each ends before it connects.
+/// The largest number of starts of a broker's process in a row, if each ends before it connects.
 const TRIES: u32 = 16;
 
-/// How many milliseconds the keeper waits before it tries again, if no descriptor was left.
+/// The time between starts if no file descriptor was left, in milliseconds.
 const BETWEEN_TRIES: u64 = 20;
 
-/// How a broker's process is started.
+/// Parameters of a broker's process.
 #[derive(Drop)]
 pub(crate) struct BrokerWords {
     pub(crate) program: String,
@@ -32,7 +32,7 @@ pub(crate) struct BrokerWords {
 }
 
 impl BrokerWords {
-    /// Starts the process of a generation.
+    /// Starts the broker's process of a generation.
     fn start<R: Host>(&self, rt: &R, generation: u32) -> Result<Started, NotStarted> {
         let alloc = rt.alloc();
         let directory = self.directory.as_str();
@@ -62,8 +62,10 @@ impl BrokerWords {
         )
     }
 
-    /// Starts the process of the next generation. It is started again if it ends before it connects, or if no descriptor was
-    /// left, which a tab that is being opened may have for a moment. Returns None if the kernel ends.
+    /// Starts the broker's process of the next generation. Returns `None` if the kernel is ending.
+    ///
+    /// Retries up to `TRIES` times if the process ends before it connects, or if no file descriptor
+    /// is left. The opening of a tab may use up all file descriptors for a moment.
     fn start_next<R: Host>(
         &self,
         rt: &R,
@@ -97,7 +99,8 @@ impl BrokerWords {
     }
 }
 
-/// Keeps a broker as long as one is wanted. Where brokers end at once again and again, it pauses before the next.
+/// Runs the keeper until the kernel ends: starts a broker whenever one is wanted. Pauses between
+/// starts if brokers repeatedly fail at once.
 pub(crate) fn keep<R: Host>(rt: &R, alloc: Global, hub: &Hub, words: &BrokerWords) {
     let mut restarts = Restarts::new();
     for _generation in rt.forever() {
@@ -119,7 +122,7 @@ pub(crate) fn keep<R: Host>(rt: &R, alloc: Global, hub: &Hub, words: &BrokerWord
     }
 }
 
-/// Runs one generation to its end, and tells whether its broker has answered anything.
+/// Runs one generation to its end. Returns true if its broker answered anything.
 fn run_generation<R: Host>(
     rt: &R,
     alloc: Global,
@@ -142,7 +145,7 @@ fn run_generation<R: Host>(
     served
 }
 
-/// Shares a link, which has one descriptor then.
+/// Shares a link between two owners without a second file descriptor.
 fn shared(
     alloc: Global,
     link: UnixStream,
@@ -152,7 +155,8 @@ fn shared(
     Ok((link, other))
 }
 
-/// Starts the generation of a link, passes on what comes over it, to its end, and tells whether anything but hellos came.
+/// Starts the generation of a link and forwards the broker's frames until the link ends. Returns
+/// true if any frame other than a Hello came.
 fn serve<R: Host>(
     rt: &R,
     alloc: Global,
@@ -165,14 +169,15 @@ fn serve<R: Host>(
     let generation = hub.install(rt, writing)?;
     hub.note_up(rt, generation);
     let has_answered = read_broker(rt, alloc, hub, generation, reading);
-    // Whoever waits to write to it waits no longer.
+    // Wake the threads that are blocked on writes to the link.
     let _ = link.shutdown(Shutdown::Both);
     hub.note_end_of_link(rt, generation);
     hub.uninstall(rt, generation);
     Ok(has_answered)
 }
 
-/// Reads the link of the broker of a generation to its end or its first fault, and tells whether anything but hellos came.
+/// Reads a broker's link until its end or first fault. Returns true if any frame other than a Hello
+/// came.
 fn read_broker<R: Host>(
     rt: &R,
     alloc: Global,

@@ -1,4 +1,5 @@
-//! The kernel's process: it runs a script that starts and stops the broker and its tabs, and serves their links.
+//! The kernel's process: runs a script that starts and stops the broker and tabs, and serves their
+//! links.
 
 ghost use Rattle.wl_kernel_rules.specs.News.{IsDeathOf};
 
@@ -19,28 +20,28 @@ use wl_process::{Host, ProcessFault, line_number, read_script};
 use wl_process_script::{KernelLine, KernelReply, read_kernel_line};
 use wl_words::Unread;
 
-/// How many descriptors the opening of a tab leaves, so that a broker can be started again. A start takes two of them at most:
-/// the socket, and then the link.
+/// The number of file descriptors that the opening of a tab leaves free, so that a broker can be
+/// restarted. A start needs at most two: the socket and the link.
 const SPARE_DESCRIPTORS: usize = 8;
 
-/// How a kernel is to be run.
+/// Parameters of a kernel.
 #[derive(Drop)]
 pub struct KernelWords {
-    /// Where the sockets are made.
+    /// The directory of the sockets.
     pub directory: String,
     /// 1 to 16.
     pub lanes: u16,
     /// 1 to 16.
     pub shards: u16,
-    /// How many steps a generation has in a shard at most: 1 to 65,536.
+    /// The largest number of steps per generation and shard: 1 to 65,536.
     pub limit: u32,
-    /// The file of the script.
+    /// The path of the script.
     pub script: String,
-    /// The program that the broker and the tabs are.
+    /// The program to run for the broker and the tabs.
     pub program: String,
 }
 
-/// The kernel at work.
+/// A running kernel.
 #[derive(Drop)]
 struct Kernel {
     alloc: Global,
@@ -49,7 +50,9 @@ struct Kernel {
     tabs: Vec<TabHandle>,
 }
 
-/// Runs a kernel's script to its end, and ends the broker and all tabs that run then.
+/// Runs a kernel's script to its end, then ends the broker and all tabs.
+///
+/// Fails with the fault of the script, or with the fault that kept a broker from starting.
 pub fn run_kernel<R: Host>(rt: R, alloc: Global, words: KernelWords) -> Result<(), ProcessFault> {
     let KernelWords {
         directory,
@@ -88,7 +91,7 @@ pub fn run_kernel<R: Host>(rt: R, alloc: Global, words: KernelWords) -> Result<(
     }
 }
 
-/// Starts the thread that keeps the broker.
+/// Starts the keeper's thread.
 fn start_keeper<R: Host>(
     rt: R,
     alloc: Global,
@@ -125,7 +128,7 @@ impl Kernel {
         Ok(())
     }
 
-    /// Does what a line says, and appends what is to be printed.
+    /// Executes a line and appends its output.
     fn obey<R: Host>(
         &mut self,
         rt: R,
@@ -168,7 +171,7 @@ impl Kernel {
         })
     }
 
-    /// Waits for the ends of all tabs, and appends those that are not told yet.
+    /// Waits for the ends of all tabs and appends those not reported yet.
     fn join<R: Host>(&self, rt: &R, out: &mut Vec<u8>) -> Result<(), ProcessFault> {
         for (tab, status) in self.hub.wait_for_all(rt)? {
             KernelReply::Ended { tab, status }.put(out)?;
@@ -176,7 +179,8 @@ impl Kernel {
         Ok(())
     }
 
-    /// Opens a tab of a page whose partition was read, starts its process with a script, and appends what is to be printed.
+    /// Opens a tab for a page whose partition was computed, starts its process, and appends the
+    /// output.
     fn open<R: Host>(
         &mut self,
         rt: R,
@@ -194,7 +198,7 @@ impl Kernel {
         }
     }
 
-    /// The same in a partition.
+    /// Opens a tab in a partition, starts its process, and appends the output.
     fn open_in<R: Host>(
         &mut self,
         rt: R,
@@ -216,7 +220,7 @@ impl Kernel {
         Ok(())
     }
 
-    /// Lets go of the tabs that were buried: their threads and their links.
+    /// Joins the threads of buried tabs and drops their links.
     fn let_go_of_the_dead<R: Host>(&mut self, rt: &R) {
         let mut place = 0;
         for _tab in 0..self.tabs.len() {
@@ -231,8 +235,8 @@ impl Kernel {
         }
     }
 
-    /// Starts the process of a tab, and the threads of its link. If no descriptor is left for it, the tab alone is given up: it is
-    /// buried with the status of a device that failed.
+    /// Starts a tab's process and the threads of its link. If no file descriptor is left, only this
+    /// tab fails: it is buried with the status `DEVICE_OR_MEMORY`.
     fn start<R: Host>(&mut self, rt: R, opened: Opened, file: &str) -> Result<(), ProcessFault>
         requires { IsDeathOf opened.tab opened.death.items }
     {
@@ -267,7 +271,7 @@ impl Kernel {
         Ok(())
     }
 
-    /// Starts the process of a tab with a script, and accepts its link.
+    /// Starts a tab's process and accepts its link.
     fn start_process<R: Host>(&self, rt: &R, tab: u16, file: &str) -> Result<Started, NotStarted> {
         let directory = self.words.directory.as_str();
         let path = format!(in self.alloc; "{}{directory}/tab{tab}.sock", front_of(directory))?;
@@ -281,7 +285,7 @@ impl Kernel {
         )
     }
 
-    /// Kills the process of a tab, and waits until the tab is buried.
+    /// Kills a tab's process and waits until the tab is buried.
     fn kill<R: Host>(&self, rt: &R, tab: u16) -> KernelReply {
         if !self.hub.is_running(rt, tab) {
             return KernelReply::NoTab;
@@ -296,7 +300,7 @@ impl Kernel {
         KernelReply::Killed(tab)
     }
 
-    /// Ends the broker and all tabs, and waits for the threads of the tabs.
+    /// Ends the broker and all tabs, and joins the tabs' threads.
     fn end<R: Host>(self, rt: &R) -> Arc<Hub> {
         let Kernel {
             alloc: _,
@@ -329,7 +333,7 @@ impl Texts {
         Ok(Texts { top, origin })
     }
 
-    /// What is printed for a tab that was opened.
+    /// Returns the output line for an opened tab.
     fn reply(&self, tab: u16, is_pair: bool) -> KernelReply<'_> {
         let (top, origin) = (self.top.as_str(), self.origin.as_str());
         if is_pair {

@@ -1,5 +1,5 @@
-//! The kernel's process: threads, sockets, children and locks round what the crates below prove. It is proved safe; what it
-//! does is tested.
+//! The kernel's process: threads, sockets, children and locks around the verified crates below.
+//! This crate is proved to be memory-safe and free of panics; its behavior is tested.
 #![tactic(auto)]
 
 mod child_link;

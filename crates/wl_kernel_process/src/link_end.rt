@@ -1,19 +1,19 @@
-//! What the end of a tab's link means for its process.
+//! The effect of the end of a tab's link on its process.
 
 ghost use Rattle.std.specs.Prelude.{◌≡◌, ◌≢◌};
 
 use wl_workers::ReadEnd;
 
-/// What becomes of a tab's process when its link has ended.
+/// The treatment of a tab's process after its link has ended.
 #[derive(Clone, Copy, Debug, PartialEq, Eq)]
 pub enum Mercy {
-    /// The link merely ended: the process has a second to end by itself.
+    /// The link ended without a fault: the process has a second to exit.
     Grace,
-    /// The link faulted: the process is killed at once.
+    /// The link failed: the process is killed at once.
     None,
 }
 
-/// What the end of reading a tab's link means for its process.
+/// Returns the treatment of a tab's process for the way its link ended.
 pub fn mercy_at(end: ReadEnd) -> Mercy
     ensures grace { end ≡ ReadEnd.End → result ≡ Mercy.Grace }
     ensures none { end ≢ ReadEnd.End → result ≡ Mercy.None }

@@ -1,4 +1,4 @@
-//! A tab's outbox, as those who put into it have it.
+//! The putting end of a tab's outbox.
 
 ghost use Rattle.std.specs.Prelude.{◌≡◌, ◌≢◌, true, false};
 ghost use Rattle.std.specs.Arc.{arc_value};
@@ -12,7 +12,7 @@ use wl_frames::Frame;
 use wl_kernel_rules::{OwedHello, greeting_of};
 use wl_outbox::{Outbox, Parcel, Pass};
 
-/// The one pass that puts into an outbox, and the Hello that the tab is owed.
+/// The outbox's only putting pass, and the Hello owed to the tab.
 #[derive(Drop)]
 struct Putting {
     outbox: Arc<Outbox>,
@@ -23,13 +23,13 @@ struct Putting {
 }
 
 impl Putting {
-    /// Puts the Hello that the tab is owed, and then a frame that comes from the partition of this number.
+    /// Puts the owed Hello, if any, and then a frame from this partition.
     fn put<R: Wait>(&mut self, rt: &R, partition: u16, frame: Frame) {
         self.put_owed(rt);
         self.put_one(rt, partition, frame);
     }
 
-    /// Puts the Hello that the tab is owed, and returns whether the outbox took one.
+    /// Puts the owed Hello, if any. Returns true if one was put.
     fn put_owed<R: Wait>(&mut self, rt: &R) -> bool {
         match self.owed.due() {
             Some(hello) => {
@@ -40,8 +40,8 @@ impl Putting {
         }
     }
 
-    /// Puts a frame that comes from the partition of this number, and returns whether the outbox took it. The tab is owed a Hello
-    /// that found the outbox full.
+    /// Puts a frame from this partition. Returns true if it was put. A Hello that does not fit
+    /// becomes owed.
     fn put_one<R: Wait>(&mut self, rt: &R, partition: u16, frame: Frame) -> bool
         ensures own { partition ≡ (arc_value self.old.outbox).partition
             → self.new.owed ≡ noted (greeting frame) result self.old.owed }
@@ -66,14 +66,14 @@ impl Putting {
     }
 }
 
-/// A tab's outbox, and the bell of the thread that empties it.
+/// A tab's outbox, with the bell of the thread that empties it.
 #[derive(Drop)]
 pub(crate) struct Post {
     putting: Mutex<Putting>,
     pub(crate) bell: Arc<Parker>,
 }
 
-/// What the thread needs that empties an outbox.
+/// Consumer half of an outbox.
 #[derive(Drop)]
 pub(crate) struct Taking {
     pub(crate) outbox: Arc<Outbox>,
@@ -83,7 +83,7 @@ pub(crate) struct Taking {
 }
 
 impl Post {
-    /// An empty outbox for a tab of the partition of this number.
+    /// Creates an empty outbox for a tab in this partition.
     pub(crate) fn new(
         alloc: Global,
         partition: u16,
@@ -112,8 +112,10 @@ impl Post {
         Ok((post, taking))
     }
 
-    /// Puts a frame that comes from the partition of this number, and rings the bell. A frame from another partition than the
-    /// tab's is lost. So is one that finds the outbox full; but a Hello is owed then, and put as soon as there is room.
+    /// Puts a frame from this partition and rings the bell.
+    ///
+    /// A frame from a partition other than the tab's is lost. A frame that finds the outbox full is
+    /// lost too, unless it is a Hello, which is put later when there is room.
     pub(crate) fn put<R: Wait>(&self, rt: &R, partition: u16, frame: Frame) {
         let mut putting = self.putting.lock(rt);
         putting.put(rt, partition, frame);
@@ -121,7 +123,7 @@ impl Post {
         self.bell.unpark();
     }
 
-    /// Puts the Hello that the tab is owed, if any, and rings the bell if the outbox took it.
+    /// Puts the owed Hello, if any. Rings the bell if one was put.
     pub(crate) fn put_owed<R: Wait>(&self, rt: &R) {
         let is_put = self.putting.lock(rt).put_owed(rt);
         if is_put {

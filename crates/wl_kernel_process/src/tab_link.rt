@@ -1,4 +1,5 @@
-//! A tab's link and process in the kernel: the thread that reads, the thread that writes, and the end of both.
+//! A tab's link and process in the kernel: the reading thread, the writing thread, and the end of
+//! both.
 
 ghost use Rattle.wl_kernel_rules.specs.News.{IsDeathOf};
 
@@ -29,7 +30,7 @@ use wl_workers::tab_reader::tab_reader;
 use wl_workers::tab_writer::tab_writer;
 use wl_workers::{ReadEnd, Rung, SharedSeat, Uplink, WriteEnd};
 
-/// How many milliseconds a process has to end by itself when its link has merely ended.
+/// The time that a process has to exit after its link ended without a fault, in milliseconds.
 const GRACE: u32 = 1_000;
 
 /// A tab's process.
@@ -38,13 +39,14 @@ pub(crate) struct TabProcess {
     pub(crate) tab: u16,
     pub(crate) child: Mutex<Child>,
     pub(crate) link: Option<UnixStream>,
-    /// What tells the broker that the tab is dead.
+    /// The encoded Dead frame for the broker.
     pub(crate) death: Vec<u8>,
     ghost of_tab: { IsDeathOf tab death.items },
 }
 
 impl TabProcess {
-    /// Kills the process, unless it has ended, and ends the link, which a child of its own may have inherited.
+    /// Kills the process if it still runs, and shuts its link down, which the process's children
+    /// may have inherited.
     pub(crate) fn kill<R: Host>(&self, rt: &R) {
         let _ = self.child.lock(rt).kill();
         self.hang_up();
@@ -56,13 +58,13 @@ impl TabProcess {
         }
     }
 
-    /// Ends what is left of the process, and buries the tab.
+    /// Ends the process and buries the tab.
     fn end_and_bury<R: Host>(&self, rt: &R, hub: &Hub, mercy: Mercy) {
         let status = self.end(rt, mercy);
         hub.bury(rt, self.tab, self.death.as_slice(), status);
     }
 
-    /// Ends what is left of the process, and gives its status.
+    /// Ends the process and returns its exit status.
     fn end<R: Host>(&self, rt: &R, mercy: Mercy) -> u8 {
         self.hang_up();
         if mercy == Mercy::Grace {
@@ -76,7 +78,7 @@ impl TabProcess {
         }
     }
 
-    /// Waits until the process has ended, but no longer than the grace.
+    /// Waits until the process has ended, for at most `GRACE` milliseconds.
     fn wait_a_while<R: Host>(&self, rt: &R) {
         for _turn in 0..GRACE {
             match self.child.lock(rt).try_wait() {
@@ -94,15 +96,16 @@ impl Watched for TabProcess {
     }
 }
 
-/// What a tab's reader has gathered for the broker since it read last, and the tab's pace.
+/// Frames for the broker gathered by a tab's reader since its last read, and the tab's rate
+/// limiter.
 #[derive(Drop)]
 struct Gathered {
-    /// What goes to the broker.
+    /// Encoded frames for the broker.
     bytes: Vec<u8>,
-    /// All that the tab sent, also what goes to other tabs or nowhere.
+    /// The amount of data that the tab sent, including frames for other tabs and refused frames.
     load: Load,
     pace: Pace,
-    /// When it sent something last.
+    /// The time at which the tab last sent data.
     sent: Option<Instant>,
 }
 
@@ -116,7 +119,7 @@ impl Gathered {
         }
     }
 
-    /// Writes what was gathered to the broker, and gives for how long the tab has to pause then.
+    /// Writes the gathered bytes to the broker. Returns the time for which the tab must pause.
     fn hand_on<R: Wait + Clock>(&mut self, rt: &R, hub: &Hub) -> Duration {
         if self.load == Load::NOTHING {
             return Duration::ZERO;
@@ -129,7 +132,8 @@ impl Gathered {
         Duration::from_nanos(self.pace.pause())
     }
 
-    /// How many nanoseconds have passed since something was sent; very many before that, and without a clock.
+    /// Returns the nanoseconds since the tab last sent data. Returns `u64::MAX` before the first
+    /// data and if the clock fails.
     fn since_sent<R: Clock>(&mut self, rt: &R) -> u64 {
         let now = Instant::now(rt).ok();
         match (now, std::mem::replace(&mut self.sent, now)) {
@@ -141,7 +145,8 @@ impl Gathered {
     }
 }
 
-/// Where a tab's frames are handed up: what goes to the broker is gathered until the tab's reader reads again.
+/// The uplink of a tab's frames. Frames for the broker are gathered until the tab's reader reads
+/// again.
 #[derive(Drop)]
 struct KernelLink<'a> {
     hub: &'a Hub,
@@ -159,7 +164,7 @@ impl Uplink for KernelLink<'_> {
     }
 }
 
-/// A tab's link, before each read of which what was gathered goes to the broker.
+/// A tab's link. Before each read the gathered frames are sent to the broker.
 #[derive(Drop)]
 struct TabLink<'a, R> {
     rt: R,
@@ -169,7 +174,7 @@ struct TabLink<'a, R> {
 }
 
 impl<R: Wait + Clock + Drop> TabLink<'_, R> {
-    /// Hands on what was gathered. A tab that is ahead of its pace pauses then.
+    /// Sends the gathered frames to the broker, and pauses if the tab is ahead of its pace.
     fn hand_on(&self) {
         let pause = match self.gathered.try_borrow_mut() {
             Ok(mut gathered) => gathered.hand_on(&self.rt, self.hub),
@@ -237,8 +242,8 @@ fn read_and_bury<R: Host>(rt: &R, alloc: Global, hub: &Hub, process: &TabProcess
     process.end_and_bury(rt, hub, mercy);
 }
 
-/// Writes what is put for a tab, until it is dead. Where its link takes no more, or memory is refused for what is gathered, the
-/// link is ended: the tab would wait for what was lost.
+/// Writes the frames put for a tab until the tab is dead. Shuts the link down if a write fails or
+/// memory runs out, because the tab would wait for the lost frames.
 fn write_link_or_end<R: Host>(
     rt: &R,
     alloc: Global,
@@ -253,7 +258,7 @@ fn write_link_or_end<R: Host>(
     }
 }
 
-/// Writes what is put for a tab, until it is dead or its link takes no more.
+/// Writes the frames put for a tab until the tab is dead or a write fails.
 fn write_link<R: Host>(
     rt: &R,
     alloc: Global,
@@ -287,7 +292,7 @@ fn write_link<R: Host>(
     Ok(end)
 }
 
-/// Starts the thread that reads a tab's link. None where there can be no thread.
+/// Starts the thread that reads a tab's link. Returns `None` if the thread cannot be created.
 fn start_reader<R: Host>(
     rt: R,
     alloc: Global,
@@ -298,7 +303,7 @@ fn start_reader<R: Host>(
     Ok(thread::spawn(&rt, move || read_and_bury(&rt, alloc, &hub, &process)).ok())
 }
 
-/// Starts the thread that writes to a tab's link. None where there can be no thread.
+/// Starts the thread that writes to a tab's link. Returns `None` if the thread cannot be created.
 fn start_writer<R: Host>(
     rt: R,
     alloc: Global,
@@ -315,7 +320,7 @@ fn start_writer<R: Host>(
     .ok())
 }
 
-/// A tab as the script has it: its process, and the threads of its link.
+/// A tab as the script sees it: its process and the threads of its link.
 #[derive(Drop)]
 pub(crate) struct TabHandle {
     pub(crate) process: Arc<TabProcess>,
@@ -324,7 +329,8 @@ pub(crate) struct TabHandle {
 }
 
 impl TabHandle {
-    /// Starts the threads of a tab's link. Where one can't be made the process is killed and the tab buried.
+    /// Starts the threads of a tab's link. If one cannot be created, the process is killed and the
+    /// tab buried.
     pub(crate) fn new<R: Host>(
         rt: R,
         alloc: Global,
@@ -357,12 +363,12 @@ impl TabHandle {
         })
     }
 
-    /// Whether its threads could be made.
+    /// Returns true if both threads were created.
     pub(crate) fn is_served(&self) -> bool {
         self.reader.is_some() && self.writer.is_some()
     }
 
-    /// Waits for the threads. The process has to end first.
+    /// Joins the threads. The process must have been ended first.
     pub(crate) fn join<R: Host>(self, rt: &R) {
         let TabHandle {
             process: _,

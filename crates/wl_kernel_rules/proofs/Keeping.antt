@@ -1,4 +1,4 @@
--- The laws of the orders.
+-- Proofs of the laws of the orders.
 use Rattle.std.proofs.Common.{◌≡◌, ℕ, Bool, true, false, not, ◌&&◌, eqb, List, [], ◌∷◌, ◌++◌, Some, None, Ok, refl, sym, ap, ◌∙◌, arith}
 use Rattle.std.proofs.lemmas.Bool.{true≢false, eqb-true}
 use Rattle.std.proofs.lemmas.Bool.Decides.{nat_tests}
@@ -9,7 +9,7 @@ use Rattle.wl_kernel_rules.specs.declared.orders.Phase.TheVariants.{Idle, Starti
 use Rattle.wl_kernel_rules.specs.Broker.{no_orders, in_phase, is_news, asked, asked_in, first_of, up_as, is_there, rested, runs_as, next_phase, ending, is_stopping}
 use Rattle.wl_kernel_rules.specs.Keeping.{Told, Asked, Stopped, IsUp, IsLost, HasEnded, Fails, Closes, told, after, Every, is_start, is_close, first_up, TellsTheFirst, only_asks, WaitsForTheEnd, leaves_up, Runs, MissesWhatRuns, MissesAllThatRuns, without_broker, FailsForGood}
 
--- ---- a start
+-- A start
 
 stays_started : (g : ℕ) (ts : List Told) (o : Orders) → o.started ≡ Some g → Every (λ t. not (is_start t)) ts → (after ts o).started ≡ Some g
 stays_started g [] o is n = is
@@ -42,7 +42,7 @@ none_started (Failed f) o is = cc
 pub tells_the_first : TellsTheFirst
 tells_the_first o ts news n = first_started ts (asked o) (none_started o.phase o news) n
 
--- ---- a stop
+-- A stop
 
 stays_stopping : (ts : List Told) (o : Orders) → o.phase ≡ Stopping → Every only_asks ts → (after ts o).phase ≡ Stopping
 stays_stopping [] o is n = is
@@ -59,7 +59,7 @@ waits_for_the_end o ts n =
     let is = stays_stopping ts (in_phase Stopping o) refl n in
     (ap is_stopping is, ap (λ p. is_news (rested p)) is)
 
--- ---- a broker's end
+-- The end of a broker
 
 stays_up : (g : ℕ) (ts : List Told) (o : Orders) → o.phase ≡ Up g → Every leaves_up ts → (after ts o).phase ≡ Up g
 stays_up g [] o is n = is
@@ -105,7 +105,7 @@ misses_all_that_runs g ts r on =
     let is : end.phase ≡ Up g = ap (λ xs. (after xs no_orders).phase) r.split ∙ ap (λ (x : Orders). x.phase) (after-append r.before (IsUp g ∷ r.later) no_orders) ∙ stays_up g r.later (up_as g (after r.before no_orders)) refl r.still in
     missed_as g end.is_ending end.phase is (goes_on ts no_orders refl on)
 
--- what is missed at the end ran at the beginning and still does, or came up since
+-- A broker whose end is missed ran at the start and still runs, or came up since.
 pub data Missed (g : ℕ) (ts : List Told) (o : Orders) : Type 0 where
   Since : Runs g ts → Missed g ts o
   Still : Every leaves_up ts → runs_as g o.phase ≡ true → Missed g ts o
@@ -164,7 +164,7 @@ stays_ending (HasEnded ∷ ts) o is = stays_ending ts (in_phase (rested o.phase)
 stays_ending (Fails f ∷ ts) o is = stays_ending ts (in_phase (Failed f) o) is
 stays_ending (Closes ∷ ts) o is = stays_ending ts (ending o) refl
 
--- an end is not taken back
+-- The ending of the kernel is never revoked.
 closed_none : (t : Told) (ts : List Told) (o : Orders) → (after ts (told t o)).is_ending ≡ false → not (is_close t) ≡ true
 closed_none Asked ts o on = refl
 closed_none Stopped ts o on = refl
@@ -198,7 +198,7 @@ misses_what_runs g ts is =
     let on = never_closed ts no_orders both.1 in
     (since g ts (missed_at g ts no_orders both.0 on), on)
 
--- ---- a failure
+-- A failure
 
 stays_failed : (f : ProcessFault) (ts : List Told) (o : Orders) → o.phase ≡ Failed f → Every without_broker ts → (after ts o).phase ≡ Failed f
 stays_failed f [] o is n = is

@@ -1,4 +1,4 @@
--- The laws of the Hello that a tab is owed.
+-- Proofs of the laws of the Hello owed to a tab.
 use Rattle.std.proofs.Common.{◌≡◌, ◌≤◌, ℕ, Bool, true, false, nat_lt, List, [], ◌∷◌, ◌++◌, Option, Some, None, if◌then◌else◌, ◌⊎◌, inl, inr, refl, sym, ap, subst, arith}
 use Rattle.std.proofs.lemmas.Bool.Decides.{nat_tests}
 use Rattle.wl_kernel_rules.specs.Owed.{refused, settled, Told, Refused, Put, told, after, Every, leaves, IsMissing, IsOwed, OwesWhatIsMissing, OwesTheLatest, OwesTheLast}
@@ -6,7 +6,7 @@ use Rattle.wl_kernel_rules.specs.Owed.{refused, settled, Told, Refused, Put, tol
 one_more : (g : ℕ) (t : Told) (ts : List Told) → IsMissing g ts → IsMissing g (t ∷ ts)
 one_more g t ts m = record { before = t ∷ m.before; later = m.later; split = ap (λ xs. t ∷ xs) m.split; still = m.still }
 
--- what is owed was so at the beginning and still is, or is missing since
+-- A Hello that is owed was owed at the start and has not been settled, or is missing since.
 pub data Owes (g : ℕ) (ts : List Told) (o : Option ℕ) : Type 0 where
   Since : IsMissing g ts → Owes g ts o
   Still : Every (leaves g) ts → o ≡ Some g → Owes g ts o
@@ -51,7 +51,7 @@ missing g ts (Still n e) = cc
 pub owes_what_is_missing : OwesWhatIsMissing
 owes_what_is_missing ts g e = missing g ts (owes g ts None e)
 
--- ---- what is missing is owed
+-- A missing Hello is owed
 
 newer : (b : Bool) (k h g : ℕ) → nat_lt k h ≡ b → g ≤ k → IsOwed g (if b then Some h else Some k)
 newer true k h g is up = (h, refl, grind (arith, nat_tests))

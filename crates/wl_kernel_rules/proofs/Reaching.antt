@@ -1,4 +1,4 @@
--- Each call of the kernel leads to a kernel that a list of calls reaches.
+-- Reachability: each call of the kernel leads to a kernel that a list of calls reaches.
 use Rattle.std.proofs.Common.{◌≡◌, ℕ, Bool, true, false, List, [], ◌∷◌, ◌++◌, Option, Some, None, is_some, if◌then◌else◌, refl, sym, ap, ◌∙◌, subst}
 use Rattle.wl_origin.specs.Order.{Pair}
 use Rattle.wl_kernel.specs.Kernel.{KernelState, no_tabs, living_tabs, open_refusal, opened, kill_refusal, killed, may_stop, stopped, start_refusal}

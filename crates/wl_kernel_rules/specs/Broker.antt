@@ -1,20 +1,20 @@
--- The brokers that the kernel's process keeps, one after another: what the script has asked for, and what has come of it.
+-- The brokers that the kernel process runs one after another: the orders of the script, and their outcome.
 use Rattle.std.specs.Prelude.{ℕ, Bool, true, false, not, ◌&&◌, ◌==◌, Option, Some, None, Result, Ok, Err}
 use Rattle.wl_process.specs.declared.fault.ProcessFault.{ProcessFault}
 use Rattle.wl_kernel_rules.specs.declared.orders.Orders.{Orders}
 use Rattle.wl_kernel_rules.specs.declared.orders.Phase.{Phase}
 use Rattle.wl_kernel_rules.specs.declared.orders.Phase.TheVariants.{Idle, Starting, Up, Stopping, Spent, Failed}
 
--- nothing was asked for
+-- The state before any order.
 abbrev pub no_orders : Orders
 no_orders = record { phase = Idle; started = None; is_ending = false }
 
 abbrev pub in_phase : Phase → Orders → Orders
 in_phase p o = record { phase = p; started = o.started; is_ending = o.is_ending }
 
--- ---- the script asks for a broker
+-- The script orders a broker
 
--- whether that is news, since none is wanted yet; once one could not be started there is none to be had
+-- Whether the order is news, because no broker is wanted yet. It fails once a broker could not be started.
 abbrev pub is_news : Phase → Result Bool ProcessFault
 is_news Idle = Ok true
 is_news (Failed fault) = Err fault
@@ -27,7 +27,7 @@ asked_in p o = o
 abbrev pub asked : Orders → Orders
 asked o = asked_in o.phase o
 
--- what has come of it: the first generation that has, or why there is none
+-- The outcome of the last start order: the first generation that came up, or the failure.
 abbrev pub outcome_of : Option ℕ → Phase → Option (Result ℕ ProcessFault)
 outcome_of (Some generation) p = Some (Ok generation)
 outcome_of None (Failed fault) = Some (Err fault)
@@ -37,30 +37,31 @@ abbrev pub first_of : Option ℕ → ℕ → Option ℕ
 first_of (Some earlier) generation = Some earlier
 first_of None generation = Some generation
 
--- the broker of this generation is up
+-- The broker of this generation is up.
 abbrev pub up_as : ℕ → Orders → Orders
 up_as generation o = record { phase = Up generation; started = first_of o.started generation; is_ending = o.is_ending }
 
--- ---- the script stops it
+-- The script stops the broker
 
--- whether there is one to stop
+-- Whether there is a broker to stop.
 abbrev pub is_there : Phase → Result Bool ProcessFault
 is_there Idle = Ok false
 is_there (Failed fault) = Err fault
 is_there p = Ok true
 
--- its process has ended: so has what was stopped
+-- The broker's process has ended, which completes a stop.
 abbrev pub rested : Phase → Phase
 rested Stopping = Idle
 rested p = p
 
--- ---- its link ends by itself
+-- The broker's link ends by itself
 
 abbrev pub runs_as : ℕ → Phase → Bool
 runs_as generation (Up other) = other == generation
 runs_as generation p = false
 
--- then the next one is wanted, unless the kernel ends, or another has come since
+-- The end of a link is missed unless the kernel is ending or another broker has come up since. The next
+-- broker is then wanted.
 abbrev pub is_missed : ℕ → Orders → Bool
 is_missed generation o = runs_as generation o.phase && not o.is_ending
 
@@ -68,7 +69,7 @@ abbrev pub next_phase : Bool → Phase
 next_phase true = Starting
 next_phase false = Spent
 
--- ---- the kernel
+-- The kernel
 
 abbrev pub ending : Orders → Orders
 ending o = record { phase = o.phase; started = o.started; is_ending = true }

@@ -1,12 +1,13 @@
--- What becomes of the orders for the broker's keeper, over any list of what they are told.
+-- The orders for the broker's keeper after any list of calls.
 use Rattle.std.specs.Prelude.{◌≡◌, ℕ, List, [], ◌∷◌, ◌++◌, Bool, true, false, not, Option, Some, None, Ok, Err}
 use Rattle.wl_process.specs.declared.fault.ProcessFault.{ProcessFault}
 use Rattle.wl_kernel_rules.specs.declared.orders.Orders.{Orders}
 use Rattle.wl_kernel_rules.specs.declared.orders.Phase.TheVariants.{Stopping, Failed}
 use Rattle.wl_kernel_rules.specs.Broker.{no_orders, in_phase, is_news, asked, up_as, is_there, rested, is_missed, next_phase, ending, is_stopping}
 
--- The script asks for a broker, or has stopped it. That of a generation is up; its link has ended by itself, and there is a
--- next generation or none; its process has ended. No broker can be started. The kernel ends.
+-- A call on the orders. The script orders a broker or stops it. The broker of a generation comes up, its link
+-- ends by itself (with or without a next generation), or its process ends. No broker can be started. The kernel
+-- ends.
 pub data Told : Type 0 where
   Asked : Told
   Stopped : Told
@@ -41,68 +42,70 @@ abbrev pub is_close : Told → Bool
 is_close Closes = true
 is_close t = false
 
--- ---- a start
+-- A start
 
--- the first generation that is up
+-- The first generation that comes up.
 abbrev pub first_up : List Told → Option ℕ
 first_up [] = None
 first_up (IsUp generation ∷ ts) = Some generation
 first_up (t ∷ ts) = first_up ts
 
--- who asked for a broker where none was wanted is told the first generation that is up since
+-- A caller that requests a broker when none is wanted gets the first generation that comes up afterwards.
 abbrev pub TellsTheFirst : Type 0
 TellsTheFirst = (o : Orders) (ts : List Told) → is_news o.phase ≡ Ok true → Every (λ t. not (is_start t)) ts → (after ts (told Asked o)).started ≡ first_up ts
 
--- ---- a stop
+-- A stop
 
--- only the script asks, or the kernel ends
+-- The call only orders a broker or ends the kernel.
 abbrev pub only_asks : Told → Bool
 only_asks Asked = true
 only_asks Closes = true
 only_asks t = false
 
--- what was stopped is waited for, whatever is asked meanwhile, until its process has ended; then a broker may be asked for anew
+-- A stopped broker is waited for until its process has ended, even if a broker is ordered in between. A broker
+-- may be ordered again after that.
 abbrev pub WaitsForTheEnd : Type 0
 WaitsForTheEnd =
     (o : Orders) (ts : List Told) → Every only_asks ts
     → (is_stopping (after ts (told Stopped o)).phase ≡ true) × (is_news (told HasEnded (after ts (told Stopped o))).phase ≡ Ok true)
 
--- ---- a broker's end
+-- The end of a broker
 
--- what leaves a broker up: that one is asked for, and that the process of one before has ended
+-- The call leaves a running broker up: it orders a broker, or an earlier broker's process has ended.
 abbrev pub leaves_up : Told → Bool
 leaves_up Asked = true
 leaves_up HasEnded = true
 leaves_up t = false
 
--- the broker of the generation is up, and was neither stopped nor lost since
+-- The generation's broker came up, and was neither stopped nor lost since.
 pub record Runs (generation : ℕ) (ts : List Told) : Type 0 where
   pub before : List Told
   pub later : List Told
   pub split : ts ≡ before ++ IsUp generation ∷ later
   pub still : Every leaves_up later
 
--- the end of a link is missed where its broker runs and the kernel does not end, and only there
+-- The end of a link is missed only if its broker runs and the kernel is not ending.
 abbrev pub MissesWhatRuns : Type 0
 MissesWhatRuns =
     (generation : ℕ) (ts : List Told)
     → is_missed generation (after ts no_orders) ≡ true → Runs generation ts × Every (λ t. not (is_close t)) ts
 
+-- The end of a link is missed if its broker runs and the kernel is not ending.
 abbrev pub MissesAllThatRuns : Type 0
 MissesAllThatRuns =
     (generation : ℕ) (ts : List Told)
     → Runs generation ts → Every (λ t. not (is_close t)) ts → is_missed generation (after ts no_orders) ≡ true
 
--- ---- a failure
+-- A failure
 
--- nothing more is heard of a broker
+-- The call brings no broker up, and loses, stops or fails none.
 abbrev pub without_broker : Told → Bool
 without_broker Asked = true
 without_broker HasEnded = true
 without_broker Closes = true
 without_broker t = false
 
--- once no broker could be started, whoever asks for one or for its stop is told why
+-- Once a broker has failed to start, every request for one, or for its stop, returns that failure.
 abbrev pub FailsForGood : Type 0
 FailsForGood =
     (o : Orders) (fault : ProcessFault) (ts : List Told) → Every without_broker ts

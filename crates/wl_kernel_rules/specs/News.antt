@@ -1,4 +1,4 @@
--- What the kernel itself tells tabs and the broker.
+-- Frames that the kernel itself sends to tabs and the broker.
 use Rattle.std.specs.Prelude.{◌≡◌, ℕ, List, Bool, true, false, nat_lt, Option, Some, None, if◌then◌else◌}
 use Rattle.wl_origin.specs.Order.{Pair}
 use Rattle.wl_origin.specs.Partition.{origin_text}
@@ -9,7 +9,7 @@ use Rattle.wl_grammar.specs.declared.frame.Downward.TheVariants as down
 use Rattle.wl_grammar.specs.declared.frame.Frame.{Frame}
 use Rattle.wl_grammar.specs.declared.frame.Frame.TheVariants as frame
 
--- the texts of a page's origins, that at the top only where the welcome tells of both
+-- The texts of a page's origins. The top origin is present only if the welcome contains both.
 pub record Texts : Type 0 where
   pub top : Option (List ℕ)
   pub own : List ℕ
@@ -17,27 +17,27 @@ pub record Texts : Type 0 where
 abbrev pub texts_of : Pair → Bool → Texts
 texts_of p is_pair = record { top = if is_pair then Some (origin_text p.0) else None; own = origin_text p.1 }
 
--- a tab is told its number, and of which origin its page is
+-- The welcome tells a tab its number and its page's origins.
 abbrev pub welcome : ℕ → Option (List ℕ) → List ℕ → Frame
 welcome tab None own = frame.Welcome (record { tab = tab; origin = own })
 welcome tab (Some top) own = frame.PairWelcome (record { tab = tab; top = top; own = own })
 
--- what tells the broker that a tab is dead
+-- The bytes are the frame that tells the broker that the tab is dead.
 abbrev pub IsDeathOf : ℕ → List ℕ → Type 0
 IsDeathOf tab bytes = bytes ≡ spelling (frame.Dead (record { tab = tab }))
 
--- the generation that a frame of a tab was sent for
+-- The generation for which a tab's frame was sent.
 abbrev pub sent_for : Frame → Option ℕ
 sent_for (frame.Stamped s) = Some (generation_of s.inner)
 sent_for f = None
 
--- who sends for a generation that has ended is told of the one that runs
+-- A sender for a generation that has ended is told the one that runs.
 abbrev pub late_for : Option ℕ → Option ℕ → Option ℕ
 late_for (Some sent) (Some current) = if nat_lt sent current then Some current else None
 late_for (Some sent) None = None
 late_for None current = None
 
--- a broker says more by this frame than that it is up
+-- The message is an answer or a snapshot, not only a hello.
 abbrev pub is_more : Downward → Bool
 is_more (down.Hello h) = false
 is_more (down.Answer a) = true

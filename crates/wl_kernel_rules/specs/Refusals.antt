@@ -1,11 +1,11 @@
--- Why a tab was not opened.
+-- Reasons for which a tab was not opened.
 use Rattle.wl_kernel.specs.declared.fault.OpenFault.{OpenFault}
 use Rattle.wl_kernel.specs.declared.fault.OpenFault.TheVariants.{Memory}
 use Rattle.wl_process.specs.declared.fault.ProcessFault.TheVariants as process
 use Rattle.wl_kernel_rules.specs.declared.refusals.Unopened.{Unopened}
 use Rattle.wl_kernel_rules.specs.declared.refusals.Unopened.TheVariants.{Refused, Failed}
 
--- out of memory is no refusal: the process can't go on
+-- Out of memory is not a refusal but a fault, after which the process cannot continue.
 abbrev pub of_open : OpenFault → Unopened
 of_open Memory = Failed process.Memory
 of_open fault = Refused fault

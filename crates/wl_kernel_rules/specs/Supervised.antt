@@ -28,21 +28,21 @@ without_broker k = record { kernel = k; is_up = false }
 abbrev pub with_broker : KernelState → Supervised
 with_broker k = record { kernel = k; is_up = true }
 
--- some list of calls makes the kernel what it is, so that what its laws say of all such holds of it
+-- The kernel is the result of some list of calls, so the kernel's laws hold of it.
 pub record IsReached (k : KernelState) : Type 0 where
   pub calls : List Call
   pub made : k ≡ reached calls k.last
 
--- the generation of the broker that runs
+-- The generation of the broker that runs.
 abbrev pub current : Supervised → Option ℕ
 current s = if s.is_up then Some s.kernel.generation else None
 
 abbrev pub with_kernel : KernelState → Supervised → Supervised
 with_kernel k s = record { kernel = k; is_up = s.is_up }
 
--- ---- starting and stopping
+-- Starting and stopping
 
--- a start lists exactly the living tabs
+-- A start lists exactly the living tabs.
 abbrev pub start_frame_of : Supervised → Frame
 start_frame_of s = start_frame (living_tabs s.kernel) s.kernel
 
@@ -59,34 +59,32 @@ stop_refusal s = if s.is_up then (if may_stop s.kernel then None else Some Gener
 abbrev pub halted : Supervised → Supervised
 halted s = without_broker (stopped s.kernel)
 
--- ---- what a broker sends
+-- Frames of a broker
 
--- only a broker that runs is heard
+-- Only the frames of a running broker are routed.
 abbrev pub down_refusal : ℕ → Frame → Supervised → Option RouteFault
 down_refusal link f s = if s.is_up then route_down_refusal link f s.kernel else Some StaleLink
 
--- what is spelled for the broker of a frame that goes there
+-- The bytes for the broker, if the frame goes there.
 abbrev pub to_broker : Routed → List ℕ
 to_broker (Broker f) = spelling f
 to_broker (Tabs heard) = []
 
--- a tab's frame was passed on as a kernel does it that a list of calls reaches, and what goes to the broker stands behind
--- what went there before
+-- Some reached kernel routes the tab's frame. The bytes for the broker are appended to those before.
 pub record IsSentOn (t : ℕ) (f : Frame) (before after : List ℕ) : Type 0 where
   pub kernel : KernelState
   pub so : IsReached kernel
   pub allowed : route_up_refusal t f kernel ≡ None
   pub spelled : IsWellFormed f → after ≡ before ++ to_broker (routed_up t f kernel)
 
--- a tab's frame was refused for the cause that a kernel names which a list of calls reaches, or when out of memory where it
--- names none
+-- Some reached kernel refuses the tab's frame for this reason, or would route it but memory has run out.
 pub record IsRefusedBy (t : ℕ) (f : Frame) (e : RouteFault) : Type 0 where
   pub kernel : KernelState
   pub so : IsReached kernel
   pub refused : e ≢ RouteMemory → route_up_refusal t f kernel ≡ Some e
   pub memory : e ≡ RouteMemory → route_up_refusal t f kernel ≡ None
 
--- ---- the supervisor as the code has it
+-- Supervisor state as the code stores it
 
 abbrev pub seen : State → Supervised
 seen (Down k) = without_broker k

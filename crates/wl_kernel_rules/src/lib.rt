@@ -1,5 +1,5 @@
-//! What the kernel's process decides by values alone: what its supervisor knows, what the tabs and the broker are told at a
-//! birth, a death and a start, which Hello a tab is owed, and what the keeper of the broker is to do next.
+//! Pure decisions of the kernel process: its supervisor's state, the frames sent at a birth, a death and a
+//! start, the Hello owed to a tab, and the next step of the broker's keeper.
 #![tactic(auto)]
 
 pub mod laws;

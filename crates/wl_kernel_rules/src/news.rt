@@ -1,4 +1,4 @@
-//! What the kernel itself tells tabs and the broker, and what it hears of their frames.
+//! Frames that the kernel itself sends to tabs and the broker, and facts that it reads from theirs.
 
 ghost use Rattle.std.specs.Prelude.{◌≡◌, IfOk, option_map};
 ghost use Rattle.wl_grammar.specs.Grammar.{IsTab};
@@ -11,10 +11,10 @@ use wl_frames::{Dead, Downward, Frame, Hello, Origin, PairWelcome, Welcome};
 use wl_origin::Partition;
 use wl_process::append;
 
-/// The origins of a page, of which its welcome tells.
+/// The origins of a page that its welcome contains.
 #[derive(Drop)]
 pub struct Origins {
-    /// That of the page at the top, where the welcome tells of both.
+    /// The origin of the top-level page, if the welcome contains both origins.
     top: Option<Origin>,
     own: Origin,
 }
@@ -28,7 +28,7 @@ impl Model for Origins {
 }
 
 impl Origins {
-    /// The origins of a page of this partition. Those of a page that was opened as a pair are both told.
+    /// Returns the origins of a page of this partition. The top origin is included if the page was opened as a pair.
     pub fn new(alloc: Global, partition: &Partition, is_pair: bool) -> Result<Origins, AllocError>
         ensures { IfOk result (λ o. o ≡ texts_of partition.now is_pair) }
     {
@@ -40,7 +40,7 @@ impl Origins {
         Ok(Origins { top, own })
     }
 
-    /// The welcome of a tab.
+    /// Returns the welcome of a tab.
     pub fn welcome(self, tab: u16) -> Frame
         ensures { result ≡ welcome tab self.top self.own }
     {
@@ -58,7 +58,7 @@ fn origin_of(alloc: Global, text: &str) -> Result<Origin, AllocError>
     Ok(Origin::new(String::from_str(alloc, text)?))
 }
 
-/// What tells the broker that the tab is dead.
+/// Returns the encoded frame that tells the broker that the tab is dead.
 pub fn death_of(alloc: Global, tab: u16) -> Result<Vec<u8>, AllocError>
     requires { IsTab tab }
     ensures { IfOk result (λ bytes. IsDeathOf tab bytes.items) }
@@ -68,7 +68,7 @@ pub fn death_of(alloc: Global, tab: u16) -> Result<Vec<u8>, AllocError>
     Ok(bytes)
 }
 
-/// The hello of the current generation, for who has sent this frame for one that has ended.
+/// Returns a Hello with the current generation, if the frame was sent for an earlier one. Returns `None` if no broker runs.
 pub fn told_late(frame: &Frame, current: Option<u32>) -> Option<Frame>
     ensures { result ≡ option_map (λ generation. frame_with.Hello (record { generation = generation }))
         (late_for (sent_for frame.now) current) }
@@ -81,7 +81,7 @@ pub fn told_late(frame: &Frame, current: Option<u32>) -> Option<Frame>
     }
 }
 
-/// The generation that a stamped frame was sent for.
+/// Returns the generation for which a stamped frame was sent.
 fn sent_for(frame: &Frame) -> Option<u32>
     ensures { result ≡ sent_for frame.now }
 {
@@ -91,7 +91,7 @@ fn sent_for(frame: &Frame) -> Option<u32>
     }
 }
 
-/// Whether a broker says more by this frame than that it is up.
+/// Returns whether a broker's frame is an answer or a snapshot, not only a hello.
 pub fn is_answer(frame: &Frame) -> bool
     ensures { result ≡ is_answer frame.now }
 {

@@ -1,4 +1,4 @@
-//! What the script wants of the broker's keeper, and what has come of it.
+//! Orders of the script to the broker's keeper, and their outcome.
 
 ghost use Rattle.std.specs.Prelude.{◌≡◌};
 ghost use Rattle.wl_kernel_rules.specs.Broker.{no_orders, in_phase, is_news, asked, outcome_of, up_as, is_there, rested, is_missed, next_phase, ending, failure_in, is_starting, is_stopping};
@@ -6,35 +6,35 @@ ghost use Rattle.wl_kernel_rules.specs.declared.orders.Phase.TheVariants.{Stoppi
 
 use wl_process::ProcessFault;
 
-/// Where the broker's life stands.
+/// Phase of the broker's life.
 #[derive(Clone, Copy, Debug, PartialEq, Eq)]
 pub enum Phase {
     /// No broker is wanted.
     Idle,
-    /// One is to be started.
+    /// A broker is to be started.
     Starting,
-    /// That of this generation runs.
+    /// The broker of this generation runs.
     Up(u32),
-    /// It was stopped, and its process is to end.
+    /// The broker was stopped, and its process has not yet ended.
     Stopping,
-    /// The last generation has ended, and no broker runs any more.
+    /// The last generation has ended, and no broker will run again.
     Spent,
-    /// A broker can't be started.
+    /// No broker can be started.
     Failed(ProcessFault),
 }
 
-/// What the script wants of the keeper, and what has come of it.
+/// Orders of the script to the keeper, and their outcome.
 #[derive(Clone, Copy, Debug, PartialEq, Eq)]
 pub struct Orders {
     pub phase: Phase,
-    /// The first generation that came of the last start.
+    /// The first generation that came up after the last start order.
     pub started: Option<u32>,
-    /// Whether the kernel ends.
+    /// Whether the kernel is ending.
     pub is_ending: bool,
 }
 
 impl Orders {
-    /// Nothing was asked for.
+    /// Returns the state before any order.
     pub fn new() -> Orders
         ensures { result ≡ no_orders }
     {
@@ -45,7 +45,7 @@ impl Orders {
         }
     }
 
-    /// The script asks for a broker. False where one is wanted already.
+    /// Orders a broker. Returns false if one is wanted already. Fails if no broker can be started.
     pub fn start(&mut self) -> Result<bool, ProcessFault>
         ensures news { result ≡ is_news self.old.phase }
         ensures orders { self.new ≡ asked self.old }
@@ -61,7 +61,7 @@ impl Orders {
         }
     }
 
-    /// What has come of the last start, as soon as anything has: the first generation since, or why there is none.
+    /// Returns the outcome of the last start order once there is one: the first generation since, or the failure.
     pub fn outcome(&self) -> Option<Result<u32, ProcessFault>>
         ensures { result ≡ outcome_of self.now.started self.now.phase }
     {
@@ -72,7 +72,7 @@ impl Orders {
         }
     }
 
-    /// Whether there is a broker that can be stopped.
+    /// Returns whether there is a broker to stop. Fails if no broker can be started.
     pub fn may_stop(&self) -> Result<bool, ProcessFault>
         ensures { result ≡ is_there self.now.phase }
     {
@@ -83,35 +83,35 @@ impl Orders {
         }
     }
 
-    /// The script has stopped the broker, whose process is to end.
+    /// Records that the script has stopped the broker, whose process is to end.
     pub fn stop(&mut self)
         ensures { self.new ≡ in_phase Stopping self.old }
     {
         self.phase = Phase::Stopping;
     }
 
-    /// The kernel ends.
+    /// Records that the kernel is ending.
     pub fn end(&mut self)
         ensures { self.new ≡ ending self.old }
     {
         self.is_ending = true;
     }
 
-    /// Whether a broker is to be started.
+    /// Returns whether a broker is to be started.
     pub fn is_starting(&self) -> bool
         ensures { result ≡ is_starting self.now.phase }
     {
         matches!(self.phase, Phase::Starting)
     }
 
-    /// Whether the process of the broker that was stopped has still to end.
+    /// Returns whether the process of a stopped broker has not yet ended.
     pub fn is_stopping(&self) -> bool
         ensures { result ≡ is_stopping self.now.phase }
     {
         matches!(self.phase, Phase::Stopping)
     }
 
-    /// The broker of this generation is up.
+    /// Records that the broker of this generation is up.
     pub fn note_up(&mut self, generation: u32)
         ensures { self.new ≡ up_as generation self.old }
     {
@@ -119,7 +119,7 @@ impl Orders {
         self.started = self.started.or(Some(generation));
     }
 
-    /// Whether the end of the link of this generation's broker means that it is to be stopped, and the next one wanted.
+    /// Returns whether the end of this generation's link means that its broker is to be stopped and the next one started.
     pub fn is_missed(&self, generation: u32) -> bool
         ensures { result ≡ is_missed generation self.now }
     {
@@ -129,7 +129,7 @@ impl Orders {
         }
     }
 
-    /// The broker's generation has ended by itself. The next one is wanted, if there is one.
+    /// Records that the broker's generation has ended by itself. The next one is to be started, if there is one.
     pub fn note_next(&mut self, has_next: bool)
         ensures { self.new ≡ in_phase (next_phase has_next) self.old }
     {
@@ -140,7 +140,7 @@ impl Orders {
         };
     }
 
-    /// The broker's process has ended.
+    /// Records that the broker's process has ended.
     pub fn note_end(&mut self)
         ensures { self.new ≡ in_phase (rested self.old.phase) self.old }
     {
@@ -149,14 +149,14 @@ impl Orders {
         }
     }
 
-    /// No broker can be started.
+    /// Records that no broker can be started.
     pub fn fail(&mut self, fault: ProcessFault)
         ensures { self.new ≡ in_phase (Failed fault) self.old }
     {
         self.phase = Phase::Failed(fault);
     }
 
-    /// Why no broker can be started, if so.
+    /// Returns the reason for which no broker can be started, if there is one.
     pub fn failure(&self) -> Option<ProcessFault>
         ensures { result ≡ failure_in self.now.phase }
     {

@@ -1,4 +1,4 @@
-//! The Hello that a tab is owed because it did not fit into the tab's outbox.
+//! Hello owed to a tab because the tab's outbox was full.
 
 ghost use Rattle.std.specs.Prelude.{◌≡◌, None};
 ghost use Rattle.wl_kernel_rules.specs.Owed.{greeting, refused, settled, hello_due, noted};
@@ -6,7 +6,7 @@ ghost use Rattle.wl_kernel_rules.specs.Owed.{greeting, refused, settled, hello_d
 use std::marker::Model;
 use wl_frames::{Frame, Hello};
 
-/// The generation of the newest Hello that did not fit into a tab's outbox and was not made up for since.
+/// The generation of the newest Hello that did not fit into a tab's outbox and has not been made up for.
 #[derive(Clone, Copy, Debug, PartialEq, Eq)]
 pub struct OwedHello {
     generation: Option<u32>,
@@ -23,14 +23,15 @@ impl Model for OwedHello {
 }
 
 impl OwedHello {
-    /// Nothing is owed.
+    /// Returns a state in which no Hello is owed.
     pub fn new() -> OwedHello
         ensures { result ≡ None }
     {
         OwedHello { generation: None }
     }
 
-    /// Notes whether a frame was put into the outbox. `greeting` is the generation of a Hello; other frames change nothing.
+    /// Records whether a frame was put into the outbox. `greeting` is the generation of a Hello;
+    /// other frames change nothing.
     pub fn note(&mut self, greeting: Option<u32>, is_put: bool)
         ensures { self.new ≡ noted greeting is_put self.old }
     {
@@ -41,7 +42,7 @@ impl OwedHello {
         }
     }
 
-    /// Owes the Hello of this generation, which did not fit, unless a later one is owed already.
+    /// Records that the Hello of this generation did not fit. Nothing changes if a later one is owed already.
     pub fn refuse(&mut self, generation: u32)
         ensures { self.new ≡ refused generation self.old }
     {
@@ -51,7 +52,7 @@ impl OwedHello {
         };
     }
 
-    /// Settles what is owed up to this generation, whose Hello was put.
+    /// Settles the debt up to this generation, whose Hello was put.
     pub fn settle(&mut self, generation: u32)
         ensures { self.new ≡ settled generation self.old }
     {
@@ -67,7 +68,7 @@ impl OwedHello {
     }
 }
 
-/// Returns the generation of a Hello, and None for any other frame.
+/// Returns the generation of a Hello, or `None` for any other frame.
 pub fn greeting_of(frame: &Frame) -> Option<u32>
     ensures { result ≡ greeting frame.now }
 {

@@ -1,4 +1,4 @@
-//! Why a tab was not opened, and what is printed then.
+//! Reasons for which a tab was not opened, and their replies.
 
 ghost use Rattle.std.specs.Prelude.{◌≡◌, Ok, Err};
 ghost use Rattle.wl_kernel_rules.specs.declared.refusals.Unopened.TheVariants.{Failed as failed};
@@ -11,14 +11,14 @@ use wl_origin::OriginFault;
 use wl_process::ProcessFault;
 use wl_process_script::KernelReply;
 
-/// Why a tab was not opened.
+/// Reason for which a tab was not opened.
 #[derive(Clone, Copy, Debug, PartialEq, Eq)]
 pub enum Unopened {
-    /// Each number was drawn.
+    /// Every tab number has been drawn.
     TabsUsedUp,
-    /// The kernel refused it.
+    /// The kernel refused the opening.
     Refused(OpenFault),
-    /// The kernel's process can't go on.
+    /// The kernel process cannot continue.
     Failed(ProcessFault),
 }
 
@@ -51,7 +51,8 @@ impl From<OpenFault> for Unopened {
     }
 }
 
-/// What is printed for a page that has no partition. Where memory was refused nothing is, and the process ends as Memory.
+/// Returns the reply to a page without a partition. Fails with `Memory` if out of memory: nothing is printed
+/// and the process ends.
 pub fn unread_reply(fault: OriginFault) -> Result<KernelReply<'static>, ProcessFault>
     ensures bad_url { fault ≡ OriginFault.BadUrl → result ≡ Ok KernelReply.BadUrl }
     ensures security { fault ≡ OriginFault.Security → result ≡ Ok KernelReply.SecurityError }
@@ -64,8 +65,8 @@ pub fn unread_reply(fault: OriginFault) -> Result<KernelReply<'static>, ProcessF
     }
 }
 
-/// What is printed for a tab that was not opened. Where memory was refused nothing is, and the process ends as Memory; where it
-/// can't go on, it ends for that fault.
+/// Returns the reply to a tab that was not opened. Fails with the process's fault if it cannot continue, and
+/// with `Memory` if out of memory. Nothing is printed then.
 pub fn unopened_reply(fault: Unopened) -> Result<KernelReply<'static>, ProcessFault>
     ensures used_up { fault ≡ Unopened.TabsUsedUp → result ≡ Ok KernelReply.TabsUsedUp }
     ensures taken { fault ≡ Unopened.Refused OpenFault.NumberTaken → result ≡ Ok KernelReply.NumberTaken }

@@ -1,4 +1,4 @@
-//! The kernel's table of tabs, whether a broker runs or none.
+//! Supervisor: the kernel's table of tabs, and whether a broker runs.
 
 ghost use Rattle.std.specs.Prelude.{◌≡◌, ◌≢◌, ◌≤◌, [], None, Some, Err, IfOk, OnOk, IfErr, OnErr, true, is_some, if◌then◌else◌};
 ghost use Rattle.wl_draft.specs.Refusals.{RefusesBy, RefusesOnlyBy};
@@ -16,7 +16,7 @@ use wl_kernel::{Down, OpenFault, RouteFault, Routed, StartFault, Tabs, Up};
 use wl_origin::Partition;
 use wl_process::ProcessFault;
 
-/// The kernel without a broker, or with one.
+/// The kernel, with or without a running broker.
 enum State {
     Down(Down),
     Up(Up),
@@ -76,7 +76,7 @@ impl State {
     }
 }
 
-/// The living tabs, in a list of their own.
+/// Returns a copy of the list of living tabs.
 fn living_in(alloc: Global, down: &Down) -> Result<Vec<u16>, AllocError>
     ensures list { IfOk result (λ v. v.items ≡ living_tabs down.now) }
     ensures growth { OnErr result (living_tabs down.now ≢ []) }
@@ -114,8 +114,8 @@ fn start(alloc: Global, down: Down) -> (State, Result<(u32, Frame), NotStarted>)
     }
 }
 
-/// The kernel's table of tabs, whether a broker runs or none. Whatever it is told, it is what a list of the kernel's own calls
-/// makes of a kernel without tabs.
+/// The kernel's table of tabs, and whether a broker runs. Its kernel is always the result of some list of
+/// kernel calls, starting without tabs.
 #[derive(Drop)]
 pub struct Supervisor {
     alloc: Global,
@@ -132,13 +132,13 @@ impl Model for Supervisor {
     ghost invariant = { λ s. IsReached (seen s.state).kernel };
 }
 
-/// Why no broker was started.
+/// Reason for which no broker was started.
 #[derive(Clone, Copy, Debug, PartialEq, Eq, Error)]
 pub enum NotStarted {
-    /// One runs.
+    /// A broker runs.
     #[error("AlreadyUp")]
     AlreadyUp,
-    /// Memory was refused.
+    /// Out of memory.
     #[error("Memory")]
     Memory,
 }
@@ -157,28 +157,28 @@ impl From<NotStarted> for ProcessFault {
     }
 }
 
-/// Why no broker was stopped.
+/// Reason for which no broker was stopped.
 #[derive(Clone, Copy, Debug, PartialEq, Eq, Error)]
 pub enum NotStopped {
-    /// None runs.
+    /// No broker runs.
     #[error("NotUp")]
     NotUp,
-    /// It is of the last generation that there may be.
+    /// The broker is of the last generation.
     #[error("GenerationsUsedUp")]
     GenerationsUsedUp,
 }
 
-/// Where a tab's frame goes, and who has sent it.
+/// Destination of a tab's frame, with facts about its sender.
 #[derive(Drop)]
 pub struct Sent {
     pub routed: Routed,
     /// The number of the sender's partition.
     pub partition: u16,
-    /// The generation of the broker that runs.
+    /// The generation of the broker that runs, if one does.
     pub current: Option<u32>,
 }
 
-/// What a broker says to a tab.
+/// A broker's frame for a tab.
 #[derive(Drop)]
 pub struct Delivery {
     pub tab: u16,
@@ -188,7 +188,7 @@ pub struct Delivery {
 }
 
 impl Supervisor {
-    /// No tabs, and no broker; the generations go up to `last`.
+    /// Returns a supervisor without tabs and without a broker. `last` is the last generation that there may be.
     pub fn new(alloc: Global, last: u32) -> Supervisor
         requires { 1 ≤ last }
         ensures { result ≡ without_broker (no_tabs last) }
@@ -209,7 +209,7 @@ impl Supervisor {
         }
     }
 
-    /// The generation of the broker that runs.
+    /// Returns the generation of the broker that runs, if one does.
     pub fn current(&self) -> Option<u32>
         ensures { result ≡ current self.now }
     {
@@ -219,7 +219,7 @@ impl Supervisor {
         }
     }
 
-    /// The generation of the broker that runs, or of the next one.
+    /// Returns the generation of the broker that runs, or of the next one.
     pub fn generation(&self) -> u32
         ensures value { result ≡ self.now.kernel.generation }
         ensures from_one { 1 ≤ result }
@@ -227,7 +227,7 @@ impl Supervisor {
         self.tabs().generation()
     }
 
-    /// Opens a tab in a partition, whose number is answered.
+    /// Opens a tab in a partition and returns the partition's number.
     #[tactic(auto, using(crate::proofs::Reaching::opens_reached))]
     pub fn open(&mut self, tab: u16, partition: Partition) -> Result<u16, OpenFault>
         ensures ok { OnOk result (self.new ≡ with_kernel (opened tab partition self.old.kernel) self.old) }
@@ -241,7 +241,7 @@ impl Supervisor {
         }
     }
 
-    /// A tab is dead from now on. Nothing happens where it was never opened, or is dead.
+    /// Marks a tab as dead. Has no effect if the tab was never opened or is already dead.
     #[tactic(auto, using(crate::proofs::Reaching::kills_reached))]
     pub fn kill(&mut self, tab: u16)
         ensures { self.new ≡ (if is_some (kill_refusal tab self.old.kernel)
@@ -253,8 +253,8 @@ impl Supervisor {
         };
     }
 
-    /// Where a tab's frame goes: what it says to the broker is stamped with its number and its partition's, and what it posts is
-    /// heard by the other living tabs of the partition.
+    /// Routes a tab's frame. A frame for the broker is stamped with the numbers of the tab and its partition.
+    /// A post goes to the other living tabs of the partition.
     pub fn send(&self, tab: u16, frame: Frame) -> Result<Sent, RouteFault>
         ensures routed { IfOk result (λ s. s.routed ≡ routed_up tab frame self.now.kernel) }
         ensures partition { IfOk result (λ s. s.partition ≡ partition_number self.now.kernel tab) }
@@ -272,7 +272,7 @@ impl Supervisor {
         })
     }
 
-    /// What the broker behind the link of a generation says to a living tab. It takes no memory.
+    /// Routes a frame of the broker behind a generation's link to a living tab. Allocates no memory.
     pub fn deliver(&self, link: u32, frame: Frame) -> Result<Delivery, RouteFault>
         ensures routed { IfOk result (λ d. routed_down frame ≡ Some (d.tab, d.frame)) }
         ensures partition { IfOk result (λ d. d.partition ≡ partition_number self.now.kernel d.tab) }
@@ -290,19 +290,19 @@ impl Supervisor {
         })
     }
 
-    /// The number of a tab's partition, and 0 where the tab was never opened.
+    /// Returns the number of a tab's partition, or 0 if the tab was never opened.
     fn partition_number(&self, tab: u16) -> u16
         ensures { result ≡ partition_number self.now.kernel tab }
     {
         self.tabs().partition_number(tab).unwrap_or(0)
     }
 
-    /// Starts the broker of the generation with exactly the living tabs, and gives its Start frame. AlreadyUp where one runs;
-    /// Memory where the list of the tabs could not be made.
+    /// Starts the broker of the current generation with exactly the living tabs, and returns the generation
+    /// with its Start frame. Fails with `AlreadyUp` if one runs, and with `Memory` if out of memory.
     pub fn start(&mut self) -> Result<(u32, Frame), NotStarted>
-        // The kernel never refuses a start with exactly the living tabs,
+        // The kernel never refuses a start with exactly the living tabs.
         ensures allowed { start_refusal (living_tabs self.old.kernel) self.old.kernel ≡ None }
-        // which takes no memory where none lives.
+        // Memory is needed only if a tab lives.
         ensures growth { result ≡ Err NotStarted.Memory → living_tabs self.old.kernel ≢ [] }
         ensures ok { OnOk result (self.new ≡ begun self.old) }
         ensures generation { IfOk result (λ r. r.0 ≡ self.old.kernel.generation) }
@@ -317,8 +317,8 @@ impl Supervisor {
         started
     }
 
-    /// Stops the broker, and gives its generation. NotUp where none runs; GenerationsUsedUp where its generation is the last one.
-    /// It takes no memory.
+    /// Stops the broker and returns its generation. Fails with `NotUp` if none runs, and with
+    /// `GenerationsUsedUp` if its generation is the last. Allocates no memory.
     pub fn stop(&mut self) -> Result<u32, NotStopped>
         ensures ok { OnOk result (self.new ≡ halted self.old) }
         ensures generation { IfOk result (λ g. g ≡ self.old.kernel.generation) }
@@ -330,7 +330,7 @@ impl Supervisor {
         stopped
     }
 
-    /// Takes the state out, for a new one.
+    /// Moves the state out, leaving an empty one.
     fn take_state(&mut self) -> State
         ensures state { seen result ≡ self.old }
         ensures reached { IsReached (seen result).kernel }

@@ -1,4 +1,4 @@
-//! How far a broker's numbers go.
+//! Limit of the generation number.
 
-/// The last generation.
+/// The last generation that the kernel can start.
 pub const LAST_GENERATION: u32 = 65_535;

@@ -1,4 +1,5 @@
-//! The limits of standards, protocol and scripts, each with the one name by which code and contracts call it.
+//! Limits of the standards, the protocol and the scripts. Code and contracts use the same name for
+//! each limit.
 #![tactic(auto)]
 
 pub mod brokers;

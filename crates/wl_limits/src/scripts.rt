@@ -1,4 +1,4 @@
-//! How long the lines of scripts may be.
+//! Limit of the length of a script's lines.
 
-/// The longest line of a script, in bytes, without its end.
+/// Maximum length of a script's line, in bytes, without its line end.
 pub const LINE_LIMIT: usize = 65_536;

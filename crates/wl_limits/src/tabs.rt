@@ -1,22 +1,22 @@
-//! How many tabs live, and what each may have.
+//! Limits of the number of tabs, and of the commands and locks of each.
 
-/// The most tabs that live at the same time.
+/// Maximum number of tabs alive at the same time.
 pub const LIVING_LIMIT: usize = 1_024;
 
-/// The most tabs of one partition that live at the same time.
+/// Maximum number of tabs of one partition alive at the same time.
 pub const PARTITION_LIMIT: usize = 64;
 
-/// The last number of a tab. None is given twice.
+/// The last tab number. The kernel never reuses a tab's number.
 pub const LAST_TAB: u16 = 65_535;
 
-/// The most commands that a tab issues.
+/// Maximum number of commands that a tab issues.
 pub const COMMAND_LIMIT: u32 = 1_000_000;
 
-/// The greatest number that a frame can say. No command is taken under it.
+/// The greatest number that fits in a frame. The broker takes no command with this number.
 pub const LAST_NUMBER: u32 = 4_294_967_295;
 
-/// The most live locks of a tab that reports at once.
+/// Maximum number of live locks of a tab that reports in a single frame.
 pub const LIVE_LIMIT: usize = 64;
 
-/// The most live locks of a tab that reports in parts.
+/// Maximum number of live locks of a tab that reports in parts.
 pub const LIVE_LIMIT_IN_PARTS: usize = 1_024;

@@ -1,13 +1,13 @@
-//! How long texts may be, in bytes.
+//! Limits of the length of texts, in bytes.
 
-/// The longest URL that an origin is read from.
+/// Maximum length of a URL from which an origin is parsed.
 pub const URL_LIMIT: usize = 2_048;
 
-/// The longest text of an origin.
+/// Maximum length of an origin.
 pub const ORIGIN_LIMIT: usize = 4_096;
 
-/// The longest name of a lock or of a channel.
+/// Maximum length of the name of a lock or of a channel.
 pub const NAME_LIMIT: usize = 255;
 
-/// The most data of a post.
+/// Maximum length of a post's data.
 pub const DATA_LIMIT: usize = 16_384;

@@ -1,4 +1,4 @@
--- The first fault among shards.
+-- Lemmas on the first fault among shards.
 use Rattle.std.proofs.Common.{rules, ◌≡◌, ◌<◌, ℕ, false, List, [], ◌∷◌, length, Option, Some, None, refl, arith}
 use Rattle.std.specs.Prelude.{slice_index_or, is_some}
 use Rattle.wl_locked.specs.declared.receipt.Receipt.{Receipt}
@@ -12,7 +12,7 @@ pub stopped : (run : Run) (lanes : List (List (List Receipt))) (histories : List
 stopped run lanes histories None shard fault none lt long h at = (lt, at, λ s under. (slice_index_or histories s [], h s (omega (arith, long refl, under))))
 stopped run lanes histories (Some e) shard fault none lt long h at = absurd (search rules)
 
--- at first there is neither a history nor a fault
+-- A new collection has neither histories nor a fault.
 pub begun : (run : Run) (lanes : List (List (List Receipt))) (histories : List (List Step)) (fault : Option (ℕ × CloseFault)) → fault ≡ None → histories ≡ [] → IsGatheredAs run lanes histories fault
 begun run lanes [] None none empty = λ shard lt. absurd (omega arith)
 begun run lanes (h ∷ hs) None none empty = absurd (search rules)

@@ -1,4 +1,4 @@
--- Shards that there are not have no tabs, so they send no hellos.
+-- Shards that the run does not use have no tabs, so they send no hellos.
 use Rattle.std.proofs.Common.{◌≡◌, ◌<◌, ◌≤◌, ◌%◌, ⊎_elim, ℕ, zero, suc, List, [], ◌∷◌, ◌++◌, refl, ap, ◌∙◌, append-nil, arith}
 use Rattle.std.proofs.lemmas.Bool.{cases_lt, cond-false, ne_eqb}
 use Rattle.std.proofs.lemmas.Nat.{mod_below}

@@ -1,4 +1,4 @@
--- Lists of shards: what is raised, what stays behind the shards that there are.
+-- Lemmas on lists over shards: raised amounts and added receipts.
 use Rattle.std.proofs.Common.{◌≡◌, ◌<◌, ◌+◌, ◌==◌, append-nil, ⊎_elim, Bool, ℕ, zero, suc, List, [], ◌∷◌, ◌++◌, length, refl, sym, ap, ◌∙◌, arith}
 use Rattle.std.specs.Prelude.{slice_index_or, if◌then◌else◌}
 use Rattle.std.proofs.lemmas.Bool.{cases_eq, eq-eqb, ne_eqb}
@@ -11,7 +11,7 @@ raised-length [] lane = refl
 raised-length (n ∷ ns) [] = refl
 raised-length (n ∷ ns) (rs ∷ lane) = omega (arith, raised-length ns lane)
 
--- each amount is raised by the receipts of its shard
+-- Each amount is raised by the number of receipts of its shard.
 pub raised-at : (ns : List ℕ) (lane : List (List Receipt)) (shard : ℕ) → shard < length ns → slice_index_or (raised ns lane) shard 0 ≡ slice_index_or ns shard 0 + length (receipts_of shard lane)
 raised-at [] lane shard lt = absurd (omega arith)
 raised-at (n ∷ ns) [] zero lt = omega arith
@@ -19,7 +19,7 @@ raised-at (n ∷ ns) [] (suc shard) lt = omega arith
 raised-at (n ∷ ns) (rs ∷ lane) zero lt = refl
 raised-at (n ∷ ns) (rs ∷ lane) (suc shard) lt = raised-at ns lane shard (omega arith)
 
--- a lane more
+-- One more lane adds its receipts to the total of a shard.
 pub total-in-push : (shard : ℕ) (lanes : List (List (List Receipt))) (lane : List (List Receipt)) → total (receipts_in shard (lanes ++ lane ∷ [])) ≡ total (receipts_in shard lanes) + length (receipts_of shard lane)
 total-in-push shard [] lane = omega arith
 total-in-push shard (l ∷ lanes) lane = omega (arith, total-in-push shard lanes lane)
@@ -36,7 +36,7 @@ receipts-other zero r (rs ∷ lane) (suc s) ne = refl
 receipts-other (suc shard) r (rs ∷ lane) zero ne = refl
 receipts-other (suc shard) r (rs ∷ lane) (suc s) ne = receipts-other shard r lane s (λ e. ne (ap suc e))
 
--- a receipt more in its shard, and nowhere else
+-- A receipt is added to its shard and to no other.
 pub receipts-with : (shard : ℕ) (r : Receipt) (lane : List (List Receipt)) (s : ℕ) → shard < length lane → receipts_of s (with_receipt shard r lane) ≡ receipts_of s lane ++ (if shard == s then r ∷ [] else [])
 receipts-with shard r lane s lt =
     let more : Bool → List Receipt = λ b. receipts_of s lane ++ (if b then r ∷ [] else []) in

@@ -1,4 +1,4 @@
--- Replies that are left, and what is the same with the same reply.
+-- Lemmas on the remaining copies of a reply.
 use Rattle.std.proofs.Common.{◌≡◌, ◌+◌, ◌∷◌, ◌++◌, [], ℕ, List, length, ap, ◌∙◌, arith}
 use Rattle.std.proofs.lemmas.List.{length-replicate}
 use Rattle.wl_locked.specs.Replying.{AreReplies, HasNext}

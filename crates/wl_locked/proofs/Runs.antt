@@ -1,4 +1,4 @@
--- Marking one receipt after another.
+-- Lemmas on marking receipts one by one.
 use Rattle.std.proofs.Common.{◌≡◌, ◌≤◌, ◌<◌, ◌+◌, ◌==◌, ℕ, zero, suc, List, [], ◌∷◌, ◌++◌, length, get_or, set, drop, replicate, Bool, true, false, inl, inr, ⊎_elim, refl, sym, ap, ◌∙◌, subst, arith, add-zero, get_or-set_same, get_or-set_other}
 use Rattle.std.specs.Prelude.{if◌then◌else◌}
 use Rattle.std.proofs.lemmas.Bool.{cases_Bool, cases_lt, cases_eq, eq-eqb, ne_eqb}
@@ -54,7 +54,7 @@ refused-here steps ms least r rs taken =
     (cases_Bool (get_or ms r.place false)))
     (cases_lt r.place least)
 
--- no receipt is left
+-- Marking no receipt changes no mark.
 pub marked-nil : (steps : List Step) (ms : List Bool) (least : ℕ) → IsMarked steps least [] ms ms
 marked-nil steps ms least =
     record {
@@ -65,7 +65,7 @@ marked-nil steps ms least =
       same = refl;
     }
 
--- a lane more
+-- One more lane is marked.
 pub lanes-cons : (steps : List Step) (ms mid out : List Bool) (rs : List Receipt) (lanes : List (List Receipt)) → IsMarked steps 0 rs ms mid
     → AreMarked steps lanes mid out → AreMarked steps (rs ∷ lanes) ms out
 lanes-cons steps ms mid out rs lanes first rest =
@@ -92,7 +92,7 @@ pub refused-later : (steps : List Step) (ms mid : List Bool) (rs : List Receipt)
 refused-later steps ms mid rs lanes p first h =
     ⊎_elim (λ (o : Among (HasFault steps p) lanes). inl (inr o)) (λ (t : 1 < bit mid p + times_in p lanes). inr (omega (arith, t, first.bits p))) h
 
--- at first no place is marked
+-- In a fresh list of marks no place is marked.
 pub bit-none : (n p : ℕ) → bit (replicate n false) p ≡ 0
 bit-none zero p = refl
 bit-none (suc n) zero = refl
@@ -107,14 +107,14 @@ marked-le [] = omega arith
 marked-le (true ∷ ms) = omega (arith, marked-le ms)
 marked-le (false ∷ ms) = omega (arith, marked-le ms)
 
--- where a place is not marked, fewer are marked than there are
+-- If some place is unmarked, fewer places are marked than there are.
 pub marked-lt : (ms : List Bool) (k : ℕ) → k < length ms → get_or ms k false ≡ false → marked ms < length ms
 marked-lt [] k lt off = absurd (omega arith)
 marked-lt (b ∷ ms) zero lt off = rw off (omega (arith, marked-le ms))
 marked-lt (true ∷ ms) (suc k) lt off = omega (arith, marked-lt ms k (omega arith) off)
 marked-lt (false ∷ ms) (suc k) lt off = omega (arith, marked-lt ms k (omega arith) off)
 
--- the rest of a list begins with the item read
+-- A suffix of a list starts with the item read.
 pub front : {X : Type 0} (xs : List X) (i : ℕ) (x : X) → i < length xs → x ≡ get_or xs i x → drop i xs ≡ x ∷ drop (i + 1) xs
 front xs i x lt is =
     let e : suc i ≡ i + 1 = omega arith in
@@ -124,7 +124,7 @@ pub total-push : (lanes : List (List Receipt)) (rs : List Receipt) → total (la
 total-push [] rs = omega arith
 total-push (l ∷ lanes) rs = omega (arith, total-push lanes rs)
 
--- where each place is marked in the end
+-- If every place is marked in the end, the receipts make up the history.
 pub made : (steps : List Step) (lanes : List (List Receipt)) (new : List Bool) → AreMarked steps lanes (replicate (length steps) false) new
     → ((p : ℕ) → p < length new → get_or new p false ≡ true) → IsMadeOf steps lanes
 made steps lanes new h all =
@@ -141,7 +141,7 @@ pub mismatch : (steps : List Step) (lanes : List (List Receipt)) (p : ℕ) → A
 mismatch steps lanes p h =
     ⊎_elim (λ (o : Among (HasFault steps p) lanes). inl o) (λ (t : 1 < bit (replicate (length steps) false) p + times_in p lanes). inr (omega (arith, t, bit-none (length steps) p))) h
 
--- where a place is not marked in the end, there are fewer receipts than steps
+-- If some place is unmarked in the end, there are fewer receipts than steps.
 pub fewer : (steps : List Step) (lanes : List (List Receipt)) (new : List Bool) → AreMarked steps lanes (replicate (length steps) false) new
     → (p : ℕ) × (p < length new) × (get_or new p false ≡ false) → total lanes < length steps
 fewer steps lanes new h gap =

@@ -1,4 +1,4 @@
--- `==` on events and replies says that they are equal.
+-- `==` on events and replies is equality.
 use Rattle.std.proofs.Common.{rules, ◌≡◌, ℕ, nat_eq, Bool, true, false, ◌&&◌, List, refl, sym, ap, subst, true≢false}
 use Rattle.std.specs.Prelude.{Decides}
 use Rattle.std.specs.Cmp.Lexicographic.{pointwise, pointwise_decides}
@@ -53,7 +53,7 @@ command_same x y = search rules
 number_same : (x y : ℕ) → Decides (nat_eq x y) (x ≡ y)
 number_same x y = search rules
 
--- two constructors that differ are told apart
+-- Different constructors compare as different.
 apart : {P : Type 0} → false ≡ true → P
 apart h = absurd (true≢false (sym h))
 
@@ -69,7 +69,7 @@ report_part_same x y =
       λ e. d.1 (ap (λ (r : ReportPart). r.generation) e, (ap (λ (r : ReportPart). r.base) e, (ap (λ (r : ReportPart). r.part) e, (ap (λ (r : ReportPart). r.parts) e, ap (λ (r : ReportPart). r.entries) e)))),
     )
 
--- equal values compare as equal
+-- Equal values compare as equal.
 by_self : {X : Type 0} (eq : X → X → Bool) → ((x : X) → eq x x ≡ true) → (x y : X) → x ≡ y → eq x y ≡ true
 by_self eq self x y e = subst (λ z. eq x z ≡ true) e (self x)
 
@@ -92,7 +92,7 @@ stamped_same x y =
     let d = both (number_same x.tab y.tab) (both (number_same x.partition y.partition) (upward_same x.inner y.inner)) in
     (λ h. let p = d.0 h in λ i. record { tab = p.0 i; partition = p.1.0 i; inner = p.1.1 i }, λ e. d.1 (ap (λ (s : Stamped). s.tab) e, (ap (λ (s : Stamped). s.partition) e, ap (λ (s : Stamped). s.inner) e)))
 
--- ---- what the broker is told
+-- Events
 
 event_self : (x : BookEvent) → book_event.ghosts.eq x x ≡ true
 event_self (Take s) = (stamped_same s s).1 refl
@@ -106,7 +106,7 @@ event_sound _ _ h = apart h
 pub event_same : (x y : BookEvent) → Decides (book_event.ghosts.eq x y) (x ≡ y)
 event_same x y = (event_sound x y, by_self book_event.ghosts.eq event_self x y)
 
--- ---- what it answers
+-- Replies
 
 snapshot_entry_same : (x y : SnapshotEntry) → Decides (snapshot_entry.ghosts.eq x y) (x ≡ y)
 snapshot_entry_same x y = search rules

@@ -1,4 +1,4 @@
--- One step more.
+-- Lemmas on one more step.
 use Rattle.std.proofs.Common.{◌≡◌, ◌<◌, ◌+◌, ℕ, List, [], ◌∷◌, ◌++◌, length, replicate, Bool, false, refl, sym, ap, ◌∙◌, arith}
 use Rattle.std.proofs.lemmas.List.{replicate_more, length_push}
 use Rattle.wl_broker.specs.Broker.{BrokerState}
@@ -18,7 +18,7 @@ pub length-events : (es : List Step) → length (events es) ≡ length es
 length-events [] = refl
 length-events (e ∷ es) = omega (arith, length-events es)
 
--- the step goes to the end
+-- Appending a step keeps the book consistent.
 pub IsKept-push : (opening now next : BrokerState) (steps longer : List Step) (e : Step) (marks more : List Bool) (limit count total : ℕ)
     → IsKept opening now steps marks limit count
     → next ≡ (stepped now e.event).0 → e.reply ≡ (stepped now e.event).1

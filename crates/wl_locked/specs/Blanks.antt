@@ -1,4 +1,4 @@
--- The new ledgers of all shards.
+-- The unopened ledgers of all shards.
 use Rattle.std.specs.Prelude.{◌≡◌, ℕ, [], ◌∷◌, slice_index_or}
 use Rattle.wl_locked.specs.declared.shards.Blanks.{Blanks}
 
@@ -21,7 +21,7 @@ HaveParts lanes b =
     × (b.fourteen.parts ≡ lanes)
     × (b.fifteen.parts ≡ lanes)
 
--- the name of a shard's ledger
+-- The name of a shard's ledger.
 abbrev pub name_at : Blanks → ℕ → ℕ
 name_at b shard =
     slice_index_or

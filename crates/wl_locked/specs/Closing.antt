@@ -1,4 +1,4 @@
--- What comes of a book that is closed with the receipts of its lanes.
+-- The result of closing a book with its lanes' receipts.
 use Rattle.std.specs.Prelude.{◌≡◌, ◌≢◌, ◌<◌, ◌≤◌, ℕ, Bool, true, false, List, length, Result, Ok, Err, IfOk, IfErr}
 use Rattle.wl_broker.specs.Broker.{BrokerState}
 use Rattle.wl_locked.specs.declared.receipt.Receipt.{Receipt}
@@ -8,11 +8,12 @@ use Rattle.wl_locked.specs.declared.receipt.CloseFault.TheVariants.{Mismatch, Wr
 use Rattle.wl_locked.specs.History.{IsReplay}
 use Rattle.wl_locked.specs.Receipts.{total, IsMadeOf, IsMismatch}
 
--- one thread could have made it, it has no more steps than it may have, and it is made of the receipts
+-- A sequential run could have made the history, it is within the step limit, and the lanes'
+-- receipts make it up.
 abbrev pub IsHistory : BrokerState → ℕ → List (List Receipt) → List Step → Type 0
 IsHistory opening limit lanes history = IsReplay opening history × (length history ≤ limit) × IsMadeOf history lanes
 
--- a receipt is not that of a step, or the lanes are not all
+-- A receipt does not fit a valid history, or some lanes are missing.
 abbrev pub IsFault : BrokerState → ℕ → ℕ → List (List Receipt) → CloseFault → Type 0
 IsFault opening limit parts lanes (Mismatch p) =
     (history : List Step) × IsReplay opening history × (length history ≤ limit) × (length lanes ≡ parts → length history ≡ total lanes) × IsMismatch history lanes p
@@ -22,7 +23,7 @@ abbrev pub IsClosed : BrokerState → ℕ → ℕ → List (List Receipt) → Re
 IsClosed opening limit parts lanes (Ok history) = IsHistory opening limit lanes history
 IsClosed opening limit parts lanes (Err fault) = IsFault opening limit parts lanes fault
 
--- Only a helper: what the comparison found, and how many steps the ledger counts
+-- Helper: the result of the comparison, and the number of steps that the ledger counts.
 pub record IsCompared (opening : BrokerState) (limit : ℕ) (lanes : List (List Receipt)) (steps : List Step) (compared : Result Bool ℕ) (counted : ℕ) : Type 0 where
   pub replays : IsReplay opening steps
   pub within : length steps ≤ limit

@@ -1,25 +1,25 @@
--- What a run over receipts does to marks.
+-- The effect on marks of a run over receipts.
 use Rattle.std.specs.Prelude.{◌≡◌, ◌+◌, ◌<◌, ◌≤◌, ◌⊎◌, ℕ, List, [], ◌∷◌, length, Bool, false, slice_index_or, if◌then◌else◌}
 use Rattle.wl_locked.specs.declared.receipt.Step.{Step}
 use Rattle.wl_locked.specs.declared.receipt.Receipt.{Receipt}
 use Rattle.wl_locked.specs.Receipts.{IsAt, IsOther, HasFault, Each, Among, Rises, Falls, times, times_in, total}
 
--- 1 where the place is marked
+-- 1 if the place is marked, else 0.
 abbrev pub bit : List Bool → ℕ → ℕ
 bit marks p = if slice_index_or marks p false then 1 else 0
 
--- how many are marked
+-- The number of marks that are set.
 abbrev pub marked : List Bool → ℕ
 marked [] = 0
 marked (b ∷ bs) = (if b then 1 else 0) + marked bs
 
--- the receipt is the step at its place, which is not marked and not below this
+-- The receipt equals the step at its place, which is unmarked and not below `least`.
 pub record IsFree (steps : List Step) (marks : List Bool) (least : ℕ) (r : Receipt) : Type 0 where
   pub above : least ≤ r.place
   pub at : IsAt steps r
   pub free : slice_index_or marks r.place false ≡ false
 
--- the places of the receipts were marked, and no others
+-- The places of exactly these receipts were marked.
 pub record IsMarked (steps : List Step) (least : ℕ) (rs : List Receipt) (old new : List Bool) : Type 0 where
   pub stands : Each (IsAt steps) rs
   pub rises : Rises least rs
@@ -27,7 +27,7 @@ pub record IsMarked (steps : List Step) (least : ℕ) (rs : List Receipt) (old n
   pub count : marked new ≡ marked old + length rs
   pub same : length new ≡ length old
 
--- a receipt of place p could not be marked
+-- A receipt of place p could not be marked.
 abbrev pub IsRefused : List Step → ℕ → List Receipt → List Bool → ℕ → Type 0
 IsRefused steps least rs marks p =
     Among (IsOther steps p) rs ⊎ (Falls p least rs ⊎ (1 < bit marks p + times p rs))

@@ -1,4 +1,4 @@
--- A step's reply, as often as it is told.
+-- Copies of a step's reply.
 use Rattle.std.specs.Prelude.{◌≡◌, ◌<◌, ℕ, List, length, replicate}
 use Rattle.wl_grammar.specs.declared.frame.Addressed.{Addressed}
 use Rattle.wl_locked.specs.declared.event.Reply.{Reply}
@@ -6,7 +6,7 @@ use Rattle.wl_locked.specs.declared.event.Reply.TheVariants.{Outs, Dropped}
 use Rattle.wl_locked.specs.declared.answering.Replies.{Replies}
 use Rattle.wl_locked.specs.declared.answering.Replies.TheVariants.{Sent, Refused}
 
--- so many replies that are all this one
+-- These are n copies of the reply. A refusal can be copied any number of times.
 abbrev pub AreReplies : ℕ → Reply → Replies → Type 0
 AreReplies n reply (Sent all) = (outs : List Addressed) × (all.items ≡ replicate n outs) × (reply ≡ Outs outs)
 AreReplies n reply (Refused reason) = reply ≡ Dropped reason

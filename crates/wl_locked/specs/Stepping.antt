@@ -1,16 +1,16 @@
--- What the broker does with an event, and what it answers.
+-- The broker's step on an event, and its reply.
 use Rattle.wl_broker.specs.Broker.{BrokerState, Taking, Does, Drops, taking, burial}
 use Rattle.wl_locked.specs.declared.event.BookEvent.{BookEvent}
 use Rattle.wl_locked.specs.declared.event.BookEvent.TheVariants.{Take, Dead}
 use Rattle.wl_locked.specs.declared.event.Reply.{Reply}
 use Rattle.wl_locked.specs.declared.event.Reply.TheVariants.{Outs, Dropped}
 
--- a message that is dropped changes nothing
+-- The next state and the reply for a decision of the broker. A dropped message changes nothing.
 abbrev pub replied : BrokerState → Taking → BrokerState × Reply
 replied b (Drops reason) = (b, Dropped reason)
 replied b (Does after outs) = (after, Outs outs)
 
--- one step: a message comes, or a tab is named dead
+-- One step of the broker: a message arrives, or a tab's death is reported.
 abbrev pub stepped : BrokerState → BookEvent → BrokerState × Reply
 stepped b (Take s) = replied b (taking b s)
 stepped b (Dead t) = ((burial b t).0, Outs (burial b t).1)

@@ -1,5 +1,5 @@
-//! What the broker answers to an event, as often as it is told: to the history, in the receipt that is handed out, and in the
-//! lane's own.
+//! The broker's reply to an event, in as many copies as are needed: one for the history, one for
+//! the receipt returned to the caller and one for the lane's own receipt.
 
 ghost use Rattle.std.specs.Prelude.{◌≡◌, ◌≢◌, ◌+◌, ℕ, Err, OnOk, OnErr, IfOk};
 ghost use Rattle.wl_locked.specs.Stepping.{stepped};
@@ -12,20 +12,21 @@ use crate::shared_event::SharedEvent;
 use wl_broker::{Broker, Dropped, Outs};
 use wl_table::IndexedTable;
 
-/// How often a step's reply is told.
+/// The number of copies of a step's reply.
 pub(crate) const COPIES: usize = 3;
 
-/// Equal replies. Each is made where it is kept, since a list is handed on for less than the replies are.
+/// Copies of one reply. `next` builds each `Reply` only when it is stored, because moving the list
+/// is cheaper than moving replies.
 #[derive(Drop)]
 pub(crate) enum Replies {
-    /// The broker did what it was told, and sends each of these.
+    /// The broker acted on the event. Each element holds the frames to send.
     Sent(Vec<Outs>),
-    /// It dropped the message for this cause.
+    /// The broker dropped the message for this reason.
     Refused(Dropped),
 }
 
 impl Replies {
-    /// The next one.
+    /// Returns the next copy.
     pub(crate) fn next(&mut self) -> Reply
         requires { HasNext self.old }
         ensures { (n : ℕ) → (reply : Reply) → AreReplies (n + 1) reply self.old
@@ -37,7 +38,7 @@ impl Replies {
         }
     }
 
-    /// The last one.
+    /// Returns the last copy.
     pub(crate) fn last(mut self) -> Reply
         requires { HasNext self }
         ensures { (n : ℕ) → (reply : Reply) → AreReplies (n + 1) reply self → result ≡ reply }
@@ -46,7 +47,7 @@ impl Replies {
     }
 }
 
-/// Steps the broker, and answers equal replies. Otherwise it is as before.
+/// Steps the broker and returns copies of its reply. Leaves the broker unchanged on failure.
 pub(crate) fn answer(
     broker: &mut Broker<IndexedTable>,
     event: &SharedEvent,

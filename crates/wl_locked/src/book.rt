@@ -1,4 +1,4 @@
-//! The book: a broker with all that it did.
+//! The book: a broker with the history of its steps.
 
 ghost use Rattle.std.specs.Prelude.{◌≡◌, ◌≢◌, ◌+◌, ◌<◌, ◌≤◌, ◌↔◌, ◌∷◌, ◌++◌, [], ℕ, List, length, map, true, false, Ok, Err, IfOk, IsTrue, OnOk, OnErr, vec_len, vec_capacity};
 ghost use Rattle.wl_locked.specs.Stepping.{stepped};
@@ -23,17 +23,17 @@ use std::sync::ledger::Share;
 use wl_broker::{Broker, Dropped};
 use wl_table::IndexedTable;
 
-/// A broker with all that it did since it was opened, and the ledger in which its steps are counted. Contracts see it as
-/// its steps.
+/// A broker with all its steps since it was opened, and the ledger that counts them. Its value in
+/// contracts is the list of steps.
 #[derive(Drop)]
 pub struct Book<J: Generation> {
     broker: Broker<IndexedTable>,
     steps: Vec<Step>,
-    /// One for each step, which `close` sets where it finds the receipt.
+    /// One mark per step. `close` sets it when it finds the step's receipt.
     marks: Vec<bool>,
     limit: u32,
     calls: ledger::Book<J>,
-    /// A share of no parts, into which `close` gathers the lanes'.
+    /// A share with no parts, into which `close` merges the lanes' shares.
     spare: Share<J>,
     alloc: Global,
 }
@@ -50,8 +50,8 @@ impl<J: Generation> Model for Book<J> {
     ghost invariant = { λ b. IsKept J.opening b.broker b.steps.items b.marks.items b.limit b.calls.total × (b.limit ≡ J.limit) × (b.spare.parts ≡ 0) × (b.spare.amount ≡ 0) };
 }
 
-/// Handles of an event, for a step and its receipts, and room for one receipt more among these, which make room for so many at
-/// once.
+/// Allocates the handles of an event for a step and its two receipts, and reserves space for one
+/// more receipt. If the list is full, it grows by `at_once` receipts if memory allows, else by one.
 pub(crate) fn handles_with_room(
     alloc: Global,
     receipts: &mut Vec<Receipt>,
@@ -69,7 +69,7 @@ pub(crate) fn handles_with_room(
 }
 
 impl<J: Generation> Book<J> {
-    /// A book without steps.
+    /// Creates a book without steps.
     pub(crate) fn open(
         alloc: Global,
         broker: Broker<IndexedTable>,
@@ -94,15 +94,17 @@ impl<J: Generation> Book<J> {
         }
     }
 
-    /// Whether it has all the steps that it may have.
+    /// Returns true if the book has reached its step limit.
     pub fn is_spent(&self) -> bool
         ensures { IsTrue result ↔ (length self.now ≡ J.limit) }
     {
         self.steps.len() >= self.limit as usize
     }
 
-    /// Steps the broker, stores the step, and answers two equal receipts of it. Whoever steps it has a share of the ledger,
-    /// in which the step is counted.
+    /// Steps the broker, stores the step, and returns two equal receipts of it.
+    ///
+    /// The step is counted in the caller's share of the ledger. Fails with `GenerationSpent` at the
+    /// step limit, and with `Memory` if out of memory. On failure nothing has changed.
     pub fn step(
         &mut self,
         share: &mut Share<J>,
@@ -140,7 +142,8 @@ impl<J: Generation> Book<J> {
         Ok((one, other))
     }
 
-    /// Why nothing is stepped where memory was refused before: that the book is spent comes first.
+    /// Returns the reason for making no step when memory ran out: `GenerationSpent` if the book is
+    /// spent, else `Memory`.
     pub(crate) fn without_memory(&self) -> NotStepped
         ensures { (result ≡ NotStepped.GenerationSpent) ↔ (length self.now ≡ J.limit) }
     {
@@ -151,8 +154,9 @@ impl<J: Generation> Book<J> {
         }
     }
 
-    /// Steps the broker and stores the step, and answers its place, and its reply twice. All growths come before the broker is
-    /// stepped.
+    /// Steps the broker and stores the step. Returns the step's place and two copies of its reply.
+    ///
+    /// All memory is allocated before the broker is stepped, so a failure changes nothing.
     pub(crate) fn store(
         &mut self,
         share: &mut Share<J>,
@@ -197,7 +201,11 @@ impl<J: Generation> Book<J> {
         Ok((place, replies))
     }
 
-    /// Compares the history with the lanes' receipts, by marking their places. It takes no memory.
+    /// Compares the history with the lanes' receipts by marking the place of each receipt.
+    /// Allocates nothing.
+    ///
+    /// Fails with `Mismatch` if a receipt does not fit the history, and with `WrongCount` if there
+    /// are fewer receipts than steps.
     pub fn close(self, lanes: Vec<Lane<J>>) -> Result<History, CloseFault>
         ensures same { IfOk result (λ h. h ≡ self) }
         ensures replays { IfOk result (λ h. IsReplay J.opening h) }
@@ -211,7 +219,8 @@ impl<J: Generation> Book<J> {
         ending.end(gather(spare, lanes))
     }
 
-    /// Compares the history with the receipts of a shard, and gives back the spare share.
+    /// Compares the history with the lanes' receipts of one shard. Returns the result and the spare
+    /// share.
     pub(crate) fn compare<L: Kept>(self, shard: u16, lanes: &[L]) -> (Ending<J>, Share<J>)
         requires { shard < SHARD_LIMIT }
         ensures same { result.0.steps.items ≡ self }
@@ -240,17 +249,18 @@ impl<J: Generation> Book<J> {
     }
 }
 
-/// A book that was compared with the receipts of its lanes.
+/// A book that has been compared with its lanes' receipts.
 #[derive(Drop)]
 pub(crate) struct Ending<J: Generation> {
     steps: Vec<Step>,
-    /// Whether the steps are made of the receipts, or a place where they differ.
+    /// Whether the receipts cover all steps, or the place of a receipt that does not fit.
     compared: Result<bool, u32>,
     calls: ledger::Book<J>,
 }
 
 impl<J: Generation> Ending<J> {
-    /// The history, or why it is not that of the lanes, whose shares are these.
+    /// Returns the history, or why it differs from the lanes' receipts. `all` is the sum of the
+    /// lanes' shares.
     pub(crate) fn end(self, all: Share<J>) -> Result<History, CloseFault>
         ensures same { IfOk result (λ h. h ≡ self.steps.items) }
         ensures whole { OnOk result (self.compared ≡ Ok true) }

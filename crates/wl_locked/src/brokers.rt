@@ -1,4 +1,4 @@
-//! The locked brokers of all shards, each with a ledger of its own, so each of a type of its own.
+//! The locked brokers of all shards. Each shard has a ledger of its own, and so a type of its own.
 
 ghost use Rattle.std.specs.Prelude.{◌≡◌, ◌≢◌, ◌<◌, ◌≤◌, ◌++◌, [], ℕ, List, length, replicate, slice_index_or, IfErr, IfOk, OnOk, OnErr};
 ghost use Rattle.wl_locked.specs.declared.receipt.Step.{Step};
@@ -23,7 +23,8 @@ use std::sync::ledger::{Blank, Share};
 use wl_broker::{Dropped, Outs};
 use wl_grammar::Addressed;
 
-/// A locked broker for each shard that there may be, by fours. Where there are fewer, the others have nothing to do.
+/// One locked broker for each of `SHARD_LIMIT` shards, in groups of four. Brokers of shards that
+/// the run does not use stay idle.
 #[derive(Drop)]
 pub(crate) struct Brokers<J: Shards> {
     first: FourBrokers<J, 0, 1, 2, 3>,
@@ -32,7 +33,7 @@ pub(crate) struct Brokers<J: Shards> {
     fourth: FourBrokers<J, 12, 13, 14, 15>,
 }
 
-/// What the brokers of all shards are started with.
+/// The parameters that the brokers of all shards are started with.
 #[derive(Clone, Copy)]
 pub(crate) struct Beginning<'a> {
     pub(crate) alloc: Global,
@@ -43,7 +44,7 @@ pub(crate) struct Beginning<'a> {
     pub(crate) lanes: u16,
 }
 
-/// The listed tabs of a shard.
+/// Returns the listed tabs whose partition belongs to a shard.
 fn listed_in(beginning: &Beginning<'_>, shard: u16) -> Result<Vec<(u16, u16)>, AllocError>
     requires shards { 0 < beginning.now.shards }
     requires list { TabsRiseFrom 1 beginning.now.list.now }
@@ -60,7 +61,7 @@ fn listed_in(beginning: &Beginning<'_>, shard: u16) -> Result<Vec<(u16, u16)>, A
     Ok(part)
 }
 
-/// Puts hellos behind others.
+/// Appends hellos to the greetings.
 fn append_hellos(
     alloc: Global,
     greetings: &mut Vec<Addressed>,
@@ -72,7 +73,8 @@ fn append_hellos(
     greetings.append(&mut list)
 }
 
-/// Starts the broker of one shard with its part of the list, and puts its hellos behind the others.
+/// Starts the broker of one shard with its part of the start list, and appends its hellos to the
+/// greetings.
 pub(crate) fn open_shard<J: Shards, const SHARD: u16>(
     beginning: &Beginning<'_>,
     blank: Blank,
@@ -102,7 +104,8 @@ pub(crate) fn open_shard<J: Shards, const SHARD: u16>(
 }
 
 impl<J: Shards> Brokers<J> {
-    /// Starts the brokers, and gives the shares that lanes are cut from, and the hellos by rising shard.
+    /// Starts the brokers. Returns them with the shares that lanes are cut from, and the hellos in
+    /// ascending order of shards.
     pub(crate) fn open(
         beginning: &Beginning<'_>,
         blanks: Blanks,
@@ -157,7 +160,7 @@ impl<J: Shards> Brokers<J> {
         Ok((brokers, shares, greetings))
     }
 
-    /// Has the broker of the work's shard take its event.
+    /// Passes a work to the broker of its shard.
     pub(crate) fn take<R: Wait>(
         &self,
         rt: &R,
@@ -195,7 +198,8 @@ impl<J: Shards> Brokers<J> {
         }
     }
 
-    /// The history of each shard, closed with the lanes' receipts, or the least shard at fault. It takes no memory.
+    /// Closes every shard with the lanes' receipts. Returns the history of each shard, or the fault
+    /// of the lowest shard that has one. Allocates nothing.
     pub(crate) fn close(
         self,
         lanes: Vec<ShardLane<J>>,
@@ -216,7 +220,7 @@ impl<J: Shards> Brokers<J> {
         gathered.end()
     }
 
-    /// Compares each shard's history with the lanes' receipts, and gathers what comes of it.
+    /// Compares each shard's history with the lanes' receipts and collects the results.
     fn gather(self, lanes: Vec<ShardLane<J>>, gathering: Gathering) -> Gathering
         requires room { IsRoomy 0 gathering }
         requires shards { gathering.shards ≡ J.run.shards }

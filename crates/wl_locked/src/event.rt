@@ -1,4 +1,4 @@
-//! What the broker is told, and what it answers.
+//! The broker's input events and its replies.
 
 ghost use Rattle.std.specs.Prelude.{◌≡◌, IfOk};
 
@@ -6,26 +6,27 @@ use std::alloc::{AllocError, Global};
 use wl_broker::{Dropped, Outs};
 use wl_grammar::Stamped;
 
-/// What the broker is told.
+/// An input event of the broker.
 #[derive(Drop, PartialEq, Eq)]
 pub enum BookEvent {
-    /// A message of a tab has come.
+    /// A message of a tab arrived.
     Take(Stamped),
-    /// The tab is named dead.
+    /// The kernel reported the death of this tab.
     Dead(u16),
 }
 
-/// What the broker answered to an event that it took.
+/// The broker's reply to an event.
 #[derive(Drop, PartialEq, Eq)]
 pub enum Reply {
-    /// It did what it was told, and sends these.
+    /// The broker acted on the event and sends these frames.
     Outs(Outs),
-    /// The message was dropped for this cause, which is never out of memory, and nothing has changed.
+    /// The broker dropped the message for this reason, which is never `Memory`. Nothing has
+    /// changed.
     Dropped(Dropped),
 }
 
 impl BookEvent {
-    /// An equal event, in memory of its own.
+    /// Copies the event into memory of its own.
     pub fn copy(&self, alloc: Global) -> Result<BookEvent, AllocError>
         ensures { IfOk result (λ copy. copy ≡ self.now) }
     {

@@ -1,4 +1,4 @@
-//! Shards by fours: their brokers, the shares of their ledgers, and the part of a lane that stands in them.
+//! Groups of four shards: their brokers, the shares of their ledgers and a lane's part of them.
 
 ghost use Rattle.std.specs.Prelude.{◌≡◌, ◌<◌, ◌+◌, ◌++◌, [], List, length, IfOk, OnOk};
 ghost use Rattle.wl_grammar.specs.Grammar.{TabsRiseFrom};
@@ -18,7 +18,7 @@ use std::alloc::{AllocError, Global};
 use std::sync::ledger::{Blank, Share};
 use wl_grammar::Addressed;
 
-/// The part of a lane that stands in four shards.
+/// A lane's part of four shards.
 #[derive(Drop)]
 pub(crate) struct FourLanes<
     J: Shards,
@@ -33,7 +33,7 @@ pub(crate) struct FourLanes<
     pub(crate) fourth: Lane<At<J, FOURTH>>,
 }
 
-/// A share of the ledger of each of four shards.
+/// One share of the ledger of each of four shards.
 #[derive(Drop)]
 pub(crate) struct FourShares<
     J: Shards,
@@ -55,7 +55,7 @@ impl<
     const THIRD: u16,
     const FOURTH: u16,
 > FourShares<J, FIRST, SECOND, THIRD, FOURTH> {
-    /// Cuts off the part of a lane, without receipts.
+    /// Cuts one lane's part off the shares. The part has no receipts.
     pub(crate) fn cut(&mut self, alloc: Global) -> FourLanes<J, FIRST, SECOND, THIRD, FOURTH>
         requires parts { (0 < self.old.first.parts) × (0 < self.old.second.parts)
             × (0 < self.old.third.parts) × (0 < self.old.fourth.parts) }
@@ -78,7 +78,7 @@ impl<
         }
     }
 
-    /// Takes in the shares of a lane's part.
+    /// Merges the shares of a lane's part into these.
     pub(crate) fn merge(&mut self, lanes: FourLanes<J, FIRST, SECOND, THIRD, FOURTH>)
         ensures parts { (self.new.first.parts ≡ self.old.first.parts + 1)
             × (self.new.second.parts ≡ self.old.second.parts + 1)
@@ -133,7 +133,7 @@ impl<
     const THIRD: u16,
     const FOURTH: u16,
 > FourBrokers<J, FIRST, SECOND, THIRD, FOURTH> {
-    /// Starts four shards, one after another, and gives the shares that lanes are cut from.
+    /// Starts four shards in order. Returns their brokers and the shares that lanes are cut from.
     pub(crate) fn open(
         beginning: &Beginning<'_>,
         blanks: (Blank, Blank, Blank, Blank),
@@ -179,7 +179,8 @@ impl<
         Ok((brokers, shares))
     }
 
-    /// Compares each shard's history with the lanes' receipts of it, and gives back the spare shares.
+    /// Compares each shard's history with the lanes' receipts. Returns the results and the spare
+    /// shares.
     pub(crate) fn compare(
         self,
         lanes: &[ShardLane<J>],
@@ -229,7 +230,7 @@ impl<
     const THIRD: u16,
     const FOURTH: u16,
 > FourEndings<J, FIRST, SECOND, THIRD, FOURTH> {
-    /// Gathers what comes of four shards that follow one another, with all shares of their ledgers.
+    /// Collects the results of four consecutive shards, given all shares of their ledgers.
     pub(crate) fn end(
         self,
         shares: FourShares<J, FIRST, SECOND, THIRD, FOURTH>,

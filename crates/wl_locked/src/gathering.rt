@@ -1,4 +1,4 @@
-//! The histories of the shards that there are, gathered one after another, up to the first fault.
+//! The histories of the shards, collected in order up to the first fault.
 
 ghost use Rattle.std.specs.Prelude.{◌≡◌, ◌<◌, ◌+◌, List, IfOk, IfErr};
 ghost use Rattle.wl_locked.specs.Sharding.{IsGathered, IsRoomy};
@@ -13,12 +13,12 @@ use crate::shards::Shards;
 pub(crate) struct Gathering {
     pub(crate) histories: Vec<History>,
     pub(crate) shards: u16,
-    /// The least shard at fault.
+    /// The lowest shard that has a fault, with the fault.
     pub(crate) fault: Option<(u16, CloseFault)>,
 }
 
 impl Gathering {
-    /// Adds what came of the next shard. It takes no memory.
+    /// Adds the result of the next shard. Allocates nothing.
     pub(crate) fn add<J: Shards>(&mut self, shard: u16, closed: Result<History, CloseFault>)
         requires room { IsRoomy shard self.old }
         requires shards { self.old.shards ≡ J.run.shards }
@@ -37,7 +37,7 @@ impl Gathering {
         }
     }
 
-    /// The histories, or the least shard at fault.
+    /// Returns the histories, or the fault of the lowest shard that has one.
     pub(crate) fn end(self) -> Result<Vec<History>, (u16, CloseFault)>
         ensures histories { IfOk result (λ histories. (histories ≡ self.histories) × (self.fault ≡ None)) }
         ensures fault { IfErr result (λ e. self.fault ≡ Some e) }

@@ -1,4 +1,4 @@
-//! Lanes.
+//! Lanes, and the receipts they keep.
 
 ghost use Rattle.std.specs.Prelude.{◌≡◌, ◌+◌, [], length};
 ghost use Rattle.wl_locked.specs.Receipts.{total};
@@ -8,8 +8,8 @@ use std::alloc::Global;
 use std::marker::{Brand, Model};
 use std::sync::ledger::{Ledger, Share};
 
-/// One run of a broker: the ledger that its lanes count their steps in, the state in which the broker was opened, and how
-/// many steps it may take. Each call of a program picks one.
+/// A ghost description of one run of a broker: the ledger that counts the lanes' steps, the
+/// broker's opening state and its step limit. A program uses a fresh brand for each run.
 pub trait Generation: Ledger {
     ghost use Rattle.std.specs.Prelude.{ℕ};
     ghost use Rattle.wl_broker.specs.Broker.{BrokerState};
@@ -28,7 +28,7 @@ impl Generation for Brand {
     ghost limit = { 0 };
 }
 
-/// One of the lanes, each for one thread. Contracts see it as its receipts, in order.
+/// One lane of a broker, for use by one thread. Its value in contracts is the list of its receipts.
 #[derive(Drop)]
 pub struct Lane<J: Generation> {
     pub(crate) receipts: Vec<Receipt>,
@@ -57,14 +57,14 @@ impl<J: Generation> Lane<J> {
         }
     }
 
-    /// How many steps it has.
+    /// Returns the number of steps that the lane has made.
     pub fn count(&self) -> usize
         ensures { result ≡ length self.now }
     {
         self.receipts.len()
     }
 
-    /// Its receipts, in order.
+    /// Returns the lane's receipts, in order.
     pub fn receipts(&self) -> &[Receipt]
         ensures { result.now ≡ self.now }
     {
@@ -79,7 +79,7 @@ impl<J: Generation> Lane<J> {
     }
 }
 
-/// What keeps receipts of shards.
+/// Holder of receipts that belong to shards.
 pub(crate) trait Kept {
     ghost use Rattle.std.specs.Prelude.{◌≡◌, ◌<◌, ℕ, List};
     ghost use Rattle.wl_locked.specs.declared.receipt.Receipt.{Receipt};
@@ -87,13 +87,13 @@ pub(crate) trait Kept {
 
     ghost kept: { ℕ → Self → List Receipt };
 
-    /// Its receipts of one shard, in order.
+    /// Returns the receipts of one shard, in order.
     fn kept(&self, shard: u16) -> &[Receipt]
         requires { shard < SHARD_LIMIT }
         ensures { result.now ≡ kept shard self.now };
 }
 
-/// A lane of one book keeps all its receipts as those of any shard.
+/// The lane of a single book has the same receipts for every shard number.
 impl<J: Generation> Kept for Lane<J> {
     ghost kept = { λ _ l. l };
 
@@ -102,7 +102,7 @@ impl<J: Generation> Kept for Lane<J> {
     }
 }
 
-/// All shares of these lanes in one.
+/// Merges the shares of all lanes into one.
 pub(crate) fn gather<J: Generation>(spare: Share<J>, lanes: Vec<Lane<J>>) -> Share<J>
     ensures parts { result.parts ≡ spare.parts + length lanes.items }
     ensures amount { result.amount ≡ spare.amount + total lanes.items }

@@ -1,5 +1,8 @@
-//! The broker of one generation behind one lock, or in shards behind one each, with its whole history. Lanes step it from any
-//! thread, and each keeps a receipt of every step of its own; `close` compares the history with the receipts.
+//! The broker of one generation behind one lock, or in shards with one lock each, with its whole
+//! history.
+//!
+//! Lanes step the broker from any thread, and each lane keeps a receipt of every step it made.
+//! `close` compares the history with the receipts.
 #![tactic(auto)]
 
 mod answering;

@@ -1,4 +1,4 @@
-//! The broker behind its lock.
+//! A broker behind a lock.
 
 ghost use Rattle.std.specs.Prelude.{◌≡◌, ◌≢◌, ◌<◌, ◌≤◌, ◌∷◌, ◌++◌, [], ℕ, List, length, map, replicate, IfOk, OnErr};
 ghost use Rattle.wl_grammar.specs.Grammar.{TabsRiseFrom};
@@ -20,22 +20,22 @@ use std::sync::ledger::{Blank, Share};
 use std::sync::{Mutex, Wait};
 use wl_broker::{Broker, Dropped, Outs};
 
-/// The most lanes of a broker.
+/// The largest number of lanes of a broker.
 pub const LANE_LIMIT: u16 = 16;
 
-/// The most steps of a generation in a shard that the command line can ask for.
+/// The largest number of steps per generation and shard that the command line accepts.
 pub const STEP_LIMIT: u32 = 65_536;
 
-/// A broker of one generation under a lock, which lanes of several threads share.
+/// A broker of one generation behind a lock, shared by lanes on several threads.
 #[derive(Drop)]
 pub struct LockedBroker<J: Generation> {
     book: Mutex<Book<J>>,
-    /// For how many receipts a lane makes room at once.
+    /// The number of receipts that a lane reserves space for at once.
     at_once: usize,
     alloc: Global,
 }
 
-/// Cuts the lanes from what is left of the ledger.
+/// Cuts the lanes from the share of the whole ledger.
 fn cut_lanes<J: Generation>(
     alloc: Global,
     rest: Share<J>,
@@ -53,7 +53,8 @@ fn cut_lanes<J: Generation>(
 }
 
 impl<J: Generation> LockedBroker<J> {
-    /// Starts a generation, of at most so many steps, with its lanes, and greets each listed tab.
+    /// Starts a generation of at most `limit` steps. Returns the broker, its lanes, and a hello for
+    /// each listed tab.
     pub fn new(
         alloc: Global,
         blank: Blank,
@@ -84,7 +85,8 @@ impl<J: Generation> LockedBroker<J> {
         Ok((locked, made, hellos))
     }
 
-    /// Starts a generation without its lanes, and gives the share that so many are cut from.
+    /// Starts a generation without its lanes. Returns the broker, the share that the lanes are cut
+    /// from, and the hellos.
     pub(crate) fn open(
         alloc: Global,
         blank: Blank,
@@ -113,8 +115,11 @@ impl<J: Generation> LockedBroker<J> {
         Ok((locked, share, hellos))
     }
 
-    /// Steps the broker once, and gives a receipt of that step, of which the lane keeps a copy. The event is put where both share
-    /// it, and the lane's list grows, before the lock is taken.
+    /// Steps the broker once and returns the receipt of the step. The lane keeps a copy of the
+    /// receipt.
+    ///
+    /// The event is allocated and the lane's list is grown before the lock is taken. Fails with
+    /// `GenerationSpent` at the step limit, and with `Memory` if out of memory.
     pub fn take<R: Wait>(
         &self,
         rt: &R,
@@ -134,7 +139,8 @@ impl<J: Generation> LockedBroker<J> {
             return Err(lock(&self.book, rt).without_memory());
         };
         let answered = lock(&self.book, rt).store(&mut lane.share, event.stored);
-        // The receipts need no lock, and nor does the event of a refused step.
+        // The lock is released here: neither building receipts nor dropping a refused event needs
+        // it.
         let (place, mut replies) = answered?;
         let kept = Receipt {
             place,
@@ -149,7 +155,11 @@ impl<J: Generation> LockedBroker<J> {
         })
     }
 
-    /// The history, where it is made of the lanes' receipts. It takes no memory.
+    /// Closes the broker and returns its history if it matches the lanes' receipts. Allocates
+    /// nothing.
+    ///
+    /// Fails with `Mismatch` if a receipt does not fit the history, and with `WrongCount` if there
+    /// are fewer receipts than steps.
     pub fn close(self, lanes: Vec<Lane<J>>) -> Result<History, CloseFault>
         ensures replays { IfOk result (λ h. IsReplay J.opening h) }
         ensures within { IfOk result (λ h. length h ≤ J.limit) }
@@ -162,7 +172,8 @@ impl<J: Generation> LockedBroker<J> {
         self.book.into_inner().close(lanes)
     }
 
-    /// Compares the history with the receipts of a shard, and gives back the spare share.
+    /// Compares the history with the lanes' receipts of one shard. Returns the result and the spare
+    /// share.
     pub(crate) fn compare<L: Kept>(self, shard: u16, lanes: &[L]) -> (Ending<J>, Share<J>)
         requires { shard < SHARD_LIMIT }
         ensures compared { IsCompared J.opening J.limit

@@ -1,13 +1,15 @@
-//! How a lane waits for what another lane has locked.
+//! Acquisition of a lock that another lane may hold.
 
 use std::hint::spin_loop;
 use std::sync::{Mutex, MutexGuard, Wait};
 
-/// How often a lane looks for the lock before it sleeps.
+/// The number of attempts at the lock before a lane sleeps.
 const LOOKS: u32 = 12;
 
-/// Locks a value. From look to look it waits twice as long, so the lane that has the lock makes some steps in a row before
-/// another processor needs what they wrote, and seldom has to wake a lane that sleeps.
+/// Locks a mutex, with exponential backoff between attempts.
+///
+/// The backoff lets the lane that holds the lock make several steps in a row, before another
+/// processor needs the memory they wrote. It also makes it rare that a sleeping lane must be woken.
 pub(crate) fn lock<'a, T, R: Wait>(mutex: &'a Mutex<T>, rt: &R) -> MutexGuard<'a, T> {
     for look in 0..LOOKS {
         if let Some(guard) = mutex.try_lock() {

@@ -1,4 +1,4 @@
-//! The comparison of a history with the receipts of its lanes, by marking places.
+//! Comparison of a history with its lanes' receipts, by marking places.
 
 ghost use Rattle.std.specs.Prelude.{◌≡◌, ◌↔◌, ℕ, ◌<◌, true, false, IsTrue, length, map, slice_index_or, replicate, OnOk, IfOk, IfErr};
 ghost use Rattle.wl_locked.specs.Receipts.{IsMadeOf, IsMismatch, total};
@@ -22,7 +22,8 @@ fn is_reply(one: &Reply, other: &Reply) -> bool
     one == other
 }
 
-/// Whether the receipt is the step at its place, which is not marked.
+/// Returns true if the receipt equals the step at its place, and the place is unmarked and not
+/// below `least`.
 fn fits(steps: &[Step], marks: &[bool], least: usize, receipt: &Receipt) -> bool
     requires { length marks.now ≡ length steps.now }
     ensures yes { result ≡ true → IsFree steps.now marks.now least receipt.now }
@@ -36,7 +37,8 @@ fn fits(steps: &[Step], marks: &[bool], least: usize, receipt: &Receipt) -> bool
     is_event(&step.event, &receipt.event) && is_reply(&step.reply, &receipt.reply)
 }
 
-/// Marks the places of one lane's receipts, or answers the first that cannot be marked.
+/// Marks the places of one lane's receipts. Fails with the place of the first receipt that does not
+/// fit.
 fn mark_lane(steps: &[Step], marks: &mut [bool], receipts: &[Receipt]) -> Result<(), u32>
     requires { length marks.old ≡ length steps.now }
     ensures ok { OnOk result (IsMarked steps.now 0 receipts.now marks.old marks.new) }
@@ -53,7 +55,8 @@ fn mark_lane(steps: &[Step], marks: &mut [bool], receipts: &[Receipt]) -> Result
     Ok(())
 }
 
-/// Marks the places of all lanes' receipts of a shard, or answers the first that cannot be marked.
+/// Marks the places of all lanes' receipts of one shard. Fails with the place of the first receipt
+/// that does not fit.
 fn mark_all<L: Kept>(steps: &[Step], marks: &mut [bool], shard: u16, lanes: &[L]) -> Result<(), u32>
     requires marks { length marks.old ≡ length steps.now }
     requires shard { shard < SHARD_LIMIT }
@@ -66,7 +69,7 @@ fn mark_all<L: Kept>(steps: &[Step], marks: &mut [bool], shard: u16, lanes: &[L]
     Ok(())
 }
 
-/// Whether each place is marked.
+/// Returns true if every place is marked.
 fn all_marked(marks: &[bool]) -> bool
     ensures yes { result ≡ true → (p : ℕ) → p < length marks.now → slice_index_or marks.now p false ≡ true }
     ensures no { result ≡ false
@@ -81,7 +84,8 @@ fn all_marked(marks: &[bool]) -> bool
 }
 
 #[tactic(auto, using(crate::proofs::Runs::made, crate::proofs::Runs::fewer, crate::proofs::Runs::mismatch))]
-/// Whether the steps are made of the lanes' receipts of a shard, or the first receipt that is not that of a step.
+/// Returns whether the lanes' receipts of one shard cover all steps. Fails with the place of the
+/// first receipt that does not fit.
 pub(crate) fn compare<L: Kept>(
     steps: &[Step],
     marks: &mut [bool],

@@ -1,4 +1,4 @@
-//! Steps, the receipts of them, and why there is none.
+//! Steps, their receipts, and the reasons for having none.
 
 ghost use Rattle.std.specs.Prelude.{◌≡◌};
 ghost use Rattle.wl_locked.specs.declared.receipt.NotStepped.TheVariants.{Memory};
@@ -9,29 +9,29 @@ use std::alloc::AllocError;
 use std::marker::Model;
 use thiserror::Error;
 
-/// One step of the broker: what it was told, and what it answered.
+/// One step of the broker: an event and the broker's reply.
 #[derive(Drop)]
 pub struct Step {
     pub event: SharedEvent,
     pub reply: Reply,
 }
 
-/// What a lane has of a step: the step, and its place in the history.
+/// A lane's record of a step: the step and its place in the history.
 #[derive(Drop)]
 pub struct Receipt {
-    /// Counted from 0.
+    /// Index in the history, from 0.
     pub place: u32,
     pub event: SharedEvent,
     pub reply: Reply,
 }
 
-/// Why an event was no step. Nothing has changed then.
+/// Why an event made no step. Nothing has changed.
 #[derive(Clone, Copy, Debug, PartialEq, Eq, Error)]
 pub enum NotStepped {
-    /// The generation has all the steps that it may have.
+    /// The generation has reached its step limit.
     #[error("GenerationSpent")]
     GenerationSpent,
-    /// Memory was refused.
+    /// Out of memory.
     #[error("Memory")]
     Memory,
 }
@@ -44,10 +44,11 @@ impl From<AllocError> for NotStepped {
     }
 }
 
-/// Why a history is not that of the lanes.
+/// Why a history does not match the lanes' receipts.
 #[derive(Clone, Copy, Debug, PartialEq, Eq, Error)]
 pub enum CloseFault {
-    /// A receipt of this place is not the step there, or stands twice, or out of its lane's order.
+    /// A receipt of this place differs from the step there, occurs twice, or is out of order in its
+    /// lane.
     #[error("Mismatch({0})")]
     Mismatch(u32),
     /// There are fewer receipts than steps.
@@ -55,7 +56,7 @@ pub enum CloseFault {
     WrongCount,
 }
 
-/// The steps of one generation, in order. Contracts see it as their list.
+/// The steps of one generation, in order. Its value in contracts is the list of steps.
 #[derive(Drop)]
 pub struct History {
     steps: Vec<Step>,
@@ -77,7 +78,7 @@ impl History {
         History { steps }
     }
 
-    /// The steps.
+    /// Returns the steps, in order.
     pub fn steps(&self) -> &[Step]
         ensures { result.now ≡ self.now }
     {

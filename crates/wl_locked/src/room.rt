@@ -1,6 +1,8 @@
-//! The room that a step takes, all of which is made before the broker is stepped. A list that grew step by step would be moved
-//! again and again, and what it is moved to is memory that was not touched before. So a history makes room at once for as many
-//! steps as it may have, at most for those that the command line can ask for, and a lane for its part of them.
+//! Memory for a step, all reserved before the broker is stepped.
+//!
+//! A list that grows step by step is moved repeatedly, each time to fresh memory. A history
+//! therefore reserves space for all its steps at once, up to `STEP_LIMIT`, and each lane for its
+//! share of them.
 
 ghost use Rattle.std.specs.Prelude.{◌≡◌, ◌<◌, ◌↔◌, true, Err, OnOk, vec_len, vec_capacity};
 
@@ -8,17 +10,18 @@ use crate::locked::STEP_LIMIT;
 use crate::receipt::{NotStepped, Step};
 use std::alloc::AllocError;
 
-/// For how many steps a history makes room at once.
+/// Returns the number of steps that a history reserves space for at once.
 fn steps_at_once(limit: u32) -> usize {
     limit.min(STEP_LIMIT) as usize
 }
 
-/// For how many receipts each of so many lanes makes room at once: all together for no more than a history for steps.
+/// Returns the number of receipts that each lane reserves space for at once. All lanes together
+/// reserve no more receipts than the history reserves steps.
 pub(crate) fn receipts_at_once(limit: u32, lanes: u16) -> usize {
     steps_at_once(limit) / (lanes as usize).max(1)
 }
 
-/// Makes room for one more at least: for so many where memory allows, and else for one.
+/// Reserves space for at least one more item: for `at_once` items if memory allows, else for one.
 pub(crate) fn for_one<T>(list: &mut Vec<T>, at_once: usize) -> Result<(), AllocError>
     ensures items { list.new.items ≡ list.old.items }
     ensures room { OnOk result (vec_len list.new < vec_capacity list.new) }
@@ -29,7 +32,7 @@ pub(crate) fn for_one<T>(list: &mut Vec<T>, at_once: usize) -> Result<(), AllocE
     list.reserve(1)
 }
 
-/// Makes room for a step with its mark, where the book is not spent.
+/// Reserves space for a step and its mark. Fails with `GenerationSpent` if the book is spent.
 pub(crate) fn for_step(
     is_spent: bool,
     limit: u32,

@@ -1,4 +1,4 @@
-//! Lanes over shards, and the shares of all shards' ledgers together.
+//! Lanes over shards, and the shares of all shards' ledgers.
 
 ghost use Rattle.std.specs.Prelude.{◌≡◌, ◌+◌, ◌<◌, ℕ, [], length, replicate, slice_index_or};
 ghost use Rattle.wl_locked.specs.Sharding.{receipts_of, receipts_in, raised};
@@ -12,8 +12,10 @@ use crate::shards::Shards;
 use std::alloc::Global;
 use std::marker::Model;
 
-/// One of the lanes over shards, each for one thread: it has a lane in each shard, by fours. Contracts see it as the receipts
-/// of each shard, in order; where there are fewer shards than there may be, the others have none.
+/// One lane of a sharded broker, for use by one thread. It contains a lane of each shard.
+///
+/// Its value in contracts is the list of receipts of each shard, in order. Shards that the run does
+/// not use have no receipts.
 #[derive(Drop)]
 pub struct ShardLane<J: Shards> {
     pub(crate) first: FourLanes<J, 0, 1, 2, 3>,
@@ -32,7 +34,7 @@ impl<J: Shards> Model for ShardLane<J> {
 }
 
 impl<J: Shards> ShardLane<J> {
-    /// Its receipts of one shard, in order.
+    /// Returns the lane's receipts of one shard, in order.
     pub fn receipts(&self, shard: u16) -> &[Receipt]
         requires { shard < SHARD_LIMIT }
         ensures { result.now ≡ receipts_of shard self.now }
@@ -68,7 +70,9 @@ impl<J: Shards> Kept for ShardLane<J> {
     }
 }
 
-/// A share of each shard's ledger, by fours, all of as many parts. Contracts see these parts, and the amount of each share.
+/// One share of each shard's ledger, in groups of four. All shares have the same number of parts.
+///
+/// Its value in contracts is that number, and the amount of each share.
 #[derive(Drop)]
 pub(crate) struct Shares<J: Shards> {
     pub(crate) first: FourShares<J, 0, 1, 2, 3>,
@@ -104,7 +108,7 @@ impl<J: Shards> Shares<J> {
         }
     }
 
-    /// Takes in the shares of a lane.
+    /// Merges the shares of a lane into these.
     pub(crate) fn merge(&mut self, lane: ShardLane<J>)
         ensures parts { self.new.0 ≡ self.old.0 + 1 }
         ensures amounts { self.new.1 ≡ raised self.old.1 lane }
@@ -116,7 +120,7 @@ impl<J: Shards> Shares<J> {
     }
 }
 
-/// All shares of these lanes together.
+/// Merges the shares of all lanes.
 pub(crate) fn gather_all<J: Shards>(shares: Shares<J>, lanes: Vec<ShardLane<J>>) -> Shares<J>
     requires parts { shares.0 ≡ 0 }
     requires amounts { shares.1 ≡ replicate SHARD_LIMIT 0 }

@@ -1,4 +1,4 @@
-//! A broker in shards: partitions of different shards do not wait for each other.
+//! A sharded broker: partitions of different shards do not wait for each other.
 
 ghost use Rattle.std.specs.Prelude.{◌≡◌, ◌≢◌, ◌<◌, ◌≤◌, [], ℕ, List, length, replicate, slice_index_or, IfOk, IfErr, OnErr};
 ghost use Rattle.wl_grammar.specs.Grammar.{TabsRiseFrom};
@@ -21,13 +21,13 @@ use std::marker::Model;
 use std::sync::Wait;
 use wl_broker::{Dropped, Outs};
 
-/// A broker of one generation in shards, each under a lock of its own, which lanes of several threads share. The partition p
-/// belongs to the shard p mod the number of shards.
+/// A broker of one generation in shards, each behind a lock of its own, shared by lanes on several
+/// threads. Partition p belongs to shard p mod n, where n is the number of shards.
 #[derive(Drop)]
 pub struct Sharded<J: Shards> {
     brokers: Brokers<J>,
     shards: u16,
-    /// Room for each shard's history, which `close` fills.
+    /// Space for the history of each shard, filled by `close`.
     room: Vec<History>,
 }
 
@@ -61,8 +61,11 @@ fn cut_lanes<J: Shards>(
 }
 
 impl<J: Shards> Sharded<J> {
-    /// Starts a generation, of at most so many steps in each shard, with its lanes, and greets each listed tab: by rising
-    /// shard, in the order of the list within one.
+    /// Starts a generation of at most `limit` steps in each shard. Returns the broker, its lanes,
+    /// and a hello for each listed tab.
+    ///
+    /// The hellos are in ascending order of shards, and within a shard in the order of the start
+    /// list.
     pub fn new(
         alloc: Global,
         blanks: Blanks,
@@ -112,14 +115,16 @@ impl<J: Shards> Sharded<J> {
         Ok((sharded, made, Outs::new(greetings)))
     }
 
-    /// How many shards it has.
+    /// Returns the number of shards.
     pub fn shards(&self) -> u16
         ensures { result ≡ J.run.shards }
     {
         self.shards
     }
 
-    /// Steps the broker of the work's shard once, and gives a receipt of that step, of which the lane keeps a copy.
+    /// Steps the broker of the work's shard once and returns the receipt of the step. The lane
+    /// keeps a copy of the receipt. Fails with `GenerationSpent` at the shard's step limit, and
+    /// with `Memory` if out of memory.
     pub fn take<R: Wait>(
         &self,
         rt: &R,
@@ -138,8 +143,8 @@ impl<J: Shards> Sharded<J> {
         self.brokers.take(rt, lane, work)
     }
 
-    /// The history of each shard, where each is made of the lanes' receipts of that shard; or the least shard at fault. It
-    /// takes no memory.
+    /// Closes the broker and returns the history of each shard, if each matches the lanes' receipts
+    /// of that shard. Else fails with the lowest shard that has a fault. Allocates nothing.
     pub fn close(self, lanes: Vec<ShardLane<J>>) -> Result<Vec<History>, (u16, CloseFault)>
         ensures count { IfOk result (λ histories. length histories.items ≡ J.run.shards) }
         ensures made { IfOk result (λ histories. (shard : ℕ) → shard < J.run.shards

@@ -1,4 +1,4 @@
-//! The ledgers of a broker's shards, one each.
+//! The ledgers of a sharded broker, one for each shard.
 
 ghost use Rattle.wl_locked.specs.Blanks.{HaveParts};
 
@@ -6,16 +6,16 @@ use crate::lane::Generation;
 use std::marker::{Brand, PhantomData};
 use std::sync::ledger::{Blank, Ledger};
 
-/// The most shards of a broker.
+/// The largest number of shards of a broker.
 pub const SHARD_LIMIT: u16 = 16;
 
-/// One run of a broker in shards: the names of the ledgers in which each shard's steps are counted, and what the shards were
-/// started with. Each call of a program picks one.
+/// A ghost description of one run of a sharded broker: its parameters and the names of the ledgers
+/// that count each shard's steps. A program uses a fresh brand for each run.
 pub trait Shards {
     ghost use Rattle.std.specs.Prelude.{ℕ};
     ghost use Rattle.wl_locked.specs.Sharding.{Run};
 
-    /// Of each shard's ledger.
+    /// The name of each shard's ledger.
     ghost names: { ℕ → ℕ };
 
     ghost run: { Run };
@@ -48,7 +48,7 @@ impl<J: Shards, const SHARD: u16> Generation for At<J, SHARD> {
     ghost limit = { J.run.limit };
 }
 
-/// A new ledger for each shard.
+/// One unopened ledger for each of `SHARD_LIMIT` shards.
 #[derive(Drop)]
 pub struct Blanks {
     pub zero: Blank,
@@ -70,7 +70,7 @@ pub struct Blanks {
 }
 
 impl Blanks {
-    /// Ledgers that are each cut into so many parts, one a lane.
+    /// Creates ledgers of `lanes` parts each, one part per lane.
     pub fn new(lanes: u64) -> Blanks
         ensures { HaveParts lanes result }
     {

@@ -1,4 +1,4 @@
-//! An event that the history and the receipts of its step have together.
+//! An event shared by the history and the receipts of its step.
 
 ghost use Rattle.std.specs.Prelude.{◌≡◌, IfOk};
 
@@ -7,8 +7,8 @@ use std::alloc::{AllocError, Global};
 use std::marker::Model;
 use std::sync::Arc;
 
-/// What the broker was told, in memory that the step in the history shares with its receipts. Contracts see it as the event
-/// alone.
+/// A reference-counted event, shared by a step in the history and the step's receipts. Its value in
+/// contracts is the event.
 #[derive(Drop)]
 pub struct SharedEvent {
     event: Arc<BookEvent>,
@@ -24,7 +24,7 @@ impl Model for SharedEvent {
 }
 
 impl SharedEvent {
-    /// The event, in memory of its own.
+    /// Moves the event into a new allocation.
     pub fn new(alloc: Global, event: BookEvent) -> Result<SharedEvent, AllocError>
         ensures { IfOk result (λ shared. shared ≡ event) }
     {
@@ -33,7 +33,8 @@ impl SharedEvent {
         })
     }
 
-    /// The same event for one more. It takes no memory, and is refused where as many share it as can be counted.
+    /// Returns another handle of the same event. Allocates nothing. Fails if the reference count is
+    /// at its maximum.
     pub(crate) fn share(&self) -> Result<SharedEvent, AllocError>
         ensures { IfOk result (λ shared. shared ≡ self.now) }
     {
@@ -42,7 +43,7 @@ impl SharedEvent {
         })
     }
 
-    /// The event itself.
+    /// Returns the event.
     pub fn get(&self) -> &BookEvent
         ensures { result.now ≡ self.now }
     {
@@ -68,7 +69,7 @@ impl Eq for SharedEvent {
     ghost laws = { laws-law };
 }
 
-/// Handles of one event: for the step of it and for its two receipts.
+/// Handles of one event, for its step and the step's two receipts.
 #[derive(Drop)]
 pub(crate) struct EventHandles {
     pub(crate) stored: SharedEvent,
@@ -76,7 +77,7 @@ pub(crate) struct EventHandles {
     pub(crate) second: SharedEvent,
 }
 
-/// Handles of an event, for the step of it and for its two receipts.
+/// Allocates an event and returns its handles.
 pub(crate) fn handles_of(alloc: Global, event: BookEvent) -> Result<EventHandles, AllocError>
     ensures stored { IfOk result (λ h. h.stored ≡ event) }
     ensures first { IfOk result (λ h. h.first ≡ event) }

@@ -1,4 +1,4 @@
-//! What is to be done, and in which shard.
+//! Works: events with their shards.
 
 ghost use Rattle.std.specs.Prelude.{◌≡◌, ◌<◌, ◌↔◌, ◌++◌, IsTrue, OnErr, OnOk};
 ghost use Rattle.wl_broker.specs.Shards.{shard_of};
@@ -7,16 +7,17 @@ ghost use Rattle.wl_locked.specs.Sharding.{IsDealt, works_of};
 use crate::event::BookEvent;
 use std::alloc::AllocError;
 
-/// An event for the broker of one shard. A message belongs to the shard of its partition; a death is one work for each shard.
+/// An event for the broker of one shard. A message belongs to the shard of its partition. A death
+/// is one work in each shard.
 #[derive(Drop)]
 pub struct Work {
-    /// Counted from 0.
+    /// Shard number, from 0.
     pub shard: u16,
     pub event: BookEvent,
 }
 
 impl Work {
-    /// Whether there is such a shard among so many, and the event belongs to it.
+    /// Returns true if the shard is one of `shards` shards and the event belongs to it.
     pub fn is_dealt(&self, shards: u16) -> bool
         ensures { IsTrue result ↔ IsDealt shards self.now }
     {
@@ -28,7 +29,7 @@ impl Work {
     }
 }
 
-/// The shard of a partition, of so many.
+/// Returns the shard of a partition.
 pub fn shard_of(shards: u16, partition: u16) -> u16
     requires { 0 < shards }
     ensures { result ≡ shard_of shards partition }
@@ -36,7 +37,8 @@ pub fn shard_of(shards: u16, partition: u16) -> u16
     partition % shards
 }
 
-/// Puts the works of an event behind these: a message in the shard of its partition, a death in each shard.
+/// Appends the works of an event: one in the partition's shard for a message, one in each shard for
+/// a death. Leaves the list unchanged if out of memory.
 pub fn deal(works: &mut Vec<Work>, shards: u16, event: BookEvent) -> Result<(), AllocError>
     requires { 0 < shards }
     ensures ok { OnOk result (works.new.items ≡ works.old.items ++ works_of shards event) }

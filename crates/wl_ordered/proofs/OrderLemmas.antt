@@ -1,4 +1,5 @@
--- Tables by rising numbers: two that find the same are equal, so that what is stored in any order has one reading.
+-- Tables with rising numbers. Two tables with the same lookups are equal, so rows stored in any
+-- order have one reading.
 use Rattle.std.proofs.Common.{◌≡◌, ℕ, true, false, ◌&&◌, cond, eqb, List, [], ◌∷◌, ◌++◌, Some, None, refl, sym, ap, ◌∙◌, suc, length, Result, Ok, Err, arith}
 use Rattle.std.specs.Prelude.{nat_lt, nat_eq}
 use Rattle.std.proofs.lemmas.Bool.Decides.{nat_tests}
@@ -9,7 +10,7 @@ use Rattle.wl_draft.specs.Tables.{Table, put, find}
 use Rattle.wl_draft.proofs.TableLemmas.{find-put}
 use Rattle.wl_ordered.specs.Orders.{ordered, without_order, is_below, is_above, is_rising}
 
--- ---- what is found
+-- Lookups
 
 find-ordered_step : {X : Type 0} (p : ℕ × X) (ps : List (ℕ × X)) (k : ℕ) → find (put p.0 p.1 (ordered ps)) k ≡ cond (eqb p.0 k) (Some p.1) (find (ordered ps) k) → find (ordered ps) k ≡ lookup (nat_eq k) ps → find (ordered (p ∷ ps)) k ≡ lookup (nat_eq k) (p ∷ ps)
 find-ordered_step p ps k e below = grind (arith, nat_tests)
@@ -18,7 +19,7 @@ pub find-ordered : {X : Type 0} (es : List (ℕ × X)) (k : ℕ) → find (order
 find-ordered [] k = refl
 find-ordered (p ∷ ps) k = find-ordered_step p ps k (find-put p.0 p.1 (ordered ps) k) (find-ordered ps k)
 
--- ---- rising numbers
+-- Rising numbers
 
 above-put_step : {X : Type 0} (j k : ℕ) (x : X) (p : ℕ × X) (ps : Table X) → is_above j (put k x ps) ≡ (nat_lt j k && is_above j ps) → is_above j (put k x (p ∷ ps)) ≡ (nat_lt j k && is_above j (p ∷ ps))
 above-put_step j k x p ps below = grind (arith, nat_tests)
@@ -52,7 +53,7 @@ pub find-above : {X : Type 0} (k : ℕ) (ps : Table X) → is_above k ps ≡ tru
 find-above k [] a = refl
 find-above k (p ∷ ps) a = find-above_step k p ps (find-above k ps) a
 
--- ---- a table is what is found in it
+-- A table is determined by its lookups
 
 head_order : {X : Type 0} (p q : ℕ × X) (ps qs : Table X) → is_rising (q ∷ qs) ≡ true → (nat_lt p.0 q.0 ≡ true → is_above q.0 qs ≡ true → is_above p.0 qs ≡ true) → (is_above p.0 qs ≡ true → find qs p.0 ≡ None) → find (p ∷ ps) p.0 ≡ find (q ∷ qs) p.0 → nat_lt p.0 q.0 ≡ false
 head_order p q ps qs r less none e = grind (arith, nat_tests)
@@ -81,7 +82,7 @@ table_ext (p ∷ ps) (q ∷ qs) r r' f =
     let e : p ≡ q = ap (λ (a : ℕ). (a, p.1)) h.0 ∙ ap (λ b. (q.0, b)) h.1 in
     cc
 
--- ---- a row put last
+-- Appending a row
 
 rising-last_step : {X : Type 0} (k : ℕ) (x : X) (p : ℕ × X) (ps : Table X) → (is_rising ps ≡ true → is_below ps k ≡ true → is_rising (ps ++ (k, x) ∷ []) ≡ true) → is_above p.0 (ps ++ (k, x) ∷ []) ≡ (is_above p.0 ps && nat_lt p.0 k) → is_rising (p ∷ ps) ≡ true → is_below (p ∷ ps) k ≡ true → is_rising ((p ∷ ps) ++ (k, x) ∷ []) ≡ true
 rising-last_step k x p ps below above r b = grind (arith, nat_tests)
@@ -104,13 +105,13 @@ pub find-last : {X : Type 0} (k : ℕ) (x : X) (ps : Table X) (j : ℕ) → is_b
 find-last k x [] j b = grind (arith, nat_tests)
 find-last k x (p ∷ ps) j b = find-last_step k x p ps j (find-last k x ps j) b
 
--- what is stored after a new number, above all others, was inserted
+-- Inserting a number above all others appends its row.
 pub ordered-push : {X : Type 0} (es fs : List (ℕ × X)) (k : ℕ) (x : X) → is_below (ordered es) k ≡ true → ((q : ℕ) → lookup (nat_eq q) fs ≡ cond (nat_eq k q) (Some x) (lookup (nat_eq q) es)) → ordered fs ≡ ordered es ++ (k, x) ∷ []
 ordered-push es fs k x b f =
     table_ext (ordered fs) (ordered es ++ (k, x) ∷ []) (rising-ordered fs) (rising-last k x (ordered es) (rising-ordered es) b)
     (λ q. find-ordered fs q ∙ f q ∙ ap (λ o. cond (nat_eq k q) (Some x) o) (sym (find-ordered es q)) ∙ sym (find-last k x (ordered es) q b))
 
--- ---- a row taken out
+-- Removing a row
 
 above-without_step : {X : Type 0} (j k : ℕ) (p : ℕ × X) (ps : Table X) → (is_above j ps ≡ true → is_above j (without_order k ps) ≡ true) → is_above j (p ∷ ps) ≡ true → is_above j (without_order k (p ∷ ps)) ≡ true
 above-without_step j k p ps below a = grind (arith, nat_tests)
@@ -133,13 +134,13 @@ pub find-without : {X : Type 0} (k : ℕ) (ps : Table X) (j : ℕ) → find (wit
 find-without k [] j = grind (arith, nat_tests)
 find-without k (p ∷ ps) j = find-without_step k p ps j (find-without k ps j)
 
--- what is stored after a number was taken out
+-- Removing a stored number removes its row.
 pub ordered-remove : {X : Type 0} (es fs : List (ℕ × X)) (k : ℕ) → ((q : ℕ) → lookup (nat_eq q) fs ≡ cond (nat_eq k q) None (lookup (nat_eq q) es)) → ordered fs ≡ without_order k (ordered es)
 ordered-remove es fs k f =
     table_ext (ordered fs) (without_order k (ordered es)) (rising-ordered fs) (rising-without k (ordered es) (rising-ordered es))
     (λ q. find-ordered fs q ∙ f q ∙ ap (λ o. cond (nat_eq k q) None o) (sym (find-ordered es q)) ∙ sym (find-without k (ordered es) q))
 
--- ---- how many rows
+-- Number of rows
 
 length-put_step : {X : Type 0} (k : ℕ) (x : X) (p : ℕ × X) (ps : Table X) → (find ps k ≡ None → length (put k x ps) ≡ suc (length ps)) → find (p ∷ ps) k ≡ None → length (put k x (p ∷ ps)) ≡ suc (length (p ∷ ps))
 length-put_step k x p ps below n = grind (arith, nat_tests)
@@ -155,14 +156,14 @@ pub lookup-absent : {X : Type 0} (k : ℕ) (ps : List (ℕ × X)) → AllByRecur
 lookup-absent k [] a = refl
 lookup-absent k (p ∷ ps) a = lookup-absent_step k p ps a.0 (lookup-absent k ps a.1)
 
--- with each number stored once, as many rows are read as are stored
+-- If each number is stored once, the table has as many rows as are stored.
 pub length-ordered : {X : Type 0} (es : List (ℕ × X)) → IsDistinct nat_eq (keys_of es) → length (ordered es) ≡ length es
 unfolding IsDistinct
 length-ordered [] d = refl
 length-ordered (p ∷ ps) d =
     length-put p.0 p.1 (ordered ps) (find-ordered ps p.0 ∙ lookup-absent p.0 ps d.0) ∙ ap suc (length-ordered ps d.1)
 
--- ---- a result that is known
+-- Known results
 
 pub on_ok : {T E : Type 0} {P : Type 0} (r : Result T E) → OnOk r P → IsOk r → P
 on_ok (Ok x) p h = p

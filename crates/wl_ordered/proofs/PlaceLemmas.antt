@@ -1,4 +1,4 @@
--- A client's places: which is the first of a number, with one place more and with one less.
+-- Places of a client: the first place of a number after a place is added or removed.
 use Rattle.std.proofs.Common.{rules, ◌≡◌, ℕ, ◌+◌, ◌<◌, Bool, true, false, ◌||◌, cond, List, [], ◌∷◌, ◌++◌, Option, Some, None, drop, suc, zero, refl, sym, ap, ◌∙◌, arith}
 use Rattle.std.specs.Prelude.{◌==◌, nat_lt, nat_eq, is_some, slice_get, IfSome}
 use Rattle.std.specs.Map.{keys_of}
@@ -10,7 +10,7 @@ use Rattle.wl_ordered.specs.Places.{first_place, has_number, is_once, lesser_of,
 use Rattle.wl_ordered.proofs.OrderLemmas.{find-ordered, find-above, above-less, rising-ordered, lookup-absent}
 use Rattle.wl_ordered.proofs.WithoutLemmas.{without-above}
 
--- ---- the first place of a number
+-- First place of a number
 
 has-first_step : (k : ℕ) (p : ℕ × ℕ) (ps : Table ℕ) → has_number k ps ≡ is_some (first_place (Some k) ps) → has_number k (p ∷ ps) ≡ is_some (first_place (Some k) (p ∷ ps))
 has-first_step k p ps below = grind (arith, nat_tests)
@@ -43,7 +43,7 @@ pushed-step k order number ps false e n = or_none (first_place (Some k) ps)
     or_none None = refl
     or_none (Some x) = refl
 
--- a number that had no place
+-- The new place is the first one of a number that had none.
 pub first-pushed : (k order number : ℕ) (ps : Table ℕ) → first_place (Some number) ps ≡ None → first_place (Some k) (ps ++ (order, number) ∷ []) ≡ cond (number == k) (Some order) (first_place (Some k) ps)
 first-pushed k order number ps n =
     first-last k order number ps ∙ pushed-step k order number ps (number == k) refl n
@@ -66,7 +66,7 @@ once-has order number (p ∷ ps) o n =
 pub once-pushed : (order number : ℕ) (ps : Table ℕ) → is_once ps ≡ true → first_place (Some number) ps ≡ None → is_once (ps ++ (order, number) ∷ []) ≡ true
 once-pushed order number ps o n = once-has order number ps o (has-first number ps ∙ ap (λ x. is_some x) n)
 
--- ---- a place taken out
+-- Removing a place
 
 find-has_step : (order number : ℕ) (p : ℕ × ℕ) (ps : Table ℕ) → (find ps order ≡ Some number → has_number number ps ≡ true) → find (p ∷ ps) order ≡ Some number → has_number number (p ∷ ps) ≡ true
 find-has_step order number p ps below f = grind (arith, nat_tests)
@@ -100,7 +100,7 @@ first-removed k order number [] r o f = absurd (no-place number f)
 first-removed k order number (p ∷ ps) r o f =
     first-removed_step k order number p ps (has-first number ps) (without-above p.0 ps) (find-has order number ps) (first-removed k order number ps) r o f
 
--- ---- the first place is a place
+-- The first place is a place
 
 first-found_step : (k order : ℕ) (p : ℕ × ℕ) (ps : Table ℕ) → (is_rising ps ≡ true → first_place (Some k) ps ≡ Some order → find ps order ≡ Some k) → (is_above p.0 ps ≡ true → find ps p.0 ≡ None) → is_rising (p ∷ ps) ≡ true → first_place (Some k) (p ∷ ps) ≡ Some order → find (p ∷ ps) order ≡ Some k
 first-found_step k order p ps below above r f = grind (arith, nat_tests)
@@ -120,7 +120,7 @@ first-place k ps r (Some order) f = record {
 }
 first-place k ps r None f = search rules
 
--- ---- the least place of a number, looked for in any order
+-- Least place of a number, searched in any order
 
 abbrev pub least_in : ℕ → List (ℕ × ℕ) → Option ℕ
 least_in k [] = None
@@ -204,7 +204,7 @@ pub least-end : (o : Option ℕ) → lesser_both o None ≡ o
 least-end None = refl
 least-end (Some x) = refl
 
--- ---- one entry after another
+-- One entry after another
 
 drop-first : (x y : ℕ × ℕ) (ys : List (ℕ × ℕ)) → slice_get (y ∷ ys) 0 ≡ Some x → y ∷ ys ≡ x ∷ drop 1 (y ∷ ys)
 drop-first x y ys e = cc

@@ -1,4 +1,4 @@
--- The numbers of those that wait, where one is put last, marked, or leaves.
+-- Numbers of the waiting requests, after a waiter is appended, marked or dropped.
 use Rattle.std.proofs.Common.{◌≡◌, ℕ, ◌<◌, suc, zero, true, false, not, ◌==◌, List, [], ◌∷◌, ◌++◌, length, refl, subst, ◌∙◌, arith, slice_index_or, slice_set}
 use Rattle.std.specs.Prelude.{filter}
 use Rattle.std.proofs.lemmas.Bool.Decides.{nat_tests}

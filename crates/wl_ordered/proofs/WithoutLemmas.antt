@@ -1,4 +1,4 @@
--- What taking a row out by its number leaves of each reading of a list.
+-- Effect of removing a row by its number on each view of a list.
 use Rattle.std.proofs.Common.{◌≡◌, ℕ, ◌+◌, ◌<◌, suc, Bool, true, false, cond, List, [], ◌∷◌, Some, None, length, refl, ap, ◌∙◌, arith}
 use Rattle.std.specs.Prelude.{filter, count_by}
 use Rattle.std.proofs.lemmas.Bool.Decides.{nat_tests}
@@ -9,7 +9,7 @@ use Rattle.wl_ordered.specs.Orders.{without_order, without_number, orders_in, is
 pub count-one : {X : Type 0} (t : X → Bool) (x : X) (xs : List X) → count_by t (x ∷ xs) ≡ cond (t x) 1 0 + count_by t xs
 count-one t x xs = sum_by-cons (λ y. cond (t y) 1 0) x xs
 
--- ---- numbers
+-- Numbers
 
 numbers-above_step : (k j : ℕ) (js : List ℕ) → (are_above k js ≡ true → without_number k js ≡ js) → are_above k (j ∷ js) ≡ true → without_number k (j ∷ js) ≡ j ∷ js
 numbers-above_step k j js below a = grind (arith, nat_tests)
@@ -21,7 +21,7 @@ numbers-above k (j ∷ js) a = numbers-above_step k j js (numbers-above k js) a
 pub no_index : (i : ℕ) → i < 0 → ⊥
 no_index i l = omega (arith, l)
 
--- ---- a number that is not there
+-- A number without a row
 
 without-above_step : {X : Type 0} (k : ℕ) (p : ℕ × X) (ps : Table X) → (is_above k ps ≡ true → without_order k ps ≡ ps) → is_above k (p ∷ ps) ≡ true → without_order k (p ∷ ps) ≡ p ∷ ps
 without-above_step k p ps below a = grind (arith, nat_tests)
@@ -37,7 +37,7 @@ pub without-absent : {X : Type 0} (k : ℕ) (ps : Table X) → find ps k ≡ Non
 without-absent k [] n = refl
 without-absent k (p ∷ ps) n = without-absent_step k p ps (without-absent k ps) n
 
--- ---- a test of what is left
+-- Tests of the remaining rows
 
 filter-without_step : {X : Type 0} (t : ℕ × X → Bool) (k : ℕ) (x : X) (p : ℕ × X) (ps : Table X) → (is_rising ps ≡ true → find ps k ≡ Some x → filter t (without_order k ps) ≡ filter t ps) → (is_above p.0 ps ≡ true → without_order p.0 ps ≡ ps) → (p.0 ≡ k → p.1 ≡ x → t p ≡ false) → is_rising (p ∷ ps) ≡ true → find (p ∷ ps) k ≡ Some x → filter t (without_order k (p ∷ ps)) ≡ filter t (p ∷ ps)
 filter-without_step t k x p ps below same fails r f = grind (arith, nat_tests)
@@ -85,7 +85,7 @@ pub orders-without : {X : Type 0} (t : ℕ × X → Bool) (k : ℕ) (ps : Table 
 orders-without t k [] = refl
 orders-without t k (p ∷ ps) = orders-without_step t k p ps (orders-without t k ps)
 
--- ---- the numbers of some rows rise
+-- The numbers of some rows rise
 
 orders-above_step : {X : Type 0} (t : ℕ × X → Bool) (j : ℕ) (p : ℕ × X) (ps : Table X) → (is_above j ps ≡ true → are_above j (orders_in (filter t ps)) ≡ true) → is_above j (p ∷ ps) ≡ true → are_above j (orders_in (filter t (p ∷ ps))) ≡ true
 orders-above_step t j p ps below a = grind (arith, nat_tests)

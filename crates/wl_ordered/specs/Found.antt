@@ -1,4 +1,5 @@
--- What a client's places keep true: each is found by the client's number, as long as none has two.
+-- Invariant of a client's places: each can be found by the client's number, as long as no number
+-- has two places.
 use Rattle.std.specs.Prelude.{◌≡◌, ℕ, true, false, Some, nat_eq}
 use Rattle.std.specs.HashMap.{get}
 use Rattle.wl_ordered.specs.Orders.{ordered}

@@ -1,61 +1,62 @@
--- Rows under numbers, as a table by rising numbers, whatever the order that they are stored in.
+-- Rows with numbers, seen as a table sorted by number, regardless of the order in which they are
+-- stored.
 use Rattle.std.specs.Prelude.{ℕ, List, [], ◌∷◌, map, filter, Bool, true, not, ◌&&◌, ◌==◌, nat_lt}
 use Rattle.wl_draft.specs.Tables.{Table, put}
 use Rattle.wl_draft.specs.declared.row.Row.{Row}
 
 module _ {X : Type 0} where
-  -- the entries by rising number
+  -- The entries, sorted by number.
   abbrev pub ordered : List (ℕ × X) → Table X
   ordered [] = []
   ordered (p ∷ ps) = put p.0 p.1 (ordered ps)
 
-  -- the values of a table, in its order
+  -- The values of a table, in its order.
   abbrev pub values_in : Table X → List X
   values_in ps = map (λ p. p.1) ps
 
-  -- the numbers of a table, in its order
+  -- The numbers of a table, in its order.
   abbrev pub orders_in : Table X → List ℕ
   orders_in ps = map (λ p. p.0) ps
 
-  -- the table without the row of a number
+  -- The table without the row of a number.
   abbrev pub without_order : ℕ → Table X → Table X
   without_order k ps = filter (λ p. not (p.0 == k)) ps
 
-  -- whether each number of the table is below k
+  -- Each number of the table is below `k`.
   abbrev pub is_below : Table X → ℕ → Bool
   is_below [] k = true
   is_below (p ∷ ps) k = nat_lt p.0 k && is_below ps k
 
-  -- whether each number of the table is above k
+  -- Each number of the table is above `k`.
   abbrev pub is_above : ℕ → Table X → Bool
   is_above k [] = true
   is_above k (p ∷ ps) = nat_lt k p.0 && is_above k ps
 
-  -- whether the numbers rise
+  -- The numbers of the table strictly rise.
   abbrev pub is_rising : Table X → Bool
   is_rising [] = true
   is_rising (p ∷ ps) = is_above p.0 ps && is_rising ps
 
--- the numbers without one
+-- The numbers without `k`.
 abbrev pub without_number : ℕ → List ℕ → List ℕ
 without_number k ks = filter (λ j. not (j == k)) ks
 
--- whether each of these numbers is above k
+-- Each of the numbers is above `k`.
 abbrev pub are_above : ℕ → List ℕ → Bool
 are_above k [] = true
 are_above k (j ∷ js) = nat_lt k j && are_above k js
 
--- whether these numbers rise
+-- The numbers strictly rise.
 abbrev pub do_rise : List ℕ → Bool
 do_rise [] = true
 do_rise (k ∷ ks) = are_above k ks && do_rise ks
 
--- rows in order, and how many more fit with no allocation
+-- The rows in order, and the number of rows that can be added without an allocation.
 pub record Ordered : Type 0 where
   pub items : List (ℕ × Row)
   pub room : ℕ
 
--- numbers, and how many more fit with no allocation
+-- The numbers, and how many can be added without an allocation.
 pub record Numbers : Type 0 where
   pub items : List ℕ
   pub room : ℕ

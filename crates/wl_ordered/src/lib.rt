@@ -1,4 +1,5 @@
-//! Order numbers that rise: the places of a client's entries in a list, and the queue of a name.
+//! Ordered lists with rising order numbers: the places of a client's entries in a list, and the
+//! queue of a name.
 #![tactic(auto)]
 
 pub mod place_index;

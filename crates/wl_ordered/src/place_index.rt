@@ -1,5 +1,5 @@
-//! The places of a client's entries in a list: found by their order numbers and by the client's own numbers, at no cost
-//! that grows with how many there are.
+//! Places of a client's entries in a list. Lookups by order number and by the client's own number
+//! take constant time, unless some number has two places.
 
 ghost use Rattle.std.specs.Prelude.{◌≡◌, true, ◌+◌, ◌<◌, ◌≤◌, ◌^◌, ◌==◌, [], ◌∷◌, ◌++◌, Some, None, length, OnOk, IfSome, IfNone};
 ghost use Rattle.wl_ordered.specs.Orders.{is_below, is_rising, without_order};
@@ -9,13 +9,14 @@ use indexmap::IndexMap;
 use std::alloc::{AllocError, Global};
 use std::marker::Model;
 
-/// A client's numbers under order numbers. Their order is that of the order numbers.
+/// A client's numbers with their order numbers. They are sorted by order number.
 #[derive(Drop)]
 pub struct PlaceIndex {
     numbers: IndexMap<u64, u32>,
-    // The place of each number, as long as none has two.
+    // The place of each number, as long as no number has two places.
     orders: IndexMap<u32, u64>,
-    // Whether a number may have two places. Only reports can bring that about, and then numbers are looked for one by one.
+    // Whether a number may have two places. Only reports can cause this, and then a lookup searches
+    // all places.
     is_doubled: bool,
 }
 
@@ -35,6 +36,7 @@ impl Model for PlaceIndex {
 }
 
 impl PlaceIndex {
+    /// Returns an empty index.
     pub fn new(alloc: Global) -> PlaceIndex
         ensures { result.items ≡ [] }
     {
@@ -45,6 +47,7 @@ impl PlaceIndex {
         }
     }
 
+    /// Returns the number of places.
     pub fn len(&self) -> usize
         ensures len { result ≡ length self.now.items }
         ensures small { result < 2 ^ 63 }
@@ -52,13 +55,14 @@ impl PlaceIndex {
         self.numbers.len()
     }
 
+    /// Returns whether there are no places.
     pub fn is_empty(&self) -> bool
         ensures { result ≡ (length self.now.items == 0) }
     {
         self.len() == 0
     }
 
-    /// The first place of a number.
+    /// Returns the first place of a number.
     pub fn first(&self, number: u32) -> Option<u64>
         ensures value { result ≡ first_place (Some number) self.now.items }
         ensures rising { is_rising self.now.items ≡ true }
@@ -70,7 +74,7 @@ impl PlaceIndex {
         }
     }
 
-    /// Some place of the number that is meant, or of any.
+    /// Returns some place of the selected number, or of any number if `which` is `None`.
     pub fn find(&self, which: Option<u32>) -> Option<u64>
         ensures some { IfSome result (λ order. IsPlace which self.now.items order) }
         ensures none { IfNone result (first_place which self.now.items ≡ None) }
@@ -81,13 +85,14 @@ impl PlaceIndex {
         }
     }
 
+    /// Returns whether the number has a place.
     pub fn contains(&self, number: u32) -> bool
         ensures { result ≡ has_number number self.now.items }
     {
         self.first(number).is_some()
     }
 
-    /// Makes room for so many more places.
+    /// Reserves capacity for `count` more places. Fails if out of memory.
     pub fn reserve(&mut self, count: usize) -> Result<(), AllocError>
         ensures items { self.new.items ≡ self.old.items }
         ensures room { OnOk result (count ≤ self.new.room) }
@@ -97,7 +102,7 @@ impl PlaceIndex {
         self.orders.reserve(count)
     }
 
-    /// Puts a place last. Its order number is above all that are there, and there is room for it.
+    /// Appends a place. Its order number must be above all others, and capacity must be reserved.
     pub fn push(&mut self, order: u64, number: u32)
         requires last { is_below self.old.items order ≡ true }
         requires room { 0 < self.old.room }
@@ -112,7 +117,7 @@ impl PlaceIndex {
         }
     }
 
-    /// Takes out the place of this order number.
+    /// Removes the place with this order number.
     pub fn remove(&mut self, order: u64)
         ensures items { self.new.items ≡ without_order order self.old.items }
         ensures room { self.old.room ≤ self.new.room }
@@ -140,7 +145,7 @@ impl PlaceIndex {
         }
     }
 
-    // The least place of a number, looked for among all.
+    // Returns the least place of a number, by a search of all places.
     fn least(&self, number: u32) -> Option<u64>
         ensures { result ≡ first_place (Some number) self.now.items }
     {

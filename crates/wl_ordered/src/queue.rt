@@ -1,4 +1,4 @@
-//! The requests that wait for one name, in order.
+//! Waiting requests of one name, in order.
 
 ghost use Rattle.std.specs.Prelude.{◌≡◌, ◌≤◌, ◌<◌, ◌+◌, ◌∷◌, ◌++◌, [], true, false, OnOk, IfSome, length, ◌==◌, slice_get};
 ghost use Rattle.std.specs.VecDeque.{deque_len, deque_capacity};
@@ -9,19 +9,20 @@ use std::alloc::{AllocError, Global};
 use std::collections::VecDeque;
 use std::marker::Model;
 
-/// The number of a request, and whether it was taken out.
+/// The order number of a request, and whether the request was removed.
 #[derive(Clone, Copy)]
 pub struct Waiter {
     pub order: u64,
     pub is_gone: bool,
 }
 
-/// The numbers of the requests that wait, rising. One that is taken out while others wait before it is marked, so that none has
-/// to be moved. It leaves with those before it, or once more are marked than wait.
+/// The order numbers of the waiting requests, rising. A request that is removed from the middle is
+/// only marked, so that no other has to be moved. It is dropped together with those before it, or
+/// when more waiters are marked than waiting.
 #[derive(Drop)]
 pub struct Queue {
     waiters: VecDeque<Waiter>,
-    /// How many are marked.
+    /// Number of marked waiters.
     gone: usize,
 }
 
@@ -39,6 +40,7 @@ impl Model for Queue {
 }
 
 impl Queue {
+    /// Returns an empty queue.
     pub fn new(alloc: Global) -> Queue
         ensures { result.items ≡ [] }
     {
@@ -48,6 +50,7 @@ impl Queue {
         }
     }
 
+    /// Returns the order number of the first waiting request.
     pub fn front(&self) -> Option<u64>
         ensures { result ≡ slice_get self.now.items 0 }
     {
@@ -57,12 +60,14 @@ impl Queue {
         }
     }
 
+    /// Returns whether no request is waiting.
     pub fn is_empty(&self) -> bool
         ensures { result ≡ (length self.now.items == 0) }
     {
         self.waiters.is_empty()
     }
 
+    /// Reserves capacity for `count` more requests. Fails if out of memory.
     pub fn reserve(&mut self, count: usize) -> Result<(), AllocError>
         ensures items { self.new.items ≡ self.old.items }
         ensures room { OnOk result (count ≤ self.new.room) }
@@ -71,7 +76,7 @@ impl Queue {
         self.waiters.reserve(count)
     }
 
-    /// Puts a request last. There is room for it.
+    /// Appends a request. Capacity must be reserved.
     pub fn push(&mut self, order: u64)
         requires { 0 < self.old.room }
         ensures items { self.new.items ≡ self.old.items ++ order ∷ [] }
@@ -83,7 +88,7 @@ impl Queue {
         });
     }
 
-    /// Takes a request out, wherever it stands.
+    /// Removes a request at any position.
     pub fn take_out(&mut self, order: u64)
         requires { do_rise self.old.items ≡ true }
         ensures items { self.new.items ≡ without_number order self.old.items }
@@ -101,7 +106,8 @@ impl Queue {
     }
 }
 
-/// Marks a request, and says whether it could be.
+/// Marks a request as removed, and returns whether it was found. If not, it drops each waiter with
+/// this number.
 fn mark(waiters: &mut VecDeque<Waiter>, order: u64) -> bool
     requires { do_rise (numbers_in waiters.old.items) ≡ true }
     ensures numbers { numbers_in waiters.new.items ≡ without_number order (numbers_in waiters.old.items) }
@@ -120,7 +126,7 @@ fn mark(waiters: &mut VecDeque<Waiter>, order: u64) -> bool
     }
 }
 
-/// Where a request stands. A binary search finds it, since numbers rise.
+/// Returns the index of a request. The numbers rise, so a binary search finds it.
 fn place_of(waiters: &VecDeque<Waiter>, order: u64) -> Option<usize>
     ensures { IfSome result (WaitsAt order waiters.now.items) }
 {
@@ -131,7 +137,7 @@ fn place_of(waiters: &VecDeque<Waiter>, order: u64) -> Option<usize>
     }
 }
 
-/// Lets those leave that were taken out, before the first that waits, and says how many.
+/// Drops the marked waiters before the first waiting one, and returns their number.
 fn leave(waiters: &mut VecDeque<Waiter>) -> usize
     ensures numbers { numbers_in waiters.new.items ≡ numbers_in waiters.old.items }
     ensures front { is_front_gone waiters.new.items ≡ false }
@@ -154,7 +160,7 @@ fn is_front_gone(waiters: &VecDeque<Waiter>) -> bool
     }
 }
 
-/// Lets all leave that were taken out.
+/// Drops all marked waiters.
 fn clear(waiters: &mut VecDeque<Waiter>)
     ensures numbers { numbers_in waiters.new.items ≡ numbers_in waiters.old.items }
     ensures front { is_front_gone waiters.new.items ≡ false }

@@ -1,4 +1,4 @@
--- From what `url` answers to the origin of a text, and from origins to partitions.
+-- Lemmas on the origin of a text, from the results of `url`, and on partitions, from their origins.
 use Rattle.std.proofs.Common.{◌≡◌, ◌⊎◌, ◌<◌, ◌≤◌, ℕ, List, length, None, Result, Ok, Err, inl, inr, ap, ap₂, sym, ◌∙◌, refl}
 use Rattle.std.proofs.lemmas.Bool.{cases_lt, le-ltb, lt-ltb}
 use Rattle.url.specs.declared.error.ParseError.{ParseError}
@@ -16,18 +16,18 @@ use Rattle.wl_origin.specs.Partition.{origin_of_text, triple_of_origin, triple_o
 abbrev bad_url : Result Triple OriginFault
 bad_url = Err BadUrl
 
--- a text that is too long has none
+-- A text that is too long has no origin.
 pub origin_of_text-long : (text : List ℕ) → URL_LIMIT < length text → origin_of_text text ≡ Err BadUrl
 unfolding origin_of_text
 origin_of_text-long text long = rw (lt-ltb URL_LIMIT (length text) long)
 
--- any other text is parsed
+-- Any other text is parsed.
 pub origin_of_text-short : (text : List ℕ) → length text ≤ URL_LIMIT
     → origin_of_text text ≡ triple_of_parsed (parse_url None text)
 unfolding origin_of_text
 origin_of_text-short text short = rw (le-ltb URL_LIMIT (length text) short)
 
--- a text that has one is not too long
+-- A text that has an origin is not too long.
 pub origin_of_text-fits : (text : List ℕ) (own : Triple) → origin_of_text text ≡ Ok own → length text ≤ URL_LIMIT
 origin_of_text-fits text own is = elim (cases_lt URL_LIMIT (length text)) [
   | inl long ↦
@@ -36,7 +36,7 @@ origin_of_text-fits text own is = elim (cases_lt URL_LIMIT (length text)) [
   | inr short ↦ short
 ]
 
--- what it is parsed to decides
+-- A text that can be parsed has the origin of its URL.
 pub origin_of_text-parsed : (text : List ℕ) (url : Parts) → length text ≤ URL_LIMIT → parse_url None text ≡ Ok url
     → origin_of_text text ≡ triple_of_origin (origin_of url)
 origin_of_text-parsed text url short parsed =
@@ -47,12 +47,12 @@ bad_or_memory OutOfMemory = inl refl
 bad_or_memory Overflow = inl refl
 bad_or_memory _ = inr refl
 
--- want of room is answered as Memory
+-- Errors for lack of memory become `Memory`.
 pub fault_of-out_of_room : (cause : ParseError) → IsOutOfRoom cause → fault_of cause ≡ Memory
 fault_of-out_of_room cause (inl e) = ap fault_of e
 fault_of-out_of_room cause (inr e) = ap fault_of e
 
--- where the parser refuses, the text has no origin for that cause, or there was no room
+-- If the parser fails, the text has no origin for that reason, or the parser ran out of memory.
 pub refused_parse : (text : List ℕ) (cause : ParseError) → length text ≤ URL_LIMIT
     → (parse_url None text ≡ Err cause) ⊎ IsOutOfRoom cause
     → (fault_of cause ≡ Memory) ⊎ (origin_of_text text ≡ Err (fault_of cause))
@@ -62,9 +62,9 @@ refused_parse text cause short (inl refused) = elim (bad_or_memory cause) [
 ]
 refused_parse text cause short (inr room) = inl (fault_of-out_of_room cause room)
 
--- ---- partitions
+-- Partitions
 
--- a page at the top has the pair of its origin with itself
+-- The partition of a top-level page is its origin paired with itself.
 pub partition_of-origin : (text : List ℕ) (own : Triple) → origin_of_text text ≡ Ok own → partition_of text ≡ Ok (paired own)
 unfolding partition_of partition_of_pair
 partition_of-origin text own is = ap (λ o. paired_origins o o) is
@@ -73,11 +73,11 @@ pub partition_of_pair-origins : (top own : List ℕ) (t o : Triple) → origin_o
 unfolding partition_of_pair
 partition_of_pair-origins top own t o is also = ap₂ paired_origins is also
 
--- why a text was refused, or out of memory
+-- A text was refused for the fault that its definition gives, or for lack of memory.
 abbrev pub Refused : {X : Type 0} → Result X OriginFault → OriginFault → Type 0
 Refused answer fault = (fault ≡ Memory) ⊎ (answer ≡ Err fault)
 
--- what is told of an origin is told of the partition
+-- A refused origin means a refused partition, with the same fault.
 pub refused_partition : (text : List ℕ) (fault : OriginFault) → Refused (origin_of_text text) fault → Refused (partition_of text) fault
 unfolding partition_of partition_of_pair
 refused_partition text fault (inl memory) = inl memory

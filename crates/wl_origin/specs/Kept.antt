@@ -1,4 +1,4 @@
--- What an origin keeps: its triple, and beside it the text.
+-- Invariant of a stored origin: its triple and its text agree.
 use Rattle.std.specs.Prelude.{◌≡◌, ◌≤◌, length, string_bytes}
 use Rattle.url.specs.Host.{owned_host}
 use Rattle.url.specs.Origin.{Triple}
@@ -9,7 +9,7 @@ use Rattle.wl_origin.specs.declared.triple.TupleOrigin.TheInside.{Inside}
 abbrev pub triple_of : Inside → Triple
 triple_of p = (string_bytes p.scheme, owned_host p.host, p.port)
 
--- the text is that of the triple, and not too long
+-- The stored text is the text of the triple, and its length is within the limit.
 pub record KeepsText (p : Inside) : Type 0 where
   pub text : string_bytes p.text ≡ origin_text (triple_of p)
   pub within : length (string_bytes p.text) ≤ ORIGIN_LIMIT

@@ -1,4 +1,5 @@
--- Origins and partitions are equal exactly where their order does not tell them apart.
+-- Agreement of equality and order: two origins or partitions are equal if and only if neither comes
+-- before the other.
 use Rattle.std.specs.Prelude.{bytes_eq, nat_eq}
 use Rattle.std.specs.Ordering.{nat_cmp}
 use Rattle.std.specs.Cmp.{unsigned_ties}

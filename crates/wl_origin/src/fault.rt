@@ -1,17 +1,18 @@
+//! Faults of a URL that has no partition.
 use std::alloc::AllocError;
 use thiserror::Error;
 use url::ParseError;
 
-/// Why a URL has no partition.
+/// Reason why a URL has no partition.
 #[derive(Clone, Copy, Debug, PartialEq, Eq, Error)]
 pub enum OriginFault {
-    /// It is no URL, or too long, or its origin is too long.
+    /// The text is not a URL or is too long, or its origin is too long.
     #[error("BadUrl")]
     BadUrl,
-    /// Its origin is opaque.
+    /// The origin is opaque.
     #[error("SecurityError")]
     Security,
-    /// Memory was refused.
+    /// Out of memory.
     #[error("Memory")]
     Memory,
 }
@@ -22,7 +23,7 @@ impl From<ParseError> for OriginFault {
 
     ghost from_gives = { λ cause fault. fault ≡ fault_of cause };
 
-    // An overflow, a URL of 4 GB, is want of room too.
+    // An overflow, at a URL of 4 GB, counts as out of memory.
     fn from(cause: ParseError) -> OriginFault {
         match cause {
             ParseError::OutOfMemory | ParseError::Overflow => OriginFault::Memory,

@@ -1,4 +1,4 @@
-//! Partitions: which URLs belong together, by RFC 6454, under which top-level origin.
+//! Partitions (storage keys) of pages: a top-level origin and an own origin, by RFC 6454.
 #![tactic(auto)]
 
 pub mod fault;

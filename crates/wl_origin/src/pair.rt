@@ -1,3 +1,4 @@
+//! Partition of a page.
 ghost use Rattle.std.specs.Prelude.{◌≡◌, ◌↔◌, ◌≤◌, length, IfOk, IsTrue};
 ghost use Rattle.std.specs.Ordering.{as_partial_cmp};
 ghost use Rattle.std.specs.Cmp.{partial_order_from_own_ties};
@@ -13,7 +14,8 @@ use std::alloc::{AllocError, Global};
 use std::cmp::Ordering;
 use std::marker::Model;
 
-/// The origin at the top of a page and the own origin: what pages of one partition have in common.
+/// A partition (storage key): the top-level origin of a page and its own origin. Pages with both
+/// equal share their locks.
 #[derive(Debug, Drop)]
 pub struct Partition {
     top: TupleOrigin,
@@ -35,7 +37,7 @@ impl Partition {
         Partition { top, own }
     }
 
-    /// The own origin in ASCII, without a default port.
+    /// Returns the own origin in ASCII, without a default port.
     pub fn text(&self) -> &str
         ensures value { result.now ≡ origin_text self.now.1 }
         ensures within { length result.now ≤ ORIGIN_LIMIT }
@@ -43,7 +45,7 @@ impl Partition {
         self.own.text()
     }
 
-    /// The top-level origin in ASCII, without a default port.
+    /// Returns the top-level origin in ASCII, without a default port.
     pub fn top_text(&self) -> &str
         ensures value { result.now ≡ origin_text self.now.0 }
         ensures within { length result.now ≤ ORIGIN_LIMIT }
@@ -51,7 +53,7 @@ impl Partition {
         self.top.text()
     }
 
-    /// An equal partition, in memory of its own.
+    /// Returns a deep copy. Fails if out of memory.
     pub fn copy(&self, alloc: Global) -> Result<Partition, AllocError>
         ensures { IfOk result (λ copy. copy ≡ self.now) }
     {

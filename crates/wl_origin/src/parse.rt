@@ -1,3 +1,4 @@
+//! Partitions from URLs.
 ghost use Rattle.std.specs.Prelude.{◌≡◌, ◌⊎◌, ◌≤◌, length, IfOk, IfErr, Ok, Err};
 ghost use Rattle.wl_origin.specs.Partition.{origin_of_text, partition_of, partition_of_pair};
 ghost use Rattle.wl_limits.specs.declared.texts.TheConstants.{URL_LIMIT};
@@ -9,8 +10,10 @@ use std::alloc::Global;
 use url::Url;
 use wl_limits::texts::URL_LIMIT;
 
-/// The partition of a page at the top: its URL's origin is the top-level one too. A refusal of memory is answered at once,
-/// also where a later step would refuse the URL.
+/// Returns the partition of a top-level page, whose own origin is the top-level origin too. Fails
+/// with `Memory` if out of memory, even if a later step would refuse the URL. Fails with `BadUrl`
+/// if the URL is not valid or it or its origin is too long, and with `Security` if its origin is
+/// opaque.
 pub fn partition(alloc: Global, url: &str) -> Result<Partition, OriginFault>
     ensures ok { IfOk result (λ p. partition_of url.now ≡ Ok p) }
     ensures refused { IfErr result
@@ -22,8 +25,9 @@ pub fn partition(alloc: Global, url: &str) -> Result<Partition, OriginFault>
     Ok(Partition::new(top, own))
 }
 
-/// The partition of a page under another at the top. The top-level URL is read first. A refusal of memory is answered at
-/// once, also where a later step would refuse a URL.
+/// Returns the partition of a page under another top-level page. It parses the top-level URL first.
+/// Fails with `Memory` if out of memory, even if a later step would refuse a URL. Other faults are
+/// those of `partition`.
 pub fn partition_pair(alloc: Global, top: &str, own: &str) -> Result<Partition, OriginFault>
     ensures ok { IfOk result (λ p. partition_of_pair top.now own.now ≡ Ok p) }
     ensures refused { IfErr result
@@ -35,7 +39,7 @@ pub fn partition_pair(alloc: Global, top: &str, own: &str) -> Result<Partition, 
     Ok(Partition::new(top_origin, own_origin))
 }
 
-/// The origin of an absolute URL.
+/// Returns the origin of an absolute URL.
 fn origin_of(alloc: Global, url: &str) -> Result<TupleOrigin, OriginFault>
     ensures ok { IfOk result (λ o. origin_of_text url.now ≡ Ok o) }
     ensures refused { IfErr result

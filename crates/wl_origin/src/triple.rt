@@ -1,3 +1,4 @@
+//! Origin with a scheme, a host and a port.
 ghost use Rattle.std.specs.Prelude.{◌≡◌, ◌⊎◌, ◌↔◌, ◌≤◌, length, IfOk, IfErr, IsTrue, Ok, Err};
 ghost use Rattle.std.specs.Ordering.{as_partial_cmp};
 ghost use Rattle.std.specs.Cmp.{partial_order_from_own_ties};
@@ -16,7 +17,8 @@ use std::marker::Model;
 use url::{Host, Origin};
 use wl_limits::texts::ORIGIN_LIMIT;
 
-/// Scheme, host and port: what URLs of one origin have in common. Its ASCII text is kept beside them.
+/// An origin: the scheme, host and port that its URLs have in common. Its ASCII text is stored with
+/// them.
 #[derive(Debug, Drop)]
 pub struct TupleOrigin {
     scheme: String,
@@ -38,6 +40,8 @@ impl Model for TupleOrigin {
 }
 
 impl TupleOrigin {
+    /// Converts an origin of `url`. Fails with `Security` if it is opaque, with `BadUrl` if its
+    /// text is too long, and with `Memory` if out of memory.
     pub(crate) fn of_origin(alloc: Global, origin: Origin) -> Result<TupleOrigin, OriginFault>
         ensures ok { IfOk result (λ p. triple_of_origin (origin_tuple origin) ≡ Ok p) }
         ensures refused { IfErr result
@@ -56,7 +60,7 @@ impl TupleOrigin {
         }
     }
 
-    /// The origin in ASCII, without a default port.
+    /// Returns the origin in ASCII, without a default port.
     pub fn text(&self) -> &str
         ensures value { result.now ≡ origin_text self.now }
         ensures within { length result.now ≤ ORIGIN_LIMIT }
@@ -64,7 +68,7 @@ impl TupleOrigin {
         self.text.as_str()
     }
 
-    /// An equal origin, in memory of its own.
+    /// Returns a deep copy. Fails if out of memory.
     pub fn copy(&self, alloc: Global) -> Result<TupleOrigin, AllocError>
         ensures { IfOk result (λ copy. copy ≡ self.now) }
     {

@@ -1,4 +1,4 @@
--- The laws of merges.
+-- Proofs of the laws of merges.
 use Rattle.std.proofs.Common.{◌≡◌, ◌≢◌, ℕ, zero, suc, ◌+◌, ◌<◌, ◌≤◌, List, [], ◌∷◌, length, map, sym, refl, ap, ◌∙◌, subst, ⊎_elim, arith}
 use Rattle.std.specs.Prelude.{Contains}
 use Rattle.std.proofs.lemmas.Bool.{cases_eq, cases_lt}
@@ -18,7 +18,7 @@ module _ {A : Type 0} where
       (λ (ne : l.0 ≡ p → ⊥). subst (λ (xs : List A). IsPickedFrom xs (all_of (l ∷ ls))) (sym (from_source-miss p l ls ne)) (leaves l.1 (from_source p ls) (all_of ls) (picked p ls)))
       (cases_eq l.0 p)
 
-  -- how many items of the first n sources are labelled
+  -- The number of labelled items from the first n sources.
   abbrev count : ℕ → List (ℕ × A) → ℕ
   count n ls = given_by n (λ p. from_source p ls)
 

@@ -1,4 +1,4 @@
--- The laws of the outbox.
+-- Proofs of the laws of an outbox.
 use Rattle.std.proofs.Common.{◌≡◌, [], ◌++◌, All, sym, refl, ap, ◌∙◌, subst}
 use Rattle.std.proofs.lemmas.List.{append-nil}
 use mathlib.Core.Option.{some-injective}

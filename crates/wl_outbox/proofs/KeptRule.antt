@@ -1,4 +1,4 @@
--- Each step keeps the rule.
+-- Lemmas that each step keeps the rule.
 use Rattle.std.proofs.Common.{◌≡◌, ◌≢◌, ℕ, zero, suc, List, [], ◌∷◌, ◌++◌, set, All, Bool, true, false, inr, sym, refl, ap, ◌∙◌, subst, ⊎_elim, arith, append_assoc}
 use Rattle.std.proofs.lemmas.List.Elements.{All-push}
 use mathlib.Core.Option.{some-injective, some-ne-none}
@@ -24,7 +24,7 @@ each_set P views pass w h mine j u e = ⊎_elim
     (λ (t : (j ≢ pass) × Knows views j u). h j u t.1)
     (at_set views pass j w u e)
 
--- a pass of an outbox that is open
+-- An outbox with a pass that takes or puts is assigned to a tab.
 opened : (items : List Packed) (views : List View) (pass : ℕ) (v : View) → IsOrderly items views → Knows views pass v → v.role ≢ Opening → IsMerging items views
 opened items views pass v h at role = ⊎_elim
     (λ (o : (views ≡ opening ∷ []) × (items ≡ [])). absurd (role (only pass (subst (λ vs. Knows vs pass v) o.0 at))))
@@ -44,14 +44,14 @@ not_opening e = cc
 never_opening : Putting ≡ Opening → ⊥
 never_opening e = cc
 
--- the role of a pass that does not take
+-- A pass that does not take has the putting role.
 pub putting_role : (role : Role) (takes : Bool) → role ≡ role_of takes → is_taking role ≡ false → role ≡ Putting
 putting_role Opening true e f = cc
 putting_role Opening false e f = cc
 putting_role Taking takes e f = cc
 putting_role Putting takes e f = refl
 
--- and of one that does
+-- A pass that takes has the taking role.
 pub taking_role : (role : Role) → is_taking role ≡ true → role ≡ Taking
 taking_role Opening e = cc
 taking_role Taking e = refl
@@ -74,7 +74,7 @@ module _ (partition tab : ℕ) where
   none_put (suc zero) = refl
   none_put (suc (suc i)) = refl
 
-  -- the outbox with its first two passes
+  -- The outbox with its first two passes.
   both : IsMerging [] (t ∷ p ∷ [])
   both = record {
     taker = 0;
@@ -116,7 +116,7 @@ deals pass v role items views h at =
       for_tab = m.for_tab;
     })
 
--- what a pass has put does not depend on its other fields
+-- A putting pass has put its list of parcels.
 putting_puts : (v : View) (l : List Packed) → v.role ≡ Putting → puts v.role l ≡ l
 putting_puts v l e = ap (λ r. puts r l) e
 
@@ -149,7 +149,7 @@ puts_kept n pass v x role for_tab items views room h at =
       refl,
     )
 
--- the element between two lists
+-- A property of all elements holds for the element between two lists.
 middle : (P : Packed → Type 0) (xs : List Packed) (x : Packed) (ys : List Packed) → All P (xs ++ x ∷ ys) → P x
 middle P [] x ys h = h 0 x (omega arith)
 middle P (z ∷ xs) x ys h = middle P xs x ys (λ k d lt. h (suc k) d (omega arith))

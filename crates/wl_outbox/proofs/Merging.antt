@@ -1,4 +1,4 @@
--- The items of a source, and a merge that grows by one item.
+-- Lemmas on the items of one source, and on merges that grow by one item.
 use Rattle.std.proofs.Common.{◌≡◌, ◌≢◌, ℕ, List, [], ◌∷◌, ◌++◌, map, cond, sym, refl, ap, ◌∙◌, subst, ⊎_elim, eq-eqb, ne_eqb}
 use Rattle.std.specs.Prelude.{filter, ◌==◌}
 use Rattle.std.proofs.lemmas.Bool.{cases_eq}
@@ -22,7 +22,7 @@ module _ {A : Type 0} where
       subst (λ b. map (λ (m : ℕ × A). m.1) (cond b (l ∷ filter (λ (m : ℕ × A). m.0 == p) ls) (filter (λ (m : ℕ × A). m.0 == p) ls)) ≡ from_source p ls)
       (sym (ne_eqb l.0 p ne)) refl
 
-  -- one source gives one item more
+  -- A merge grows by one item when one source does.
   pub merge_push : (items : List A) (lists more : ℕ → List A) (p : ℕ) (x : A) → IsMerge items lists → more p ≡ lists p ++ x ∷ []
       → ((q : ℕ) → q ≢ p → more q ≡ lists q) → IsMerge (items ++ x ∷ []) more
   merge_push items lists more p x m here others = record {

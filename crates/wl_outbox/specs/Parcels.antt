@@ -1,8 +1,8 @@
--- A parcel as contracts see it.
+-- The value of a parcel in contracts.
 use Rattle.std.specs.Prelude.{ℕ}
 use Rattle.wl_grammar.specs.declared.frame.Frame.{Frame}
 
--- a frame for a tab, which comes from the tab's partition
+-- A frame for a tab, from a source in the tab's partition.
 pub record Packed : Type 0 where
   pub partition : ℕ
   pub tab : ℕ

@@ -1,4 +1,4 @@
--- An outbox and its passes as contracts see them.
+-- The values of outboxes and passes in contracts.
 use Rattle.std.specs.Prelude.{◌≡◌, ℕ, Bool, true, false}
 use Rattle.atomic_table.specs.Seated.{TableId}
 use Rattle.wl_outbox.specs.declared.rule.Role.{Role}
@@ -6,13 +6,13 @@ use Rattle.wl_outbox.specs.declared.rule.Role.TheVariants.{Opening, Taking, Putt
 use Rattle.wl_outbox.specs.declared.rule.View.{View}
 use Rattle.wl_outbox.specs.Parcels.{Packed}
 
--- an outbox: which queue it is, and the tab that it is for
+-- An outbox: its queue and its tab.
 pub record Shared : Type 0 where
   pub queue : TableId
   pub partition : ℕ
   pub tab : ℕ
 
--- a pass: of which queue, which of its passes, and what it knows
+-- A pass: its queue, its number there, and its view.
 pub record Handed : Type 0 where
   pub queue : TableId
   pub pass : ℕ
@@ -26,7 +26,7 @@ is_taking Putting = false
 abbrev pub takes : Handed → Bool
 takes p = is_taking p.view.role
 
--- the role of a pass that says whether it takes
+-- The role of a pass that takes or puts.
 abbrev pub role_of : Bool → Role
 role_of true = Taking
 role_of false = Putting
@@ -34,13 +34,13 @@ role_of false = Putting
 abbrev pub IsRole : Role → Bool → Type 0
 IsRole role takes = role ≡ role_of takes
 
--- it is a pass of this outbox
+-- The pass belongs to this outbox.
 pub record IsOf (p : Handed) (o : Shared) : Type 0 where
   pub queue : p.queue ≡ o.queue
   pub partition : p.view.partition ≡ o.partition
   pub tab : p.view.tab ≡ o.tab
 
--- it is the same pass, with the same use
+-- The two values are of the same pass, with the same role.
 pub record IsSamePass (old new : Handed) : Type 0 where
   pub queue : new.queue ≡ old.queue
   pub pass : new.pass ≡ old.pass
@@ -48,6 +48,6 @@ pub record IsSamePass (old new : Handed) : Type 0 where
   pub partition : new.view.partition ≡ old.view.partition
   pub tab : new.view.tab ≡ old.view.tab
 
--- the parcel is for the tab of this outbox, from within its partition
+-- The parcel is for the outbox's tab and comes from its partition.
 abbrev pub IsFor : Packed → Shared → Type 0
 IsFor p o = (p.partition ≡ o.partition) × (p.tab ≡ o.tab)

@@ -1,4 +1,4 @@
--- The rule of an outbox, over what its queue holds and over what each pass knows.
+-- The rule of an outbox, over the content of its queue and the views of its passes.
 use Rattle.std.specs.Prelude.{◌≡◌, ◌≢◌, ◌⊎◌, ℕ, List, [], ◌∷◌, ◌++◌, All}
 use mathlib.Core.Option.{Option, none, some}
 use lib.ListN.{get_elem?}
@@ -8,11 +8,11 @@ use Rattle.wl_outbox.specs.declared.rule.View.{View}
 use Rattle.wl_outbox.specs.Merge.{IsMerge}
 use Rattle.wl_outbox.specs.Parcels.{Packed}
 
--- the pass of this number has this view
+-- This pass has view v.
 abbrev pub Knows : List View → ℕ → View → Type 0
 Knows views pass v = get_elem? views pass ≡ some v
 
--- what a pass has put
+-- The parcels that a pass has put.
 abbrev pub puts : Role → List Packed → List Packed
 puts Opening parcels = []
 puts Taking parcels = []
@@ -25,26 +25,26 @@ put_of (some v) = puts v.role v.parcels
 abbrev pub put_by : List View → ℕ → List Packed
 put_by views pass = put_of (get_elem? views pass)
 
--- it is for the tab that the pass knows, from within its partition
+-- The parcel is for the tab that the pass knows and comes from its partition.
 abbrev pub IsForTabOf : View → Packed → Type 0
 IsForTabOf v p = (p.partition ≡ v.partition) × (p.tab ≡ v.tab)
 
--- an outbox of a tab
+-- An outbox that is assigned to a tab.
 pub record IsMerging (items : List Packed) (views : List View) : Type 0 where
-  -- one pass takes
+  -- One pass takes.
   pub taker : ℕ
   pub taking : View
   pub knows : Knows views taker taking
   pub takes : taking.role ≡ Taking
   pub alone : (pass : ℕ) (v : View) → Knows views pass v → v.role ≡ Taking → pass ≡ taker
-  -- what it has taken, and then what the queue holds, is a merge of what the passes have put
+  -- The parcels taken, followed by those in the queue, are a merge of the passes' puts.
   pub merge : IsMerge (taking.parcels ++ items) (put_by views)
-  -- all is for one tab
+  -- All parcels are for one tab.
   pub opened : (pass : ℕ) (v : View) → Knows views pass v → v.role ≢ Opening
   pub same_tab : (pass : ℕ) (v : View) → Knows views pass v → (v.partition ≡ taking.partition) × (v.tab ≡ taking.tab)
   pub for_tab : All (IsForTabOf taking) (taking.parcels ++ items)
 
--- the one pass of an outbox that is being made
+-- The only pass of an outbox that is being created.
 abbrev pub opening : View
 opening = record { role = Opening; partition = 0; tab = 0; parcels = [] }
 

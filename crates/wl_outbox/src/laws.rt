@@ -1,33 +1,33 @@
-//! What the rule of an outbox says of its parcels. It holds between any two steps.
+//! Laws of an outbox's rule, which hold between any two steps.
 
 ghost use Rattle.std.specs.Prelude.{◌≡◌};
 ghost use Rattle.wl_outbox.specs.Laws.{TakesInOrder, OnePassTakes, AllForOneTab, AllArrived};
 ghost use Rattle.wl_outbox.specs.MergeLaws.{KeepsOrder, HasEachOnce, HasNothingElse};
 ghost use Rattle.wl_outbox.specs.declared.outbox.TheConstants.{CAPACITY, PUTTER_LIMIT};
 
-/// The laws of the outbox, whatever its threads do and in whichever order.
+/// States the laws of an outbox. They hold for every interleaving of its threads.
 pub fn law_outbox()
-    // What was taken, and then what the queue holds, is a merge of what the passes put.
+    // The parcels taken, followed by those in the queue, are a merge of the passes' puts.
     ensures merge { TakesInOrder }
-    // No two passes take.
+    // At most one pass takes.
     ensures one_takes { OnePassTakes }
-    // Whatever was put is for the tab of the outbox, from within its partition.
+    // All parcels are for the outbox's tab and come from its partition.
     ensures one_tab { AllForOneTab }
-    // Where the queue is empty, what was taken is a merge of all that was put.
+    // If the queue is empty, the parcels taken are a merge of all puts.
     ensures arrived { AllArrived }
 {}
 
-/// What a merge is.
+/// States the laws of merges.
 pub fn law_merge()
-    // What one source gave stands in the merge in its order.
+    // The items of each source keep their order in the merge.
     ensures order { KeepsOrder }
-    // The merge is as long as all that its sources gave, so each item stands in it once.
+    // The merge is as long as all sources together, so each item occurs once.
     ensures once { HasEachOnce }
-    // Each item was given by a source.
+    // Each item of the merge comes from a source.
     ensures nothing_else { HasNothingElse }
 {}
 
-/// The value of each limit of this crate. All other contracts cite the limits by name.
+/// States the value of each limit of this crate. All other contracts cite the limits by name.
 pub fn law_limits()
     ensures parcels { CAPACITY ≡ 256 }
     ensures putters { PUTTER_LIMIT ≡ 16 }

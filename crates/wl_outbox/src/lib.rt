@@ -1,5 +1,7 @@
-//! The outbox of a tab: a queue of parcels on their way to the tab. Several threads put, each with a pass of its own, and
-//! one takes; they share it without a lock.
+//! The outbox of a tab: a bounded queue of parcels on their way to the tab.
+//!
+//! Several threads put, each with a pass of its own, and one thread takes. They share the outbox
+//! without a lock.
 #![tactic(auto)]
 
 pub mod fault;

@@ -18,15 +18,15 @@ use std::marker::{Brand, Model};
 use std::sync::Wait;
 use wl_grammar::Memory;
 
-/// How many parcels an outbox has room for.
+/// The number of parcels that an outbox can hold.
 pub const CAPACITY: usize = 256;
 
-/// The most passes that put into one.
+/// The largest number of passes that put into one outbox.
 pub const PUTTER_LIMIT: u16 = 16;
 
 type Queue = RuledArrayQueue<Parcel, View, OutboxRule>;
 
-/// A queue of parcels for one tab. The calls on a shared outbox take neither memory nor a lock.
+/// A bounded queue of parcels for one tab. Calls on a shared outbox neither allocate nor lock.
 #[derive(Drop)]
 pub struct Outbox {
     queue: Queue,
@@ -48,7 +48,8 @@ impl Model for Outbox {
 }
 
 impl Outbox {
-    /// An empty outbox for a tab, the one pass that takes from it, and all passes that put into it.
+    /// Creates an empty outbox for a tab. Returns it with the pass that takes and the `putters`
+    /// passes that put. Fails if out of memory.
     pub fn new(
         alloc: Global,
         partition: u16,
@@ -82,21 +83,21 @@ impl Outbox {
         Ok((outbox, taker, list))
     }
 
-    /// The number of the tab's partition.
+    /// Returns the number of the tab's partition.
     pub fn partition(&self) -> u16
         ensures { result ≡ self.now.partition }
     {
         self.partition
     }
 
-    /// The tab that it is for.
+    /// Returns the tab that the outbox belongs to.
     pub fn tab(&self) -> u16
         ensures { result ≡ self.now.tab }
     {
         self.tab
     }
 
-    /// Puts a parcel behind the others, or gives it back where the outbox was full.
+    /// Appends a parcel. Fails with `Full` and returns the parcel if the outbox is full.
     pub fn put<R: Wait>(&self, rt: &R, pass: &mut Pass, parcel: Parcel) -> Result<(), Full>
         requires pass { IsOf pass.old self.now }
         requires puts { takes pass.old ≡ false }
@@ -104,7 +105,8 @@ impl Outbox {
         ensures pass { IsSamePass pass.old pass.new }
         ensures put { OnOk result (pass.new.view ≡ with_parcel pass.old.view parcel) }
         ensures back { IfErr result (λ full. full.0 ≡ parcel) }
-        // Nothing was put. The rule and what the pass knows allow a full queue; that it was full, no clause can say.
+        // Nothing was put. The contract cannot say that the queue was full, only that the rule and
+        // the pass's view allow it.
         ensures full { OnErr result ((pass.new ≡ pass.old) × Held CAPACITY (IsMoment pass.old.view)) }
     {
         self.queue
@@ -112,21 +114,22 @@ impl Outbox {
             .map_err(Full)
     }
 
-    /// Takes the oldest parcel, if there is one.
+    /// Removes and returns the oldest parcel, or returns `None` if the outbox is empty.
     pub fn take<R: Wait>(&self, rt: &R, pass: &mut Pass) -> Option<Parcel>
         requires pass { IsOf pass.old self.now }
         requires takes { takes pass.old ≡ true }
         ensures pass { IsSamePass pass.old pass.new }
         ensures taken { IfSome result (λ p. pass.new.view ≡ with_parcel pass.old.view p) }
         ensures tab { IfSome result (λ p. IsFor p self.now) }
-        // Nothing was taken. The rule and what the pass knows allow an empty queue; that it was empty, no clause can say.
+        // Nothing was taken. The contract cannot say that the queue was empty, only that the rule
+        // and the pass's view allow it.
         ensures empty { IfNone result ((pass.new ≡ pass.old) × Held 0 (IsMoment pass.old.view)) }
     {
         self.queue.pop_as::<Take, R>(rt, &mut pass.place)
     }
 }
 
-/// Gives a new queue its tab: the pass becomes the one that takes, and the new one puts.
+/// Assigns a new queue to a tab. The given pass becomes the taking pass, and the returned one puts.
 fn open<A: Address>(queue: &Queue, taker: &mut Place, partition: u16, tab: u16) -> Place
     requires taker { IsPassOf queue.now taker.old × (view taker.old ≡ opening) }
     requires address { (partition ≡ A.partition) × (tab ≡ A.tab) }
@@ -136,7 +139,7 @@ fn open<A: Address>(queue: &Queue, taker: &mut Place, partition: u16, tab: u16) 
     queue.another::<Open<A>>(taker)
 }
 
-/// A pass that puts.
+/// Wraps a place into a pass that puts.
 fn putting(place: Place) -> Pass
     requires { (place.me.1 ≡ []) × ((view place).role ≡ Role.Putting) }
     ensures { result ≡ record { queue = place.table_id; pass = place.id; view = view place } }

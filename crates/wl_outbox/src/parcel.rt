@@ -1,4 +1,4 @@
-//! What lies in an outbox.
+//! Parcels: frames with their tab and partition.
 
 ghost use Rattle.std.specs.Prelude.{◌≡◌, ◌≢◌, IfOk, OnOk, OnErr};
 ghost use Rattle.wl_outbox.specs.Parcels.{packed};
@@ -7,7 +7,7 @@ use crate::fault::CrossPartition;
 use std::marker::Model;
 use wl_grammar::Frame;
 
-/// A frame on its way to a tab, from within the tab's partition.
+/// A frame on its way to a tab, from a source in the tab's partition.
 #[derive(Drop)]
 pub struct Parcel {
     partition: u16,
@@ -24,7 +24,7 @@ impl Model for Parcel {
 }
 
 impl Parcel {
-    /// A frame for a tab, with the partition that it comes from and the tab's own, which have to be one.
+    /// Creates a parcel. Fails with `CrossPartition` if the partitions of source and target differ.
     pub fn new(
         source_partition: u16,
         target_partition: u16,
@@ -45,28 +45,28 @@ impl Parcel {
         })
     }
 
-    /// The number of the partition that it comes from, which is that of the tab too.
+    /// Returns the partition of the source, which is also the tab's.
     pub fn partition(&self) -> u16
         ensures { result ≡ self.now.partition }
     {
         self.partition
     }
 
-    /// The tab that it is for.
+    /// Returns the tab that the parcel is for.
     pub fn tab(&self) -> u16
         ensures { result ≡ self.now.tab }
     {
         self.tab
     }
 
-    /// What it has for the tab.
+    /// Returns the frame.
     pub fn frame(&self) -> &Frame
         ensures { result.now ≡ self.now.frame }
     {
         &self.frame
     }
 
-    /// Unpacks it.
+    /// Consumes the parcel and returns its frame.
     pub fn into_frame(self) -> Frame
         ensures { result ≡ self.frame }
     {

@@ -1,4 +1,4 @@
-//! The right of one thread to put into an outbox, or to take from it.
+//! A thread's capability to put into an outbox or to take from it.
 
 ghost use Rattle.std.specs.Prelude.{◌≡◌, []};
 ghost use Rattle.wl_outbox.specs.Passes.{Handed, takes};
@@ -7,10 +7,11 @@ use crate::parcel::Parcel;
 use crate::rule::View;
 use std::marker::Model;
 
-/// A place among those who share the queue.
+/// A place among the threads that share the queue.
 pub(crate) type Place = crossbeam_queue::Pass<Parcel, View>;
 
-/// The right of one thread to put into an outbox, or to take from it. `Outbox::new` makes all passes that there are.
+/// A thread's capability to put into an outbox or to take from it. All passes of an outbox are made
+/// by `Outbox::new`.
 #[derive(Drop)]
 pub struct Pass {
     pub(crate) place: Place,
@@ -30,7 +31,7 @@ impl Model for Pass {
 }
 
 impl Pass {
-    /// Whether it takes; else it puts.
+    /// Returns true if the pass takes, and false if it puts.
     pub fn takes(&self) -> bool
         ensures { result ≡ takes self.now }
     {

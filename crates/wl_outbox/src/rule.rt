@@ -1,25 +1,26 @@
-//! What a pass knows, the rule over all passes, and what each kind of step tells. Nothing here is left when the program runs.
+//! The ghost state of passes, the rule over all passes, and the effect of each kind of step.
+//! Everything here is erased at run time.
 
 use crate::parcel::Parcel;
 use crossbeam_queue::protocol::{Lesson, Outcome, Protocol, Split};
 use std::collections::LinkedList;
 use std::marker::{Brand, PhantomData};
 
-/// What a pass is for.
+/// The role of a pass.
 pub enum Role {
-    /// The outbox is being made, and belongs to no tab yet.
+    /// The outbox is being created and has no tab yet.
     Opening,
     Taking,
     Putting,
 }
 
-/// What a pass knows. No value of it is made.
+/// Ghost record of a pass's knowledge. It has no values at run time.
 pub struct View {
     pub role: Role,
-    /// Of the tab that the outbox is for.
+    /// The partition of the outbox's tab.
     pub partition: u16,
     pub tab: u16,
-    /// What it has taken, or what it has put, in its order.
+    /// The parcels that the pass took, or those that it put, in order.
     pub parcels: LinkedList<Parcel>,
 }
 
@@ -34,7 +35,7 @@ impl Protocol<Parcel, View> for OutboxRule {
     ghost first = { opening };
 }
 
-/// The tab that an outbox is made for. The call that makes it picks the numbers.
+/// Ghost address of an outbox: the tab that it is created for. The creating call picks it.
 pub(crate) trait Address {
     ghost use Rattle.std.specs.Prelude.{ℕ};
 
@@ -49,7 +50,8 @@ impl Address for Brand {
     ghost tab = { 0 };
 }
 
-/// The outbox gets its tab: the pass becomes the one that takes, and the new one may put.
+/// Step that assigns the outbox to its tab. The given pass takes from then on, and the new one
+/// puts.
 pub(crate) struct Open<A> {
     address: PhantomData<A>,
 }
@@ -62,7 +64,7 @@ impl<A: Address> Split<View> for Open<A> {
     ghost right = { λ v. putter_of A.partition A.tab };
 }
 
-/// One more pass that may put.
+/// Step that adds one more putting pass.
 pub(crate) struct Deal;
 
 impl Split<View> for Deal {

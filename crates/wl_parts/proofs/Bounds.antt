@@ -1,4 +1,4 @@
--- A list of numbers by the least number above all of them.
+-- Comparison of a list of numbers with the least number above all of them.
 use Rattle.std.proofs.Common.{◌≡◌, ℕ, ◌+◌, Bool, ◌&&◌, nat_lt, nat_le, max, List, [], ◌∷◌, refl, ap₂, arith}
 use Rattle.std.specs.List.{list_all}
 use Rattle.std.proofs.lemmas.Bool.Decides.{nat_tests}

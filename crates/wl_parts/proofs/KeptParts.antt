@@ -1,4 +1,4 @@
--- What one part more makes of the parts that are kept.
+-- Lemmas on the parts kept, when one more part is added.
 use Rattle.std.proofs.Common.{◌≡◌, ℕ, ◌+◌, Bool, true, false, eqb, List, [], ◌∷◌, length, Option, Some, None, refl, sym, ap, ◌∙◌, subst, append-nil, arith}
 use Rattle.std.specs.List.{flat_map}
 use Rattle.std.proofs.lemmas.Bool.{and_parts, and_from, eqb-true}
@@ -10,7 +10,7 @@ use Rattle.wl_parts.specs.declared.heading.Heading.{Heading}
 use Rattle.wl_parts.specs.ReportParts.{Partial, Told, all_below, fits, is_there, came_in, with_told, is_whole, whole_of}
 use Rattle.wl_parts.specs.Kept.{told, joining, is_kept, all_in_below}
 
--- ---- one part more
+-- One more part
 
 pub with_told-more : (p : ℕ) (x : Told) (k : Partial) → fits x (Some k) ≡ true → record k { came = put x.part x.entries k.came } ≡ with_told p x (Some k)
 unfolding with_told
@@ -27,7 +27,7 @@ pub with_told-first : (p : ℕ) (x : Told) → record { partition = p; base = x.
 unfolding with_told
 with_told-first p x = refl
 
--- what is kept has the base that was told
+-- The report has the base of the part added last.
 pub with_told-base : (p : ℕ) (x : Told) (o : Option Partial) → (with_told p x o).base ≡ x.base
 unfolding with_told
 with_told-base p x o = refl
@@ -42,7 +42,7 @@ length-put : {X : Type 0} (k : ℕ) (x : X) (ps : Table X) → has_row ps k ≡ 
 length-put k x [] e = refl
 length-put k x (p ∷ ps) e = length-put_as k x p ps (length-put k x ps) e
 
--- whether the part is there
+-- A part is already there if and only if it is kept.
 pub there-kept : (x : Told) (o : Option Partial) → is_there x o ≡ is_kept x.part o
 there-kept x None = refl
 there-kept x (Some k) = refl
@@ -51,13 +51,13 @@ missing-row : (x : Told) (o : Option Partial) → is_there x o ≡ false → has
 missing-row x None e = refl
 missing-row x (Some k) e = e
 
--- all parts have come with this one where all others had come
+-- A report is whole with this part if and only if all other parts are kept.
 pub last-whole : (p : ℕ) (x : Told) (o : Option Partial) (b : Bool) → is_there x o ≡ false → b ≡ eqb (length (came_in o) + 1) x.parts → is_whole (with_told p x o) ≡ b
 unfolding with_told
 last-whole p x o b missing e =
     ap (λ n. eqb n x.parts) (length-put x.part x.entries (came_in o) (missing-row x o missing)) ∙ sym e
 
--- ---- what a tab joins with
+-- The whole report
 
 pub whole-one : (p : ℕ) (h : Heading) (entries : List Entry) → whole_of (with_told p (told h entries) None) ≡ joining h entries
 unfolding with_told
@@ -67,7 +67,7 @@ pub whole-more : (p : ℕ) (h : Heading) (entries items : List Entry) (k : Parti
 unfolding with_told
 whole-more p h entries items k e = ap (λ es. joining h es) (sym e)
 
--- ---- numbers below the base
+-- Numbers below the base
 
 all_in_below-put_as : (base part : ℕ) (entries : List Entry) (p : ℕ × List Entry) (ps : Table (List Entry)) → all_below base entries ≡ true → (all_in_below base ps ≡ true → all_in_below base (put part entries ps) ≡ true) → all_in_below base (p ∷ ps) ≡ true → all_in_below base (put part entries (p ∷ ps)) ≡ true
 all_in_below-put_as base part entries p ps new below e = grind (arith, nat_tests)
@@ -83,7 +83,7 @@ all_below-flat base (p ∷ ps) e =
     let both = and_parts _ _ e in
     list_all-append _ p.1 _ ∙ and_from _ _ both.0 (all_below-flat base ps both.1)
 
--- the numbers of all parts are below the base of the last one
+-- The numbers of all parts are below the base of the last part.
 pub below-more : (h : Heading) (entries items : List Entry) (k : Partial) → fits (told h entries) (Some k) ≡ true → all_below h.base entries ≡ true → all_in_below k.base k.came ≡ true → items ≡ flat_map (λ row. row.1) (put h.part entries k.came) → all_below h.base items ≡ true
 below-more h entries items k fitting below rest e =
     let rest_here = subst (λ n. all_in_below n k.came ≡ true) (sym (same_base (told h entries) k fitting)) rest in

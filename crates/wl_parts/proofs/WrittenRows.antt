@@ -1,4 +1,4 @@
--- What writing through a `BTreeMap` leaves of a table.
+-- Effect of writes through a `BTreeMap` on a table.
 use Rattle.std.proofs.Common.{◌≡◌, ℕ, true, ltb, [], ◌∷◌, Some, None, IsSome, is_some, refl, sym, ap, ◌∙◌, arith}
 use Rattle.std.proofs.lemmas.Bool.Decides.{nat_tests}
 use Rattle.std.proofs.lemmas.Map.{lookup-none}
@@ -13,12 +13,12 @@ use Rattle.std.specs.List.Sorted.{IsStrictlySortedBy}
 use Rattle.wl_draft.specs.Tables.{Table, find, put}
 use Rattle.wl_draft.proofs.TableLemmas.{lookup-find, insert_entry-put}
 
--- ---- writing at a row that is there
+-- Overwriting a row
 
 less_from_ltb : (k q : ℕ) → ltb k q ≡ true → nat_cmp k q ≡ Less
 less_from_ltb k q e = rw e refl
 
--- a row below the first is not there
+-- A number below the first row has no row.
 find-below : {X : Type 0} (k : ℕ) (p : ℕ × X) (ps : Table X) → IsStrictlySortedBy nat_cmp (keys_of (p ∷ ps)) → ltb k p.0 ≡ true → find (p ∷ ps) k ≡ None
 find-below k p ps o e =
     sym (lookup-find (p ∷ ps) k) ∙ lookup-none (is_at (nat_cmp k)) (p ∷ ps) (none_below_head nat_cmp_total k p ps o (less_from_ltb k p.0 e))
@@ -31,12 +31,12 @@ set_value-put k w [] o there = cc
 set_value-put k w (p ∷ ps) o there =
     set_value-put_step k w p ps (find-below k p ps o) there (set_value-put k w ps (sorted_tail nat_cmp p.0 (keys_of ps) o))
 
--- ---- what is written
+-- Result of a write
 
--- what is written through what the look-up lent
+-- A write through the reference that a look-up returned is a `put`.
 pub written : {X : Type 0} (k : ℕ) (w x : X) (ps qs : Table X) → IsStrictlySortedBy nat_cmp (keys_of ps) → Some x ≡ lookup (is_at (nat_cmp k)) ps → qs ≡ set_value (is_at (nat_cmp k)) ps w → qs ≡ put k w ps
 written k w x ps qs o e h = h ∙ set_value-put k w ps o (ap is_some (sym (lookup-find ps k) ∙ sym e))
 
--- what an `insert` leaves
+-- An `insert` is a `put`.
 pub inserted : {X : Type 0} (k : ℕ) (w x : X) (ps qs rs : Table X) → rs ≡ insert_entry nat_cmp qs k w → qs ≡ ps → w ≡ x → rs ≡ put k x ps
 inserted k w x ps qs rs e same v = e ∙ insert_entry-put k w qs ∙ ap (λ ts. put k w ts) same ∙ ap (λ y. put k y ps) v

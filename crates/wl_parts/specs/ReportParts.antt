@@ -1,4 +1,5 @@
--- A tab's report, which may come in parts: what it tells, the parts that are kept, and when it is whole.
+-- Report of a tab, which may come in parts: its content, the parts kept so far, and the test
+-- whether it is whole.
 use Rattle.std.specs.Prelude.{ℕ, List, [], Bool, true, false, not, ◌&&◌, ◌==◌, nat_lt, length, filter, Option, Some, None, if◌then◌else◌}
 use Rattle.std.specs.List.{list_any, list_all, flat_map}
 use Rattle.wl_limits.specs.declared.tabs.TheConstants.{LIVE_LIMIT, LIVE_LIMIT_IN_PARTS}
@@ -9,9 +10,10 @@ use Rattle.wl_grammar.specs.declared.frame.ReportPart.{ReportPart}
 use Rattle.wl_grammar.specs.declared.frame.Upward.{Upward}
 use Rattle.wl_grammar.specs.declared.frame.Upward.TheVariants as up
 
--- ---- what is told
+-- Content of a report part
 
--- what a report tells, or a part of one: of how many parts it is which, and how many locks its tab may have
+-- The content of a report or of one part: the base, the index and number of parts, the entries, and
+-- the tab's lock limit.
 pub record Told : Type 0 where
   pub base : ℕ
   pub part : ℕ
@@ -19,7 +21,7 @@ pub record Told : Type 0 where
   pub entries : List Entry
   pub limit : ℕ
 
--- a report that tells all at once is its only part
+-- A report in a single frame is its only part.
 abbrev pub at_once : Report → Told
 at_once r = record { base = r.base; part = 0; parts = 1; entries = r.entries; limit = LIVE_LIMIT }
 
@@ -37,9 +39,10 @@ has_held entries = list_any (λ e. e.held) entries
 abbrev pub all_below : ℕ → List Entry → Bool
 all_below base entries = list_all (λ e. nat_lt e.number base) entries
 
--- ---- the parts that are kept
+-- Parts kept so far
 
--- a report of which a part is missing: under which partition its first part came, and the entries of the parts that came
+-- A report that is not yet whole: the partition stamped on its first part, and the entries of the
+-- parts received.
 pub record Partial : Type 0 where
   pub partition : ℕ
   pub base : ℕ
@@ -47,7 +50,7 @@ pub record Partial : Type 0 where
   pub limit : ℕ
   pub came : Table (List Entry)
 
--- the partition under which a tab's first part came
+-- The partition stamped on the first part of the tab's report.
 abbrev pub kept_at : Option Partial → Option ℕ
 kept_at None = None
 kept_at (Some k) = Some k.partition
@@ -55,28 +58,28 @@ kept_at (Some k) = Some k.partition
 abbrev pub without_partial : ℕ → Table Partial → Table Partial
 without_partial t ks = filter (λ row. not (row.0 == t)) ks
 
--- ---- whether a part fits
+-- Whether a part fits
 
--- each number of the second list is above all of the first
+-- Each number of the second list is above all numbers of the first.
 abbrev pub all_above : List Entry → List Entry → Bool
 all_above xs ys = list_all (λ y. list_all (λ x. nat_lt x.number y.number) xs) ys
 
--- the numbers are above those of a lower part, and below those of a higher one
+-- The numbers are above those of a lower part, and below those of a higher part.
 abbrev pub is_in_order : Told → ℕ × List Entry → Bool
 is_in_order x row =
     if nat_lt row.0 x.part then all_above row.1 x.entries else (if nat_lt x.part row.0 then all_above x.entries row.1 else true)
 
--- it is of the report whose parts are kept
+-- The part belongs to the report whose parts are kept.
 abbrev pub fits : Told → Option Partial → Bool
 fits x None = true
 fits x (Some k) = x.base == k.base && (x.parts == k.parts && (x.limit == k.limit && list_all (is_in_order x) k.came))
 
--- that part is kept
+-- That part is already kept.
 abbrev pub is_there : Told → Option Partial → Bool
 is_there x None = false
 is_there x (Some k) = has_row k.came x.part
 
--- ---- one part more, and the whole
+-- One more part, and the whole report
 
 abbrev pub partition_or : ℕ → Option Partial → ℕ
 partition_or p None = p
@@ -86,7 +89,7 @@ abbrev pub came_in : Option Partial → Table (List Entry)
 came_in None = []
 came_in (Some k) = k.came
 
--- the report with this part
+-- The report with this part added.
 unfoldable pub with_told : ℕ → Told → Option Partial → Partial
 with_told p x o =
     record { partition = partition_or p o; base = x.base; parts = x.parts; limit = x.limit; came = put x.part x.entries (came_in o) }
@@ -94,7 +97,7 @@ with_told p x o =
 abbrev pub is_whole : Partial → Bool
 is_whole k = length k.came == k.parts
 
--- a report of which no part is missing: its entries by part
+-- A whole report: no part is missing, and its entries stand in the order of the parts.
 pub record Whole : Type 0 where
   pub base : ℕ
   pub entries : List Entry

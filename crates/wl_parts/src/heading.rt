@@ -1,4 +1,4 @@
-//! What stands above the entries of a report.
+//! Header of a report part.
 
 ghost use Rattle.std.specs.Prelude.{◌≡◌};
 ghost use Rattle.wl_parts.specs.ReportParts.{at_once, in_part};
@@ -7,7 +7,8 @@ ghost use Rattle.wl_parts.specs.Kept.{told};
 use wl_grammar::{Report, ReportPart};
 use wl_limits::tabs::{LIVE_LIMIT, LIVE_LIMIT_IN_PARTS};
 
-/// Of how many parts of a report this is which, and how many locks its tab may have.
+/// Header of one report part: the base, the index of the part, the number of parts, and the tab's
+/// lock limit.
 #[derive(Clone, Copy)]
 pub struct Heading {
     pub base: u32,
@@ -17,7 +18,7 @@ pub struct Heading {
 }
 
 impl Heading {
-    /// A report that tells all at once is its only part.
+    /// Returns the header of a report in a single frame, which is its only part.
     pub fn at_once(report: &Report) -> Heading
         ensures { told result report.now.entries ≡ at_once report.now }
     {
@@ -29,6 +30,7 @@ impl Heading {
         }
     }
 
+    /// Returns the header of a report part.
     pub fn in_part(part: &ReportPart) -> Heading
         ensures { told result part.now.entries ≡ in_part part.now }
     {

@@ -1,4 +1,4 @@
-//! Reports of which a part is missing.
+//! Reports that are not yet whole.
 
 ghost use Rattle.std.specs.Prelude.{◌≡◌, ◌<◌, ◌++◌, ◌==◌, ◌+◌, ◌^◌, [], true, false, Some, IfOk, OnOk, OnErr, length, nat_le};
 ghost use Rattle.std.specs.List.{list_all, flat_map};
@@ -13,15 +13,15 @@ use std::collections::BTreeMap;
 use std::marker::Model;
 use wl_grammar::{Entry, Sequence};
 
-/// The parts of a tab's report that have come. Each number is below the base.
+/// The parts received of a tab's report. Each entry has a number below the base.
 #[derive(Drop)]
 pub struct Kept {
-    /// The partition under which the first of them came.
+    /// The partition stamped on the first part.
     partition: u16,
     base: u32,
-    /// Of how many parts they are.
+    /// Number of parts of the report.
     parts: u16,
-    /// How many locks the tab may have.
+    /// Maximum number of locks of the tab.
     limit: u16,
     came: BTreeMap<u16, Sequence<Entry>>,
 }
@@ -39,7 +39,7 @@ impl Model for Kept {
 }
 
 impl Kept {
-    /// The report of this heading, of which no part has come.
+    /// Returns the report of this header, without any part yet.
     fn new(alloc: Global, partition: u16, heading: Heading) -> Kept
         ensures { result ≡ record {
           partition = partition;
@@ -58,7 +58,7 @@ impl Kept {
         }
     }
 
-    /// Whether this is a part of the report whose parts are kept.
+    /// Returns whether the part belongs to this report.
     fn fits(&self, heading: Heading, entries: &[Entry]) -> bool
         ensures { result ≡ fits (told heading entries.now) (Some self.now) }
     {
@@ -68,7 +68,8 @@ impl Kept {
             && self.is_in_order(heading, entries)
     }
 
-    /// Whether the numbers are above those of each lower part, and below those of each higher one.
+    /// Returns whether the numbers are above those of each lower part, and below those of each
+    /// higher part.
     fn is_in_order(&self, heading: Heading, entries: &[Entry]) -> bool
         ensures { result ≡ list_all (is_in_order (told heading entries.now)) self.now.came }
     {
@@ -86,7 +87,7 @@ impl Kept {
         self.came.contains_key(&part)
     }
 
-    /// How many parts have come.
+    /// Returns the number of parts received.
     fn count(&self) -> usize
         ensures count { result ≡ length self.now.came }
         ensures small { result < 2 ^ 63 }
@@ -94,7 +95,7 @@ impl Kept {
         self.came.len()
     }
 
-    /// One part more.
+    /// Adds a part. Fails if out of memory, and then changes nothing.
     fn insert(&mut self, alloc: Global, part: u16, entries: &[Entry]) -> Result<(), AllocError>
         requires { all_below self.old.base entries.now ≡ true }
         ensures ok { OnOk result (self.new ≡ record self.old { came = put part entries.now self.old.came }) }
@@ -106,7 +107,8 @@ impl Kept {
         Ok(())
     }
 
-    /// The entries of all parts by rising part, where this one is the last that was missing.
+    /// Returns the entries of all parts, in the order of the parts, given the last missing part.
+    /// Fails if out of memory.
     pub fn gathered(
         &self,
         alloc: Global,
@@ -143,7 +145,7 @@ fn push_copies(alloc: Global, entries: &[Entry], copies: &mut Vec<Entry>) -> Res
     Ok(())
 }
 
-/// The least number that is above all of these.
+/// Returns the least number above the numbers of all entries.
 fn end_of(entries: &[Entry]) -> u64
     ensures { result ≡ end_of entries.now }
 {
@@ -154,21 +156,21 @@ fn end_of(entries: &[Entry]) -> u64
     end
 }
 
-/// Whether no number is below this one.
+/// Returns whether each number is at least `least`.
 fn all_from(least: u64, entries: &[Entry]) -> bool
     ensures { result ≡ list_all (λ e. nat_le least e.number) entries.now }
 {
     entries.iter().all(|entry| least <= u64::from(entry.number))
 }
 
-/// Whether each number of the second list is above all of the first.
+/// Returns whether each number of the second list is above all numbers of the first.
 fn all_above(below: &[Entry], above: &[Entry]) -> bool
     ensures { result ≡ all_above below.now above.now }
 {
     all_from(end_of(below), above)
 }
 
-/// Whether the entries are in order beside those of another part.
+/// Returns whether the entries are in order beside those of another part.
 fn is_in_order(heading: Heading, entries: &[Entry], part: u16, row: &[Entry]) -> bool
     ensures { result ≡ is_in_order (told heading entries.now) (part, row.now) }
 {
@@ -181,16 +183,16 @@ fn is_in_order(heading: Heading, entries: &[Entry], part: u16, row: &[Entry]) ->
     }
 }
 
-// ---- the reports of all tabs
+// Reports of all tabs
 
-/// The parts that are kept of a tab.
+/// Returns the parts kept of a tab's report, if there are any.
 pub fn kept_of(kept: &BTreeMap<u16, Kept>, tab: u16) -> Option<&Kept>
     ensures { option_copied result ≡ find kept.now.entries tab }
 {
     kept.get(&tab)
 }
 
-/// The partition under which a tab's first part came.
+/// Returns the partition stamped on the first part of a tab's report, if any part is kept.
 pub fn kept_at(kept: &BTreeMap<u16, Kept>, tab: u16) -> Option<u16>
     ensures { result ≡ kept_at (find kept.now.entries tab) }
 {
@@ -198,7 +200,8 @@ pub fn kept_at(kept: &BTreeMap<u16, Kept>, tab: u16) -> Option<u16>
     Some(kept.partition)
 }
 
-/// Whether this is a part of the report whose parts are kept, if there are any.
+/// Returns whether the part belongs to the report whose parts are kept. Any part fits if none is
+/// kept.
 pub fn fits(kept: &BTreeMap<u16, Kept>, tab: u16, heading: Heading, entries: &[Entry]) -> bool
     ensures { result ≡ fits (told heading entries.now) (find kept.now.entries tab) }
 {
@@ -208,6 +211,7 @@ pub fn fits(kept: &BTreeMap<u16, Kept>, tab: u16, heading: Heading, entries: &[E
     }
 }
 
+/// Returns whether this part of the tab's report is already kept.
 pub fn is_there(kept: &BTreeMap<u16, Kept>, tab: u16, part: u16) -> bool
     ensures { result ≡ is_kept part (find kept.now.entries tab) }
 {
@@ -217,7 +221,7 @@ pub fn is_there(kept: &BTreeMap<u16, Kept>, tab: u16, part: u16) -> bool
     }
 }
 
-/// How many parts have come.
+/// Returns the number of parts received.
 fn count_of(kept: &BTreeMap<u16, Kept>, tab: u16) -> usize
     ensures count { result ≡ length (came_in (find kept.now.entries tab)) }
     ensures small { result < 2 ^ 63 }
@@ -228,14 +232,14 @@ fn count_of(kept: &BTreeMap<u16, Kept>, tab: u16) -> usize
     }
 }
 
-/// Whether all other parts have come.
+/// Returns whether all other parts are kept, so that this part is the last one missing.
 pub fn is_last(kept: &BTreeMap<u16, Kept>, tab: u16, heading: Heading) -> bool
     ensures { result ≡ (length (came_in (find kept.now.entries tab)) + 1 == heading.parts) }
 {
     count_of(kept, tab) + 1 == usize::from(heading.parts)
 }
 
-/// Keeps a part of a tab's report.
+/// Keeps a part of a tab's report. Fails if out of memory, and then changes nothing.
 pub fn keep(
     alloc: Global,
     kept: &mut BTreeMap<u16, Kept>,
@@ -262,7 +266,7 @@ pub fn keep(
     }
 }
 
-/// Gives up the parts that are kept of a tab, which takes no memory.
+/// Discards the parts kept of a tab's report. Does not allocate.
 pub fn give_up(kept: &mut BTreeMap<u16, Kept>, tab: u16)
     requires { Rises 0 kept.old.entries }
     ensures { kept.new.entries ≡ without_partial tab kept.old.entries }

@@ -1,4 +1,5 @@
-//! A tab's report, which may come in parts: what its heading says, the parts that are kept, and when it is whole.
+//! Reports of tabs, which may come in parts: their headers, the parts kept, and the test whether a
+//! report is whole.
 #![tactic(auto)]
 
 pub mod heading;

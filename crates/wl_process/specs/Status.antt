@@ -1,10 +1,10 @@
--- The status with which a process ends.
+-- Exit statuses of processes.
 use Rattle.std.specs.Prelude.{ℕ}
 use Rattle.wl_process.specs.declared.fault.ProcessFault.{ProcessFault}
 use Rattle.wl_process.specs.declared.fault.ProcessFault.TheVariants.{Line, LineFailed, Frame, Unexpected, Read, Write, TooManyReads, Device, Memory}
 use Rattle.wl_process.specs.declared.fault.TheConstants.{REFUSED, DEVICE_OR_MEMORY}
 
--- what the process was given and refused is told apart from a device or memory that failed it
+-- The exit status for a fault: one for bad input, and one for a failure of a device or memory.
 abbrev pub status_of : ProcessFault → ℕ
 status_of (Line _) = REFUSED
 status_of (Frame _) = REFUSED

@@ -1,4 +1,4 @@
-//! Bytes that are gathered and written in one go, before the thread that gathers them sleeps.
+//! Buffered writing to a link. A thread flushes its buffer before it sleeps.
 
 use std::alloc::Global;
 use std::cell::RefCell;
@@ -13,7 +13,7 @@ struct Gathered {
     has_failed: bool,
 }
 
-/// What is gathered for a link.
+/// A buffer of bytes to be written to a link.
 #[derive(Drop)]
 pub struct Bundle<'a> {
     link: &'a UnixStream,
@@ -21,7 +21,7 @@ pub struct Bundle<'a> {
 }
 
 impl<'a> Bundle<'a> {
-    /// Nothing is gathered yet.
+    /// Creates an empty buffer for a link.
     pub fn new(alloc: Global, link: &'a UnixStream) -> Bundle<'a> {
         Bundle {
             link,
@@ -57,7 +57,7 @@ impl<'a> Bundle<'a> {
         gathered.bytes.clear();
     }
 
-    /// Writes what is gathered.
+    /// Writes the buffered bytes. After a write has failed, later writes to the buffer fail.
     pub fn flush(&self) {
         if let Ok(mut gathered) = self.gathered.try_borrow_mut() {
             self.empty(&mut gathered);
@@ -65,7 +65,7 @@ impl<'a> Bundle<'a> {
     }
 }
 
-/// The writer that gathers.
+/// A writer into a buffer.
 #[derive(Drop)]
 pub struct Gathering<'a> {
     pub bundle: &'a Bundle<'a>,

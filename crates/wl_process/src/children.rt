@@ -1,4 +1,4 @@
-//! Children that connect to a socket of their own.
+//! Child processes that connect to a socket of their own.
 
 ghost use Rattle.std.specs.IoError.{error_kind, raw_os_error};
 ghost use Rattle.std.specs.Prelude.{◌≡◌, ◌≢◌, [], Some, codes, if◌then◌else◌};
@@ -16,25 +16,25 @@ use std::process::{Child, Command};
 use std::time::Duration;
 use std::{io, thread};
 
-/// How many turns of a millisecond a child has to connect.
+/// The number of one-millisecond polls within which a child must connect.
 const TURNS: u32 = 10_000;
 
-/// The system's number of the error that this process has as many descriptors as it may have.
+/// The OS error number for too many open files in this process.
 pub const EMFILE: i32 = 24;
 
-/// The system's number of the error that all processes together have as many open files as they may have.
+/// The OS error number for too many open files in the system.
 pub const ENFILE: i32 = 23;
 
 /// Why a child was not started.
 #[derive(Clone, Copy, Debug, PartialEq, Eq)]
 pub enum NotStarted {
-    /// No descriptor is left for it.
+    /// No file descriptor is left for the child.
     NoDescriptor,
     Fault(ProcessFault),
 }
 
 impl NotStarted {
-    /// Converts an error of the system.
+    /// Converts an OS error.
     pub fn of_device(error: io::Error) -> NotStarted
         ensures process { raw_os_error error ≡ Some EMFILE → result ≡ NotStarted.NoDescriptor }
         ensures system { raw_os_error error ≡ Some ENFILE → result ≡ NotStarted.NoDescriptor }
@@ -58,22 +58,25 @@ impl From<AllocError> for NotStarted {
     }
 }
 
-/// A child that was started, and its link, if it connected.
+/// A started child, and its link if it connected.
 #[derive(Drop)]
 pub struct Started {
     pub child: Child,
     pub link: Option<UnixStream>,
 }
 
-/// What is spelled before a path that begins like an option, so that it is read as a path.
+/// Returns the prefix that makes a path safe as a program argument: `./` if the path starts with
+/// `-`, else nothing.
 pub fn front_of(path: &str) -> &'static str
     ensures { result.now ≡ (if is_like_an_option path.now then codes "./" else []) }
 {
     if path.starts_with('-') { "./" } else { "" }
 }
 
-/// Starts the program with these words and a socket that it is to connect to, and accepts its link. Only this user may connect
-/// to the socket, whose file is removed then. If fewer than `spare` descriptors were left beside the link, no child is started.
+/// Starts a program with these arguments and accepts its connection to a socket at `path`.
+///
+/// Only this user may connect to the socket. Its file is removed before the call returns. Fails
+/// with `NoDescriptor` if fewer than `spare` file descriptors would be left besides the link.
 pub fn start_child<R: Host>(
     rt: &R,
     program: &str,
@@ -95,14 +98,14 @@ pub fn start_child<R: Host>(
     Ok(started)
 }
 
-/// Makes a socket ready for its child.
+/// Prepares a socket for its child.
 fn prepare<R: Host>(rt: &R, listener: &UnixListener, path: &str, spare: usize) -> io::Result<()> {
     rt.make_private(path)?;
     listener.set_nonblocking(true)?;
     find_spare(rt, listener, spare)
 }
 
-/// Fails if fewer than `spare` descriptors are left. It takes them for a moment.
+/// Fails if fewer than `spare` file descriptors are left. Opens that many for a moment.
 fn find_spare<R: Host>(rt: &R, listener: &UnixListener, spare: usize) -> io::Result<()> {
     let mut taken = Vec::new(rt.alloc());
     for _descriptor in 0..spare {
@@ -111,7 +114,7 @@ fn find_spare<R: Host>(rt: &R, listener: &UnixListener, spare: usize) -> io::Res
     Ok(())
 }
 
-/// Removes a socket's file, unless its child has.
+/// Removes a socket's file. Succeeds if the child has removed it already.
 fn remove<R: Host>(rt: &R, path: &str) -> Result<(), ProcessFault> {
     match rt.remove_file(path) {
         Err(error) if error.kind() != ErrorKind::NotFound => Err(ProcessFault::of_device(error)),
@@ -148,13 +151,14 @@ fn start_program<R: Host>(rt: &R, program: &str, words: &[&str]) -> io::Result<C
     rt.start(&mut command)
 }
 
-/// Kills a process, unless it has ended, and waits for it.
+/// Kills a process if it still runs, and waits for it.
 pub fn end(child: &mut Child) {
     let _ = child.kill();
     let _ = child.wait();
 }
 
-/// Accepts the link of a child. None where the child ended first, or did not connect in time.
+/// Accepts the connection of a child. Returns `None` if the child ended first or did not connect in
+/// time.
 fn accept<R: Host>(
     rt: &R,
     listener: &UnixListener,
@@ -168,7 +172,7 @@ fn accept<R: Host>(
         }
         match child.try_wait() {
             Ok(None) => {}
-            // It may have connected and ended since.
+            // The child may have connected just before it ended.
             _ => return Ok(listener.accept().ok().map(|(link, _address)| link)),
         }
         thread::sleep(rt, Duration::from_millis(1));

@@ -1,4 +1,4 @@
-//! Why a process ended before its work was done.
+//! Faults that end a process early.
 
 ghost use Rattle.std.specs.IoError.{error_kind};
 ghost use Rattle.std.specs.Prelude.{◌≡◌, ◌≢◌};
@@ -13,46 +13,47 @@ use thiserror::Error;
 use wl_frames::FrameFault;
 use wl_frames::device::{ReadFault, WriteFault};
 
-/// Why a process ended before its work was done. Its text is what stands behind `wlb: ` on standard error.
+/// Why a process ended before its work was done. The text follows `wlb: ` on standard error.
 #[derive(Clone, Copy, Debug, PartialEq, Eq, Error)]
 pub enum ProcessFault {
-    /// The line of this number, counted from 1, is of another form, or its command was refused.
+    /// Syntax error in this line, counted from 1, or its command was refused.
     #[error("line {0}")]
     Line(u64),
-    /// A file of the line of this number could not be read or written, or its waiting took too long.
+    /// A file named in this line could not be read or written, or the line's wait took too long.
     #[error("line {0}")]
     LineFailed(u64),
-    /// A link is no stream of frames, or it ended within a frame.
+    /// A link's input is not a valid stream of frames, or it ended within a frame.
     #[error("{0}")]
     Frame(FrameFault),
-    /// A frame that is not expected there; or none at all.
+    /// An unexpected frame arrived, or no frame at all.
     #[error("Unexpected")]
     Unexpected,
-    /// A reader failed, or a link ended too soon.
+    /// A reader failed, or a link ended too early.
     #[error("Read")]
     Read,
     /// A writer failed.
     #[error("Write")]
     Write,
-    /// A reader was read as often as it may be.
+    /// A link's input was not at its end after `READ_LIMIT` reads.
     #[error("TooManyReads")]
     TooManyReads,
-    /// A device failed that is neither a reader nor a writer.
+    /// A device other than a reader or a writer failed.
     #[error("Device")]
     Device,
-    /// Memory was refused.
+    /// Out of memory.
     #[error("Memory")]
     Memory,
 }
 
-/// The status of a process that refused what it was given.
+/// Exit status of a process that refused its input.
 pub const REFUSED: u8 = 1;
 
-/// The status of a process that a device or memory failed.
+/// Exit status of a process that failed because of a device or memory.
 pub const DEVICE_OR_MEMORY: u8 = 3;
 
 impl ProcessFault {
-    /// The status with which a process ends for it: 1 for what was refused, 3 for a device or memory.
+    /// Returns the exit status for this fault: `REFUSED` for bad input, `DEVICE_OR_MEMORY` for a
+    /// failure of a device or memory.
     pub fn status(self) -> u8
         ensures { result ≡ status_of self }
     {
@@ -69,7 +70,7 @@ impl ProcessFault {
         }
     }
 
-    /// What an error of the system is, where it is neither of a read nor of a write.
+    /// Maps an OS error that is neither of a read nor of a write to a `ProcessFault`.
     pub fn of_device(error: io::Error) -> ProcessFault
         ensures memory { error_kind error ≡ ErrorKind.OutOfMemory → result ≡ ProcessFault.Memory }
         ensures device { error_kind error ≢ ErrorKind.OutOfMemory → result ≡ ProcessFault.Device }
@@ -80,7 +81,7 @@ impl ProcessFault {
         }
     }
 
-    /// What an error of reading a file is.
+    /// Maps a file-read error to a `ProcessFault`.
     pub fn of_reading(error: io::Error) -> ProcessFault
         ensures memory { error_kind error ≡ ErrorKind.OutOfMemory → result ≡ ProcessFault.Memory }
         ensures reader { error_kind error ≢ ErrorKind.OutOfMemory → result ≡ ProcessFault.Read }

@@ -1,4 +1,4 @@
-//! What the processes need of the system.
+//! Access to the operating system.
 
 use std::fs::{OpenOptions, Permissions};
 use std::io::Write;
@@ -11,25 +11,29 @@ use std::sync::Wait;
 use std::thread::Threads;
 use std::{fs, io};
 
-/// The mode of a file that its owner alone may use.
+/// File mode that allows access for the owner only.
 const OWNER_ONLY: u32 = 0o600;
 
-/// Memory, standard output, the clock, threads and locks; and, as calls, files, sockets and children: a handle that leaves the
-/// type of its files or streams open is none that a thread may be given.
+/// The operating system as the processes use it: memory, standard output, the clock, threads and
+/// locks, and calls for files, sockets and children.
+///
+/// Files and streams have concrete types here, because a handle of a generic type could not be
+/// passed to a thread.
 pub trait Host: AllocGlobal + Print + Clock + Threads + Wait + Copy + Send + Sync + 'static {
-    /// The bytes of a file.
+    /// Reads a whole file.
     fn read_file(&self, path: &str) -> io::Result<Vec<u8>>;
 
-    /// Writes these bytes over the first ones of a file that is there.
+    /// Overwrites the first bytes of an existing file.
     fn write_over(&self, path: &str, bytes: &[u8]) -> io::Result<()>;
 
     /// Removes a file.
     fn remove_file(&self, path: &str) -> io::Result<()>;
 
-    /// Listens on a Unix socket, whose file it makes.
+    /// Listens on a Unix socket and creates its file.
     fn listen(&self, path: &str) -> io::Result<UnixListener>;
 
-    /// Leaves a file to its owner alone: nobody else may read it, write to it or, if it is a socket, connect to it.
+    /// Restricts a file to its owner: nobody else may read it, write to it or, if it is a socket,
+    /// connect to it.
     fn make_private(&self, path: &str) -> io::Result<()>;
 
     /// Connects to a Unix socket.

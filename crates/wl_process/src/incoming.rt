@@ -1,4 +1,4 @@
-//! The frames of a link, as they come.
+//! Frames read from a link, as they arrive.
 
 ghost use Rattle.std.specs.Prelude.{◌≡◌, Ok, Err, None, OnOk, IfOk, IfErr, IfSome, false};
 ghost use Rattle.wl_process.specs.Links.{fresh_link, told, IsOver, Stops, Brings, Ended, Fails};
@@ -14,9 +14,9 @@ use wl_frames::{Feed, Frame};
 #[derive(Drop)]
 pub struct Incoming<R> {
     source: Source<R>,
-    /// None once nothing more is read.
+    /// `None` after the end or a fault.
     feed: Option<Feed>,
-    /// Why nothing more is read.
+    /// The reason why reading stopped.
     end: Result<(), ProcessFault>,
 }
 
@@ -31,7 +31,7 @@ impl<R> Model for Incoming<R> {
 }
 
 impl<R> Incoming<R> {
-    /// A link of which nothing was read.
+    /// Creates the reading end of a link that has not been read.
     pub fn new(alloc: Global, reader: R) -> Incoming<R>
         ensures { result ≡ fresh_link reader }
     {
@@ -42,7 +42,7 @@ impl<R> Incoming<R> {
         }
     }
 
-    /// What is told where nothing more is read.
+    /// Returns the result of every call after reading stopped.
     fn told(&self) -> Result<Option<Vec<Frame>>, ProcessFault>
         ensures { result ≡ told self.now.end }
     {
@@ -52,7 +52,7 @@ impl<R> Incoming<R> {
         }
     }
 
-    /// The frames of a piece of the input, which has come behind what the feed keeps.
+    /// Decodes a piece of input that follows the feed's rest, and returns its frames.
     fn push(&mut self, mut feed: Feed, piece: &[u8]) -> Vec<Frame>
         requires sound { feed.has_failed ≡ false }
         ensures stops { Stops feed.rest piece.now result.items self.new }
@@ -73,8 +73,11 @@ impl<R> Incoming<R> {
 }
 
 impl<R: Read> Incoming<R> {
-    /// The frames that come with the next read, perhaps none. None at the end of the input. A fault is told once the frames
-    /// before it were given. The end and a fault are told by each later call too.
+    /// Reads once and returns the frames that became complete, possibly none. Returns `None` at end
+    /// of input.
+    ///
+    /// A fault is returned after all frames before it have been returned. Once at the end or
+    /// failed, every later call returns the same result.
     pub fn next(&mut self) -> Result<Option<Vec<Frame>>, ProcessFault>
         ensures frames { IfOk result (λ came. IfSome came (λ frames. IfSome self.old.unread (λ rest.
             Brings (R.remaining self.old.source.reader) (R.remaining self.new.source.reader)

@@ -1,5 +1,5 @@
-//! What the processes share: the system as they use it, children with their sockets, faults, the frames of a link as they come
-//! and what is gathered for one, and scripts as files.
+//! Parts that all processes share: OS access, children with their sockets, faults, frames read from
+//! a link, output buffers, and script files.
 #![tactic(auto)]
 
 pub mod bundle;

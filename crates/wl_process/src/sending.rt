@@ -1,4 +1,4 @@
-//! Frames on their way out.
+//! Encoding of outgoing frames.
 
 ghost use Rattle.std.specs.Prelude.{◌≡◌, ◌++◌, IsOk, OnOk, OnErr};
 ghost use Rattle.wl_grammar.specs.Grammar.{IsWellFormed, spelling};
@@ -6,7 +6,8 @@ ghost use Rattle.wl_grammar.specs.Grammar.{IsWellFormed, spelling};
 use std::alloc::{AllocError, Global};
 use wl_frames::{Frame, encode_into};
 
-/// Appends the encoding of a frame; nothing of one that has none. Where memory is refused, the bytes are as they were.
+/// Appends the encoding of a frame. Appends nothing for a malformed frame. Leaves the bytes
+/// unchanged if out of memory.
 pub fn append(_alloc: Global, bytes: &mut Vec<u8>, frame: &Frame) -> Result<(), AllocError>
     ensures spelled { IsWellFormed frame.now
         → OnOk result (bytes.new.items ≡ bytes.old.items ++ spelling frame.now) }

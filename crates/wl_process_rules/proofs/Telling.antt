@@ -1,4 +1,4 @@
--- What telling the ends leaves of the rows, by the calls of `retain`.
+-- Lemmas on the rows that `retain` keeps.
 use Rattle.std.proofs.Common.{◌≡◌, ℕ, Bool, true, false, cond, [], ◌∷◌, Option, is_none, refl, subst, ap, ◌∙◌}
 use Rattle.std.specs.Map.Calls.{RetainsPairs}
 use Rattle.wl_process_rules.specs.Ends.{Rows, running}
@@ -11,7 +11,7 @@ retained_as : (p : ℕ × Option ℕ) (ps kept rest : Rows) (b : Bool) (w : Opti
 retained_as p ps kept rest b w b_is w_is rest_is kept_is =
     kept_is ∙ ap (λ x. cond x ((p.0, w) ∷ rest) rest) b_is ∙ ap (λ (s : Option ℕ). cond (is_none p.1) ((p.0, s) ∷ rest) rest) w_is ∙ ap (λ rs. cond (is_none p.1) ((p.0, p.1) ∷ rs) rs) rest_is ∙ running_cons p ps (is_none p.1) refl
 
--- a closure that picks those that run, and writes nothing
+-- A closure that keeps the running processes and changes nothing filters the rows.
 pub retained : {F : Type 0} (T : F → ℕ → Option ℕ → Bool → Option ℕ → F → Type 0) (f : F) → ((k : ℕ) (v : Option ℕ) (b : Bool) (w : Option ℕ) (f' : F) → T f k v b w f' → (b ≡ is_none v) × (w ≡ v) × (f' ≡ f)) → (es kept : Rows) → RetainsPairs T f es kept → kept ≡ running es
 retained T f says [] kept r = r
 retained {F} T f says (p ∷ ps) kept r =

@@ -1,4 +1,4 @@
-//! Which tabs' processes run, and how the others ended.
+//! Running and ended processes of tabs.
 
 ghost use Rattle.std.specs.Prelude.{◌≡◌, [], IfOk, OnOk, OnErr, IsSome, None};
 ghost use Rattle.wl_process_rules.specs.Ends.{known_of, with_begun, with_ended, without, runs, any_runs, running, untold};
@@ -7,11 +7,11 @@ use std::alloc::{AllocError, Global};
 use std::collections::BTreeMap;
 use std::marker::Model;
 
-/// What is known of the processes of the tabs, by rising number: that one runs, or the status with which it ended, until that
-/// is told.
+/// A table of tabs' processes, in ascending order of tabs. A row tells that the process runs, or
+/// has its exit status until that is reported.
 #[derive(Drop)]
 pub struct Ends {
-    /// None while it runs.
+    /// `None` while the process runs, then its exit status.
     tabs: BTreeMap<u16, Option<u8>>,
 }
 
@@ -24,6 +24,7 @@ impl Model for Ends {
 }
 
 impl Ends {
+    /// Creates an empty table.
     pub fn new(alloc: Global) -> Ends
         ensures { result ≡ [] }
     {
@@ -32,7 +33,7 @@ impl Ends {
         }
     }
 
-    /// A tab's process runs from now on.
+    /// Records that a tab's process runs. Leaves the table unchanged if out of memory.
     pub fn begin(&mut self, tab: u16) -> Result<(), AllocError>
         ensures ok { OnOk result (self.new ≡ with_begun tab self.old) }
         ensures err { OnErr result (self.new ≡ self.old) }
@@ -41,7 +42,7 @@ impl Ends {
         Ok(())
     }
 
-    /// A tab's process has ended. It takes no memory.
+    /// Records the exit status of a tab's process. Ignores a tab without a row. Allocates nothing.
     pub fn end(&mut self, tab: u16, status: u8)
         ensures known { IsSome (known_of self.old tab) → self.new ≡ with_ended tab status self.old }
         ensures unknown { known_of self.old tab ≡ None → self.new ≡ self.old }
@@ -51,26 +52,29 @@ impl Ends {
         }
     }
 
-    /// A tab's end needs not be told any more.
+    /// Removes a tab's row, so its end will not be reported.
     pub fn forget(&mut self, tab: u16)
         ensures { self.new ≡ without tab self.old }
     {
         self.tabs.remove(&tab);
     }
 
+    /// Returns true if the tab's process runs.
     pub fn is_running(&self, tab: u16) -> bool
         ensures { result ≡ runs (known_of self.now tab) }
     {
         matches!(self.tabs.get(&tab), Some(None))
     }
 
+    /// Returns true if the process of any tab runs.
     pub fn is_any_running(&self) -> bool
         ensures { result ≡ any_runs self.now }
     {
         self.tabs.values().any(|end| end.is_none())
     }
 
-    /// The tabs whose ends are not told yet, by rising number, with their statuses. They are told then.
+    /// Returns the tabs whose processes have ended, in ascending order, with their statuses, and
+    /// removes their rows. Leaves the table unchanged if out of memory.
     pub fn tell(&mut self, alloc: Global) -> Result<Vec<(u16, u8)>, AllocError>
         ensures told { IfOk result (λ told. told.items ≡ untold self.old) }
         ensures rest { OnOk result (self.new ≡ running self.old) }

@@ -1,5 +1,6 @@
-//! What the processes decide by values alone: which tabs' processes run and how the others ended, how fast a tab may send, how
-//! long it waits, how often a child is looked at, how soon a broker is started again, and which of its lanes reads next.
+//! Decisions of the processes, as pure functions and values. They cover ended processes and their
+//! statuses, tabs' send rates and patience, looks at children, restarts of the broker, and the lane
+//! that reads next.
 #![tactic(auto)]
 
 pub mod ends;

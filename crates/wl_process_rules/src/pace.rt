@@ -1,36 +1,42 @@
-//! How fast a tab may send to the broker, whose link all tabs share: one that floods its own link waits there, and what others
-//! send does not wait behind all of that.
+//! Rate limit of a tab's frames to the broker.
+//!
+//! All tabs share the broker's link. A tab that floods its own link is paused there, so the frames
+//! of other tabs do not queue behind its flood.
 
 ghost use Rattle.std.specs.Prelude.{◌≡◌, ◌+◌, ◌*◌, ◌^◌, ◌-◌, min};
 ghost use Rattle.wl_process_rules.specs.declared.pace.TheConstants.{FRAME_COST, BYTE_COST, BURST};
 
 use std::marker::Model;
 
-/// What a frame takes of a tab's time, in nanoseconds: none sends more than 62,500 frames a second for long.
+/// The time that one frame costs, in nanoseconds. Limits the sustained rate to 62,500 frames per
+/// second.
 pub const FRAME_COST: u64 = 16_000;
 
-/// What a byte takes of it, in nanoseconds: none sends more than 8,000,000 bytes a second for long.
+/// The time that one byte costs, in nanoseconds. Limits the sustained rate to 8,000,000 bytes per
+/// second.
 pub const BYTE_COST: u64 = 125;
 
-/// How many nanoseconds a tab may be ahead of its pace.
+/// The time by which a tab may be ahead of its pace, in nanoseconds.
 pub const BURST: u64 = 50_000_000;
 
-/// What a tab sends at once.
+/// An amount of data that a tab sends at once.
 #[derive(Clone, Copy, Debug, PartialEq, Eq)]
 pub struct Load {
     pub frames: u32,
-    /// Of all these frames together.
+    /// Total size of all frames.
     pub bytes: u32,
 }
 
 impl Load {
+    /// No data.
     pub const NOTHING: Load = Load {
         frames: 0,
         bytes: 0,
     };
 }
 
-/// A tab's pace. Contracts see it as the nanoseconds that the tab is ahead of it.
+/// A tab's rate limiter. Its value in contracts is the time by which the tab is ahead, in
+/// nanoseconds.
 #[derive(Debug, Drop)]
 pub struct Pace {
     ahead: u64,
@@ -45,14 +51,14 @@ impl Model for Pace {
 }
 
 impl Pace {
-    /// That of a tab that has sent nothing.
+    /// Creates the limiter of a tab that has sent nothing.
     pub fn new() -> Pace
         ensures { result ≡ 0 }
     {
         Pace { ahead: 0 }
     }
 
-    /// The tab sends this, so many nanoseconds after it sent last.
+    /// Records that the tab sends `load`, `elapsed` nanoseconds after it last sent.
     pub fn send(&mut self, load: Load, elapsed: u64)
         ensures { self.new
             ≡ min (self.old - elapsed + (load.frames * FRAME_COST + load.bytes * BYTE_COST)) (2 ^ 64 - 1) }
@@ -61,7 +67,8 @@ impl Pace {
         self.ahead = self.ahead.saturating_sub(elapsed).saturating_add(cost);
     }
 
-    /// How many nanoseconds the tab has to pause. After that it is ahead by a burst at most.
+    /// Returns the number of nanoseconds that the tab must pause. After the pause it is ahead by at
+    /// most `BURST`.
     pub fn pause(&self) -> u64
         ensures { result ≡ self.now - BURST }
     {

@@ -1,23 +1,23 @@
-//! How long a tab waits for what it asked for.
+//! Patience of a tab that waits for a request.
 
 ghost use Rattle.std.specs.Prelude.{◌≡◌, ◌<◌, ◌≤◌, ◌+◌};
 ghost use Rattle.wl_process_rules.specs.declared.patience.TheConstants.{RESEND_LIMIT};
 
 use std::marker::Model;
 
-/// How many times a waiting tab sends its commands again.
+/// The number of times that a waiting tab resends its commands.
 pub const RESEND_LIMIT: u16 = 3_000;
 
-/// What a waiting tab does when nothing that may end its waiting has come for a while.
+/// The next action of a waiting tab after a quiet interval.
 #[derive(Clone, Copy, Debug, PartialEq, Eq)]
 pub enum Next {
-    /// It sends its commands again.
+    /// The tab resends its commands.
     Resend,
-    /// It has done so as often as it may, and gives up.
+    /// The tab gives up, because it has resent `RESEND_LIMIT` times.
     GiveUp,
 }
 
-/// How often a waiting tab has sent its commands again. Contracts see it as that number.
+/// The number of resends of a waiting tab. Its value in contracts is that number.
 #[derive(Debug, Drop)]
 pub struct Patience {
     resends: u16,
@@ -32,14 +32,15 @@ impl Model for Patience {
 }
 
 impl Patience {
-    /// That of a tab that begins to wait.
+    /// Creates the state of a tab that starts to wait.
     pub fn new() -> Patience
         ensures { result ≡ 0 }
     {
         Patience { resends: 0 }
     }
 
-    /// Nothing that may end the waiting has come for a while.
+    /// Returns the tab's next action after an interval without an event that could end the wait.
+    /// Counts a resend.
     pub fn quiet(&mut self) -> Next
         ensures resend { self.old < RESEND_LIMIT → (result ≡ Next.Resend) × (self.new ≡ self.old + 1) }
         ensures give_up { RESEND_LIMIT ≤ self.old → (result ≡ Next.GiveUp) × (self.new ≡ self.old) }

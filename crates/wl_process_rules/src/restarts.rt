@@ -1,24 +1,27 @@
-//! How long the kernel's keeper pauses before it starts the next broker: where brokers end at once again and again and answer
-//! nothing, as they do while memory is short, their generations are not to be used up meanwhile.
+//! Pauses of the kernel's keeper before it restarts a broker.
+//!
+//! Brokers may fail at once, for instance while memory is short. The pauses keep such brokers from
+//! using up the generations.
 
 ghost use Rattle.std.specs.Prelude.{◌≡◌, ◌<◌, ◌≤◌, ◌+◌, ◌-◌, ◌*◌, ◌^◌, min, true, false};
 ghost use Rattle.wl_process_rules.specs.declared.restarts.TheConstants.{SHORT, FREE, STEP, LONGEST};
 
 use std::marker::Model;
 
-/// A broker that ran for fewer milliseconds than this, and answered nothing, has ended at once.
+/// The minimum run time of a broker, in milliseconds. A broker that ran for less and answered
+/// nothing counts as a failed start.
 pub const SHORT: u64 = 50;
 
-/// How many brokers in a row may end at once before the keeper pauses.
+/// The number of failed starts in a row that cause no pause.
 pub const FREE: u32 = 16;
 
-/// How many milliseconds longer it pauses with each further one.
+/// The increase of the pause for each further failed start, in milliseconds.
 pub const STEP: u64 = 20;
 
-/// How many milliseconds it pauses at most.
+/// The longest pause, in milliseconds.
 pub const LONGEST: u64 = 1_000;
 
-/// How many brokers in a row have ended at once. Contracts see it as that number.
+/// The number of failed starts in a row. Its value in contracts is that number.
 #[derive(Debug, Drop)]
 pub struct Restarts {
     in_a_row: u32,
@@ -33,14 +36,15 @@ impl Model for Restarts {
 }
 
 impl Restarts {
-    /// No broker has ended.
+    /// Creates the state before any broker has ended.
     pub fn new() -> Restarts
         ensures { result ≡ 0 }
     {
         Restarts { in_a_row: 0 }
     }
 
-    /// A broker has ended by itself that ran for so many milliseconds, and has answered something or nothing.
+    /// Records that a broker ended by itself after `lasted` milliseconds. `has_answered` tells
+    /// whether it answered anything.
     pub fn end(&mut self, lasted: u64, has_answered: bool)
         ensures long { SHORT ≤ lasted → self.new ≡ 0 }
         ensures answered { has_answered ≡ true → self.new ≡ 0 }
@@ -53,7 +57,7 @@ impl Restarts {
         };
     }
 
-    /// How many milliseconds the keeper pauses before the next one.
+    /// Returns the pause before the next start, in milliseconds.
     pub fn pause(&self) -> u64
         ensures { result ≡ min ((self.now - FREE) * STEP) LONGEST }
     {

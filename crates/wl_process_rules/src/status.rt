@@ -1,15 +1,15 @@
-//! The status by which the end of a process is told.
+//! Exit statuses of processes, as they are reported.
 
 ghost use Rattle.std.specs.Prelude.{◌≡◌, IfSome, None};
 ghost use Rattle.wl_process_rules.specs.declared.status.TheConstants.{SIGNALLED};
 ghost use Rattle.wl_process_rules.specs.Status.{status_of_number, status_of_signal};
 
-/// What the status of a process that a signal ended is above the number of the signal. Also the status of one that ended neither
-/// by itself nor by a signal.
+/// The status of a process killed by signal n is `SIGNALLED` + n. It is also the status of a
+/// process that has neither an exit code nor a signal.
 pub const SIGNALLED: u8 = 128;
 
-/// The status of a process that ended: its own code, or 128 and the number of the signal that ended it, as shells say it. A
-/// number that is no byte counts as 255.
+/// Returns the status of an ended process: its exit code, or 128 plus the number of the signal that
+/// killed it, as shells do. Numbers outside 0 to 255 become 255.
 pub fn status_of(code: Option<i32>, signal: Option<i32>) -> u8
     ensures exited { IfSome code (λ code. result ≡ status_of_number code) }
     ensures signalled { code ≡ None → IfSome signal (λ signal. result ≡ status_of_signal signal) }

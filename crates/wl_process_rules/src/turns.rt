@@ -1,24 +1,26 @@
-//! Which of the lanes of a broker's process reads its link next: the lane that has read deals what came, and then reads on
-//! itself, leaves that to a lane with works to do, or has a lane with none read.
+//! Choice of the lane that reads a broker's link next.
+//!
+//! The lane that has read distributes the works. It then reads again, leaves reading to a lane that
+//! has works to do, or asks an idle lane to read.
 
 ghost use Rattle.std.specs.Prelude.{◌≡◌, ◌<◌, ◌≤◌, true, false};
 ghost use Rattle.wl_process_rules.specs.declared.turns.TheConstants.{FEW};
 
-/// How many works a lane may have before it and still be left to read the link next: a busier one would come to it late, and have
-/// all others wait.
+/// The largest number of pending works with which a lane may be left to read next. A busier lane
+/// would read late and delay all others.
 pub const FEW: usize = 8;
 
-/// For whom there was work in what a lane has read.
+/// The distribution of the works that one read brought.
 #[derive(Clone, Copy, Debug, PartialEq, Eq)]
 pub struct Dealt {
-    /// How many works are the reading lane's own.
+    /// The number of works of the reading lane.
     pub own: usize,
-    /// How many works another lane has that comes for them now, the most of any; 0 where none does.
+    /// The largest number of works of any other lane that was woken for them, or 0 if none was.
     pub others: usize,
 }
 
 impl Dealt {
-    /// Whether the link is left to another lane, which reads it when it has done its works.
+    /// Returns true if the link is left to another lane, which reads it after its works.
     pub fn leaves(self) -> bool
         ensures idle { self.others ≡ 0 → result ≡ false }
         ensures few { 0 < self.others → self.others ≤ FEW → result ≡ true }
@@ -27,7 +29,8 @@ impl Dealt {
         self.others > 0 && self.others <= FEW
     }
 
-    /// Whether a lane without works is asked to read, since the one that has read has many to do.
+    /// Returns true if an idle lane is asked to read, because the reading lane has many works to
+    /// do.
     pub fn offers(self) -> bool
         ensures few { self.own ≤ FEW → result ≡ false }
         ensures left { 0 < self.others → self.others ≤ FEW → result ≡ false }

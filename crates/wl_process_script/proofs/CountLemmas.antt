@@ -1,4 +1,4 @@
--- Counts, written and read.
+-- Lemmas on writing and reading counts.
 use Rattle.std.proofs.Common.{◌≡◌, ◌≢◌, ℕ, ◌≤◌, ◌<◌, List, [], ◌∷◌, ◌++◌, Some, None, refl, sym, ap, ◌∙◌, arith}
 use Rattle.std.specs.Prelude.{decimal}
 use Rattle.std.proofs.lemmas.Fmt.{decimal_injective}
@@ -7,26 +7,26 @@ use Rattle.wl_words.specs.Reading.{most_number, number_at}
 use Rattle.wl_words.proofs.Decimals.{reads_numbers_back, one_decimal}
 use Rattle.wl_process_script.specs.Counts.{count_text, IsCountOf, ReadsBack}
 
--- a text that does not end with a feed is no count's
+-- A text that does not end with a line feed holds no count.
 pub no_feed : (text feed : List ℕ) → feed ≡ 10 ∷ [] → ((front : List ℕ) → text ≢ front ++ feed) → IsCountOf text None
 unfolding count_text
 no_feed text feed is_feed none n small is = none (decimal n) (is ∙ ap (λ f. decimal n ++ f) (sym is_feed))
 
--- what stands before the feed
+-- A text that ends with a line feed is its digits followed by the line feed.
 pub fed : (text feed digits : List ℕ) → feed ≡ 10 ∷ [] → text ≡ digits ++ feed → text ≡ digits ++ 10 ∷ []
 fed text feed digits is_feed e = e ∙ ap (λ f. digits ++ f) is_feed
 
--- a text with a feed at its end is that of the number that the digits before it write
+-- The digits before the line feed are the decimal of the count.
 digits_before : (digits : List ℕ) (n : ℕ) → digits ++ 10 ∷ [] ≡ count_text n → digits ≡ decimal n
 unfolding count_text
 digits_before digits n e = append_cancel_right digits (decimal n) (10 ∷ []) e
 
--- the digits of a count are read as it
+-- The digits of a count are read as that count.
 pub count_read : (digits text : List ℕ) (n : ℕ) → n < 1000000 → text ≡ digits ++ 10 ∷ [] → text ≡ count_text n → number_at most_number digits ≡ Some n
 count_read digits text n small e is =
     ap (number_at most_number) (digits_before digits n (sym e ∙ is)) ∙ reads_numbers_back n most_number (omega arith) (omega arith)
 
--- digits that are no number, or one that is too great, are no count's
+-- Digits that are no number below the limit hold no count.
 pub no_number : (digits text : List ℕ) → text ≡ digits ++ 10 ∷ [] → number_at most_number digits ≡ None → IsCountOf text None
 no_number digits text e none n small is =
     let read : number_at most_number digits ≡ Some n = count_read digits text n small e is in

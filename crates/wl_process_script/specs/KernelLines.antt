@@ -1,13 +1,13 @@
--- What a line of a kernel's script says.
+-- The meaning of a line of the kernel's script.
 use Rattle.std.specs.Prelude.{ℕ, nat_le, List, [], ◌∷◌, Option, Some, None, bytes_eq, codes, if◌then◌else◌}
 use Rattle.wl_words.specs.Reading.{◌>>=◌, line_words_at, one, two, three, none, most_number, number_at, tab_at, url_at}
 use Rattle.wl_process_script.specs.declared.kernel_line.TheConstants.{PAUSE_LIMIT}
 use Rattle.wl_process_script.specs.declared.kernel_line.KernelLine.{KernelLine}
 use Rattle.wl_process_script.specs.declared.kernel_line.KernelLine.TheVariants as line
 
--- ---- the words after the verb
+-- The words after the first
 
--- URL FILE: the path of a file is spelled as a URL is
+-- Words URL FILE: a page and a file path, both without escapes.
 unfoldable pub url_and_file : List (List ℕ) → Option (List ℕ × List ℕ)
 url_and_file words = do
   w ← two words
@@ -15,7 +15,7 @@ url_and_file words = do
   file ← url_at w.1
   Some (url, file)
 
--- TOP URL FILE
+-- Words TOP URL FILE: a top-level page, a page and a file path.
 unfoldable pub urls_and_file : List (List ℕ) → Option (List ℕ × List ℕ × List ℕ)
 urls_and_file words = do
   w ← three words
@@ -24,15 +24,15 @@ urls_and_file words = do
   file ← url_at w.2
   Some (top, url, file)
 
--- a pause lasts at most so many milliseconds
+-- The length of a pause, at most `PAUSE_LIMIT` milliseconds.
 unfoldable pub pause_at : List ℕ → Option ℕ
 pause_at word = do
   n ← number_at most_number word
   if nat_le n PAUSE_LIMIT then Some n else None
 
--- ---- lines
+-- Lines
 
--- by the first word
+-- A line, by its first word.
 unfoldable pub said_by : List ℕ → List (List ℕ) → Option KernelLine
 said_by verb words =
     if bytes_eq verb (codes "start") then (none words >>= λ x. Some line.Start)
@@ -44,7 +44,7 @@ said_by verb words =
     else if bytes_eq verb (codes "join") then (none words >>= λ x. Some line.Join)
     else None
 
--- a line without words says nothing
+-- A line without words is blank.
 unfoldable pub said_in : List (List ℕ) → Option KernelLine
 said_in [] = Some line.Blank
 said_in (word ∷ words) = said_by word words

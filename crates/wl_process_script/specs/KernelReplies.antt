@@ -1,18 +1,18 @@
--- What the kernel prints.
+-- The kernel's output.
 use Rattle.std.specs.Prelude.{ℕ, List, ◌++◌, codes, decimal}
 use Rattle.wl_words.specs.Printing.{line, numbered}
 use Rattle.wl_process_script.specs.declared.kernel_reply.KernelReply.{KernelReply}
 use Rattle.wl_process_script.specs.declared.kernel_reply.KernelReply.TheVariants as reply
 
--- T ORIGIN
+-- The line `opened T ORIGIN` of a tab and its page's origin.
 unfoldable pub opened_text : ℕ → List ℕ → List ℕ
 opened_text tab origin = line (codes "opened " ++ decimal tab ++ codes " " ++ origin)
 
--- T TOPORIGIN ORIGIN
+-- The line `opened T TOPORIGIN ORIGIN` of a tab, the top-level origin and the page's origin.
 unfoldable pub opened_two_text : ℕ → List ℕ → List ℕ → List ℕ
 opened_two_text tab top origin = line (codes "opened " ++ decimal tab ++ codes " " ++ top ++ codes " " ++ origin)
 
--- T STATUS
+-- The line `ended T STATUS` of a tab and its process's status.
 unfoldable pub ended_text : ℕ → ℕ → List ℕ
 ended_text tab status = line (codes "ended " ++ decimal tab ++ codes " " ++ decimal status)
 

@@ -1,4 +1,4 @@
--- What a line of a tab's script says.
+-- The meaning of a line of a tab's script.
 use Rattle.std.specs.Prelude.{ℕ, List, [], ◌∷◌, Option, Some, None, bytes_eq, codes, if◌then◌else◌}
 use Rattle.wl_draft.specs.declared.mode.Mode.{Mode}
 use Rattle.wl_words.specs.Reading.{◌>>=◌, line_words_at, one, two, none, number_at, mode_at, name_at, url_at}
@@ -6,9 +6,9 @@ use Rattle.wl_process_script.specs.declared.tab_line.TabLine.{TabLine}
 use Rattle.wl_process_script.specs.declared.tab_line.TabLine.TheVariants as line
 use Rattle.wl_limits.specs.declared.tabs.TheConstants.{LAST_NUMBER}
 
--- ---- the words after the verb
+-- The words after the first
 
--- MODE NAME
+-- Words MODE NAME: a lock mode and a lock name.
 unfoldable pub mode_and_name : List (List ℕ) → Option (Mode × List ℕ)
 mode_and_name words = do
   w ← two words
@@ -16,9 +16,9 @@ mode_and_name words = do
   name ← name_at w.1
   Some (mode, name)
 
--- ---- lines
+-- Lines
 
--- by the first word; the path of a file is spelled as a URL is
+-- A line, by its first word. A file path has no escapes.
 unfoldable pub said_by : List ℕ → List (List ℕ) → Option TabLine
 said_by verb words =
     if bytes_eq verb (codes "ask") then (mode_and_name words >>= λ x. Some (line.Ask x.0 x.1))
@@ -30,7 +30,7 @@ said_by verb words =
     else if bytes_eq verb (codes "add") then (one words >>= url_at >>= λ file. Some (line.Add file))
     else None
 
--- a line without words says nothing
+-- A line without words is blank.
 unfoldable pub said_in : List (List ℕ) → Option TabLine
 said_in [] = Some line.Blank
 said_in (word ∷ words) = said_by word words

@@ -1,4 +1,4 @@
-//! The files that tabs count in.
+//! Counter files, which tabs increment.
 
 ghost use Rattle.std.specs.Prelude.{◌≡◌, ◌++◌, OnOk};
 ghost use Rattle.wl_process_script.specs.Counts.{count_text, IsCountOf};
@@ -7,11 +7,11 @@ use std::alloc::AllocError;
 use wl_words::printing::{put, put_number};
 use wl_words::reading::decimal_of;
 
-/// A count that is read is below this.
+/// Every count read from a file is below this limit.
 pub const COUNT_LIMIT: u32 = 1_000_000;
 
-/// The number that a counter's file holds: its decimal, without leading zeros, and one line feed. No other text holds a number
-/// below the limit.
+/// Parses a counter file: the decimal of a number below `COUNT_LIMIT`, without leading zeros, and
+/// one line feed. Returns `None` for any other text.
 pub fn count_of(text: &[u8]) -> Option<u32>
     ensures { IsCountOf text.now result }
 {
@@ -23,7 +23,7 @@ pub fn count_of(text: &[u8]) -> Option<u32>
     Some(number as u32)
 }
 
-/// Appends the text of a counter's file.
+/// Appends the text of a counter file.
 #[tactic(auto, unfolding(crate::specs::Counts::count_text))]
 pub fn put_count(out: &mut Vec<u8>, count: u32) -> Result<(), AllocError>
     ensures { OnOk result (out.new.items ≡ out.old.items ++ count_text count) }

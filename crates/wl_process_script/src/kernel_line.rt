@@ -1,4 +1,4 @@
-//! Reading a line of a kernel's script.
+//! Parsing of the kernel's script lines.
 
 ghost use Rattle.wl_words.specs.Reading.{texts};
 ghost use Rattle.wl_words.specs.Words.{Gives};
@@ -9,46 +9,47 @@ use wl_draft::Name;
 use wl_words::Unread;
 use wl_words::reading::{line_words, nothing, number_of, one, tab_of, three, two, url_of};
 
-/// How many milliseconds a pause may last.
+/// The longest pause, in milliseconds.
 pub const PAUSE_LIMIT: u16 = 10_000;
 
-/// A line of a kernel's script, one variant for each form.
+/// A parsed line of the kernel's script.
 #[derive(Debug, PartialEq, Eq, Drop)]
 pub enum KernelLine {
-    /// An empty line, or a comment.
+    /// An empty line or a comment.
     Blank,
-    /// A broker starts, with all living tabs listed.
+    /// `start`: starts a broker with all living tabs listed.
     Start,
-    /// A tab is opened with a page, and runs the script in a file.
+    /// `open`: opens a tab for a page. The tab runs the script in a file.
     Open {
-        /// As it stands: a URL is no word with escapes.
+        /// The URL as written, without escapes.
         url: Name,
-        /// The path, as it stands.
+        /// The path as written, without escapes.
         file: Name,
     },
-    /// The same of a page under another at the top, in a tab that may have more locks.
+    /// `open2`: opens a tab that reports in parts, for a page embedded under a top-level page. The
+    /// tab runs the script in a file.
     OpenTwo {
         top: Name,
         url: Name,
         file: Name,
     },
-    /// The broker's generation is stopped, and its process killed.
+    /// `stop`: stops the broker's generation and kills its process.
     Stop,
-    /// The tab's process is killed.
+    /// `kill`: kills the tab's process.
     Kill {
         /// 1 to 65,535.
         tab: u16,
     },
-    /// The kernel sleeps.
+    /// `pause`: the kernel sleeps.
     Pause {
         /// At most `PAUSE_LIMIT`.
         milliseconds: u16,
     },
-    /// The kernel waits until each tab's process has ended.
+    /// `join`: waits until the processes of all tabs have ended.
     Join,
 }
 
-/// What a line says, without its line feed.
+/// Parses one line, without its line feed. Fails with `Form` on a syntax error.
 #[tactic(auto, unfolding(crate::specs::KernelLines::kernel_line_at))]
 pub fn read_kernel_line(alloc: Global, text: &[u8]) -> Result<KernelLine, Unread>
     ensures { Gives (λ line. line) result (kernel_line_at text.now) }
@@ -99,7 +100,7 @@ fn said(alloc: Global, verb: &[u8], words: &[&[u8]]) -> Result<KernelLine, Unrea
     }
 }
 
-// ---- the words after the verb
+// The words after the first
 
 #[tactic(auto, unfolding(crate::specs::KernelLines::url_and_file))]
 fn url_and_file(alloc: Global, words: &[&[u8]]) -> Result<(Name, Name), Unread>
@@ -121,7 +122,7 @@ fn urls_and_file(alloc: Global, words: &[&[u8]]) -> Result<(Name, Name, Name), U
     ))
 }
 
-/// How long a pause lasts, in milliseconds.
+/// Parses the length of a pause, in milliseconds. Fails with `Form` above `PAUSE_LIMIT`.
 #[tactic(auto, unfolding(crate::specs::KernelLines::pause_at))]
 fn pause_of(word: &[u8]) -> Result<u16, Unread>
     ensures { Gives (λ n. n) result (pause_at word.now) }

@@ -1,4 +1,4 @@
-//! What the kernel prints.
+//! The kernel's output.
 
 ghost use Rattle.std.specs.Prelude.{◌≡◌, ◌++◌, OnOk};
 ghost use Rattle.wl_process_script.specs.KernelReplies.{opened_text, opened_two_text, ended_text};
@@ -6,18 +6,18 @@ ghost use Rattle.wl_process_script.specs.KernelReplies.{opened_text, opened_two_
 use std::alloc::AllocError;
 use wl_words::printing::{put, put_number, put_numbered};
 
-/// What the kernel prints for a line of its script, one variant for each line that is printed.
+/// A line that the kernel prints.
 #[derive(Clone, Copy, Debug, PartialEq, Eq)]
 pub enum KernelReply<'a> {
     /// A broker of this generation was started.
     Up(u32),
     AlreadyUp,
-    /// A tab was opened, of a page of this origin.
+    /// A tab was opened for a page of this origin.
     Opened {
         tab: u16,
         origin: &'a str,
     },
-    /// A tab was opened, of a page of this origin under one at the top.
+    /// A tab was opened for a page of this origin under a top-level origin.
     OpenedTwo {
         tab: u16,
         top: &'a str,
@@ -29,13 +29,13 @@ pub enum KernelReply<'a> {
     TooManyLiving,
     PartitionFull,
     TabsUsedUp,
-    /// This generation was stopped.
+    /// The broker of this generation was stopped.
     Stopped(u32),
     AlreadyDown,
     GenerationsUsedUp,
     Killed(u16),
     NoTab,
-    /// The tab's process ended with a status.
+    /// The tab's process ended with this status.
     Ended {
         tab: u16,
         status: u8,
@@ -45,7 +45,7 @@ pub enum KernelReply<'a> {
 impl<'a> KernelReply<'a> {
     ghost use Rattle.wl_process_script.specs.KernelReplies.{reply_text};
 
-    /// Appends what is printed, with its line feed.
+    /// Appends the line, with its line feed.
     #[tactic(auto, unfolding(crate::specs::KernelReplies::reply_text))]
     pub fn put(&self, out: &mut Vec<u8>) -> Result<(), AllocError>
         ensures { OnOk result (out.new.items ≡ out.old.items ++ reply_text self.now) }

@@ -1,16 +1,16 @@
-//! Laws over the definitions.
+//! Laws over the definitions of scripts.
 
 ghost use Rattle.std.specs.Prelude.{◌≡◌};
 ghost use Rattle.wl_process_script.specs.Counts.{ReadsBack};
 ghost use Rattle.wl_process_script.specs.declared.kernel_line.TheConstants.{PAUSE_LIMIT};
 ghost use Rattle.wl_process_script.specs.declared.count.TheConstants.{COUNT_LIMIT};
 
-/// The law of counters: reading what was written of a count gives that count.
+/// States that reading the text of a count returns the count.
 pub fn law_counts()
     ensures { ReadsBack }
 {}
 
-/// The value of each limit of this crate. All other contracts cite the limits by name.
+/// States the value of each limit of this crate. All other contracts cite the limits by name.
 pub fn law_limits()
     ensures count { COUNT_LIMIT ≡ 1000000 }
     ensures pause { PAUSE_LIMIT ≡ 10000 }

@@ -1,4 +1,4 @@
-//! The scripts of the processes: the lines of a kernel and of a tab, what the kernel prints, and the files that tabs count in.
+//! The scripts of the kernel's and the tabs' processes, the kernel's output, and counter files.
 #![tactic(auto)]
 
 pub mod count;

@@ -1,4 +1,4 @@
-//! Reading a line of a tab's script.
+//! Parsing of a tab's script lines.
 
 ghost use Rattle.wl_words.specs.Reading.{texts};
 ghost use Rattle.wl_words.specs.Words.{Gives};
@@ -9,44 +9,45 @@ use wl_draft::{Mode, Name};
 use wl_words::Unread;
 use wl_words::reading::{command_of, line_words, mode_of, name_of, nothing, one, two, url_of};
 
-/// A line of a tab's script, one variant for each form. Commands are counted from 0; a number above the greatest `u32` is read
-/// as that.
+/// A parsed line of a tab's script. A command's number counts from 0. It is capped at the largest
+/// `u32`.
 #[derive(Debug, PartialEq, Eq, Drop)]
 pub enum TabLine {
-    /// An empty line, or a comment.
+    /// An empty line or a comment.
     Blank,
-    /// A lock is asked for.
+    /// `ask`: requests a lock.
     Ask {
         mode: Mode,
         name: Name,
     },
-    /// A lock is asked for, if it is free now.
+    /// `probe`: requests a lock with `ifAvailable`.
     Probe {
         mode: Mode,
         name: Name,
     },
-    /// The tab waits until this number is asked no more: granted, or, of a probe, refused.
+    /// `wait`: waits until the command of this number is decided: granted, lost, aborted or, for a
+    /// probe, refused.
     Wait {
         number: u32,
     },
-    /// The lock of this number is given back.
+    /// `release`: releases the lock of this number.
     Release {
         number: u32,
     },
-    /// The request of this number is taken back.
+    /// `abort`: aborts the request of this number.
     Abort {
         number: u32,
     },
-    /// The tab asks for the lists of locks, and waits for them.
+    /// `query`: requests a snapshot of the locks and waits for it.
     Query,
-    /// The number in a file is raised by one.
+    /// `add`: increments the number in a counter file.
     Add {
-        /// The path, as it stands.
+        /// The path as written, without escapes.
         file: Name,
     },
 }
 
-/// What a line says, without its line feed.
+/// Parses one line, without its line feed. Fails with `Form` on a syntax error.
 #[tactic(auto, unfolding(crate::specs::TabLines::tab_line_at))]
 pub fn read_tab_line(alloc: Global, text: &[u8]) -> Result<TabLine, Unread>
     ensures { Gives (λ line. line) result (tab_line_at text.now) }

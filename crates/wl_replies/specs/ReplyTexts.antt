@@ -1,4 +1,4 @@
--- The text of replies: each line of it ends with a line feed.
+-- The text of replies. Each line ends with a line feed.
 use Rattle.std.specs.Prelude.{ℕ, ◌+◌, List, [], ◌∷◌, ◌++◌, codes, decimal, if◌then◌else◌}
 use Rattle.std.specs.List.{flat_map}
 use Rattle.wl_origin.specs.Partition.{origin_text}
@@ -36,19 +36,19 @@ use Rattle.wl_words.specs.Words.{word_of}
 use Rattle.wl_words.specs.Printing.{line, numbered}
 use Rattle.wl_replies.specs.Texts.{upward_text, downward_text, post_text, part_text}
 
--- ---- messages
+-- Messages
 
 unfoldable pub sender_text : Sender → List ℕ
 sender_text Kernel = codes "k>"
 sender_text Broker = codes "b>"
 
--- FROM>TO TEXT
+-- The text FROM>TO TEXT of a message.
 unfoldable pub message_text : Message → List ℕ
 message_text (Up s) = decimal s.tab ++ codes ">b " ++ upward_text s.inner
 message_text (Down sender x) = sender_text sender ++ decimal x.tab ++ codes " " ++ downward_text x.inner
 message_text (Across tab h) = decimal h.source ++ codes ">" ++ decimal tab ++ codes " " ++ post_text h
 
--- messages are named in the order in which they were first sent, from `m1` on
+-- The name of a message. Names count from `m1` in the order of first sending.
 unfoldable pub name_text : ℕ → List ℕ
 name_text place = codes "m" ++ decimal (place + 1)
 
@@ -57,9 +57,9 @@ sent_text s =
     if s.is_new then line (name_text s.place ++ codes " " ++ message_text s.message)
     else line (codes "again " ++ name_text s.place)
 
--- ---- refusals and drops
+-- Refusals and drops
 
--- those of memory no answer says: law_answers of wl_world
+-- Texts of faults. No reply reports a lack of memory, by `law_answers` of wl_world.
 unfoldable pub open_fault_text : OpenFault → List ℕ
 open_fault_text open_fault.NumberTaken = codes "NumberTaken"
 open_fault_text open_fault.TooManyLiving = codes "TooManyLiving"
@@ -80,7 +80,8 @@ agent_fault_text agent_fault.TooMany = codes "TooMany"
 agent_fault_text agent_fault.NumbersUsedUp = codes "NumbersUsedUp"
 agent_fault_text agent_fault.Memory = codes "Memory"
 
--- a channel of the simulator is its own tab's, and what comes to it is a post
+-- The text of a channel fault. The simulator causes neither `ForeignChannel` nor `WrongKind`,
+-- because it uses a channel only at its own tab and delivers only posts to it.
 unfoldable pub channel_fault_text : ChannelFault → List ℕ
 channel_fault_text channel_fault.NameTooLong = codes "NameTooLong"
 channel_fault_text channel_fault.DataTooLong = codes "DataTooLong"
@@ -140,22 +141,22 @@ reason_text reason.OldPost = codes "old post"
 reason_text reason.Down = codes "down"
 reason_text (reason.AtBroker why) = dropped_text why
 
--- ---- what was said
+-- Results of events
 
 unfoldable pub ended_text : Ended → List ℕ
 ended_text (ended.Null number) = numbered (codes "null") number
 ended_text (ended.Lost number) = numbered (codes "lost") number
 
--- S#N DATA
+-- The text S#N DATA of a post: source, number and data.
 unfoldable pub letter_text : ℕ → ℕ → List ℕ → List ℕ
 letter_text source number bytes = decimal source ++ codes "#" ++ decimal number ++ codes " " ++ word_of bytes
 
--- what became of a post, of which the letter tells, at an object of tab t
+-- The line for a post at a channel object of the tab, which took it or was full.
 unfoldable pub reached_text : ℕ → List ℕ → Reached → List ℕ
 reached_text tab letter (Took channel) = line (decimal tab ++ codes "*" ++ decimal channel ++ codes " heard " ++ letter)
 reached_text tab letter (Full channel) = line (decimal tab ++ codes "*" ++ decimal channel ++ codes " full")
 
--- where a post finds no object of its name, that is said
+-- The lines for an arrived post. A post that finds no object of its name gets a line of its own.
 unfoldable pub heard_text : ℕ → List ℕ → List Reached → List ℕ
 heard_text tab letter [] = line (codes "heard none")
 heard_text tab letter (r ∷ rs) = flat_map (reached_text tab letter) (r ∷ rs)
@@ -195,7 +196,7 @@ said_text (said.Closed channel) = numbered (codes "closed") channel
 said_text (said.Corrupted tab) = numbered (codes "corrupted") tab
 said_text said.Forged = []
 
--- ---- replies
+-- Replies
 
 unfoldable pub reply_text : Reply → List ℕ
 reply_text r = said_text r.said ++ flat_map sent_text r.sent

@@ -22,7 +22,7 @@ use Rattle.wl_grammar.specs.declared.frame.Downward.TheVariants as down
 use Rattle.wl_words.specs.Words.{word_of}
 use Rattle.wl_words.specs.Printing.{mode_text}
 
--- ---- parts
+-- Parts of messages
 
 unfoldable pub held_text : Bool → List ℕ
 held_text true = codes "held"
@@ -34,18 +34,18 @@ outcome_text Granted = codes "granted"
 outcome_text Gone = codes "gone"
 outcome_text Taken = codes "taken"
 
--- MODE NAME
+-- The text MODE NAME of a lock.
 unfoldable pub lock_text : Mode → List ℕ → List ℕ
 lock_text mode name = mode_text mode ++ codes " " ++ word_of name
 
--- `gen G #K`
+-- The text `gen G #K` of a command number.
 unfoldable pub command_number : ℕ → ℕ → List ℕ
 command_number generation number = codes "gen " ++ decimal generation ++ codes " #" ++ decimal number
 
 unfoldable pub part_text : ℕ → ℕ → List ℕ
 part_text part parts = codes "part " ++ decimal part ++ codes " of " ++ decimal parts
 
--- ---- from tabs to the broker
+-- From tabs to the broker
 
 unfoldable pub operation_text : Operation → List ℕ
 operation_text (Request mode false name) = codes " request " ++ lock_text mode name
@@ -63,7 +63,7 @@ entry_text e = codes " #" ++ decimal e.number ++ codes " " ++ held_text e.held +
 unfoldable pub report_text : Report → List ℕ
 report_text r = codes "report " ++ decimal r.generation ++ codes " base " ++ decimal r.base ++ flat_map entry_text r.entries
 
--- `report2 G base B part P of Q`, and the part's entries
+-- The text `report2 G base B part P of Q`, followed by the part's entries.
 unfoldable pub report_part_text : ReportPart → List ℕ
 report_part_text r =
     codes "report2 " ++ decimal r.generation ++ codes " base " ++ decimal r.base ++ codes " " ++ part_text r.part r.parts ++ flat_map entry_text r.entries
@@ -73,7 +73,7 @@ upward_text (up.Command c) = command_text c
 upward_text (up.Report r) = report_text r
 upward_text (up.ReportPart r) = report_part_text r
 
--- ---- to tabs
+-- To tabs
 
 unfoldable pub hello_text : Hello → List ℕ
 hello_text h = codes "hello " ++ decimal h.generation
@@ -92,7 +92,7 @@ downward_text (down.Hello h) = hello_text h
 downward_text (down.Answer a) = answer_text a
 downward_text (down.Snapshot s) = snapshot_text s
 
--- ---- between tabs
+-- Between tabs
 
 unfoldable pub post_text : Heard → List ℕ
 post_text h = codes "post " ++ decimal h.number ++ codes " " ++ word_of h.channel ++ codes " " ++ word_of h.bytes

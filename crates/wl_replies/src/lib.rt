@@ -1,4 +1,4 @@
-//! What the sim prints: the texts of messages, of replies and refusals.
+//! The simulator's output: the text of messages, replies and refusals.
 #![tactic(auto)]
 
 pub mod messages;

@@ -1,4 +1,4 @@
-//! The text of messages. Each function appends to what was written before.
+//! The text of messages. Each function appends to the output.
 
 ghost use Rattle.std.specs.Prelude.{◌≡◌, ◌++◌, OnOk};
 ghost use Rattle.std.specs.List.{flat_map};
@@ -12,7 +12,7 @@ use wl_frames::{
 use wl_words::printing::{mode_word, put, put_number};
 use wl_words::put_word;
 
-// ---- parts
+// Parts of messages
 
 #[tactic(auto, unfolding(crate::specs::Texts::held_text))]
 fn held_word(held: bool) -> &'static str
@@ -33,7 +33,7 @@ fn outcome_word(outcome: Outcome) -> &'static str
     }
 }
 
-/// A lock's mode and name.
+/// Appends a lock's mode and name.
 #[tactic(auto, unfolding(crate::specs::Texts::lock_text))]
 pub fn put_lock(out: &mut Vec<u8>, mode: Mode, name: &Name) -> Result<(), AllocError>
     ensures { OnOk result (out.new.items ≡ out.old.items ++ lock_text mode name.now) }
@@ -53,7 +53,7 @@ fn put_command_number(out: &mut Vec<u8>, generation: u32, number: u32) -> Result
     put_number(out, u64::from(number))
 }
 
-/// Which part of how many.
+/// Appends `part P of Q`.
 #[tactic(auto, unfolding(crate::specs::Texts::part_text))]
 pub(crate) fn put_part(out: &mut Vec<u8>, part: u16, parts: u16) -> Result<(), AllocError>
     ensures { OnOk result (out.new.items ≡ out.old.items ++ part_text part parts) }
@@ -64,7 +64,7 @@ pub(crate) fn put_part(out: &mut Vec<u8>, part: u16, parts: u16) -> Result<(), A
     put_number(out, u64::from(parts))
 }
 
-// ---- from tabs to the broker
+// From tabs to the broker
 
 #[tactic(auto, unfolding(crate::specs::Texts::operation_text))]
 fn put_operation(out: &mut Vec<u8>, operation: &Operation) -> Result<(), AllocError>
@@ -148,7 +148,7 @@ fn put_report_part(out: &mut Vec<u8>, report: &ReportPart) -> Result<(), AllocEr
     put_entries(out, report.entries.as_slice())
 }
 
-/// What a tab sends to the broker.
+/// Appends the text of a tab's message to the broker.
 #[tactic(auto, unfolding(crate::specs::Texts::upward_text))]
 pub(crate) fn put_upward(out: &mut Vec<u8>, upward: &Upward) -> Result<(), AllocError>
     ensures { OnOk result (out.new.items ≡ out.old.items ++ upward_text upward.now) }
@@ -160,7 +160,7 @@ pub(crate) fn put_upward(out: &mut Vec<u8>, upward: &Upward) -> Result<(), Alloc
     }
 }
 
-// ---- to tabs
+// To tabs
 
 #[tactic(auto, unfolding(crate::specs::Texts::hello_text))]
 fn put_hello(out: &mut Vec<u8>, hello: &Hello) -> Result<(), AllocError>
@@ -212,7 +212,7 @@ fn put_snapshot(out: &mut Vec<u8>, snapshot: &Snapshot) -> Result<(), AllocError
     put_rows(out, snapshot.entries.as_slice())
 }
 
-/// What the broker sends to a tab.
+/// Appends the text of a broker's message to a tab.
 #[tactic(auto, unfolding(crate::specs::Texts::downward_text))]
 pub(crate) fn put_downward(out: &mut Vec<u8>, downward: &Downward) -> Result<(), AllocError>
     ensures { OnOk result (out.new.items ≡ out.old.items ++ downward_text downward.now) }
@@ -224,9 +224,9 @@ pub(crate) fn put_downward(out: &mut Vec<u8>, downward: &Downward) -> Result<(),
     }
 }
 
-// ---- between tabs
+// Between tabs
 
-/// A post on its way to a tab.
+/// Appends the text of a post on its way to a tab.
 #[tactic(auto, unfolding(crate::specs::Texts::post_text))]
 pub(crate) fn put_post(out: &mut Vec<u8>, post: &Heard) -> Result<(), AllocError>
     ensures { OnOk result (out.new.items ≡ out.old.items ++ post_text post.now) }

@@ -1,4 +1,4 @@
-//! The words for why an event did nothing, and why a message was dropped. Those for refused memory no answer says, by
+//! The words for refused events and dropped messages. No reply reports a lack of memory, by
 //! `law_answers`.
 
 ghost use Rattle.std.specs.Prelude.{◌≡◌, ◌++◌, OnOk};
@@ -12,7 +12,7 @@ use wl_kernel::{OpenFault, StartFault};
 use wl_words::printing::{put, put_number};
 use wl_world::reply::{Reason, Refusal};
 
-/// Why an event did nothing.
+/// Appends the reason why an event did nothing.
 #[tactic(auto, unfolding(crate::specs::ReplyTexts::refusal_text))]
 pub fn put_refusal(out: &mut Vec<u8>, refusal: Refusal) -> Result<(), AllocError>
     ensures { OnOk result (out.new.items ≡ out.old.items ++ refusal_text refusal) }
@@ -96,7 +96,7 @@ fn channel_words(fault: ChannelFault) -> &'static str
     }
 }
 
-/// Why a message was dropped.
+/// Returns the reason why a message was dropped.
 #[tactic(auto, unfolding(crate::specs::ReplyTexts::reason_text))]
 pub fn reason_words(reason: Reason) -> &'static str
     ensures { result.now ≡ reason_text reason }

@@ -1,4 +1,4 @@
-//! The text of replies. Each function appends to what was written before.
+//! The text of replies. Each function appends to the output.
 
 ghost use Rattle.std.specs.Prelude.{◌≡◌, ◌++◌, OnOk, IfOk};
 ghost use Rattle.std.specs.List.{flat_map};
@@ -18,7 +18,7 @@ use wl_words::put_word;
 use wl_world::message::{Message, Sender};
 use wl_world::reply::{Ended, Reached, Reason, Refusal, Reply, Said, Sent};
 
-// ---- messages
+// Messages
 
 #[tactic(auto, unfolding(crate::specs::ReplyTexts::sender_text))]
 fn sender_word(sender: Sender) -> &'static str
@@ -30,7 +30,7 @@ fn sender_word(sender: Sender) -> &'static str
     }
 }
 
-/// A message with its ends.
+/// Appends a message with its sender and receiver.
 #[tactic(auto, unfolding(crate::specs::ReplyTexts::message_text))]
 pub fn put_message(out: &mut Vec<u8>, message: &Message) -> Result<(), AllocError>
     ensures { OnOk result (out.new.items ≡ out.old.items ++ message_text message.now) }
@@ -57,7 +57,7 @@ pub fn put_message(out: &mut Vec<u8>, message: &Message) -> Result<(), AllocErro
     }
 }
 
-/// The name of the message at a place of the bag.
+/// Appends the name of the message at this index of the bag.
 #[tactic(auto, unfolding(crate::specs::ReplyTexts::name_text))]
 fn put_name(out: &mut Vec<u8>, place: usize) -> Result<(), AllocError>
     ensures { OnOk result (out.new.items ≡ out.old.items ++ name_text place) }
@@ -67,7 +67,7 @@ fn put_name(out: &mut Vec<u8>, place: usize) -> Result<(), AllocError>
     out.extend_from_slice(buffer.format(place as u128 + 1).as_bytes())
 }
 
-/// A message that was sent, or sent again.
+/// Appends the line of a message that was sent, or sent again.
 #[tactic(auto, unfolding(crate::specs::ReplyTexts::sent_text))]
 fn put_sent(out: &mut Vec<u8>, sent: &Sent) -> Result<(), AllocError>
     ensures { OnOk result (out.new.items ≡ out.old.items ++ sent_text sent.now) }
@@ -92,7 +92,7 @@ fn put_all_sent(out: &mut Vec<u8>, sent: &[Sent]) -> Result<(), AllocError>
     Ok(())
 }
 
-// ---- what was said
+// Results of events
 
 #[tactic(auto, unfolding(crate::specs::ReplyTexts::ended_text))]
 fn put_ended(out: &mut Vec<u8>, ended: Ended) -> Result<(), AllocError>
@@ -113,7 +113,7 @@ fn put_all_ended(out: &mut Vec<u8>, endings: &[Ended]) -> Result<(), AllocError>
     Ok(())
 }
 
-/// A post as its hearers know it.
+/// Appends a post as its receivers know it: source, number and data.
 #[tactic(auto, unfolding(crate::specs::ReplyTexts::letter_text))]
 fn put_letter(out: &mut Vec<u8>, source: u16, number: u32, bytes: &[u8]) -> Result<(), AllocError>
     ensures { OnOk result (out.new.items ≡ out.old.items ++ letter_text source number bytes.now) }
@@ -125,7 +125,7 @@ fn put_letter(out: &mut Vec<u8>, source: u16, number: u32, bytes: &[u8]) -> Resu
     put_word(out, bytes)
 }
 
-/// What became of a post at an object of the tab.
+/// Appends the line for a post at one of the tab's channel objects, which took it or was full.
 #[tactic(auto, unfolding(crate::specs::ReplyTexts::reached_text))]
 fn put_reached(
     out: &mut Vec<u8>,
@@ -271,7 +271,7 @@ fn put_whole(
     put(out, "\n")
 }
 
-/// A post has come to the tab.
+/// Appends the lines for a post that arrived at the tab.
 #[tactic(auto, unfolding(crate::specs::ReplyTexts::said_text))]
 fn put_hearing(
     alloc: Global,
@@ -287,7 +287,7 @@ fn put_hearing(
     put_heard(out, tab, letter.as_slice(), objects)
 }
 
-/// The tab has posted.
+/// Appends the lines for a post that the tab sent.
 #[tactic(auto, unfolding(crate::specs::ReplyTexts::said_text))]
 fn put_posted(
     alloc: Global,
@@ -314,7 +314,7 @@ fn put_read(out: &mut Vec<u8>, letter: &Letter) -> Result<(), AllocError>
     put(out, "\n")
 }
 
-/// What an event did, the messages apart.
+/// Appends the result of an event, without the messages sent.
 #[tactic(auto, unfolding(crate::specs::ReplyTexts::said_text))]
 fn put_said(alloc: Global, out: &mut Vec<u8>, said: &Said) -> Result<(), AllocError>
     ensures { OnOk result (out.new.items ≡ out.old.items ++ said_text said.now) }
@@ -357,9 +357,9 @@ fn put_said(alloc: Global, out: &mut Vec<u8>, said: &Said) -> Result<(), AllocEr
     }
 }
 
-// ---- replies
+// Replies
 
-/// The whole answer to one event, as lines.
+/// Appends the whole reply to one event, as lines.
 #[tactic(auto, unfolding(crate::specs::ReplyTexts::reply_text))]
 pub fn put_reply(alloc: Global, out: &mut Vec<u8>, reply: &Reply) -> Result<(), AllocError>
     ensures { OnOk result (out.new.items ≡ out.old.items ++ reply_text reply.now) }

@@ -1,4 +1,4 @@
--- What is said where an event is refused.
+-- Replies to refused events.
 use Rattle.std.specs.Prelude.{Option, Some, None}
 use Rattle.wl_said.specs.declared.said.Said.{Said}
 use Rattle.wl_said.specs.declared.said.Said.TheVariants as said

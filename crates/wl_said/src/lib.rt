@@ -1,4 +1,4 @@
-//! The words in which an event is answered.
+//! Replies to events, without the messages that they send.
 #![tactic(auto)]
 
 pub mod said;

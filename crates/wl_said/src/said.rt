@@ -1,4 +1,4 @@
-//! What an event did, the messages apart, or why it did nothing.
+//! Effects of events, and reasons for refusals and drops.
 
 use bytes::Bytes;
 use wl_agent::{AgentFault, Snapshot, Unheard};
@@ -8,19 +8,20 @@ use wl_grammar::Sequence;
 use wl_kernel::{OpenFault, StartFault};
 use wl_origin::Partition;
 
-/// What an event did, the messages apart.
+/// Effect of an event, apart from the messages that it sends.
 #[derive(Drop)]
 pub enum Said {
-    /// It did nothing.
+    /// The event was refused and did nothing.
     Refused(Refusal),
-    /// A message was delivered and changed nothing, or nothing but what its target has acknowledged.
+    /// A message was delivered and changed nothing, except possibly the count of commands that
+    /// its recipient knows to be taken.
     Dropped(Reason),
-    /// The tab lives, in this partition.
+    /// The tab was opened in this partition.
     Opened {
         tab: u16,
         partition: Partition,
     },
-    /// The tab of the second kind lives, in this partition.
+    /// The tab of the second kind was opened in this partition.
     OpenedTwo {
         tab: u16,
         partition: Partition,
@@ -33,7 +34,7 @@ pub enum Said {
     Stopped {
         generation: u32,
     },
-    /// The kernel has told the tab of the broker's generation.
+    /// The kernel has sent the tab a hello with the broker's generation.
     Greeted,
     /// The tab is dead.
     Killed {
@@ -43,12 +44,12 @@ pub enum Said {
     Told {
         tab: u16,
     },
-    /// The tab has issued its next command, under this number.
+    /// The tab has issued its next command, with this number.
     Issued {
         tab: u16,
         number: u32,
     },
-    /// What may have been lost was sent again.
+    /// All messages that may have been lost were sent again.
     Resent,
     /// The broker has taken the tab's report.
     Joined {
@@ -59,40 +60,40 @@ pub enum Said {
     /// The tab has entered a generation.
     Entered {
         generation: u32,
-        /// By rising number.
+        /// The numbers that ended on entering, by rising number.
         ended: Sequence<Ended>,
     },
-    /// The tab holds the lock of this number.
+    /// The tab holds the lock with this number.
     Granted(u32),
-    /// The request of this number waits.
+    /// The request with this number waits.
     Waiting(u32),
-    /// The probe of this number was refused.
+    /// The probe with this number was refused.
     Null(u32),
-    /// The query of this number gets no answer.
+    /// The query with this number is lost and gets no answer.
     Lost(u32),
-    /// The broker has taken the release or abort of this number.
+    /// The broker has taken the release or abort with this number.
     Taken(u32),
-    /// A part of a snapshot or of a report has come, and others are missing.
+    /// A part of a snapshot or of a report was taken, and others are missing.
     Part {
         part: u16,
         parts: u16,
     },
-    /// A snapshot is whole.
+    /// A snapshot is complete.
     Whole {
         number: u32,
         snapshot: Snapshot,
     },
-    /// A post has come to the tab, and what became of it at each open object of its name, oldest first.
+    /// A post has arrived at the tab. `objects` has the result at each open object of its name, oldest first.
     Heard {
         tab: u16,
         letter: Letter,
         objects: Sequence<Reached>,
     },
-    /// The tab has opened a channel object of this number.
+    /// The tab has opened the channel object with this number.
     ChannelOpened {
         channel: usize,
     },
-    /// The tab has posted, and what became of the post at each other open object of its name, oldest first.
+    /// The tab has posted. `objects` has the result at each other open object of the name, oldest first.
     Posted {
         tab: u16,
         number: u32,
@@ -101,44 +102,44 @@ pub enum Said {
     },
     /// The oldest post was taken out of the channel's inbox.
     Read(Letter),
-    /// The channel is closed, now or before.
+    /// The channel is closed. It may have been closed before.
     Closed {
         channel: usize,
     },
-    /// The tab is taken over, now or before.
+    /// The tab is taken over. It may have been taken over before.
     Corrupted {
         tab: u16,
     },
-    /// What was forged was sent.
+    /// The forged body was sent.
     Forged,
 }
 
 /// A number that ended when its tab entered a generation.
 #[derive(Clone, Copy, Debug, PartialEq, Eq)]
 pub enum Ended {
-    /// The probe of this number was refused.
+    /// The probe with this number was refused.
     Null(u32),
-    /// The query of this number gets no answer.
+    /// The query with this number is lost and gets no answer.
     Lost(u32),
 }
 
-/// What became of a post at the channel object of this number.
+/// Result of a post at the channel object with this number.
 #[derive(Clone, Copy, Debug, PartialEq, Eq)]
 pub enum Reached {
-    /// It is in its inbox.
+    /// The post is in its inbox.
     Took(usize),
     /// Its inbox was full.
     Full(usize),
 }
 
-/// Why an event did nothing.
+/// Reason for which an event was refused.
 #[derive(Clone, Copy, Debug, PartialEq, Eq)]
 pub enum Refusal {
     /// The tab was never opened, or is dead.
     NoTab,
     /// The kernel did not open the tab.
     Open(OpenFault),
-    /// A broker is up.
+    /// A broker is already up.
     AlreadyUp,
     /// The kernel did not start a broker.
     Start(StartFault),
@@ -148,34 +149,34 @@ pub enum Refusal {
     GenerationsUsedUp,
     /// No broker is up.
     Down,
-    /// The tab is not dead.
+    /// The tab lives.
     Living,
-    /// The tab did not issue the command.
+    /// The tab's agent did not issue the command.
     Ask(AgentFault),
-    /// The lock is held, so its request can't be aborted.
+    /// The lock is held, so its request cannot be aborted.
     Held,
     /// There is nothing to abort, to release, to send again or to read.
     Nothing,
     /// No such message was ever sent.
     NoMessage,
-    /// The tab did not open the channel, or did not post.
+    /// The channel was not opened, or nothing was posted.
     Channel(ChannelFault),
-    /// The tab has opened no channel of this number.
+    /// The tab has opened no channel with this number.
     NoChannel,
     /// The channel is closed.
     InvalidState,
-    /// The tab was never taken over, and forges nothing.
+    /// The tab was never taken over, so it cannot forge.
     Honest,
 }
 
-/// Why a message that was delivered was dropped.
+/// Reason for which a delivered message was dropped.
 #[derive(Clone, Copy, Debug, PartialEq, Eq)]
 pub enum Reason {
-    /// Its target is dead.
+    /// The recipient is dead.
     DeadTab,
-    /// The tab that it came to dropped it.
+    /// The tab that received it dropped it.
     AtTab(Unheard),
-    /// This post of its source or a later one was heard before.
+    /// The tab has already received this post or a later one from the same source.
     OldPost,
     /// No broker is up.
     Down,

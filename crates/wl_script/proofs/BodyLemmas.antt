@@ -1,4 +1,4 @@
--- A body that is read as a function, and the grammar.
+-- Lemmas on frame bodies: the function that reads them agrees with the grammar.
 use Rattle.std.proofs.Common.{◌≡◌, ℕ, ◌+◌, ◌<◌, not, eqb, List, [], ◌∷◌, length, get_or, drop, All, Option, Some, None, refl, sym, ap, ◌∙◌, arith, inl, inr}
 use Rattle.std.proofs.lemmas.Bool.{cases_lt, eqb-true, not-false}
 use Rattle.std.proofs.lemmas.List.{append-nil, nil_from_length, get_or-drop}
@@ -18,7 +18,7 @@ use Rattle.wl_frames.proofs.OneFault.{no_fault}
 use Rattle.wl_words.specs.Words.{Fails}
 use Rattle.wl_script.specs.Forgeries.{body_at, unread_of, ReadsBodies}
 
--- a body has a version and a kind
+-- A body shorter than its version and kind is not read.
 pub body_at-short : (bytes : List ℕ) → length bytes < 2 → body_at bytes ≡ None
 unfolding body_at inner_kind_at
 body_at-short [] h = refl
@@ -28,7 +28,7 @@ body_at-short (b ∷ c ∷ bs) h = absurd (omega arith)
 abbrev some : {A : Type 0} → A → Option A
 some x = Some x
 
--- ---- what is read is a body
+-- Everything that is read is a body
 
 kind_read : (v code : ℕ) (rest : List ℕ) (k : Kind) (more : List ℕ) → inner_kind_at (v ∷ code ∷ rest) ≡ Some (k, more) → (kind_at v code ≡ Some k) × (more ≡ rest)
 unfolding inner_kind_at
@@ -69,7 +69,7 @@ body_at-body (v ∷ code ∷ rest) f fits e =
       spelled = begun.spelled ∙ append-nil (body f);
     }
 
--- ---- a body is read
+-- Every body is read
 
 read_parts : (k : Kind) (rest : List ℕ) (f : Frame) → kind_at (version_of k) (code_of k) ≡ Some k → frame_at k rest ≡ Some (f, []) → body_at (version_of k ∷ code_of k ∷ rest) ≡ Some f
 unfolding body_at inner_kind_at
@@ -82,7 +82,7 @@ body-body_at bytes f is =
     let read = begun (version_of k) (code_of k) k (fields f) f [] (kind_at-code k) (record { well_formed = is.well_formed; spelled = sym bytes_are ∙ is.spelled ∙ sym (append-nil (body f)); inner_to_the_end = λ _. refl }) in
     ap body_at bytes_are ∙ read_parts k (fields f) f (kind_at-code k) read
 
--- ---- a body with a fault is not
+-- A body with a fault is not read
 
 none_unless : (o : Option Frame) → ((f : Frame) → o ≡ Some f → ⊥) → o ≡ None
 none_unless None h = refl
@@ -91,7 +91,7 @@ none_unless (Some f) h = absurd (h f refl)
 pub body_at-fault : (bytes : List ℕ) (fault : FrameFault) → IsBytes bytes → HasFault bytes fault → body_at bytes ≡ None
 body_at-fault bytes fault fits h = none_unless (body_at bytes) (λ f is. no_fault bytes f fault (body_at-body bytes f fits is) h)
 
--- why it is not read
+-- A body with a fault is refused for that fault.
 pub fault-fails : (bytes : List ℕ) (fault : FrameFault) → IsBytes bytes → IsFaultOf bytes fault → Fails (unread_of fault) (body_at bytes)
 fault-fails bytes faults.Memory fits h = tt
 fault-fails bytes faults.BadLength fits h = elim h [ inl e ↦ absurd cc | inr has ↦ body_at-fault bytes faults.BadLength fits has ]
@@ -102,7 +102,7 @@ fault-fails bytes faults.LeftOver fits h = elim h [ inl e ↦ absurd cc | inr ha
 fault-fails bytes faults.Truncated fits h = elim h [ inl e ↦ absurd cc | inr has ↦ body_at-fault bytes faults.Truncated fits has ]
 fault-fails bytes faults.Failed fits h = elim h [ inl e ↦ absurd cc | inr has ↦ body_at-fault bytes faults.Failed fits has ]
 
--- ---- the law
+-- The law
 
 IsBytes-from_All : (bytes : List ℕ) → All (λ b. b < 256) bytes → IsBytes bytes
 IsBytes-from_All bytes small i =

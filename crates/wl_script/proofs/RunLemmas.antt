@@ -1,4 +1,4 @@
--- Lemmas on lines that are played, and how a run ends.
+-- Lemmas on playing lines, and on how a run ends.
 use Rattle.std.proofs.Common.{◌≡◌, ℕ, ◌+◌, ◌≤◌, ◌<◌, true, false, List, [], ◌∷◌, ◌++◌, length, length-append, get_or, take, drop, take-append-drop, Option, Some, None, refl, sym, ap, subst, ◌∙◌, append_assoc, append-nil, arith}
 use Rattle.std.specs.Prelude.{◌==◌}
 use Rattle.std.proofs.lemmas.Bool.Decides.{nat_tests}
@@ -14,11 +14,11 @@ use Rattle.wl_script.specs.Sim.{Ran, goes, runs, lines_of}
 use Rattle.wl_script.specs.SimSteps.{SimState, lines_after, EndsBy, Plays}
 use Rattle.wl_script.proofs.Splits.{lines_more, lines_none, lines_feed, lines_byte, lines_go_on, long_line}
 
--- what was written before
+-- A run with earlier output put before its own.
 abbrev pub before : List ℕ → Ran → Ran
 before front r = record r { written = front ++ r.written }
 
--- a run, and then another unless a line was refused
+-- A run followed by another one, unless the first ended with a syntax error.
 abbrev onward : Option ℕ → Ran → Ran → Ran
 onward None r next = before r.written next
 onward (Some n) r next = r
@@ -51,19 +51,19 @@ runs-append n w (text ∷ texts) more =
     goes-append n w (line_at text) texts more (n + length (text ∷ texts))
     (λ after. runs-append (n + 1) after texts more ∙ ap (λ m. onward (runs (n + 1) after texts).refused (runs (n + 1) after texts) (runs m (runs (n + 1) after texts).world more)) e)
 
--- lines that are all played, and then more
+-- A run over lines that are all played continues with the lines after them.
 pub runs-go : (n : ℕ) (w after : WorldState) (texts more : List (List ℕ)) (output : List ℕ) → runs n w texts ≡ record { world = after; written = output; refused = None }
     → runs n w (texts ++ more) ≡ before output (runs (n + length texts) after more)
 runs-go n w after texts more output e =
     runs-append n w texts more ∙ ap (λ (r : Ran). onward r.refused r (runs (n + length texts) r.world more)) e
 
--- ---- one line
+-- One line
 
 pub runs-refused : (n : ℕ) (w : WorldState) (text : List ℕ) (texts : List (List ℕ)) → line_at text ≡ None
     → runs n w (text ∷ texts) ≡ record { world = w; written = []; refused = Some n }
 runs-refused n w text texts e = ap (λ o. goes n w o (λ after. runs (n + 1) after texts)) e
 
--- ---- how a run ends
+-- How a run ends
 
 EndsBy-onward : (r next : Ran) (o : Option ℕ) (e : SimFault) (output : List ℕ) → r.refused ≡ o → EndsBy r e output → EndsBy (onward o r next) e output
 EndsBy-onward r next (Some m) e output is h = h
@@ -73,7 +73,7 @@ EndsBy-onward r next None sim.Write output is h = IsPrefixOf-append output r.wri
 EndsBy-onward r next None sim.TooManyReads output is h = h
 EndsBy-onward r next None sim.Memory output is h = IsPrefixOf-append output r.written next.written h
 
--- what comes behind does not matter
+-- A run that ends early does not depend on the lines that follow.
 EndsBy-more : (n : ℕ) (w : WorldState) (texts more : List (List ℕ)) (e : SimFault) (output : List ℕ) → EndsBy (runs n w texts) e output → EndsBy (runs n w (texts ++ more)) e output
 EndsBy-more n w texts more e output h =
     subst (λ r. EndsBy r e output) (sym (runs-append n w texts more)) (EndsBy-onward (runs n w texts) _ (runs n w texts).refused e output refl h)
@@ -88,7 +88,7 @@ EndsBy-before front r sim.Memory output h = append-IsPrefixOf front output r.wri
 pub Ends-memory : (r : Ran) → EndsBy r sim.Memory []
 Ends-memory r = (r.written, refl)
 
--- ---- pieces of a script
+-- Pieces of a script
 
 pub Plays-start : (s : SimState) → Plays s [] s []
 Plays-start s = record {
@@ -111,7 +111,7 @@ Plays-more a b c piece more output next h k =
       within = omega (arith, h.within, k.within, length-append piece more);
     }
 
--- the run over a piece, and what comes behind it
+-- The run over a piece and later input is the piece's output followed by the later run.
 pub runs-after : (a b : SimState) (piece more output : List ℕ) → Plays a piece b output
     → runs a.number a.world (lines_after a.text (piece ++ more)) ≡ before output (runs b.number b.world (lines_after b.text more))
 runs-after a b piece more output h =
@@ -124,7 +124,7 @@ pub Ends-after : (a b : SimState) (piece more output next : List ℕ) (e : SimFa
 Ends-after a b piece more output next e h ends =
     subst (λ r. EndsBy r e (output ++ next)) (sym (runs-after a b piece more output h)) (EndsBy-before output (runs b.number b.world (lines_after b.text more)) e next ends)
 
--- ---- one byte of a piece
+-- One byte of a piece
 
 pub Plays-feed : (s : SimState) (b : ℕ) (after : WorldState) (output : List ℕ) → (b == 10) ≡ true
     → runs s.number s.world (s.text ∷ []) ≡ record { world = after; written = output; refused = None }
@@ -159,7 +159,7 @@ Ends-long s b more other long =
     (sym (ap (runs s.number s.world) on.lines_are ∙ runs-refused s.number s.world (s.text ++ b ∷ on.text) on.texts (long_line s.text b on.text long)))
     (refl, refl)
 
--- ---- a byte of a piece, in its place
+-- A byte of a piece, at its index
 
 same_byte : (b : ℕ) → b ≡ 10 → (b == 10) ≡ true
 same_byte b e = rw e refl

@@ -1,4 +1,4 @@
--- Lemmas on whole runs: what was read and written so far, how a run ends, and whose fault it is.
+-- Lemmas on whole runs: the input and output so far, how a run ends, and which side failed.
 use Rattle.std.proofs.Common.{◌≡◌, inl, inr, ℕ, List, [], ◌∷◌, ◌++◌, Bool, true, false, Option, None, Result, Ok, Err, refl, sym, ap, subst, ◌∙◌, append_assoc, append-nil}
 use Rattle.std.specs.Io.KnownBytes.{Consumes, Appends, Keeps, IsAtEnd}
 use Rattle.std.proofs.KnownBytes.{Consumes-trans, Appends-trans, Consumes-kept, Keeps-refl}
@@ -13,7 +13,7 @@ use Rattle.wl_script.specs.SimSteps.{SimState, at_first, lines_after, EndsBy, Pl
 use Rattle.wl_script.proofs.Splits.{lines_after-nil, lines_none, whole_but_last}
 use Rattle.wl_script.proofs.RunLemmas.{before, EndsBy-before, runs-after, Plays-more, Ends-after}
 
--- all that was read so far was played, but for the line that is not whole
+-- Helper: the whole lines read so far were played.
 pub record Stands (reader_before reader_now writer_before writer_now : Option (List ℕ)) (s : SimState) : Type 0 where
   pub input : List ℕ
   pub output : List ℕ
@@ -31,9 +31,9 @@ Stands-more a b b' c d d' old new piece output h consumed appended plays = recor
   plays = Plays-more at_first old new h.input piece h.output output h.plays plays;
 }
 
--- ---- how a run ends
+-- How a run ends
 
--- a line was refused, the writer failed, or memory was refused
+-- A run that ends early ends with a syntax error, a writer failure, or out of memory.
 answered_by : (input : List ℕ) (e : SimFault) (output : List ℕ) → EndsBy (run_of input) e output → Answered input (Err e) output
 answered_by input (sim.Line n) output h = h
 answered_by input sim.Read output h = absurd h
@@ -41,7 +41,7 @@ answered_by input sim.Write output h = h
 answered_by input sim.TooManyReads output h = absurd h
 answered_by input sim.Memory output h = h
 
--- how it ended does not turn on what stands behind, which the reader may still have
+-- A run that ended early does not depend on the input that the reader still has.
 needs_no_end : (input : List ℕ) (e : SimFault) (output : List ℕ) (reader : Option (List ℕ)) → ((more : List ℕ) → EndsBy (run_of (input ++ more)) e output) → NeedsEnd input (Err e) reader
 needs_no_end input (sim.Line n) output reader h = inr (λ more. (h more).0)
 needs_no_end input sim.Read output reader h = tt
@@ -69,7 +69,7 @@ Runs-broken a b b' c d d' old piece output e h consumed appended ends =
       at_end = needs_no_end (h.input ++ piece) e (h.output ++ output) b' whole;
     }
 
--- the lines with a feed are those that were played
+-- The lines with a line feed are the lines played.
 whole_is : (input output : List ℕ) (s : SimState) → Plays at_first input s output → whole_run_of input ≡ record { world = s.world; written = output; refused = None }
 whole_is input output s h =
     ap (λ texts. runs 1 empty_world (whole_lines texts)) (sym (lines_after-nil input) ∙ h.lines_are)
@@ -86,7 +86,7 @@ unread_needs_none : (input : List ℕ) (e : ReadFault) (reader : Option (List �
 unread_needs_none input read.Failed reader = tt
 unread_needs_none input read.TooManyReads reader = tt
 
--- the reader failed, or was read as often as it may be
+-- A failed read and the read limit take no input.
 keeps_unread : (b b' : Option (List ℕ)) (e : ReadFault) → (e ≡ read.Failed → Keeps b b') → (e ≡ read.TooManyReads → b' ≡ b) → Keeps b b'
 keeps_unread b b' read.Failed failed limit = failed refl
 keeps_unread b b' read.TooManyReads failed limit = subst (Keeps b) (sym (limit refl)) (Keeps-refl b)
@@ -105,7 +105,8 @@ Runs-unread a b b' c d s e h failed limit = record {
 pub Runs-limit : (a b c d : Option (List ℕ)) (s : SimState) → Stands a b c d s → Runs a b c d (Err sim.TooManyReads)
 Runs-limit a b c d s h = Runs-unread a b b c d s read.TooManyReads h (λ e. cc) (λ e. refl)
 
--- the script is at its end
+-- At the end of the script, the whole run is the output so far followed by the run of the last
+-- line.
 run_at_end : (input output : List ℕ) (s : SimState) → Plays at_first input s output → run_of input ≡ before output (runs s.number s.world (s.text ∷ []))
 run_at_end input output s h =
     ap (runs 1 empty_world) (sym (lines_after-nil input) ∙ ap (lines_after []) (sym (append-nil input)))
@@ -138,9 +139,9 @@ Runs-end a b b' c d d' s none last r h consumed empty at_end appended closes = r
   at_end = end_is_needed h.input r b' at_end;
 }
 
--- ---- whose fault it is
+-- Reader and writer failures
 
--- a piece never ends a run for the reader's fault
+-- Playing a piece never fails with a reader's fault.
 pub no_read : {X : Type 0} (result : Result X SimFault) (old : SimState) (piece : List ℕ) (e : SimFault) (output : List ℕ) → result ≡ Err e → ((more : List ℕ) → EndsBy (runs old.number old.world (lines_after old.text (piece ++ more))) e output) → (result ≡ Err sim.Read → ⊥) × (result ≡ Err sim.TooManyReads → ⊥)
 no_read result old piece (sim.Line n) output is ends = (λ other. cc, λ other. cc)
 no_read result old piece sim.Read output is ends = absurd (ends [])

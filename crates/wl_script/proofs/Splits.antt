@@ -1,4 +1,4 @@
--- Lemmas on the lines of a script that comes in pieces.
+-- Lemmas on the lines of a script that is read in pieces.
 use Rattle.std.proofs.Common.{◌≡◌, ℕ, ◌<◌, ◌≤◌, Bool, true, false, List, [], ◌∷◌, ◌++◌, length, length-append, cond, None, refl, sym, ap, ◌∙◌, append_assoc, append-nil, arith}
 use Rattle.std.specs.Prelude.{◌==◌, nat_lt}
 use Rattle.std.specs.List.{onto_first}
@@ -9,7 +9,7 @@ use Rattle.wl_script.specs.Lines.{line_at}
 use Rattle.wl_script.specs.Sim.{lines_of, whole_lines}
 use Rattle.wl_script.specs.SimSteps.{first_after, lines_after}
 
--- there is always a line
+-- Every script has a line.
 some_line : (script : List ℕ) → 0 < length (lines_of script)
 some_line script = omega (arith, length-slice_split (λ b. b == 10) script)
 
@@ -20,7 +20,7 @@ first_after-nil (text ∷ texts) some = refl
 pub lines_after-nil : (script : List ℕ) → lines_after [] script ≡ lines_of script
 lines_after-nil script = first_after-nil (lines_of script) (some_line script)
 
--- lines, the first of which goes on with the last of those
+-- Two lists of lines, joined at the last line of the first and the first line of the second.
 abbrev glued : List (List ℕ) → List (List ℕ) → List (List ℕ)
 glued [] next = next
 glued (text ∷ []) next = first_after text next
@@ -55,7 +55,7 @@ first_glued front [] next = refl
 first_glued front (text ∷ []) next = first_first front text next
 first_glued front (text ∷ other ∷ texts) next = refl
 
--- the last line of a piece goes on in the next one
+-- The last line of a piece continues in the next piece.
 pub lines_more : (front piece more : List ℕ) (texts : List (List ℕ)) (text : List ℕ) → lines_after front piece ≡ texts ++ text ∷ []
     → lines_after front (piece ++ more) ≡ texts ++ lines_after text more
 lines_more front piece more texts text e =
@@ -67,7 +67,7 @@ lines_more front piece more texts text e =
 pub lines_none : (front : List ℕ) → lines_after front [] ≡ front ∷ []
 lines_none front = ap (λ l. l ∷ []) (append-nil front)
 
--- ---- one byte
+-- One byte
 
 pub lines_feed : (front : List ℕ) (b : ℕ) (more : List ℕ) → (b == 10) ≡ true → lines_after front (b ∷ more) ≡ front ∷ lines_of more
 lines_feed front b more feed =
@@ -79,7 +79,7 @@ lines_byte_more front b more other = ap (λ c. first_after front (cond c ([] ∷
 pub lines_byte : (front : List ℕ) (b : ℕ) → (b == 10) ≡ false → lines_after front (b ∷ []) ≡ (front ++ b ∷ []) ∷ []
 lines_byte front b other = lines_byte_more front b [] other
 
--- the line that a byte begins to go on
+-- Helper: the line that starts with this byte after `front`.
 pub record GoesOn (front : List ℕ) (b : ℕ) (more : List ℕ) : Type 0 where
   pub text : List ℕ
   pub texts : List (List ℕ)
@@ -92,7 +92,7 @@ begun front b more (text ∷ texts) e = record { text = text; texts = texts; lin
 pub lines_go_on : (front : List ℕ) (b : ℕ) (more : List ℕ) → (b == 10) ≡ false → GoesOn front b more
 lines_go_on front b more other = begun front b more (lines_of more) (lines_byte_more front b more other)
 
--- ---- long lines
+-- Long lines
 
 too_long : (text : List ℕ) → nat_lt 65536 (length text) ≡ true → line_at text ≡ None
 unfolding line_at line_words_at
@@ -106,7 +106,7 @@ long_line front b text long =
     let more = longer front b text long in
     too_long (front ++ b ∷ text) (grind (arith, nat_tests))
 
--- ---- all lines but the last
+-- All lines but the last
 
 pub whole_but_last : (texts : List (List ℕ)) (text : List ℕ) → whole_lines (texts ++ text ∷ []) ≡ texts
 whole_but_last [] text = refl

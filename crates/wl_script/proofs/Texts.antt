@@ -1,4 +1,4 @@
--- Reading words and lines.
+-- Lemmas on reading words and lines.
 use Rattle.std.proofs.Common.{◌≡◌, ℕ, ◌+◌, ◌≤◌, ◌<◌, List, [], ◌∷◌, ◌++◌, length, drop, get_or, Option, Some, None, refl, sym, ap, ◌∙◌, append_assoc}
 use Rattle.std.specs.Borrow.{Bor}
 use Rattle.std.proofs.lemmas.List.{at_drop_more, at_drop_all, append-nil}
@@ -8,9 +8,9 @@ use Rattle.wl_words.specs.Words.{Fails}
 use Rattle.wl_words.specs.Reading.{◌>>=◌, tab_at, texts}
 use Rattle.wl_script.specs.Lines.{tabs_at}
 
--- ---- tabs, one after another
+-- Lists of tabs
 
--- what was read before, and what is still read
+-- The tabs read before, followed by those still to read.
 abbrev pub with_front : List ℕ → Option (List ℕ) → Option (List ℕ)
 with_front front read = read >>= λ ts. Some (front ++ ts)
 

@@ -1,4 +1,4 @@
--- What a tab that is taken over forges, as it stands in a script: the body of a frame.
+-- Forged messages in scripts: a frame body in hexadecimal.
 use Rattle.std.specs.Prelude.{◌≡◌, ◌↔◌, ℕ, ◌<◌, List, All, Option, Some, None, Result, Ok, Err, if◌then◌else◌}
 use Rattle.std.specs.List.{list_any}
 use Rattle.std.specs.Char.{is_ascii_lowercase}
@@ -21,11 +21,11 @@ abbrev pub decoded : Result (List ℕ) FromHexError → Option (List ℕ)
 decoded (Ok bytes) = Some bytes
 decoded (Err e) = None
 
--- bytes in pairs of upper case hexadecimal digits
+-- Bytes written as pairs of uppercase hexadecimal digits.
 unfoldable pub hex_at : List ℕ → Option (List ℕ)
 hex_at word = if list_any is_ascii_lowercase word then None else decoded (decode_of word)
 
--- the frame whose body these bytes are
+-- The frame with this body.
 unfoldable pub body_at : List ℕ → Option Frame
 body_at bytes = do
   kind ← inner_kind_at bytes
@@ -33,12 +33,12 @@ body_at bytes = do
   whole ← all_of fields
   Some whole.0
 
--- why a word is unread where the frame in it has a fault
+-- The reason for refusing a word whose frame has a fault.
 abbrev pub unread_of : FrameFault → Unread
 unread_of fault.Memory = unread.Memory
 unread_of _ = unread.Form
 
--- a tab sends commands, reports, parts of reports and posts
+-- The message that a frame is when a tab sends it: a command, a report, a report part or a post.
 abbrev pub tab_says : Frame → Option Forged
 tab_says (frame.Command c) = Some (forged.Upward (up.Command c))
 tab_says (frame.Report r) = Some (forged.Upward (up.Report r))
@@ -49,8 +49,8 @@ tab_says f = None
 unfoldable pub forged_at : List ℕ → Option Forged
 forged_at word = hex_at word >>= body_at >>= tab_says
 
--- ---- law
+-- Law
 
--- what is read is the frame that the grammar gives to the bytes
+-- The frame read from a body is the frame that the grammar assigns to its bytes.
 abbrev pub ReadsBodies : Type 0
 ReadsBodies = (bytes : List ℕ) (f : Frame) → All (λ b. b < 256) bytes → (body_at bytes ≡ Some f) ↔ IsBody bytes f

@@ -1,4 +1,4 @@
--- What a line of a script says.
+-- The meaning of a script line.
 use Rattle.std.specs.Prelude.{ℕ, ◌==◌, ◌&&◌, List, [], ◌∷◌, length, Option, Some, None, bytes_eq, codes, if◌then◌else◌}
 use Rattle.wl_draft.specs.declared.mode.Mode.{Mode}
 use Rattle.wl_words.specs.Words.{unescaped}
@@ -10,18 +10,18 @@ use Rattle.wl_world.specs.declared.event.Forged.{Forged}
 use Rattle.wl_script.specs.Forgeries.{forged_at}
 use Rattle.wl_limits.specs.declared.tabs.TheConstants.{LAST_NUMBER}
 
--- ---- the words after the verb
+-- The words after the first
 
--- a message's name is `m` and its number
+-- The number in a message's name, which is `m` followed by the number.
 unfoldable pub message_name_at : List ℕ → Option ℕ
 message_name_at [] = None
 message_name_at (b ∷ bs) = if b == 109 then number_at most_number bs else None
 
--- T
+-- Words T: a tab.
 unfoldable pub tab_alone : List (List ℕ) → Option ℕ
 tab_alone words = one words >>= tab_at
 
--- T URL
+-- Words T URL: a tab and its page.
 unfoldable pub tab_and_url : List (List ℕ) → Option (ℕ × List ℕ)
 tab_and_url words = do
   w ← two words
@@ -29,7 +29,7 @@ tab_and_url words = do
   url ← url_at w.1
   Some (t, url)
 
--- T TOP URL
+-- Words T TOP URL: a tab, the top-level page and the tab's page.
 unfoldable pub tab_and_urls : List (List ℕ) → Option (ℕ × List ℕ × List ℕ)
 tab_and_urls words = do
   w ← three words
@@ -38,7 +38,7 @@ tab_and_urls words = do
   url ← url_at w.2
   Some (t, top, url)
 
--- T MODE NAME
+-- Words T MODE NAME: a tab, a lock mode and a lock name.
 unfoldable pub tab_mode_name : List (List ℕ) → Option (ℕ × Mode × List ℕ)
 tab_mode_name words = do
   w ← three words
@@ -47,7 +47,7 @@ tab_mode_name words = do
   name ← name_at w.2
   Some (t, mode, name)
 
--- T NAME
+-- Words T NAME: a tab and a name.
 unfoldable pub tab_and_name : List (List ℕ) → Option (ℕ × List ℕ)
 tab_and_name words = do
   w ← two words
@@ -55,7 +55,7 @@ tab_and_name words = do
   name ← name_at w.1
   Some (t, name)
 
--- T K, T C
+-- Words T K or T C: a tab with a command number or a channel number.
 unfoldable pub tab_and_number : ℕ → List (List ℕ) → Option (ℕ × ℕ)
 tab_and_number most words = do
   w ← two words
@@ -63,7 +63,7 @@ tab_and_number most words = do
   n ← number_at most w.1
   Some (t, n)
 
--- T C DATA
+-- Words T C DATA: a tab, a channel number and data.
 unfoldable pub tab_channel_data : List (List ℕ) → Option (ℕ × ℕ × List ℕ)
 tab_channel_data words = do
   w ← three words
@@ -72,7 +72,7 @@ tab_channel_data words = do
   bytes ← unescaped w.2
   Some (t, c, bytes)
 
--- T HEX
+-- Words T HEX: a tab and a forged message.
 unfoldable pub tab_and_forged : List (List ℕ) → Option (ℕ × Forged)
 tab_and_forged words = do
   w ← two words
@@ -80,7 +80,7 @@ tab_and_forged words = do
   forged ← forged_at w.1
   Some (t, forged)
 
--- T ..
+-- Any number of tabs.
 unfoldable pub tabs_at : List (List ℕ) → Option (List ℕ)
 tabs_at [] = Some []
 tabs_at (word ∷ words) = do
@@ -88,16 +88,16 @@ tabs_at (word ∷ words) = do
   ts ← tabs_at words
   Some (t ∷ ts)
 
--- nothing, `-`, or T ..
+-- The words after `start`: none, `-`, or a list of tabs.
 unfoldable pub start_at : List (List ℕ) → Option Line
 start_at [] = Some line.StartAll
 start_at (word ∷ words) =
     if bytes_eq word (codes "-") && length words == 0 then Some (line.Happens (event.Start []))
     else (tabs_at (word ∷ words) >>= λ ts. Some (line.Happens (event.Start ts)))
 
--- ---- lines
+-- Lines
 
--- by the first word: channels, tabs that were taken over, and what is held
+-- A line on channels, compromised tabs or holdings, by its first word.
 unfoldable pub said_of_channels : List ℕ → List (List ℕ) → Option Line
 said_of_channels verb words =
     if bytes_eq verb (codes "channel") then (tab_and_name words >>= λ x. Some (line.Happens (event.Channel x.0 x.1)))
@@ -109,7 +109,7 @@ said_of_channels verb words =
     else if bytes_eq verb (codes "show") then (none words >>= λ x. Some line.Show)
     else None
 
--- locks and messages, or one of those above
+-- A line on locks and messages, or any of the above.
 unfoldable pub said_of_locks : List ℕ → List (List ℕ) → Option Line
 said_of_locks verb words =
     if bytes_eq verb (codes "ask") then (tab_mode_name words >>= λ x. Some (line.Happens (event.Ask x.0 x.1 x.2)))
@@ -121,7 +121,7 @@ said_of_locks verb words =
     else if bytes_eq verb (codes "deliver") then (one words >>= message_name_at >>= λ n. Some (line.Deliver n))
     else said_of_channels verb words
 
--- tabs and brokers, or one of those above
+-- A line on tabs and the broker, or any of the above.
 unfoldable pub said_by : List ℕ → List (List ℕ) → Option Line
 said_by verb words =
     if bytes_eq verb (codes "open") then (tab_and_url words >>= λ x. Some (line.Open x.0 x.1))
@@ -133,7 +133,7 @@ said_by verb words =
     else if bytes_eq verb (codes "tell") then (tab_alone words >>= λ t. Some (line.Happens (event.Tell t)))
     else said_of_locks verb words
 
--- a line without words says nothing
+-- A line without words is blank.
 unfoldable pub said_in : List (List ℕ) → Option Line
 said_in [] = Some line.Blank
 said_in (word ∷ words) = said_by word words

@@ -1,4 +1,4 @@
--- What a line makes of a world, and what is written for it.
+-- The effect of a script line on a world, and the text printed for it.
 use Rattle.std.specs.Prelude.{ℕ, Bool, true, false, ◌-◌, ◌==◌, ◌&&◌, List, [], ◌∷◌, ◌++◌, slice_get, Option, Some, None, is_some, is_none, Result, Ok, Err, codes, decimal, if◌then◌else◌}
 use Rattle.std.specs.List.{flat_map}
 use Rattle.wl_origin.specs.Order.{Pair}
@@ -23,32 +23,32 @@ pub record Played : Type 0 where
   pub world : WorldState
   pub written : List ℕ
 
--- an event happens, and its reply is written
+-- An event happens, and its reply is printed.
 abbrev pub plays : WorldState → Event → Played
 plays w e = record { world = happens w e; written = reply_text (reply_of w e) }
 
--- nothing happens, and a line is written
+-- The world stays as it is, and a line is printed.
 abbrev pub says : WorldState → List ℕ → Played
 says w text = record { world = w; written = text_line text }
 
--- ---- openings
+-- Openings
 
--- a second event, after this
+-- A second event follows.
 abbrev pub and_plays : Played → Event → Played
 and_plays p e = let q = plays p.world e in record { world = q.world; written = p.written ++ q.written }
 
--- the opening of a tab, of the one kind or of the other, which tells its reports in parts
+-- The event that opens a tab. The Boolean tells whether the tab reports in parts.
 abbrev pub opening : Bool → ℕ → Pair → Event
 opening false t partition = event.Open t partition
 opening true t partition = event.OpenTwo t partition
 
--- where the tab is opened and a broker is up, the kernel greets it
+-- If the tab is opened and a broker is up, the kernel greets the tab.
 abbrev pub opens : Bool → WorldState → ℕ → Pair → Played
 opens in_parts w t partition =
     let p = plays w (opening in_parts t partition) in
     if is_none (open_refusal t partition w.kernel) && is_some w.broker then and_plays p (event.Hello t) else p
 
--- out of memory is no answer
+-- The text of a fault of URLs. Running out of memory is never printed.
 abbrev pub fault_text : OriginFault → List ℕ
 fault_text origin.BadUrl = codes "BadUrl"
 fault_text origin.Security = codes "SecurityError"
@@ -58,9 +58,9 @@ abbrev pub opens_url : Bool → WorldState → ℕ → Result Pair OriginFault �
 opens_url in_parts w t (Ok partition) = opens in_parts w t partition
 opens_url in_parts w t (Err fault) = says w (fault_text fault)
 
--- ---- deliveries
+-- Deliveries
 
--- messages are named from 1 on, in the order in which they were first sent
+-- The message of this name. Names count from 1 in the order of first sending.
 abbrev pub named : WorldState → ℕ → Option Message
 named w name = if name == 0 then None else slice_get w.bag (name - 1)
 
@@ -68,9 +68,9 @@ abbrev pub delivers : WorldState → Option Message → Played
 delivers w None = says w (codes "no message")
 delivers w (Some m) = plays w (event.Deliver m)
 
--- ---- holdings
+-- Holdings
 
--- T#K MODE NAME
+-- The line T#K MODE NAME of a held lock.
 unfoldable pub holding_text : Holding → List ℕ
 holding_text h = text_line (decimal h.tab ++ codes "#" ++ decimal h.number ++ codes " " ++ lock_text h.mode h.name)
 
@@ -78,7 +78,7 @@ unfoldable pub holdings_text : List Holding → List ℕ
 holdings_text [] = text_line (codes "nothing held")
 holdings_text (h ∷ hs) = flat_map holding_text (h ∷ hs)
 
--- ---- lines
+-- Lines
 
 unfoldable pub played : WorldState → Line → Played
 played w line.Blank = record { world = w; written = [] }

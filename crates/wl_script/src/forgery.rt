@@ -1,4 +1,4 @@
-//! What a tab that is taken over forges: the body of a frame, in hexadecimal digits.
+//! Forged messages of a compromised tab, written as frame bodies in hexadecimal.
 
 ghost use Rattle.std.specs.Prelude.{◌≡◌};
 ghost use Rattle.std.specs.Char.{is_ascii_lowercase};
@@ -14,7 +14,8 @@ use wl_limits::frames::LEAST_BODY;
 use wl_words::Unread;
 use wl_world::event::Forged;
 
-/// What is forged by a word.
+/// Parses a word into the message that it forges. Fails with `Form` if the word is no forged
+/// message.
 #[tactic(auto, unfolding(crate::specs::Forgeries::forged_at))]
 pub(crate) fn forged_of(alloc: Global, word: &[u8]) -> Result<Forged, Unread>
     ensures { Gives (λ forged. forged) result (forged_at word.now) }
@@ -24,7 +25,7 @@ pub(crate) fn forged_of(alloc: Global, word: &[u8]) -> Result<Forged, Unread>
     said_by_tab(frame)
 }
 
-/// Bytes in pairs of upper case digits.
+/// Parses bytes from pairs of uppercase hexadecimal digits.
 #[tactic(auto, unfolding(crate::specs::Forgeries::hex_at))]
 fn bytes_of(alloc: Global, word: &[u8]) -> Result<Vec<u8>, Unread>
     ensures { Gives (λ bytes. bytes.items) result (hex_at word.now) }
@@ -45,7 +46,7 @@ fn has_lowercase(word: &[u8]) -> bool
     word.iter().any(|byte| byte.is_ascii_lowercase())
 }
 
-/// The frame of a body.
+/// Decodes a frame body.
 fn frame_of(alloc: Global, body: &[u8]) -> Result<Frame, Unread>
     ensures { Gives (λ frame. frame) result (body_at body.now) }
 {
@@ -58,7 +59,7 @@ fn frame_of(alloc: Global, body: &[u8]) -> Result<Frame, Unread>
     }
 }
 
-/// Why a word is unread where the frame in it has a fault.
+/// Maps a decoding fault to the reason for refusing the word.
 fn unread_of(fault: FrameFault) -> Unread
     ensures { result ≡ unread_for fault }
 {
@@ -68,7 +69,7 @@ fn unread_of(fault: FrameFault) -> Unread
     }
 }
 
-/// A tab sends commands, reports, parts of reports and posts.
+/// Returns the frame as a tab's message. Only commands, reports, report parts and posts are such.
 fn said_by_tab(frame: Frame) -> Result<Forged, Unread>
     ensures { Gives (λ forged. forged) result (tab_says frame) }
 {

@@ -1,8 +1,9 @@
-//! Laws over the definitions.
+//! Laws over the definitions of scripts.
 
 ghost use Rattle.wl_script.specs.Forgeries.{ReadsBodies};
 
-/// The law of forged bodies: what a line forges is the frame that the grammar gives to its bytes.
+/// States that the frame read from a forged body is the frame that the grammar assigns to its
+/// bytes.
 pub fn law_bodies()
     ensures { ReadsBodies }
 {}

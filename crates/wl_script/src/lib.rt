@@ -1,4 +1,5 @@
-//! The script of the sim: how its lines are read and played, over a reader and a writer.
+//! The simulator's script language: parsing and playing of script lines, over a reader and a
+//! writer.
 #![tactic(auto)]
 
 mod forgery;

@@ -1,33 +1,33 @@
-//! What a line of a script says.
+//! Parsed script lines.
 
 use wl_frames::Name;
 use wl_world::event::Event;
 
-/// A line: an event, or one of the few that are none by themselves.
+/// A parsed script line. Most lines are one event.
 #[derive(Drop)]
 pub enum Line {
-    /// An empty line, or a comment.
+    /// An empty line or a comment.
     Blank,
-    /// A tab of this page is opened, and greeted.
+    /// `open`: opens a tab for a page, and greets it if a broker is up.
     Open {
         tab: u16,
-        /// As it stands: a URL is no word with escapes.
+        /// The URL as written, without escapes.
         url: Name,
     },
-    /// So is a tab that may have more locks, of a page under another at the top.
+    /// `open2`: opens a tab that reports in parts, for a page embedded under a top-level page.
     OpenTwo {
         tab: u16,
         top: Name,
         url: Name,
     },
-    /// The broker starts with all living tabs listed.
+    /// `start` without tabs: starts the broker with all living tabs listed.
     StartAll,
-    /// The message of this name comes: `m1` is 1.
+    /// `deliver`: delivers the message of this name. `m1` is 1.
     Deliver {
         name: u64,
     },
-    /// What is held.
+    /// `show`: prints the locks held by living tabs.
     Show,
-    /// This event happens.
+    /// Any other line: this event happens.
     Happens(Event),
 }

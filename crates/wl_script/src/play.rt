@@ -1,4 +1,5 @@
-//! What a line makes of the world, and what is written for it. Each function appends to what was written before.
+//! Playing of script lines: the effect of a line on the world and the text printed for it. Each
+//! function appends to the output.
 
 ghost use Rattle.std.specs.Prelude.{◌≡◌, ◌≢◌, false, true, ◌++◌, is_none, IfOk, OnOk};
 ghost use Rattle.std.specs.List.{flat_map};
@@ -22,7 +23,7 @@ use wl_world::message::Message;
 use wl_world::reply::{Reply, Said};
 use wl_world::world::World;
 
-/// Plays a line.
+/// Plays a line and returns the world after it.
 #[tactic(auto, unfolding(crate::specs::Played::played))]
 pub(crate) fn play(
     alloc: Global,
@@ -48,7 +49,7 @@ pub(crate) fn play(
     }
 }
 
-/// An event happens, and is answered.
+/// Plays an event and prints the reply.
 fn happen(alloc: Global, world: World, event: Event, out: &mut Vec<u8>) -> Result<World, AllocError>
     ensures { IfOk result (λ after. Becomes (plays world.world event) after out.old.items out.new.items) }
 {
@@ -57,14 +58,14 @@ fn happen(alloc: Global, world: World, event: Event, out: &mut Vec<u8>) -> Resul
     Ok(world)
 }
 
-/// A reply is written, and is of no further use.
+/// Prints a reply and drops it.
 fn answer(alloc: Global, reply: Reply, out: &mut Vec<u8>) -> Result<(), AllocError>
     ensures { OnOk result (out.new.items ≡ out.old.items ++ reply_text reply) }
 {
     put_reply(alloc, out, &reply)
 }
 
-/// Nothing happens.
+/// Prints a line and leaves the world unchanged.
 fn say(world: World, text: &str, out: &mut Vec<u8>) -> Result<World, AllocError>
     ensures { IfOk result (λ after. Becomes (says world.world text.now) after out.old.items out.new.items) }
 {
@@ -73,9 +74,9 @@ fn say(world: World, text: &str, out: &mut Vec<u8>) -> Result<World, AllocError>
     Ok(world)
 }
 
-// ---- openings
+// Openings
 
-/// A tab is opened, if the URL has a partition.
+/// Opens a tab if its URL has a partition.
 fn open(
     alloc: Global,
     world: World,
@@ -92,7 +93,7 @@ fn open(
     }
 }
 
-/// A tab of the second kind is opened, if the URLs have a partition.
+/// Opens a tab that reports in parts, if its URLs have a partition.
 fn open_two(
     alloc: Global,
     world: World,
@@ -111,7 +112,7 @@ fn open_two(
     }
 }
 
-/// The URLs have no partition.
+/// Prints why the URLs have no partition. Fails if out of memory.
 fn refuse(world: World, fault: OriginFault, out: &mut Vec<u8>) -> Result<World, AllocError>
     ensures says { IfOk result (λ after.
         Becomes (says world.world (fault_text fault)) after out.old.items out.new.items) }
@@ -124,7 +125,7 @@ fn refuse(world: World, fault: OriginFault, out: &mut Vec<u8>) -> Result<World, 
     }
 }
 
-/// A tab is opened, if the kernel opens it. Where a broker is up, the kernel greets it then.
+/// Opens a tab if the kernel allows it. The kernel then greets the tab if a broker is up.
 fn open_in(
     alloc: Global,
     world: World,
@@ -144,7 +145,7 @@ fn open_in(
     Ok(world)
 }
 
-/// The event of an opening, and whether the tab was opened.
+/// Plays the opening event. Returns the world and whether the tab was opened.
 fn try_open(
     alloc: Global,
     world: World,
@@ -179,9 +180,9 @@ fn is_opening(reply: &Reply) -> bool
     matches!(&reply.said, Said::Opened { .. } | Said::OpenedTwo { .. })
 }
 
-// ---- deliveries
+// Deliveries
 
-/// A message comes.
+/// Delivers the message of this name, or prints `no message`.
 fn deliver(alloc: Global, world: World, name: u64, out: &mut Vec<u8>) -> Result<World, AllocError>
     ensures { IfOk result (λ after.
         Becomes (delivers world.world (message_named world.world name)) after out.old.items out.new.items) }
@@ -193,7 +194,7 @@ fn deliver(alloc: Global, world: World, name: u64, out: &mut Vec<u8>) -> Result<
     happen(alloc, world, Event::Deliver(message), out)
 }
 
-/// The message of this name: the first one that was sent is 1.
+/// Returns the message of this name. Names count from 1 in the order of sending.
 fn named(world: &World, name: u64) -> Option<&Message>
     ensures { option_copied result ≡ message_named world.now.world name }
 {
@@ -203,9 +204,9 @@ fn named(world: &World, name: u64) -> Option<&Message>
     world.message((name - 1) as usize)
 }
 
-// ---- holdings
+// Holdings
 
-/// What living tabs hold is shown.
+/// Prints the locks held by living tabs.
 #[tactic(auto, unfolding(crate::specs::Played::played))]
 fn show(world: World, out: &mut Vec<u8>) -> Result<World, AllocError>
     ensures { IfOk result (λ after.

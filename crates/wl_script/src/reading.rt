@@ -1,4 +1,4 @@
-//! Reading a line of a script.
+//! Parsing of script lines.
 
 ghost use Rattle.wl_words.specs.Reading.{most_number, texts};
 ghost use Rattle.wl_words.specs.Words.{Gives};
@@ -17,7 +17,7 @@ use wl_words::reading::{
 };
 use wl_world::event::{Event, Forged};
 
-/// What a line says, without its line feed.
+/// Parses one line, without its line feed. Fails with `Form` on a syntax error.
 #[tactic(auto, unfolding(crate::specs::Lines::line_at))]
 pub fn read_line(alloc: Global, text: &[u8]) -> Result<Line, Unread>
     ensures { Gives (λ line. line) result (line_at text.now) }
@@ -36,7 +36,7 @@ fn read_words(alloc: Global, words: &[&[u8]]) -> Result<Line, Unread>
     }
 }
 
-/// By the first word: of tabs and brokers, or else of the rest.
+/// Parses a line by its first word: lines on tabs and the broker, else `said_of_locks`.
 #[tactic(auto, unfolding(crate::specs::Lines::said_by))]
 fn said(alloc: Global, verb: &[u8], words: &[&[u8]]) -> Result<Line, Unread>
     ensures { Gives (λ line. line) result (said_by verb.now (texts words.now)) }
@@ -66,7 +66,7 @@ fn said(alloc: Global, verb: &[u8], words: &[&[u8]]) -> Result<Line, Unread>
     }
 }
 
-/// Of locks and messages, or else of the rest.
+/// Parses lines on locks and messages, else `said_of_channels`.
 #[tactic(auto, unfolding(crate::specs::Lines::said_of_locks))]
 fn said_of_locks(alloc: Global, verb: &[u8], words: &[&[u8]]) -> Result<Line, Unread>
     ensures { Gives (λ line. line) result (said_of_locks verb.now (texts words.now)) }
@@ -98,7 +98,7 @@ fn said_of_locks(alloc: Global, verb: &[u8], words: &[&[u8]]) -> Result<Line, Un
     }
 }
 
-/// Of channels, tabs that were taken over, and what is held.
+/// Parses lines on channels, compromised tabs and holdings. Any other line is a syntax error.
 #[tactic(auto, unfolding(crate::specs::Lines::said_of_channels))]
 fn said_of_channels(alloc: Global, verb: &[u8], words: &[&[u8]]) -> Result<Line, Unread>
     ensures { Gives (λ line. line) result (said_of_channels verb.now (texts words.now)) }
@@ -133,7 +133,7 @@ fn said_of_channels(alloc: Global, verb: &[u8], words: &[&[u8]]) -> Result<Line,
     }
 }
 
-// ---- the words after the verb
+// The words after the first
 
 #[tactic(auto, unfolding(crate::specs::Lines::tab_alone))]
 fn tab_alone(words: &[&[u8]]) -> Result<u16, Unread>
@@ -210,7 +210,7 @@ fn tab_and_forged(alloc: Global, words: &[&[u8]]) -> Result<(u16, Forged), Unrea
     Ok((tab_of(tab)?, forged_of(alloc, word)?))
 }
 
-/// All living tabs, none, or those given.
+/// Parses the tabs of a `start` line: none for all living tabs, `-` for no tab, or a list of tabs.
 #[tactic(auto, unfolding(crate::specs::Lines::start_at))]
 fn start(alloc: Global, words: &[&[u8]]) -> Result<Line, Unread>
     ensures { Gives (λ line. line) result (start_at (texts words.now)) }
@@ -234,7 +234,7 @@ fn tabs_of(alloc: Global, words: &[&[u8]]) -> Result<Sequence<u16>, Unread>
     Ok(Sequence::new(tabs))
 }
 
-// ---- the names of messages
+// Names of messages
 
 #[tactic(auto, unfolding(crate::specs::Lines::message_name_at))]
 fn message_name(word: &[u8]) -> Result<u64, Unread>

@@ -1,4 +1,4 @@
-//! The sim: a script in, the replies out.
+//! The simulator: plays a script and prints the replies.
 
 ghost use Rattle.std.specs.Prelude.{◌≡◌, ◌↔◌, ◌+◌, ◌<◌, ◌^◌, ℕ, List, length, true, false, Err, OnOk};
 ghost use Rattle.std.specs.Io.KnownBytes.{Appends, IsAtEnd};
@@ -19,10 +19,10 @@ use wl_limits::scripts::LINE_LIMIT;
 use wl_words::Unread;
 use wl_world::world::World;
 
-/// Why the sim ended before its script did.
+/// Why the simulator ended before the end of its script.
 #[derive(Clone, Copy, Debug, PartialEq, Eq, Error)]
 pub enum SimFault {
-    /// The line of this number, counted from 1, is of another form.
+    /// Syntax error in this line, counted from 1.
     #[error("line {0}")]
     Line(u32),
     /// The reader failed.
@@ -31,10 +31,10 @@ pub enum SimFault {
     /// The writer failed.
     #[error("Write")]
     Write,
-    /// The reader was read as often as it may be.
+    /// The input was not at its end after `READ_LIMIT` reads.
     #[error("TooManyReads")]
     TooManyReads,
-    /// Memory was refused.
+    /// Out of memory.
     #[error("Memory")]
     Memory,
 }
@@ -74,7 +74,8 @@ impl<T: Drop> From<AllocFailed<T>> for SimFault {
     }
 }
 
-/// A script as far as it was read: the world, and the line that is not whole yet with its number, counted from 1.
+/// The state of a script being read: the world, the number of the current line, counted from 1, and
+/// the part of that line read so far.
 #[derive(Drop)]
 struct Sim {
     world: World,
@@ -101,7 +102,7 @@ impl Sim {
         }
     }
 
-    /// Reads a piece of the script, and plays the lines that end in it.
+    /// Reads a piece of the script and plays the lines that end in it.
     fn take_piece<W: Write>(
         self,
         alloc: Global,
@@ -138,7 +139,7 @@ impl Sim {
         })
     }
 
-    /// The script has ended: what has come of the last line is all of it.
+    /// Plays the last line, which has no line feed.
     fn end<W: Write>(self, alloc: Global, sink: &mut Sink<W>) -> Result<(), SimFault>
         requires sink { sink.old.has_failed ≡ false }
         ensures closed { (output : List ℕ)
@@ -151,7 +152,7 @@ impl Sim {
     }
 }
 
-/// Plays a whole line, and writes what is due for it.
+/// Plays a whole line and writes its output.
 fn play_line<W: Write>(
     alloc: Global,
     world: World,
@@ -176,8 +177,8 @@ fn play_line<W: Write>(
     Ok(world)
 }
 
-/// Plays a script: reads its lines, and writes the reply to each as it is made, up to the end of the script, the first line
-/// of another form or the first fault.
+/// Plays a script: reads its lines and writes each reply at once. Ends at the end of the script, at
+/// the first syntax error or at the first fault.
 pub fn sim_run<R: Read, W: Write>(
     alloc: Global,
     source: &mut Source<R>,
@@ -187,19 +188,19 @@ pub fn sim_run<R: Read, W: Write>(
     requires reads { source.old.reads ≡ 0 }
     requires sink { sink.old.has_failed ≡ false }
 
-    // What is written is the text of the replies to the lines that were read, and nothing else.
+    // The output is exactly the text of the replies to the lines read.
     ensures runs { Runs (R.remaining source.old.reader) (R.remaining source.new.reader)
         (W.contents sink.old.writer) (W.contents sink.new.writer) result }
     ensures end { OnOk result (IsAtEnd (R.remaining source.new.reader)) }
 
-    // `Read` and `Write` are returned exactly if the source or the sink noted a failure.
+    // `Read` and `Write` are returned exactly if the source or the sink recorded a failure.
     ensures read { (result ≡ Err SimFault.Read) ↔ (source.new.has_failed ≡ true) }
     ensures write { (result ≡ Err SimFault.Write) ↔ (sink.new.has_failed ≡ true) }
     ensures limit { result ≡ Err SimFault.TooManyReads → source.new.reads ≡ READ_LIMIT }
 {
     let mut sim = Sim::new(alloc);
     let mut buffer = [0; PIECE_LEN];
-    // A loop is proved to end, so this one counts the reads too.
+    // The prover needs a bounded loop, so this loop counts the reads too.
     for _reads in 0..READ_LIMIT {
         let n = source.read(&mut buffer)?;
         if n == 0 {

@@ -1,4 +1,4 @@
--- The JSON of snapshots has no floats.
+-- Lemmas that the JSON of snapshots has no floats.
 use Rattle.std.proofs.Common.{◌≡◌, false, ◌||◌, List, [], ◌∷◌, refl, ap, ◌∙◌}
 use Rattle.serde_json.specs.Written.{has_float, items_have_float}
 use Rattle.wl_agent.specs.declared.snapshot.LockInfo.{LockInfo}

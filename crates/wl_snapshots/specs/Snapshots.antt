@@ -1,4 +1,5 @@
--- A whole snapshot in JSON: the two lists that a query has in the draft, "LockManagerSnapshot", with no space.
+-- A whole snapshot as JSON without spaces: the two lists of a `LockManagerSnapshot` (Web Locks
+-- API).
 use Rattle.std.specs.Prelude.{ℕ, List, map, codes, decimal}
 use Rattle.serde_json.specs.Data.{Data, Items, string, array, object, no_members, member}
 use Rattle.serde_json.specs.View.{items_of}

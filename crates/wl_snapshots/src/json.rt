@@ -1,4 +1,4 @@
-//! A whole snapshot in JSON.
+//! A whole snapshot as JSON.
 
 ghost use Rattle.std.specs.Prelude.{◌≡◌, codes, IfOk};
 ghost use Rattle.std.specs.String.{string_bytes};
@@ -44,7 +44,7 @@ fn snapshot_value(alloc: Global, snapshot: &Snapshot) -> Result<Value, AllocErro
     lists_value(alloc, held, pending)
 }
 
-/// The text of the two lists, with no space.
+/// Returns the snapshot's two lists as JSON text without spaces.
 pub fn snapshot_json(alloc: Global, snapshot: &Snapshot) -> Result<String, AllocError>
     ensures { IfOk result (λ text. string_bytes text ≡ json_text snapshot.now) }
 {

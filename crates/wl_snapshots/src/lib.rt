@@ -1,4 +1,4 @@
-//! The text of a whole snapshot, as the sim and a tab's process print it.
+//! The JSON text of a whole snapshot, as the simulator and a tab's process print it.
 #![tactic(auto)]
 
 pub mod json;

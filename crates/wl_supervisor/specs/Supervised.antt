@@ -1,4 +1,4 @@
--- The supervisor as the code has it, with the broker that is up.
+-- Supervisor state as the code stores it, with the broker that is up.
 use Rattle.std.specs.Prelude.{ℕ, List, [], Option, Some, None}
 use Rattle.wl_grammar.specs.declared.frame.Stamped.{Stamped}
 use Rattle.wl_grammar.specs.declared.frame.Addressed.{Addressed}
@@ -20,12 +20,12 @@ abbrev pub with_kernel : KernelState → Supervisor → Supervisor
 with_kernel k (Down kernel) = Down k
 with_kernel k (Up kernel broker) = Up k broker
 
--- what becomes of it
+-- The supervisor with this kernel and broker.
 abbrev pub becomes : Makes Supervisor
 becomes k None outs = Down k
 becomes k (Some b) outs = Up k b
 
--- what the broker says
+-- The frames that the broker sends.
 abbrev pub says : Makes (List Addressed)
 says k b outs = outs
 

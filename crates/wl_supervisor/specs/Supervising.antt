@@ -1,4 +1,4 @@
--- What is said of the supervisor: of deaths, starts and stops, and of what comes to the broker.
+-- Replies of the supervisor to deaths, starts and stops, and to messages for the broker.
 use Rattle.std.specs.Prelude.{ℕ, List, not, option_map, Option, Some, None, if◌then◌else◌}
 use Rattle.wl_grammar.specs.declared.frame.Stamped.{Stamped}
 use Rattle.wl_grammar.specs.declared.frame.Upward.{Upward}
@@ -11,9 +11,9 @@ use Rattle.wl_said.specs.declared.said.Refusal.TheVariants as refusal
 use Rattle.wl_said.specs.declared.said.Reason.TheVariants as reason
 use Rattle.wl_said.specs.Refused.{refused, refused_or}
 
--- ---- the kernel
+-- The kernel
 
--- a broker is up
+-- The reply `s` if a broker is up, else a refusal.
 abbrev pub up_or : Option BrokerState → Said → Said
 up_or None s = refused refusal.Down
 up_or (Some b) s = s
@@ -21,7 +21,7 @@ up_or (Some b) s = s
 abbrev pub killing : KernelState → ℕ → Said
 killing k t = if is_living k t then said.Killed t else refused refusal.NoTab
 
--- a tab that was never opened has no death
+-- The reply to a death notice. It is refused for a tab that was never opened or that lives.
 abbrev pub telling : KernelState → ℕ → Option BrokerState → Said
 telling k t b =
     if not (is_opened k t) then refused refusal.NoTab
@@ -36,9 +36,9 @@ abbrev pub starting : KernelState → List ℕ → Option BrokerState → Said
 starting k ts (Some b) = refused refusal.AlreadyUp
 starting k ts None = refused_or (option_map refusal.Start (start_refusal ts k)) (said.Started k.generation)
 
--- ---- deliveries to the broker
+-- Deliveries to the broker
 
--- a tab joins by its report, or by the part of it that was missing last
+-- The reply to a taken part. The tab joins when its last missing part is taken.
 abbrev pub joined_or : BrokerState → ℕ → Said → Said
 joined_or b t s = if is_joined (seat_of b t) then said.Joined t else s
 

@@ -1,4 +1,4 @@
-//! The supervisor: the kernel's table of tabs, with the broker that is up.
+//! Supervisor: the kernel's table of tabs, with the broker that is up.
 #![tactic(auto)]
 
 pub mod supervisor;

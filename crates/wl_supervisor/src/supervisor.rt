@@ -1,4 +1,4 @@
-//! The supervisor, with the broker that is up.
+//! Supervisor with the broker that is up.
 
 ghost use Rattle.std.specs.Prelude.{◌≡◌, ◌≢◌, [], IfOk, OnOk, OnErr, is_some, if◌then◌else◌};
 ghost use Rattle.wl_draft.specs.Refusals.{RefusesBy};
@@ -20,7 +20,7 @@ use wl_origin::Partition;
 use wl_said::{Reason, Refusal, Said};
 use wl_table::IndexedTable;
 
-/// No broker runs, or one does. Its own drop spends the supervisor's state.
+/// The kernel, with or without a running broker. Dropping it spends the supervisor's state.
 pub enum Supervisor {
     Down(Down),
     Up {
@@ -38,7 +38,7 @@ impl Drop for Supervisor {
     }
 }
 
-/// What came of an event, and what the broker says then.
+/// Outcome of an event: the reply, and the frames that the broker sends.
 #[derive(Drop)]
 pub struct Outcome {
     pub said: Said,
@@ -46,13 +46,14 @@ pub struct Outcome {
 }
 
 impl Supervisor {
-    /// No tabs, and no broker.
+    /// Returns a supervisor without tabs and without a broker.
     pub fn new(alloc: Global) -> Supervisor
         ensures { result ≡ down_state (no_tabs LAST_GENERATION) }
     {
         Supervisor::Down(Down::new(alloc, LAST_GENERATION))
     }
 
+    /// Returns the kernel's table of tabs.
     pub fn tabs(&self) -> &Tabs
         ensures { result.now ≡ kernel_of self.now }
     {
@@ -62,6 +63,7 @@ impl Supervisor {
         }
     }
 
+    /// Returns whether a broker is up.
     pub fn is_up(&self) -> bool
         ensures { result ≡ is_some (broker_of self.now) }
     {
@@ -71,7 +73,7 @@ impl Supervisor {
         }
     }
 
-    /// A tab is opened. Answers the number of its partition.
+    /// Opens a tab and returns the number of its partition.
     pub fn open(&mut self, tab: u16, partition: Partition) -> Result<u16, OpenFault>
         ensures ok { OnOk result (self.new
             ≡ with_kernel (opened tab partition (kernel_of self.old)) self.old) }
@@ -88,7 +90,7 @@ impl Supervisor {
 }
 
 impl Supervisor {
-    /// A tab is dead from now on.
+    /// Marks a tab as dead. Refuses with `NoTab` unless the tab lives.
     pub fn kill(&mut self, tab: u16) -> Said
         ensures said { result ≡ killing (kernel_of self.old) tab }
         ensures kernel { self.new ≡ with_kernel (if is_living (kernel_of self.old) tab
@@ -104,7 +106,7 @@ impl Supervisor {
         }
     }
 
-    /// Starts the broker of the generation, with these tabs listed, which it greets.
+    /// Starts the broker of the current generation with this start list. The broker greets the listed tabs.
     pub fn start(self, alloc: Global, listed: &[u16]) -> Result<(Supervisor, Outcome), AllocError>
         ensures supervisor { IfOk result (λ r. r.0 ≡ after_start listed.now self) }
         ensures said { IfOk result (λ r. r.1.said ≡ starting (kernel_of self) listed.now (broker_of self)) }
@@ -148,7 +150,7 @@ impl Supervisor {
         }
     }
 
-    /// A command or a report comes to the broker.
+    /// Delivers a command or a report to the broker. Fails if out of memory.
     pub fn take(&mut self, alloc: Global, stamped: &Stamped) -> Result<Outcome, AllocError>
         ensures supervisor { OnOk result (self.new ≡ after_message stamped.now self.old) }
         ensures kernel { kernel_of self.new ≡ kernel_of self.old }
@@ -170,7 +172,7 @@ impl Supervisor {
         }
     }
 
-    /// The broker is told that a tab is dead.
+    /// Tells the broker that a tab is dead. Fails if out of memory.
     pub fn tell(&mut self, alloc: Global, tab: u16) -> Result<Outcome, AllocError>
         ensures supervisor { OnOk result (self.new ≡ after_death tab self.old) }
         ensures kernel { kernel_of self.new ≡ kernel_of self.old }
@@ -195,7 +197,7 @@ impl Supervisor {
     }
 }
 
-/// An event by which the broker says nothing.
+/// Returns the outcome of an event on which the broker sends nothing.
 fn silent(alloc: Global, said: Said) -> Outcome
     ensures { result ≡ record { said = said; outs = [] } }
 {
@@ -205,7 +207,7 @@ fn silent(alloc: Global, said: Said) -> Outcome
     }
 }
 
-/// The broker of a generation starts.
+/// Starts the broker of a generation.
 fn begin(alloc: Global, up: Up, start: &Start) -> Result<(Supervisor, Outcome), AllocError>
     requires { TabsRiseFrom 1 start.now.list }
     ensures supervisor { IfOk result (λ r. r.0 ≡ up_with up (started start.now.generation start.now.list)) }
@@ -225,7 +227,7 @@ fn begin(alloc: Global, up: Up, start: &Start) -> Result<(Supervisor, Outcome), 
     }
 }
 
-/// The broker was not started.
+/// Returns the outcome of a start that the kernel refused.
 fn refuse(alloc: Global, down: Down, fault: StartFault) -> Result<(Supervisor, Outcome), AllocError>
     ensures supervisor { IfOk result (λ r. r.0 ≡ down_state down) }
     ensures said { IfOk result (λ r. r.1.said ≡ said.Refused (Refusal.Start fault)) }
@@ -247,7 +249,7 @@ fn refuse(alloc: Global, down: Down, fault: StartFault) -> Result<(Supervisor, O
     }
 }
 
-/// What is said of a message, now that the broker has taken it.
+/// Returns the reply to a message that the broker has just taken.
 fn taken(broker: &Broker<IndexedTable>, stamped: &Stamped) -> Said
     ensures { result ≡ taken_said broker.now stamped.now.tab stamped.now.inner }
 {

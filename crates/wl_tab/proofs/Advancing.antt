@@ -1,4 +1,4 @@
--- Rows that go on to what became of them, one by one; the tokens that are kept go with them.
+-- Rows that advance one by one to their next status, together with their stored tokens.
 use Rattle.std.proofs.Common.{◌≡◌, ℕ, ◌+◌, ◌<◌, ◌≤◌, Bool, true, false, not, cond, eqb, ltb, List, [], ◌∷◌, ◌++◌, length, filter, map, fold, get_or, Option, Some, None, refl, sym, ap, ◌∙◌, arith}
 use Rattle.std.proofs.lemmas.Bool.{eq-eqb, eqb-true, lt-ltb}
 use Rattle.std.proofs.lemmas.List.{append-nil, append_assoc}
@@ -23,7 +23,7 @@ use Rattle.wl_tab.specs.declared.locks.telling.Fate.{Fate}
 use Rattle.wl_tab.specs.declared.locks.telling.Fate.TheVariants as fate
 use Rattle.wl_tab.specs.Telling.{Run, tell_next, told_run, with_fate, fate_of, fate_by_query, after_telling}
 
--- ---- what may become of a row
+-- Changes of a row
 
 abbrev pub Moves : Operation → Status → Option Status → Type 0
 Moves o Asked None = (is_probe o ≡ true)
@@ -39,7 +39,7 @@ abbrev pub add_row : ℕ → Option Status → Table Status → Table Status
 add_row k None rows = rows
 add_row k (Some s) rows = (k, s) ∷ rows
 
--- the rows, each gone on to what becomes of it
+-- The rows, each advanced to its next status.
 abbrev pub advance : (ℕ × Status → Option Status) → Table Status → Table Status
 advance next [] = []
 advance next (row ∷ rows) = add_row row.0 (next row) (advance next rows)
@@ -52,7 +52,7 @@ pub advance-rises : (next : ℕ × Status → Option Status) (least : ℕ) (rows
 advance-rises next least [] r = tt
 advance-rises next least (row ∷ rows) r = rises_added least row.0 (next row) (advance next rows) r.0 (advance-rises next (row.0 + 1) rows r.1)
 
--- each way in which a row may go on
+-- Case analysis over the ways in which a row may advance.
 pub moved : (o : Operation) (P : Status → Option Status → Type 0) → (is_probe o ≡ true → P Asked None) → P Asked (Some Asked) → P Asked (Some Held) → P Held (Some Held) → ((p q : PartsState) → P (Querying p) (Some (Querying q))) → ((p : PartsState) (s : Snapshot) → P (Querying p) (Some (Whole s))) → ((p : PartsState) → P (Querying p) (Some Lost)) → (s : Status) (n : Option Status) → Moves o s n → P s n
 moved o P refuses stays grants holds comes completes loses Asked None m = refuses m
 moved o P refuses stays grants holds comes completes loses Asked (Some Asked) m = stays
@@ -105,7 +105,7 @@ pub advance-fits : (issued : List Operation) (next : ℕ × Status → Option St
 advance-fits issued next [] fit moves = tt
 advance-fits issued next (row ∷ rows) fit moves = fits_added issued row.0 row.1 (next row) (advance next rows) fit.0 moves.0 (advance-fits issued next rows fit.1 moves.1)
 
--- ---- rows before a number
+-- Rows before a number
 
 abbrev Before : ℕ → Table Status → Type 0
 Before k rows = AllByRecursion (λ row. row.0 < k) rows
@@ -144,7 +144,7 @@ before_push : (k : ℕ) (s : Status) (D : Table Status) → Before k D → Befor
 before_push k s [] before = (omega arith, tt)
 before_push k s (row ∷ D) before = (omega (arith, before.0), before_push k s D before.1)
 
--- ---- one token is told
+-- One token is settled
 
 abbrev pub with_rows : Table Status → TabState → TabState
 with_rows rows a = record a { statuses = rows }
@@ -156,14 +156,14 @@ abbrev pub whole_or : Status → Option Snapshot → Option Snapshot
 whole_or (Whole s) w = Some s
 whole_or s w = w
 
--- what the telling of a token makes of a run, where this became of its number
+-- The run after settling the token of a number that advanced to this status.
 abbrev pub advanced : ℕ → Operation → Option Status → Run → Run
 advanced k o None run = run
 advanced k o (Some s) run =
     cond (is_told s) (record { agent = ended k run.agent; kept = run.kept; snapshot = whole_or s run.snapshot })
     (record { agent = run.agent; kept = run.kept ++ kept_as o (token_for run.agent.tab o k s) ∷ []; snapshot = run.snapshot })
 
--- the telling of the token of a number
+-- Settling the token of a number advances the run.
 abbrev Tells : Run → ℕ → Operation → Status → Option Status → Type 0
 Tells run k o s n =
     can_become o s ≡ true → status_of run.agent k ≡ n → tell_next run (kept_as o (token_for run.agent.tab o k s)) ≡ advanced k o n run
@@ -189,11 +189,11 @@ tells_granted run k (Release n) op own fits st = cc
 tells_granted run k (Abort n) op own fits st = cc
 tells_granted run k Query op own fits st = cc
 
--- the query of a number is the tab's own while it has a status
+-- The query of a number belongs to the tab as long as the number has a status.
 asks_own : (a : TabState) (k : ℕ) (s : Status) → operation_of a k ≡ Query → eqb a.tab a.tab ≡ true → ltb k (length a.issued) ≡ true → status_of a k ≡ Some s → is_own is_asking a a.tab k ≡ true
 asks_own a k s op own issued st = rw (own, issued, op, st) refl
 
--- the telling of a query's token
+-- Settling a query's token.
 tells_query : (run : Run) (k : ℕ) (s : Status) → operation_of run.agent k ≡ Query → eqb run.agent.tab run.agent.tab ≡ true → ltb k (length run.agent.issued) ≡ true → status_of run.agent k ≡ Some s → tell_next run (kept_as Query (token.Asking (record { tab = run.agent.tab; number = k }))) ≡ with_fate (run_with (cond (is_querying (Some s)) run.agent (ended k run.agent)) run.kept run.snapshot) (kept_as Query (token.HeldLock (record { tab = run.agent.tab; number = k }))) (fate_by_query (told_by_status (Some s) (record { tab = run.agent.tab; number = k })))
 tells_query run k s op own issued st =
     let q : Issued = record { tab = run.agent.tab; number = k } in
@@ -231,9 +231,9 @@ tells run k o op below s n moves =
     let issued = lt-ltb k (length run.agent.issued) below in
     moved o (Tells run k o) (tells_null run k o op own) (tells_waiting run k o op own) (tells_granted run k o op own) (λ fits st. refl) (λ p q. tells_part run k o p q op own issued) (λ p s. tells_whole run k o p s op own issued) (λ p. tells_lost run k o p op own issued) s n moves
 
--- ---- all tokens are told
+-- All tokens are settled
 
--- the last of the rows that are whole
+-- The last complete snapshot among the rows.
 abbrev pub last_whole : Table Status → Option Snapshot → Option Snapshot
 last_whole [] w = w
 last_whole (row ∷ rows) w = last_whole rows (whole_or row.1 w)
@@ -241,7 +241,7 @@ last_whole (row ∷ rows) w = last_whole rows (whole_or row.1 w)
 abbrev pub untold : Table Status → Table Status
 untold rows = filter (λ row. not (is_told row.1)) rows
 
--- the run once the tokens of these rows were told as well, where so many rows stand before them
+-- The run after the tokens of the rows `X` are settled too. The rows `D` come before them.
 abbrev finished : Table Status → Table Status → Run → Run
 finished D X run = record {
   agent = record run.agent { statuses = D ++ untold X };
@@ -259,7 +259,7 @@ runs_none D run e =
     ap (λ (rows : Table Status). run_with (with_rows rows run.agent) run.kept run.snapshot) e
     ∙ ap (λ (ks : List Kept). run_with (with_rows (D ++ []) run.agent) ks run.snapshot) (sym (append-nil run.kept))
 
--- a token stays
+-- A token stays.
 stays_on : (D X : Table Status) (row : ℕ × Status) (run : Run) (x : Kept) (ks : List Kept) (w : Option Snapshot) → run_with (with_rows ((D ++ row ∷ []) ++ X) run.agent) ((run.kept ++ x ∷ []) ++ ks) w ≡ run_with (with_rows (D ++ row ∷ X) run.agent) (run.kept ++ x ∷ ks) w
 stays_on D X row run x ks w = simp append_assoc
 
@@ -271,7 +271,7 @@ stays_as next R D k m s run on e before le r fit moves =
     on (k + 1) (D ++ (k, s) ∷ []) next_run rows (before_push k s D (before_more m k D le before)) r fit moves
     ∙ stays_on D (untold (advance next R)) (k, s) run x (map (kept_for run.agent.tab run.agent.issued) (untold (advance next R))) (last_whole (advance next R) run.snapshot)
 
--- a query is told
+-- A query is settled.
 told_as : (next : ℕ × Status → Option Status) (R D : Table Status) (k m : ℕ) (s : Status) (w : Option Snapshot) (run : Run) → RunsOn next R → run.agent.statuses ≡ D ++ (k, s) ∷ advance next R → Before m D → m ≤ k → Rises (k + 1) R → RowsFit run.agent.issued R → AllMove run.agent.issued next R → fold tell_next (run_with (ended k run.agent) run.kept w) (map (kept_for run.agent.tab run.agent.issued) R) ≡ run_with (with_rows (D ++ untold (advance next R)) run.agent) (run.kept ++ map (kept_for run.agent.tab run.agent.issued) (untold (advance next R))) (last_whole (advance next R) w)
 unfolding ended
 told_as next R D k m s w run on e before le r fit moves =
@@ -300,7 +300,7 @@ runs next (row ∷ R) m D run e before r fit moves =
     ap (λ (x : Run). fold tell_next x (map (kept_for run.agent.tab run.agent.issued) R)) step
     ∙ runs_as next R D k m n run (runs next R) e before r.0 r.1 fit.1 moves.1
 
--- where all rows have gone on, all tokens are told
+-- If all rows have advanced, the run settles all tokens.
 pub run-advanced : (next : ℕ × Status → Option Status) (table : Table Status) (b : TabState) → b.statuses ≡ advance next table → Rises 0 table → RowsFit b.issued table → AllMove b.issued next table → told_run b (map (kept_for b.tab b.issued) table) ≡ run_with (told b) (map (kept_for b.tab b.issued) (untold b.statuses)) (last_whole b.statuses None)
 unfolding told_run told
 run-advanced next table b e r fit moves =

@@ -1,4 +1,4 @@
--- What a frame that comes to a tab makes of its rows: each goes on to what becomes of it.
+-- Changes of a tab's rows when a frame arrives: each row advances to its next status.
 use Rattle.std.proofs.Common.{◌≡◌, ℕ, ◌+◌, ◌<◌, Bool, true, false, not, cond, eqb, ltb, List, [], ◌∷◌, filter, map, get_or, Option, Some, None, is_some, refl, sym, ap, ◌∙◌, subst, arith}
 use Rattle.std.proofs.lemmas.Bool.{ne_eqb, eqb-true, ltb-true}
 use Rattle.wl_draft.specs.Tables.{Table, find, put, Rises, without_row}
@@ -26,7 +26,7 @@ use Rattle.wl_tab.specs.Tabs.{is_told}
 use Rattle.wl_tab.specs.TabTokens.{NoneTold}
 use Rattle.wl_tab.proofs.Advancing.{Moves, AllMove, advance, add_row}
 
--- the rows of a tab went on so
+-- The rows of a tab have advanced by `next`.
 pub record Advances (a b : TabState) : Type 0 where
   pub next : ℕ × Status → Option Status
   pub statuses : b.statuses ≡ advance next a.statuses
@@ -34,7 +34,7 @@ pub record Advances (a b : TabState) : Type 0 where
   pub issued : b.issued ≡ a.issued
   pub tab : b.tab ≡ a.tab
 
--- ---- nothing changes
+-- Nothing changes
 
 stays_so : (o : Operation) (s : Status) → is_told s ≡ false → Moves o s (Some s)
 stays_so o Asked e = tt
@@ -63,7 +63,7 @@ same-advances a b none e issued tab = record {
   tab = tab;
 }
 
--- ---- one number changes
+-- One number changes
 
 abbrev at_number : ℕ → Option Status → ℕ × Status → Option Status
 at_number k n row = cond (eqb row.0 k) n (Some row.1)
@@ -108,7 +108,7 @@ moves_as issued k n s row o true e found moves untold =
     subst (λ (i : ℕ). Moves (get_or issued i Query) row.1 n) (sym same) (subst (λ (t : Status). Moves (get_or issued k Query) t n) (sym status) moves)
 moves_as issued k n s row o false e found moves untold = stays_so (get_or issued row.0 Query) row.1 untold
 
--- where the number has no row any more, the others stay as they are
+-- If the number has no row left, all other rows stay as they are.
 others_move : (issued : List Operation) (k least : ℕ) (n : Option Status) (rows : Table Status) → Rises least rows → k < least → NoneTold rows → AllMove issued (at_number k n) rows
 others_move issued k least n [] r low none = tt
 others_move issued k least n (row ∷ rows) r low none =
@@ -144,7 +144,7 @@ ended-advances a k rise none found probe = record {
   tab = refl;
 }
 
--- ---- entering
+-- Entering
 
 abbrev enters_row : List Operation → ℕ × Status → Option Status
 enters_row issued row = cond (is_asked_probe issued row) None (Some (unless_asked row.1))
@@ -186,9 +186,9 @@ enters-first : (a : TabState) (g : ℕ) → NoneTold a.statuses → Advances a (
 unfolding enter_first
 enters-first a g none = same-advances a (enter_first g a) none refl refl refl
 
--- ---- answers
+-- Answers
 
--- a probe that is told null is asked; no answer tells of an entering or of a whole snapshot
+-- A probe that gets null was asked. An answer causes no entering and completes no snapshot.
 abbrev pub AnswerFits : Answer → TabState → Delivered → Type 0
 AnswerFits x a (told.Null k) = (status_of a k ≡ Some Asked) × (is_probe (operation_of a k) ≡ true)
 AnswerFits x a (told.Whole k) = ⊥

@@ -1,4 +1,4 @@
--- What becomes of a token that is told, by what its agent answers.
+-- Results of settling a token, by the agent's replies.
 use Rattle.std.proofs.Common.{◌≡◌, List, [], ◌∷◌, ◌++◌, fold, Option, sym, ap, ◌∙◌}
 use Rattle.std.proofs.lemmas.List.Sums.{fold-append}
 use Rattle.wl_agent.specs.declared.snapshot.Snapshot.{Snapshot}
@@ -7,7 +7,7 @@ use Rattle.wl_tab.specs.declared.locks.kept.Kept.{Kept}
 use Rattle.wl_tab.specs.declared.locks.telling.Fate.{Fate}
 use Rattle.wl_tab.specs.Telling.{fate_of, Run, with_fate, tell_next, told_run, run_from}
 
--- the last of the tokens is told after the others
+-- The last token is settled after all others.
 pub run-last : (a : TabState) (xs ys : List Kept) (x : Kept) → ys ≡ xs ++ x ∷ [] → told_run a ys ≡ tell_next (told_run a xs) x
 unfolding told_run
 run-last a xs ys x e = ap (fold tell_next (run_from a)) e ∙ fold-append tell_next (run_from a) xs (x ∷ [])
@@ -19,7 +19,7 @@ run-none a ys e = ap (fold tell_next (run_from a)) e
 abbrev pub run_of : TabState → List Kept → Option Snapshot → Run
 run_of a kept snapshot = record { agent = a; kept = kept; snapshot = snapshot }
 
--- the run with one more token, from what the others left and what the last was told
+-- The run with one more token combines the run of the others with the result of the last.
 pub run-step : (a b : TabState) (xs ys zs : List Kept) (x : Kept) (f : Fate) (w : Option Snapshot) → ys ≡ xs ++ x ∷ [] → b ≡ (told_run a xs).agent → zs ≡ (told_run a xs).kept → w ≡ (told_run a xs).snapshot → f ≡ fate_of b x.token → told_run a ys ≡ with_fate (record { agent = b; kept = zs; snapshot = w }) x f
 run-step a b xs ys zs x f w e b_is zs_are w_is f_is =
     let run = told_run a xs in

@@ -1,4 +1,4 @@
--- What a delivery leaves with a tab whose tokens are kept, and what is said of it.
+-- Effect and reply of a delivery at a tab with stored tokens.
 use Rattle.std.proofs.Common.{◌≡◌, ℕ, ◌+◌, Bool, true, false, not, cond, eqb, ltb, List, [], ◌∷◌, map, get_or, Option, Some, None, is_some, refl, sym, ap, ◌∙◌, subst}
 use Rattle.std.specs.List.{cons_option}
 use Rattle.wl_draft.specs.Tables.{Table, find, put, Rises}
@@ -35,7 +35,7 @@ use Rattle.wl_tab.proofs.Advancing.{advance-rises, advance-fits, AllMove, run_wi
 use Rattle.wl_tab.proofs.Arriving.{Advances, delivered-advances, AnswerFits, null_fits}
 use Rattle.wl_agent.specs.declared.token.Token.TheVariants as token
 
--- ---- the tokens after a delivery
+-- Tokens after a delivery
 
 pub tokens-told : (f : Frame) (a b : TabState) (tab entered : ℕ) (kept : List Kept) → IsKept a tab entered kept → b ≡ (delivery f a).0 → told_run b kept ≡ run_with (told b) (kept_of (told b)) (last_whole b.statuses None)
 unfolding told
@@ -70,7 +70,7 @@ kept-told f a b tab entered g kept is b_is g_is =
       untold = none_told b.statuses;
     }
 
--- ---- the entered generation
+-- The entered generation
 
 kept_entered : (x : Answer) (a : TabState) (d : Delivered) → (after_answer d a).entered ≡ a.entered
 unfolding becomes ended
@@ -83,7 +83,7 @@ part_entered : (x : Part) (a : TabState) → (after_part x a).entered ≡ a.ente
 unfolding becomes
 part_entered x a = either (λ (b : TabState). b.entered ≡ a.entered) (is_some (part_refusal x a)) a (becomes x.number (with_part_come x (parts_of (status_of a x.number))) a) (λ e. refl) (λ e. refl)
 
--- an answer tells of no entering
+-- An answer does not change the entered generation.
 no_entering : (x : Answer) (a : TabState) (f : Frame) (d : Delivered) → AnswerFits x a d → entered_by f d a.entered ≡ a.entered
 no_entering x a f (told_as.Entered report) n = absurd n
 no_entering x a f d n = refl
@@ -110,7 +110,7 @@ entered-after (frame.Snapshot x) a =
     either (λ (p : TabState × Delivered). p.0.entered ≡ entered_by (frame.Snapshot x) p.1 a.entered) (has_entered x.generation a) (noted (x.number + 1) (after_part x a), told_by_part x a) (a, of_other x.generation a) (λ e. part_entered x a ∙ sym (part_tells x a (frame.Snapshot x) (part_refusal x a) (is_whole (with_part x (parts_of (status_of a x.number)))))) (λ e. sym (other_tells a x.generation (frame.Snapshot x)))
 entered-after f a = refl
 
--- ---- a snapshot that is whole
+-- A complete snapshot
 
 not_whole : (s : Status) (w : Option Snapshot) → is_told s ≡ false → whole_or s w ≡ w
 not_whole Asked w e = refl
@@ -132,7 +132,7 @@ last-put : (k : ℕ) (s : Snapshot) (rows : Table Status) (w : Option Snapshot) 
 last-put k s [] w none = refl
 last-put k s (row ∷ rows) w none = last-put_as k s row rows w (eqb row.0 k) (ltb k row.0) none (last-put k s rows (whole_or row.1 w) none.1)
 
--- where a number's snapshot is told to be whole, it is there, and no other is
+-- If a number's snapshot is reported complete, it is present and is the only one.
 pub record WholeAt (b : TabState) (k : ℕ) : Type 0 where
   pub snapshot : Snapshot
   pub status : status_of b k ≡ Some (Whole snapshot)
@@ -173,7 +173,7 @@ pub has-snapshot : (b : TabState) (d : Delivered) → WholeIf (b, d) → has_sna
 has-snapshot b (told_as.Whole k) whole = ap is_some (whole k refl).last
 has-snapshot b d whole = refl
 
--- ---- what entering ends
+-- Numbers that entering ends
 
 ends_as : (tab k : ℕ) (issued : List Operation) (s : Status) (rest : List Ended) → is_told s ≡ false → cons_option (ended_by (token_for tab (get_or issued k Query) k s)) rest ≡ cond (is_asked_probe issued (k, s)) (end.Null k ∷ rest) (cond (is_querying (Some s)) (end.Lost k ∷ rest) rest)
 ends_as tab k issued Asked rest none =
@@ -189,11 +189,11 @@ ends-in tab issued (row ∷ rows) none =
     ap (cons_option (ended_by (token_for tab (get_or issued row.0 Query) row.0 row.1))) (ends-in tab issued rows none.1)
     ∙ ends_as tab row.0 issued row.1 (ended_in issued rows) none.0
 
--- what the kept tokens say that an entering ends
+-- The stored tokens give the numbers that entering ends.
 pub ends-kept : (a : TabState) (tab entered : ℕ) (kept : List Kept) → IsKept a tab entered kept → ended_kept kept ≡ ended_in a.issued a.statuses
 ends-kept a tab entered kept is = ap ended_kept is.tokens ∙ ends-in a.tab a.issued a.statuses is.untold
 
--- ---- what is said
+-- Replies
 
 said_as : (f : Frame) (a b : TabState) (d : Delivered) (ends : List Ended) → WholeIf (b, d) → ends ≡ ended_by_entering a → said_of_told f ends (whole_said (last_whole b.statuses None)) d ≡ told_said f a b d
 said_as f a b (told_as.Entered report) ends whole e = ap (said.Entered (generation_in f)) e
@@ -212,9 +212,9 @@ pub said-arrival : (f : Frame) (a : TabState) (ends : List Ended) → NoneTold a
 unfolding arrival
 said-arrival f a ends none e = said_as f a (delivery f a).0 (delivery f a).1 ends (whole-comes f a none) e
 
--- ---- a delivery as a whole
+-- A whole delivery
 
--- what a delivery leaves and says, where the generation was entered that is entered, and the tokens were told
+-- The effect and reply of a delivery, given the entered generation and the settled tokens.
 pub record Comes (f : Frame) (a c : TabState) (d : Delivered) (tab g : ℕ) (kept : List Kept) (w : Option Snapshot) : Type 0 where
   pub keeps : IsKept c tab g kept
   pub left : c ≡ told (delivery f a).0

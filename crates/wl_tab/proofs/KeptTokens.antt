@@ -1,4 +1,4 @@
--- The tokens that are kept, by their numbers, and what a command and its end make of them.
+-- Stored tokens by number, and their changes when a command is issued or ended.
 use Rattle.std.proofs.Common.{◌≡◌, ℕ, zero, suc, ◌+◌, ◌<◌, Bool, true, false, not, ◌||◌, cond, eqb, List, [], ◌∷◌, ◌++◌, length, filter, map, get_or, Option, Some, None, refl, sym, ap, ◌∙◌, subst, arith, length-append}
 use Rattle.std.proofs.lemmas.Bool.{eq-eqb, ne_eqb, eqb-true, le-ltb}
 use Rattle.std.proofs.lemmas.List.{map-append}
@@ -25,7 +25,7 @@ use Rattle.wl_tab.specs.declared.holding.Holding.{Holding}
 use Rattle.wl_tab.specs.TabTokens.{kept_as, token_for, kept_for, IsKept, number_of, holding_at, holding_by, holding_in, holdings_of}
 use Rattle.wl_tab.proofs.Positions.{RisesBy, at_least, position-none, remove-place}
 
--- ---- numbers
+-- Numbers
 
 number_as : (tab k : ℕ) (o : Operation) (s : Status) → number_of (token_for tab o k s) ≡ k
 number_as tab k o Asked = elim (is_probe o) as (λ b. number_of (cond b (token.Probe (record { tab = tab; number = k })) (token.Pending (record { tab = tab; number = k }))) ≡ k) [ true ↦ refl | false ↦ refl ]
@@ -57,9 +57,9 @@ without-kept k tab issued (row ∷ rows) =
     ap (λ n. cond (not (eqb n k)) (kept_for tab issued row ∷ rest) rest) (number-kept tab issued row)
     ∙ without-kept_as k (kept_for tab issued row) row rest tab issued (without_row k rows) (not (eqb row.0 k)) refl (without-kept k tab issued rows)
 
--- ---- the token of a number
+-- The token of a number
 
--- a token that is kept at a place is that of its number's status
+-- A stored token agrees with the status of its number.
 pub record Stood (tab k : ℕ) (issued : List Operation) (rows : Table Status) (x : Kept) : Type 0 where
   pub status : Status
   pub here : find rows k ≡ Some status
@@ -99,7 +99,7 @@ none-kept tab k issued (row ∷ rows) e =
 abbrev is_at : ℕ → Kept → Bool
 is_at k x = eqb (number x) k
 
--- where a number was found among those that are kept
+-- Facts about a number that was found among the stored tokens.
 pub record Found (a : TabState) (kept : List Kept) (k place : ℕ) : Type 0 where
   pub within : place < length kept
   pub rest : remove kept place ≡ map (kept_for a.tab a.issued) (without_row k a.statuses)
@@ -127,7 +127,7 @@ nowhere a tab entered kept xs k o is same at here =
     let there : position (is_at k) kept ≡ None = ap (position (is_at k)) (sym same) ∙ sym at ∙ here in
     none-kept a.tab k a.issued a.statuses (ap (list_any (is_at k)) (sym is.tokens) ∙ position-none (is_at k) kept there)
 
--- ---- one more command
+-- One more command
 
 more_stand : (issued : List Operation) (o : Operation) (row : ℕ × Status) → Stands issued row → Stands (issued ++ o ∷ []) row
 more_stand issued o row stands =
@@ -153,7 +153,7 @@ put-behind : (issued : List Operation) (s : Status) (rows : Table Status) → Ro
 put-behind issued s [] fit = refl
 put-behind issued s (row ∷ rows) fit = behind_as (length issued) s row rows fit.0.0 (put-behind issued s rows fit.1)
 
--- a command that was issued, with its token kept behind all others
+-- A command is issued, and its token is stored after all others.
 pub kept-issue : (a b : TabState) (tab entered : ℕ) (kept xs : List Kept) (o : Operation) (s : Status) (x : Kept) → IsKept a tab entered kept → can_become o s ≡ true → is_told s ≡ false → xs ≡ kept ++ x ∷ [] → x ≡ kept_as o (token_for a.tab o (length a.issued) s) → b ≡ issue o s a → IsKept b tab entered xs
 unfolding issue
 kept-issue a b tab entered kept xs o s x is fits untold xs_are x_is b_is =
@@ -172,7 +172,7 @@ kept-issue a b tab entered kept xs o s x is fits untold xs_are x_is b_is =
       untold = AllRows-put (λ row. is_told row.1 ≡ false) n s a.statuses untold is.untold;
     })
 
--- a command that makes a number over, with its token taken out
+-- A command ends a number, and its token is removed.
 pub kept-finish : (a b : TabState) (tab entered : ℕ) (kept xs : List Kept) (o : Operation) (k place : ℕ) → IsKept a tab entered kept → Found a kept k place → xs ≡ remove kept place → b ≡ finish o k a → IsKept b tab entered xs
 unfolding finish
 kept-finish a b tab entered kept xs o k place is f xs_are b_is =
@@ -187,7 +187,7 @@ kept-finish a b tab entered kept xs o k place is f xs_are b_is =
       untold = AllRows-filter (λ row. is_told row.1 ≡ false) _ a.statuses is.untold;
     })
 
--- ---- holdings
+-- Holdings
 
 holds_as : (tab k : ℕ) (o : Operation) (s : Status) (rest : List Holding) → can_become o s ≡ true → cons_option (holding_by tab o (token_for tab o k s)) rest ≡ cond (is_held (Some s)) (record { tab = tab; number = k; mode = mode_of o; name = name_of o } ∷ rest) rest
 holds_as tab k (Request m true n) Asked rest fits = refl
@@ -210,12 +210,12 @@ holds-in a (row ∷ rows) fit =
     ∙ holds_as a.tab row.0 (operation_of a row.0) row.1 (map hold (filter (λ r. is_held (Some r.1)) rows)) fit.0.1
     ∙ sym (map_as hold row (filter (λ r. is_held (Some r.1)) rows) (is_held (Some row.1)))
 
--- what the kept tokens say that the tab holds
+-- The stored tokens give the locks that the tab holds.
 pub holds-kept : (a : TabState) (tab entered : ℕ) (kept : List Kept) → IsKept a tab entered kept → filter_map (holding_in tab) kept ≡ holdings_of a
 holds-kept a tab entered kept is =
     ap (λ t. filter_map (holding_in t) kept) is.owner ∙ ap (filter_map (holding_in a.tab)) is.tokens ∙ holds-in a a.statuses is.rows
 
--- ---- requests, probes and queries that were issued
+-- Issued requests, probes and queries
 
 pub kept-requested : (a b : TabState) (tab entered : ℕ) (kept xs : List Kept) (o : Operation) (p : Issued) (mode : Mode) (name bytes : List ℕ) → IsKept a tab entered kept → xs ≡ kept ++ kept_as o (token.Pending p) ∷ [] → o ≡ Request mode false name → bytes ≡ name → p.tab ≡ a.tab → p.number ≡ length a.issued → b ≡ asked mode false bytes a → IsKept b tab entered xs
 kept-requested a b tab entered kept xs o p mode name bytes is xs_are o_is bytes_are owner number_is b_is =
@@ -236,7 +236,7 @@ kept-queried a b tab entered kept xs q is xs_are owner number_is b_is =
     let q_is : q ≡ record { tab = a.tab; number = length a.issued } = ap (λ (t : ℕ). record { tab = t; number = q.number }) owner ∙ ap (λ (n : ℕ). record { tab = a.tab; number = n }) number_is in
     kept-issue a b tab entered kept xs Query (Querying no_parts) (kept_as Query (token.Asking q)) is refl refl xs_are (ap (λ (r : Issued). kept_as Query (token.Asking r)) q_is) b_is
 
--- ---- what stands at a place
+-- The element at an index
 
 pub stood-at : (a : TabState) (kept : List Kept) (k place : ℕ) (x : Kept) → Found a kept k place → x ≡ get_or kept place x → Stood a.tab k a.issued a.statuses x
 stood-at a kept k place x f e = subst (λ (y : Kept). Stood a.tab k a.issued a.statuses y) (sym e) (f.stands x)

@@ -1,4 +1,4 @@
--- The open channels that are kept, by their numbers.
+-- Stored tokens of the open channels, by number.
 use Rattle.std.proofs.Common.{◌≡◌, ℕ, zero, suc, ◌+◌, ◌<◌, ◌≤◌, Bool, true, false, not, ◌||◌, ◌&&◌, cond, eqb, ltb, List, [], ◌∷◌, ◌++◌, length, filter, map, get_or, option_map, Option, Some, None, Result, Ok, Err, zero-add, length-append, refl, sym, ap, ◌∙◌, subst, arith}
 use Rattle.std.proofs.lemmas.Bool.{eqb-true, eqb-false, ltb-false, le-ltb, or_right}
 use Rattle.std.proofs.lemmas.Bool.Decides.{nat_tests}
@@ -22,7 +22,7 @@ use Rattle.wl_tab.specs.declared.channels.ChannelRefusal.TheVariants.{NoChannel,
 use Rattle.wl_tab.specs.TabChannels.{number_refusal, refusal_or, posting_refusal, channel_of, open_channels, opened_until, IsNumbered, place_in, found_at}
 use Rattle.wl_tab.proofs.Positions.{RisesBy, position-none, remove-place}
 
--- ---- the numbers of the open objects
+-- Numbers of the open objects
 
 rises_as : (tab k : ℕ) (b : Bool) (ns : List ℕ) → RisesBy (λ (c : Owned). c.number) (k + 1) (map (channel_of tab) ns) → RisesBy (λ (c : Owned). c.number) k (map (channel_of tab) (cond b (k ∷ ns) ns))
 rises_as tab k true ns r = (omega arith, r)
@@ -33,7 +33,7 @@ pub open-rises : (tab k : ℕ) (os : List Object) → RisesBy (λ (c : Owned). c
 open-rises tab k [] = tt
 open-rises tab k (o ∷ os) = rises_as tab k o.is_open (open_from (k + 1) os) (open-rises tab (k + 1) os)
 
--- no open object has a number below the first
+-- No open object has a number below the first.
 none_below_as : (tab k n : ℕ) (b : Bool) (ns : List ℕ) → n < k → list_any (λ (c : Owned). eqb c.number n) (map (channel_of tab) ns) ≡ false → list_any (λ (c : Owned). eqb c.number n) (map (channel_of tab) (cond b (k ∷ ns) ns)) ≡ false
 none_below_as tab k n b ns low below = grind (arith, nat_tests)
 
@@ -47,7 +47,7 @@ first_open tab k b ns none = grind (arith, nat_tests)
 later_open : (tab k n : ℕ) (b c : Bool) (ns : List ℕ) → list_any (λ (c : Owned). eqb c.number (k + 1 + n)) (map (channel_of tab) ns) ≡ c → list_any (λ (c : Owned). eqb c.number (k + suc n)) (map (channel_of tab) (cond b (k ∷ ns) ns)) ≡ c
 later_open tab k n b c ns below = grind (arith, nat_tests)
 
--- the open object of a number is kept, and no other
+-- A number has a stored token exactly if its object is open.
 pub kept-open : (tab k n : ℕ) (os : List Object) → list_any (λ (c : Owned). eqb c.number (k + n)) (map (channel_of tab) (open_from k os)) ≡ is_open_at os n
 kept-open tab k n [] = refl
 kept-open tab k zero (o ∷ os) = first_open tab k o.is_open (open_from (k + 1) os) (none_below tab (k + 1) (k + 0) os (omega arith))
@@ -61,9 +61,9 @@ pub filter-channels : (tab k : ℕ) (ns : List ℕ) → filter (λ (c : Owned). 
 filter-channels tab k [] = refl
 filter-channels tab k (n ∷ ns) = filter-channels_as tab k (not (eqb n k)) n ns _ (filter-channels tab k ns)
 
--- ---- the channel of a number
+-- The channel with a number
 
--- what is known where the channel of a number was found
+-- Facts about the channel with a number, if it was found.
 pub record Found (c : ChannelState) (k : ℕ) (kept : List Owned) (place : ℕ) : Type 0 where
   pub allowed : number_refusal k c ≡ None
   pub opened : is_open_at c.objects k ≡ true
@@ -123,7 +123,7 @@ refused_as k e true c None is shut = ap (λ b. cond b None (Some Closed)) (shut 
 refused_as k e true c (Some i) is shut = cc
 refused_as k e false c o is shut = cc
 
--- where no open channel of the number was found
+-- If no open channel with the number is found, the refusal is the definition's.
 pub refused : (c : ChannelState) (latest : Option ℕ) (kept : List Owned) (k : ℕ) (e : ChannelRefusal) → IsNumbered c latest kept → place_in k latest kept ≡ Err e → number_refusal k c ≡ Some e
 refused c latest kept k e n is =
     ap (λ m. cond (ltb k m) (cond (is_open_at c.objects k) None (Some Closed)) (Some NoChannel)) n.count
@@ -135,9 +135,9 @@ found_in c latest kept xs k place r n same is at = found c latest kept k place n
 pub refused_in : (c : ChannelState) (latest : Option ℕ) (kept xs : List Owned) (k : ℕ) (e : ChannelRefusal) (r : Result ℕ ChannelRefusal) → IsNumbered c latest kept → xs ≡ kept → r ≡ place_in k latest xs → r ≡ Err e → number_refusal k c ≡ Some e
 refused_in c latest kept xs k e r n same is at = refused c latest kept k e n (ap (place_in k latest) (sym same) ∙ sym is ∙ at)
 
--- ---- what the calls leave
+-- Effects of the calls
 
--- a call that opens and closes none
+-- A call that opens and closes no object keeps the invariant.
 pub numbered-same : (c d : ChannelState) (latest : Option ℕ) (kept : List Owned) → IsNumbered c latest kept → d.tab ≡ c.tab → open_from 0 d.objects ≡ open_from 0 c.objects → length d.objects ≡ length c.objects → IsNumbered d latest kept
 numbered-same c d latest kept n tab objects count = record {
   tokens = n.tokens ∙ ap (λ ns. map (channel_of c.tab) ns) (sym objects) ∙ ap (λ t. map (channel_of t) (open_from 0 d.objects)) (sym tab);
@@ -195,7 +195,7 @@ numbered-opened c d latest kept xs channel name n xs_are tab number is =
       count = omega (arith, ap (λ (s : ChannelState). length s.objects) is, length-append c.objects (new_object name ∷ []), number);
     }
 
--- ---- refusals
+-- Refusals
 
 pub posting-refused : (c : ChannelState) (k : ℕ) (bytes : List ℕ) (o : Option ChannelFault) (channel : Owned) → number_refusal k c ≡ None → channel ≡ channel_of c.tab k → post_refusal channel.tab channel.number bytes c ≡ o → posting_refusal k bytes c ≡ option_map Fault o
 posting-refused c k bytes o channel allowed is refused_is =
@@ -209,7 +209,7 @@ number_fault_as true true f e = cc
 number_fault_as true false f e = cc
 number_fault_as false c f e = cc
 
--- no number is refused when out of memory
+-- The refusal of a channel number is never a fault.
 pub number-no-fault : (c : ChannelState) (k : ℕ) (f : ChannelFault) → number_refusal k c ≡ Some (Fault f) → ⊥
 number-no-fault c k f e = number_fault_as (ltb k (length c.objects)) (is_open_at c.objects k) f e
 

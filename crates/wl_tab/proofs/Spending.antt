@@ -1,4 +1,4 @@
--- Aborts and releases by the tokens that are kept.
+-- Aborts and releases by stored tokens.
 use Rattle.std.proofs.Common.{◌≡◌, ℕ, Bool, true, false, not, ◌&&◌, cond, eqb, length, Option, Some, None, refl, sym, ap, ◌∙◌, List, get_or}
 use Rattle.std.proofs.lemmas.Bool.{eq-eqb, and_left, and_right}
 use Rattle.wl_grammar.specs.declared.frame.Operation.{Operation}
@@ -18,7 +18,7 @@ use Rattle.wl_tab.specs.TabTokens.{token_for, is_open, abortion, can_abort, can_
 use Rattle.wl_tab.proofs.KeptTokens.{Stood, Found, nowhere, stood-at, stood-same}
 use Rattle.std.specs.List.{position}
 
--- ---- what an abort says and leaves, by the status of its number
+-- Result and effect of an abort, by the status of its number
 
 abbrev pub after_abort : ℕ → TabState → TabState
 after_abort k a = cond (is_pending a k && is_asked (status_of a k)) (aborted k a) a
@@ -45,7 +45,7 @@ aborts-issued a k pending asked = record {
   left_is = sym (ap (λ b. cond (b && is_asked (status_of a k)) (aborted k a) a) pending ∙ ap (λ b. cond b (aborted k a) a) asked);
 }
 
--- ---- the tokens of requests and locks
+-- Tokens of requests and locks
 
 asked_no_lock : (tab k : ℕ) (b : Bool) → is_lock (cond b (token.Probe (record { tab = tab; number = k })) (token.Pending (record { tab = tab; number = k }))) ≡ true → ⊥
 asked_no_lock tab k true e = cc
@@ -58,7 +58,7 @@ lock_as tab k o (Querying p) e = let bad : ⊥ = cc in absurd bad
 lock_as tab k o (Whole s) e = let bad : ⊥ = cc in absurd bad
 lock_as tab k o Lost e = let bad : ⊥ = cc in absurd bad
 
--- a request's token that is no lock is pending
+-- The token of a request that is not held is pending.
 request_as : (tab k : ℕ) (o : Operation) (s : Status) → can_become o s ≡ true → is_request o ≡ true → is_lock (token_for tab o k s) ≡ false → (s ≡ Asked) × (token_for tab o k s ≡ token.Pending (record { tab = tab; number = k }))
 request_as tab k (Request m false n) Asked fits e free = (refl, refl)
 request_as tab k (Request m true n) Asked fits e free = let bad : ⊥ = cc in absurd bad
@@ -70,7 +70,7 @@ request_as tab k (Release j) s fits e free = let bad : ⊥ = cc in absurd bad
 request_as tab k (Abort j) s fits e free = let bad : ⊥ = cc in absurd bad
 request_as tab k Query s fits e free = let bad : ⊥ = cc in absurd bad
 
--- a status without which its number's token is no lock
+-- If a number's token is not a lock, its status is not held.
 no_lock_as : (tab k : ℕ) (o : Operation) (s : Status) → is_lock (token_for tab o k s) ≡ false → is_held (Some s) ≡ false
 no_lock_as tab k o Asked e = refl
 no_lock_as tab k o Held e = let bad : ⊥ = cc in absurd bad
@@ -93,11 +93,11 @@ open_as tab k o (Querying p) = refl
 open_as tab k o (Whole s) = refl
 open_as tab k o Lost = refl
 
--- a number whose token is kept is open, unless that is a lock
+-- A number with a stored token is open unless the token is a lock.
 pub open-there : (a : TabState) (k : ℕ) (x : Kept) → Stood a.tab k a.issued a.statuses x → is_open (status_of a k) ≡ not (is_lock x.token)
 open-there a k x s = ap is_open s.here ∙ open_as a.tab k (operation_of a k) s.status ∙ sym (ap (λ (y : Kept). not (is_lock y.token)) s.kept)
 
--- what is known of the token of a request that is asked
+-- Facts about the token of a request that is asked.
 pub record IsAskedFor (a : TabState) (k : ℕ) (x : Kept) : Type 0 where
   pub status : status_of a k ≡ Some Asked
   pub token_is : x.token ≡ token.Pending (record { tab = a.tab; number = k })
@@ -130,7 +130,7 @@ held-request a k x s request lock =
     let asks : is_request (operation_of a k) ≡ true = sym (ap (λ (y : Kept). is_request y.operation) s.kept) ∙ request in
     (ap (λ b. b && keeps_number (status_of a k)) asks ∙ ap keeps_number held, ap is_asked held)
 
--- ---- what the agent does by these tokens
+-- Calls of the agent by these tokens
 
 aborts_own : (a : TabState) (k : ℕ) → eqb a.tab a.tab ≡ true → is_pending a k ≡ true → status_of a k ≡ Some Asked → can_abort a (token.Pending (record { tab = a.tab; number = k })) ≡ true
 aborts_own a k own pending status = rw (own, pending, status) refl
@@ -148,7 +148,7 @@ may-release a k x t s lock same =
     let own = eq-eqb a.tab a.tab refl in
     (ap (can_release a) whole ∙ ap (λ b. b && is_held (status_of a k)) own ∙ ap is_held held, ap number_of whole)
 
--- ---- releases
+-- Releases
 
 abbrev pub after_release : ℕ → TabState → TabState
 after_release k a = cond (is_holding a k) (released k a) a
@@ -156,7 +156,7 @@ after_release k a = cond (is_holding a k) (released k a) a
 abbrev pub next_by_release : ℕ → TabState → Option ℕ
 next_by_release k a = cond (is_holding a k) (Some (length a.issued)) None
 
--- ---- an abort and a release, from what was looked up
+-- Aborts and releases, from the lookup
 
 pub apart : {A : Type 0} (b : Bool) → b ≡ true → b ≡ false → A
 apart b holds fails = let bad : ⊥ = cc in absurd bad
@@ -174,7 +174,7 @@ abort-held a kept k place x y f e request d lock =
     let h = held-request a k x s request (ap (λ (z : Kept). is_lock z.token) same ∙ lock) in
     aborts-held a k h.0 h.1
 
--- the token that was taken out is that of a request that is asked
+-- The removed token belongs to a request that is asked.
 pub record TakenOut (a : TabState) (k : ℕ) (t : Token) : Type 0 where
   pub may : can_abort a t ≡ true
   pub number_is : number_of t ≡ k
@@ -189,7 +189,7 @@ abort-asked a tab entered kept k place x y z is f e request d free taken =
     let may = may-abort a k x z.token asks (ap (λ (w : Kept). w.token) out) in
     record { may = may.0; number_is = may.1; issued = aborts-issued a k asks.pending (ap is_asked asks.status) }
 
--- what a release says and leaves
+-- The result and effect of a release.
 pub record Releases (a : TabState) (k : ℕ) (next : Option ℕ) (b : TabState) : Type 0 where
   pub next_is : next ≡ next_by_release k a
   pub left_is : b ≡ after_release k a

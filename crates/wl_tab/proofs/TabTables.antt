@@ -1,4 +1,4 @@
--- Tables of tabs as the entries of a `BTreeMap`: the row of a tab that has one, and what is written there.
+-- Tables of tabs as the entries of a `BTreeMap`: lookup of an existing row, and writing it.
 use Rattle.std.proofs.Common.{◌≡◌, ⊎_elim, ℕ, ◌+◌, ◌≤◌, Bool, true, false, cond, [], ◌∷◌, Some, None, is_some, refl, sym, ap, ◌∙◌, subst, arith}
 use Rattle.std.proofs.lemmas.Bool.{cases_eq}
 use Rattle.std.proofs.lemmas.Map.Keys.{IsStrictlyIncreasing-from_sorted, sorted_tail}
@@ -11,7 +11,7 @@ use Rattle.wl_draft.proofs.TableLemmas.{lookup-find, find-put_same, find-put_oth
 use Rattle.wl_draft.proofs.RisingTables.{written_same}
 use Rattle.wl_agent.proofs.Rows.{written}
 
--- keys that are sorted rise from row to row
+-- Sorted keys rise from row to row.
 rises_from : {X : Type 0} (least : ℕ) (p : ℕ × X) (ps : Table X) → least ≤ p.0 → IsStrictlySortedBy nat_cmp (keys_of (p ∷ ps)) → Rises least (p ∷ ps)
 rises_from least p [] low o = (low, tt)
 rises_from least p (q ∷ ps) low o =
@@ -27,11 +27,11 @@ find_there k es e = sym (lookup-find es k) ∙ sym e
 pub find_absent : {X : Type 0} (k : ℕ) (es : Table X) → None ≡ lookup (is_at (nat_cmp k)) es → find es k ≡ None
 find_absent k es e = sym (lookup-find es k) ∙ sym e
 
--- a row that is there becomes another
+-- Writing an existing row puts it into the table.
 pub written_as : {X : Type 0} {w x : X} (k : ℕ) (y : X) (es : Table X) {qs : Table X} → IsStrictlySortedBy nat_cmp (keys_of es) → Some x ≡ lookup (is_at (nat_cmp k)) es → qs ≡ set_value (is_at (nat_cmp k)) es w → w ≡ y → qs ≡ put k y es
 written_as k y es o e h v = written k _ _ es _ (rises es o) e h ∙ ap (λ z. put k z es) v
 
--- a row that is there becomes another, and none comes or goes
+-- Writing an existing row adds and removes no row.
 pub written_rows : {X : Type 0} {x : X} (k : ℕ) (w : X) (es : Table X) {qs : Table X} → IsStrictlySortedBy nat_cmp (keys_of es) → Some x ≡ lookup (is_at (nat_cmp k)) es → qs ≡ set_value (is_at (nat_cmp k)) es w → (t : ℕ) → is_some (find qs t) ≡ is_some (find es t)
 written_rows k w es o e h t =
     ap (λ zs. is_some (find zs t)) (written_as k w es o e h refl)
@@ -40,7 +40,7 @@ written_rows k w es o e h t =
     (λ n. ap is_some (find-put_other k w es t (λ z. n (sym z))))
     (cases_eq k t)
 
--- a row that is there becomes another, or stays
+-- Writing an existing row replaces it or leaves it as it is.
 pub written_if : {X : Type 0} {w x : X} (k : ℕ) (y : X) (b : Bool) (es : Table X) {qs : Table X} → IsStrictlySortedBy nat_cmp (keys_of es) → Some x ≡ lookup (is_at (nat_cmp k)) es → qs ≡ set_value (is_at (nat_cmp k)) es w → w ≡ cond b y x → qs ≡ cond b (put k y es) es
 written_if k y true es o e h v = written_as k y es o e h v
 written_if k y false es o e h v = written_same k _ _ es _ e h v

@@ -1,4 +1,4 @@
--- What is said of a frame that comes to a tab.
+-- Replies to frames that arrive at a tab.
 use Rattle.std.specs.Prelude.{ℕ, List, [], ◌∷◌, ◌==◌, Option, Some, if◌then◌else◌}
 use Rattle.wl_draft.specs.Tables.{Table}
 use Rattle.wl_grammar.specs.declared.frame.Frame.{Frame}
@@ -18,7 +18,7 @@ use Rattle.wl_said.specs.declared.said.Ended.{Ended}
 use Rattle.wl_said.specs.declared.said.Ended.TheVariants as ended
 use Rattle.wl_said.specs.declared.said.Reason.TheVariants as reason
 
--- the numbers that entering a generation ends, by rising number: asked probes get null, asked queries are lost
+-- The numbers that entering a generation ends, by rising number. Asked probes get null, and asked queries are lost.
 abbrev pub ended_in : List Operation → Table Status → List Ended
 ended_in issued [] = []
 ended_in issued (row ∷ rows) =
@@ -26,7 +26,7 @@ ended_in issued (row ∷ rows) =
     else if is_querying (Some row.1) then ended.Lost row.0 ∷ ended_in issued rows
     else ended_in issued rows
 
--- the first generation of a life ends none
+-- The first generation of a tab's life ends no numbers.
 abbrev pub ended_by_entering : TabState → List Ended
 ended_by_entering a = if a.entered == 0 then [] else ended_in a.issued a.statuses
 
@@ -34,20 +34,23 @@ abbrev pub snapshot_in : Option Status → Snapshot
 snapshot_in (Some (Whole snapshot)) = snapshot
 snapshot_in s = snapshot_of no_parts
 
--- the generation of a hello, and which part of how many a frame is
+-- The generation of a hello.
 abbrev pub generation_in : Frame → ℕ
 generation_in (frame.Hello x) = x.generation
 generation_in f = 0
 
+-- The index of a snapshot part.
 abbrev pub part_in : Frame → ℕ
 part_in (frame.Snapshot x) = x.part
 part_in f = 0
 
+-- The part count of a snapshot.
 abbrev pub parts_in : Frame → ℕ
 parts_in (frame.Snapshot x) = x.parts
 parts_in f = 0
 
--- what is said of what a frame told a tab, with the numbers that an entering ended, and what is said of a query that is whole
+-- The reply to a frame, from the agent's delivery result. `ends` lists the numbers that entering ended.
+-- `whole` gives the reply for a complete query.
 abbrev pub said_of_told : Frame → List Ended → (ℕ → Said) → Delivered → Said
 said_of_told f ends whole (told.Entered reports) = said.Entered (generation_in f) ends
 said_of_told f ends whole (told.Granted k) = said.Granted k
@@ -59,7 +62,7 @@ said_of_told f ends whole (told.Part k) = said.Part (part_in f) (parts_in f)
 said_of_told f ends whole (told.Whole k) = whole k
 said_of_told f ends whole (told.Dropped u) = said.Dropped (reason.AtTab u)
 
--- the same by the rows of the tab before and of the tab after
+-- The reply to a frame, from the tab's states before and after it.
 abbrev pub told_said : Frame → TabState → TabState → Delivered → Said
 told_said f before after d = said_of_told f (ended_by_entering before) (λ k. said.Whole k (snapshot_in (status_of after k))) d
 

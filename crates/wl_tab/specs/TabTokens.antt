@@ -1,4 +1,4 @@
--- What is kept beside a tab's agent: the command and the token of each of its numbers that is not over.
+-- Numbers of a tab that are not over, each with its command and its token.
 use Rattle.std.specs.Prelude.{◌≡◌, ◌==◌, ℕ, List, [], Bool, true, false, not, ◌&&◌, length, map, filter, get_or, is_some, Option, Some, None, if◌then◌else◌}
 use Rattle.std.specs.List.{AllByRecursion, filter_map}
 use Rattle.wl_draft.specs.Tables.{Table, Rises}
@@ -26,9 +26,9 @@ use Rattle.wl_tab.specs.declared.locks.kept.Kept.{Kept}
 use Rattle.wl_tab.specs.Tabs.{is_told}
 use Rattle.wl_tab.specs.Arrivals.{generation_in}
 
--- ---- tokens
+-- Tokens
 
--- the token of a number of this status, whose owner was told all that there is to tell
+-- The token of a number with this status, once it is settled.
 abbrev pub token_for : ℕ → Operation → ℕ → Status → Token
 token_for tab o k Asked = if is_probe o then token.Probe (record { tab = tab; number = k }) else token.Pending (record { tab = tab; number = k })
 token_for tab o k Held = token.HeldLock (held_lock tab k)
@@ -37,18 +37,18 @@ token_for tab o k s = token.Asking (record { tab = tab; number = k })
 abbrev pub kept_as : Operation → Token → Kept
 kept_as o t = record { operation = o; token = t }
 
--- what is kept for a row of the statuses
+-- The stored entry for a row of the statuses.
 abbrev pub kept_for : ℕ → List Operation → ℕ × Status → Kept
 kept_for tab issued row = kept_as (get_or issued row.0 Query) (token_for tab (get_or issued row.0 Query) row.0 row.1)
 
 abbrev pub kept_of : TabState → List Kept
 kept_of a = map (kept_for a.tab a.issued) a.statuses
 
--- no whole or lost query waits to be told
+-- No query is complete or lost without its token having been settled.
 abbrev pub NoneTold : Table Status → Type 0
 NoneTold rows = AllByRecursion (λ row. is_told row.1 ≡ false) rows
 
--- the tokens of all numbers that are not over are kept, by rising number, and each was told
+-- Each number that is not over has a settled token, by rising number.
 pub record IsKept (a : TabState) (tab entered : ℕ) (kept : List Kept) : Type 0 where
   pub tokens : kept ≡ kept_of a
   pub owner : tab ≡ a.tab
@@ -67,32 +67,33 @@ abbrev pub is_lock : Token → Bool
 is_lock (token.HeldLock lock) = true
 is_lock t = false
 
--- a number of which nothing has come yet: a request or probe neither granted nor refused, a query whose answer is not whole
+-- The number is a request or a probe that is neither granted nor refused, or a query that is not complete.
 abbrev pub is_open : Option Status → Bool
 is_open s = is_some s && not (is_held s)
 
--- ---- aborts and releases
+-- Aborts and releases
 
--- what becomes of an abort of this number
+-- The result of aborting this number.
 abbrev pub abortion : ℕ → TabState → Abortion
 abortion k a =
     if is_pending a k then (if is_asked (status_of a k) then became.Issued (length a.issued) else became.Held) else became.Nothing
 
--- the token is one that the agent aborts by, or releases by
+-- The agent accepts the token for an abort.
 abbrev pub can_abort : TabState → Token → Bool
 can_abort a (token.Pending p) = not (is_some (abort_refusal a p))
 can_abort a t = false
 
+-- The agent accepts the token for a release.
 abbrev pub can_release : TabState → Token → Bool
 can_release a (token.HeldLock lock) = is_own is_holding a lock.tab lock.number
 can_release a t = false
 
--- ---- holdings
+-- Holdings
 
 abbrev pub holding_at : TabState → ℕ → Holding
 holding_at a k = record { tab = a.tab; number = k; mode = mode_of (operation_of a k); name = name_of (operation_of a k) }
 
--- what the tab holds, by rising number
+-- The locks that the tab holds, by rising number.
 abbrev pub holdings_of : TabState → List Holding
 holdings_of a = map (λ row. holding_at a row.0) (filter (λ row. is_held (Some row.1)) a.statuses)
 
@@ -101,13 +102,13 @@ holding_by tab (Request mode if_available name) (token.HeldLock lock) =
     Some (record { tab = tab; number = lock.number; mode = mode; name = name })
 holding_by tab o t = None
 
--- the holding that a number is, if it is one
+-- The holding for a stored number, if its lock is held.
 abbrev pub holding_in : ℕ → Kept → Option Holding
 holding_in tab k = holding_by tab k.operation k.token
 
--- ---- what is said of a delivery
+-- Replies to a delivery
 
--- what ends where the tab enters a later generation
+-- The result that ends a number when its tab enters a later generation.
 abbrev pub ended_by : Token → Option Ended
 ended_by (token.Probe p) = Some (ended.Null p.number)
 ended_by (token.Asking q) = Some (ended.Lost q.number)
@@ -116,21 +117,21 @@ ended_by t = None
 abbrev pub ended_kept : List Kept → List Ended
 ended_kept kept = filter_map (λ k. ended_by k.token) kept
 
--- what of these ends by entering a generation; the first one of a life ends none
+-- The results that end these numbers when the tab enters a generation. The first generation of a tab's life ends none.
 abbrev pub ended_before : ℕ → List Kept → List Ended
 ended_before entered kept = if entered == 0 then [] else ended_kept kept
 
--- where a snapshot is whole, it is there
+-- A snapshot is present if the delivery completes a query.
 abbrev pub has_snapshot : Delivered → Option Snapshot → Bool
 has_snapshot (told.Whole k) snapshot = is_some snapshot
 has_snapshot d snapshot = true
 
--- what is said of a query that is whole, of its snapshot
+-- The reply to the delivery that completes a query, from its snapshot.
 abbrev pub whole_said : Option Snapshot → ℕ → Said
 whole_said (Some snapshot) k = said.Whole k snapshot
 whole_said None k = said.Taken k
 
--- the generation that is entered then
+-- The generation that the tab has entered after the frame.
 abbrev pub entered_by : Frame → Delivered → ℕ → ℕ
 entered_by f (told.Entered report) g = generation_in f
 entered_by f d g = g

@@ -1,4 +1,4 @@
--- Tabs by their rows, and what a tab's tokens are told at once.
+-- Tabs by their rows, and the settling of tokens.
 use Rattle.std.specs.Prelude.{ℕ, Bool, true, false, not, filter, Option, Some, None}
 use Rattle.wl_broadcast.specs.Channels.{ChannelState, no_channels}
 use Rattle.wl_agent.specs.declared.status.Status.{Status}
@@ -6,7 +6,7 @@ use Rattle.wl_agent.specs.declared.status.Status.TheVariants as status
 use Rattle.wl_agent.specs.Tab.{TabState, newborn}
 use Rattle.wl_limits.specs.declared.tabs.TheConstants.{COMMAND_LIMIT}
 
--- a tab has its rows from its opening on; one that was never opened is as a tab is born
+-- The state in a tab's row. A tab that was never opened has the state of a newly opened one.
 abbrev pub tab_in : ℕ → Option TabState → TabState
 tab_in t None = newborn t COMMAND_LIMIT
 tab_in t (Some a) = a
@@ -15,7 +15,7 @@ abbrev pub channels_in : ℕ → Option ChannelState → ChannelState
 channels_in t None = no_channels t
 channels_in t (Some c) = c
 
--- a query that is whole or lost is told to its token at once, which makes its number over
+-- The query is complete or lost. Its token is settled at once, which makes its number over.
 abbrev pub is_told : Status → Bool
 is_told (status.Whole snapshot) = true
 is_told status.Lost = true

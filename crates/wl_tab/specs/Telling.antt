@@ -1,4 +1,4 @@
--- What tokens are told, one after another, and what becomes of them. The contracts of `tell` and `tell_all` speak of it.
+-- Settling of tokens one after another, as cited by the contracts of `tell` and `tell_all`.
 use Rattle.std.specs.Prelude.{List, [], ◌∷◌, ◌++◌, fold, Option, Some, None, if◌then◌else◌}
 use Rattle.wl_agent.specs.declared.snapshot.Snapshot.{Snapshot}
 use Rattle.wl_agent.specs.declared.token.Token.{Token}
@@ -16,7 +16,7 @@ use Rattle.wl_tab.specs.TabTokens.{kept_as}
 use Rattle.wl_tab.specs.declared.locks.telling.Fate.{Fate}
 use Rattle.wl_tab.specs.declared.locks.telling.Fate.TheVariants as fate
 
--- ---- one token
+-- One token
 
 abbrev pub fate_by_request : Settled → Fate
 fate_by_request (answered.Waiting p) = fate.Stays (token.Pending p)
@@ -32,7 +32,7 @@ fate_by_query (query.Waiting q) = fate.Stays (token.Asking q)
 fate_by_query (query.Whole snapshot) = fate.Whole snapshot
 fate_by_query query.Lost = fate.Over
 
--- what becomes of a token; one that is not the tab's own stays as it is
+-- The result of settling a token. A token of another tab stays as it is.
 abbrev pub fate_of : TabState → Token → Fate
 fate_of a (token.Pending p) =
     if is_own is_pending a p.tab p.number then fate_by_request (told_pending a p) else fate.Stays (token.Pending p)
@@ -42,14 +42,14 @@ fate_of a (token.HeldLock lock) = fate.Stays (token.HeldLock lock)
 fate_of a (token.Asking q) =
     if is_own is_asking a q.tab q.number then fate_by_query (told_query a q) else fate.Stays (token.Asking q)
 
--- what the telling of a token makes of its tab
+-- The tab after one of its tokens is settled.
 abbrev pub after_telling : Token → TabState → TabState
 after_telling (token.Asking q) a = if is_own is_asking a q.tab q.number then after_query q.number a else a
 after_telling t a = a
 
--- ---- all tokens
+-- All tokens
 
--- the tab so far, the tokens that stayed so far, and the last snapshot that was whole
+-- The tab so far, the tokens that stayed so far, and the last complete snapshot.
 pub record Run : Type 0 where
   pub agent : TabState
   pub kept : List Kept

@@ -1,4 +1,4 @@
-//! The table of the tabs' channels: each tab has a row from its opening on.
+//! Table of the tabs' channels. Each tab has a row from its opening on.
 
 ghost use Rattle.std.specs.Prelude.{◌≡◌, nat_lt, length, true, is_some, Some, None, Ok, Err, IfOk, OnOk, OnErr, if◌then◌else◌};
 ghost use Rattle.wl_draft.specs.Refusals.{RefusesBy, RefusesOnlyBy};
@@ -14,7 +14,7 @@ use wl_broadcast::{ChannelFault, Hearing, Letter, Posted};
 use wl_draft::Name;
 use wl_grammar::Frame;
 
-/// A tab opens a channel object.
+/// Opens a channel object of a tab and returns its number.
 pub fn open_at(
     rows: &mut BTreeMap<u16, TabChannels>,
     tab: u16,
@@ -34,7 +34,7 @@ pub fn open_at(
     channels.open(name)
 }
 
-/// A post of another tab comes to a tab.
+/// Delivers another tab's post to a tab.
 pub fn hear_at(
     rows: &mut BTreeMap<u16, TabChannels>,
     tab: u16,
@@ -54,7 +54,7 @@ pub fn hear_at(
     channels.heard(frame)
 }
 
-/// A tab posts on a channel object.
+/// Posts on a tab's channel object.
 pub fn post_at(
     rows: &mut BTreeMap<u16, TabChannels>,
     tab: u16,
@@ -79,7 +79,7 @@ pub fn post_at(
     channels.post(number, bytes)
 }
 
-/// A tab takes the oldest post out of an inbox.
+/// Takes the oldest post out of an inbox. Returns `None` if the inbox is empty.
 pub fn read_at(
     rows: &mut BTreeMap<u16, TabChannels>,
     tab: u16,
@@ -100,7 +100,7 @@ pub fn read_at(
     channels.read(number)
 }
 
-/// A tab closes a channel object.
+/// Closes a tab's channel object.
 pub fn close_at(
     rows: &mut BTreeMap<u16, TabChannels>,
     tab: u16,

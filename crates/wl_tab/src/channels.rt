@@ -1,4 +1,4 @@
-//! A tab's channels by their numbers, with the open ones' tokens.
+//! Channels of a tab by number, with the tokens of the open ones.
 
 ghost use Rattle.std.specs.Prelude.{◌≡◌, ◌==◌, nat_lt, length, position, Some, None, Ok, Err, IfOk, OnOk, OnErr, if◌then◌else◌};
 ghost use Rattle.wl_draft.specs.Refusals.{RefusesBy, RefusesOnlyBy};
@@ -17,7 +17,7 @@ pub struct TabChannels {
     channels: Channels,
     /// The number of the channel that was opened last.
     latest: Option<usize>,
-    /// Those that are open, oldest first.
+    /// The open channels, oldest first.
     kept: Vec<Channel>,
 }
 
@@ -43,10 +43,10 @@ impl Drop for TabChannels {
     }
 }
 
-/// Why a call on a channel of a number was refused.
+/// Reason for which a call on a channel number was refused.
 #[derive(Clone, Copy)]
 pub enum ChannelRefusal {
-    /// No channel of this number was ever opened.
+    /// No channel with this number was ever opened.
     NoChannel,
     Closed,
     Fault(ChannelFault),
@@ -61,7 +61,7 @@ impl From<ChannelFault> for ChannelRefusal {
 }
 
 impl TabChannels {
-    /// The channels of a tab that has opened none.
+    /// Returns the channels of a tab that has opened none.
     pub fn new(alloc: Global, tab: u16) -> TabChannels
         ensures { result ≡ no_channels tab }
     {
@@ -72,7 +72,7 @@ impl TabChannels {
         }
     }
 
-    /// Opens a channel, and gives its number. The room for its token is made before it is opened.
+    /// Opens a channel and returns its number. Memory for its token is reserved before it is opened.
     pub(crate) fn open(&mut self, name: &Name) -> Result<usize, ChannelFault>
         ensures ok { OnOk result (self.new ≡ opened name.now self.old) }
         ensures number { IfOk result (λ n. n ≡ length self.old.objects) }
@@ -106,7 +106,7 @@ impl TabChannels {
         Ok(self.channels.post(&self.kept[place], bytes)?)
     }
 
-    /// Takes another tab's post in. An old one changes nothing.
+    /// Takes another tab's post. An old post changes nothing.
     pub(crate) fn heard(&mut self, frame: &Frame) -> Result<Hearing, AllocError>
         requires { heard_refusal frame.now ≡ None }
         ensures ok { OnOk result (self.new ≡ after_hearing frame.now self.old) }
@@ -119,7 +119,7 @@ impl TabChannels {
         }
     }
 
-    /// Takes the oldest post out of a channel's inbox. It takes no memory.
+    /// Takes the oldest post out of a channel's inbox. Allocates no memory.
     pub(crate) fn read(&mut self, number: usize) -> Result<Option<Letter>, ChannelRefusal>
         ensures ok { OnOk result (self.new ≡ read_at number self.old) }
         ensures letter { IfOk result (λ letter. letter ≡ first_of (inbox_at self.old.objects number)) }
@@ -130,7 +130,7 @@ impl TabChannels {
         Ok(self.channels.read(&self.kept[place])?)
     }
 
-    /// Closes a channel. One that is closed already stays as it is. It takes no memory.
+    /// Closes a channel. A closed channel stays closed. Allocates no memory.
     pub(crate) fn close(&mut self, number: usize) -> Result<(), ChannelRefusal>
         ensures result { result
             ≡ (if nat_lt number (length self.old.objects) then Ok tt else Err ChannelRefusal.NoChannel) }
@@ -141,7 +141,7 @@ impl TabChannels {
             Ok(place) => {
                 let channel = self.kept.remove(place);
                 if let Err(Foreign { value }) = self.channels.close(channel) {
-                    // Never: an open channel that is kept is this tab's.
+                    // Unreachable: a stored open channel belongs to this tab.
                     self.kept.push_reserved(value);
                 }
                 Ok(())
@@ -153,7 +153,7 @@ impl TabChannels {
     }
 }
 
-/// Where the open channel of the number stands among those that are kept.
+/// Returns the index of the open channel with this number in `kept`.
 fn place_of(kept: &[Channel], latest: Option<usize>, number: usize) -> Result<usize, ChannelRefusal>
     ensures { result ≡ place_in number latest kept.now }
 {
@@ -167,7 +167,7 @@ fn place_of(kept: &[Channel], latest: Option<usize>, number: usize) -> Result<us
     }
 }
 
-/// Where the channel of the number stands.
+/// Returns the index of the channel with this number.
 fn position_of(kept: &[Channel], number: usize) -> Option<usize>
     ensures { result ≡ position (λ channel. channel.number == number) kept.now }
 {

@@ -1,4 +1,4 @@
-//! What tabs hold.
+//! Locks that tabs hold.
 
 use wl_draft::{Mode, Name};
 
@@ -6,7 +6,7 @@ use wl_draft::{Mode, Name};
 #[derive(Debug, Drop)]
 pub struct Holding {
     pub tab: u16,
-    /// The number of the command that asked for it.
+    /// The number of the command that requested it.
     pub number: u32,
     pub mode: Mode,
     pub name: Name,

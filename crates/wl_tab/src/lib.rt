@@ -1,4 +1,4 @@
-//! One tab's side: its locks with the tokens of those who asked, its channels, and the tables of all tabs.
+//! One tab's side of the machine: its locks with their tokens, its channels, and the tables of all tabs.
 #![tactic(auto)]
 
 pub mod channel_tables;

@@ -1,4 +1,4 @@
-//! A tab's locks: its agent, with the tokens of those who asked.
+//! Locks of a tab: its agent, and the token of each number in use.
 
 ghost use Rattle.std.specs.Prelude.{◌≡◌, ◌≢◌, ◌++◌, [], IfOk, OnOk, OnErr};
 ghost use Rattle.wl_draft.specs.Refusals.{RefusesBy};
@@ -21,14 +21,15 @@ use wl_agent::{Agent, MessageFault, Resend};
 use wl_grammar::{Frame, Sequence};
 use wl_limits::tabs::COMMAND_LIMIT;
 
-/// A tab's agent, with the token of each of its numbers that is not over. What a token can be told it is told at once.
+/// A tab's agent, with the token of each number that is not over. Each token is settled as soon as the agent
+/// has a result for it.
 pub struct TabLocks {
     alloc: Global,
     tab: u16,
     agent: Agent,
-    /// The generation that the tab has entered, 0 for none.
+    /// The generation that the tab has entered, or 0 for none.
     entered: u32,
-    /// By rising number.
+    /// Ordered by rising number.
     kept: Vec<Kept>,
 }
 
@@ -64,19 +65,19 @@ impl Drop for TabLocks {
     }
 }
 
-/// What became of an abort.
+/// Result of an abort.
 #[derive(Clone, Copy)]
 pub enum Abortion {
-    /// The request is taken back, by the command of this number.
+    /// The request is aborted by the command with this number.
     Issued(u32),
-    /// The request's lock is held.
+    /// The lock is held, so its request cannot be aborted.
     Held,
-    /// The number is no request that is asked.
+    /// The number does not name a request that is asked.
     Nothing,
 }
 
 impl TabLocks {
-    /// The locks of a tab that has issued nothing.
+    /// Returns the locks of a tab that has issued no command.
     pub fn new(alloc: Global, tab: u16) -> TabLocks
         ensures { result ≡ newborn tab COMMAND_LIMIT }
     {
@@ -89,7 +90,7 @@ impl TabLocks {
         }
     }
 
-    /// Those of a tab that may have more locks, and tells its reports in parts.
+    /// Returns the locks of a tab of the second kind, which may have more locks and reports in parts.
     pub fn new_two(alloc: Global, tab: u16) -> TabLocks
         ensures { result ≡ newborn_two tab COMMAND_LIMIT }
     {
@@ -102,14 +103,14 @@ impl TabLocks {
         }
     }
 
-    /// The generation that the tab has entered, 0 for none.
+    /// Returns the generation that the tab has entered, or 0 for none.
     pub fn entered(&self) -> u32
         ensures { result ≡ self.now.entered }
     {
         self.entered
     }
 
-    /// The message of a command, for the broker of the entered generation.
+    /// Returns the frame of a command, for the broker of the entered generation.
     pub fn message(&self, number: u32) -> Result<Frame, MessageFault>
         ensures message { IfOk result (λ f. f ≡ command_frame self.now number) }
         ensures refused { RefusesBy result (message_refusal self.now number) MessageFault.Memory }
@@ -117,7 +118,7 @@ impl TabLocks {
         self.agent.message(number)
     }
 
-    /// The report of the entered generation, in its parts.
+    /// Returns the frames of the entered generation's report, one for each part.
     pub fn report_frames(&self) -> Result<Sequence<Frame>, MessageFault>
         ensures report { IfOk result (λ frames. frames ≡ report_frames self.now) }
         ensures refused { RefusesBy result (report_refusal self.now) MessageFault.Memory }
@@ -125,7 +126,7 @@ impl TabLocks {
         self.agent.report_frames()
     }
 
-    /// What is sent again.
+    /// Returns the report and the commands that are due to be sent again.
     pub fn resend(&self) -> Result<Resend, AllocError>
         ensures report { IfOk result (λ r. r.report ≡ is_report_due self.now) }
         ensures numbers { IfOk result (λ r. r.numbers.items ≡ due self.now) }
@@ -134,7 +135,7 @@ impl TabLocks {
         self.agent.resend()
     }
 
-    /// Appends what the tab holds, by rising number.
+    /// Appends the locks that the tab holds, by rising number.
     pub fn add_holdings(&self, holdings: &mut Vec<Holding>) -> Result<(), AllocError>
         ensures { OnOk result (holdings.new.items ≡ holdings.old.items ++ holdings_of self.now) }
     {
@@ -142,7 +143,7 @@ impl TabLocks {
     }
 }
 
-/// Appends what is held of these numbers.
+/// Appends the holdings among these numbers.
 fn add_holdings(
     alloc: Global,
     tab: u16,

@@ -1,4 +1,4 @@
-//! The table of the tabs' locks: each tab has a row from its opening on.
+//! Table of the tabs' locks. Each tab has a row from its opening on.
 
 ghost use Rattle.std.specs.Prelude.{◌≡◌, ◌&&◌, ℕ, length, true, is_some, Some, None, IfOk, OnOk, OnErr, if◌then◌else◌};
 ghost use Rattle.wl_draft.specs.Refusals.{RefusesBy};
@@ -18,7 +18,7 @@ use wl_draft::{Mode, Name};
 use wl_grammar::Frame;
 use wl_said::Said;
 
-/// Puts a tab's first row.
+/// Puts a tab's row into the table. Fails if out of memory.
 pub fn put_row<T: Drop>(rows: &mut BTreeMap<u16, T>, tab: u16, row: T) -> Result<(), AllocError>
     ensures ok { OnOk result (rows.new.entries ≡ put tab row rows.old.entries) }
     ensures err { OnErr result (rows.new.entries ≡ rows.old.entries) }
@@ -27,7 +27,7 @@ pub fn put_row<T: Drop>(rows: &mut BTreeMap<u16, T>, tab: u16, row: T) -> Result
     Ok(())
 }
 
-/// A tab asks for a lock.
+/// Issues a tab's request, or its probe if `if_available` is set. Returns the command's number.
 pub fn ask_at(
     tabs: &mut BTreeMap<u16, TabLocks>,
     tab: u16,
@@ -62,7 +62,7 @@ fn ask(locks: &mut TabLocks, mode: Mode, if_available: bool, name: &Name) -> Res
     }
 }
 
-/// A tab asks for a snapshot.
+/// Issues a tab's query for a snapshot. Returns the command's number.
 pub fn query_at(tabs: &mut BTreeMap<u16, TabLocks>, tab: u16) -> Result<u32, AgentFault>
     requires there { is_some (find tabs.old.entries tab) ≡ true }
     ensures ok { let a = tab_in tab (find tabs.old.entries tab) in
@@ -78,7 +78,7 @@ pub fn query_at(tabs: &mut BTreeMap<u16, TabLocks>, tab: u16) -> Result<u32, Age
     locks.query()
 }
 
-/// A tab takes a request back.
+/// Aborts a tab's request.
 pub fn abort_at(tabs: &mut BTreeMap<u16, TabLocks>, tab: u16, number: u32) -> Abortion
     requires there { is_some (find tabs.old.entries tab) ≡ true }
     ensures said { result ≡ abortion number (tab_in tab (find tabs.old.entries tab)) }
@@ -92,7 +92,7 @@ pub fn abort_at(tabs: &mut BTreeMap<u16, TabLocks>, tab: u16, number: u32) -> Ab
     locks.abort(number)
 }
 
-/// A tab releases a lock.
+/// Releases a tab's lock. Returns the number of the release, or `None` if the lock is not held.
 pub fn release_at(tabs: &mut BTreeMap<u16, TabLocks>, tab: u16, number: u32) -> Option<u32>
     requires there { is_some (find tabs.old.entries tab) ≡ true }
     ensures next { let a = tab_in tab (find tabs.old.entries tab) in result
@@ -107,7 +107,7 @@ pub fn release_at(tabs: &mut BTreeMap<u16, TabLocks>, tab: u16, number: u32) -> 
     locks.release(number)
 }
 
-/// A frame comes to a tab.
+/// Delivers a frame to a tab and returns the reply. Fails if out of memory.
 pub fn deliver_at(
     tabs: &mut BTreeMap<u16, TabLocks>,
     tab: u16,
@@ -118,7 +118,7 @@ pub fn deliver_at(
         OnOk result (tabs.new.entries ≡ put tab (told (delivery frame.now a).0) tabs.old.entries) }
     ensures said { IfOk result (λ said. said ≡ arrival frame.now (tab_in tab (find tabs.old.entries tab))) }
     ensures err { OnErr result (tabs.new.entries ≡ tabs.old.entries) }
-    // No row comes or goes.
+    // No row is added or removed.
     ensures rows { (t : ℕ) → is_some (find tabs.new.entries t) ≡ is_some (find tabs.old.entries t) }
 {
     let Some(locks) = tabs.get_mut(&tab) else {

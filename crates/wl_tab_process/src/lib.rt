@@ -1,4 +1,5 @@
-//! A tab's process: two threads round the agent that the crates below prove. It is proved safe; what it does is tested.
+//! A tab's process: two threads around the verified agent. This crate is proved to be memory-safe
+//! and free of panics; its behavior is tested.
 #![tactic(auto)]
 
 mod page;

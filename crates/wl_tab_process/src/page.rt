@@ -1,4 +1,4 @@
-//! What the two threads of a tab's process share: its locks and its link, under one lock.
+//! State shared by the two threads of a tab's process: its locks and its link, behind one lock.
 
 use std::alloc::{AllocError, Global};
 use std::io::Write;
@@ -13,18 +13,18 @@ use wl_process_rules::{Next, Patience};
 use wl_said::Said;
 use wl_tab::{Abortion, TabLocks};
 
-/// How many milliseconds a waiting tab waits for what may end its waiting before it sends its commands again. Whatever else comes
-/// does not count.
+/// The time without an event that could end a wait, in milliseconds, after which a waiting tab
+/// resends its commands. Other frames do not count as such events.
 const QUIET: u64 = 20;
 
-/// Why a tab's command was not done.
+/// Why a script line was not executed.
 #[derive(Clone, Copy, Debug, PartialEq, Eq)]
 pub(crate) enum Undone {
-    /// The agent refuses it.
+    /// The agent refused the command.
     Refused,
-    /// It was waited for too long, or a file failed.
+    /// The wait took too long, or a file could not be read or written.
     Failed,
-    /// The tab ends.
+    /// The tab must end.
     Fault(ProcessFault),
 }
 
@@ -43,27 +43,28 @@ impl From<AgentFault> for Undone {
     }
 }
 
-/// A tab's locks and its link. What is sent goes out under the lock, so in the order in which the agent said it.
+/// A tab's locks and its link. Frames are written under the lock, so they leave in the order in
+/// which the agent issued them.
 #[derive(Drop)]
 pub(crate) struct Page {
     alloc: Global,
     link: UnixStream,
-    /// None until the welcome has come.
+    /// `None` before the welcome.
     locks: Option<TabLocks>,
-    /// What is written next.
+    /// Encoded frames to be written next.
     bytes: Vec<u8>,
     /// The number that the script waits for.
     awaited: Option<u32>,
-    /// The query that was answered last, with its answer, until the script takes it.
+    /// The last answered query with its answer, until the script takes it.
     answer: Option<(u32, Snapshot)>,
-    /// Whether something has come that may end its waiting.
+    /// Whether an event arrived that may end the script's wait.
     has_come: bool,
-    /// How the link has ended.
+    /// The fault with which the link ended.
     end: Option<ProcessFault>,
 }
 
 impl Page {
-    /// Appends the message of a command, where a generation is entered.
+    /// Appends a command's message, if a generation has been entered.
     fn say(&mut self, number: u32) -> Result<(), ProcessFault> {
         let Some(locks) = &self.locks else {
             return Ok(());
@@ -72,7 +73,7 @@ impl Page {
         self.append_said(&said)
     }
 
-    /// Appends what the agent says of a command, which is nothing before a generation is entered.
+    /// Appends a message of the agent. There is none before a generation is entered.
     fn append_said(&mut self, said: &Result<Frame, MessageFault>) -> Result<(), ProcessFault> {
         match said {
             Ok(frame) => self.append_one(frame),
@@ -81,7 +82,8 @@ impl Page {
         }
     }
 
-    /// Appends all that may not have come to the broker: the report, if it is due, and commands.
+    /// Appends everything that the broker may not have received: the report, if it is due, and
+    /// commands.
     fn say_again(&mut self) -> Result<(), ProcessFault> {
         let Some(locks) = &self.locks else {
             return Ok(());
@@ -93,7 +95,7 @@ impl Page {
         self.say_from(0, due.numbers.as_slice())
     }
 
-    /// Appends the report, where a generation is entered, and gives its base.
+    /// Appends the report, if a generation has been entered, and returns its base.
     fn say_report(&mut self) -> Result<u32, ProcessFault> {
         let Some(locks) = &self.locks else {
             return Ok(0);
@@ -109,7 +111,7 @@ impl Page {
         }
     }
 
-    /// Appends the commands of these numbers that are not below the base of a report, which tells of those below.
+    /// Appends the commands of these numbers, except those below the base, which the report covers.
     fn say_from(&mut self, base: u32, numbers: &[u32]) -> Result<(), ProcessFault> {
         for number in numbers {
             if *number >= base {
@@ -131,7 +133,7 @@ impl Page {
         Ok(())
     }
 
-    /// Writes what was said.
+    /// Writes the appended frames.
     fn send(&mut self) -> Result<(), ProcessFault> {
         if self.bytes.is_empty() {
             return Ok(());
@@ -142,7 +144,7 @@ impl Page {
         written.map_err(|_| ProcessFault::Write)
     }
 
-    /// Says and writes the message of a command.
+    /// Appends and writes a command's message.
     fn tell(&mut self, number: u32) -> Result<(), ProcessFault> {
         self.say(number)?;
         self.send()
@@ -184,7 +186,7 @@ impl Page {
         }
     }
 
-    /// Issues a query, and gives its number; None before the welcome.
+    /// Issues a query and returns its number. Returns `None` before the welcome.
     fn query(&mut self) -> Result<Option<u32>, Undone> {
         let Some(locks) = &mut self.locks else {
             return Ok(None);
@@ -194,7 +196,8 @@ impl Page {
         Ok(Some(number))
     }
 
-    /// How the waiting for a number ends; None where it is asked still, and is awaited from now on.
+    /// Returns the result of waiting for a number. If it is still pending, records it as awaited
+    /// and returns `None`.
     fn look(&mut self, number: u32) -> Option<Result<Option<Snapshot>, Undone>> {
         if let Some(fault) = self.end {
             return Some(Err(Undone::Fault(fault)));
@@ -207,7 +210,7 @@ impl Page {
         Some(Ok(self.take_answer(number)))
     }
 
-    /// Whether a number is asked still.
+    /// Returns true if the request or query of this number is pending.
     fn is_open(&self, number: u32) -> bool {
         match &self.locks {
             Some(locks) => locks.is_open(number),
@@ -215,7 +218,7 @@ impl Page {
         }
     }
 
-    /// The answer of this query, if it has come.
+    /// Takes the answer to this query, if it has arrived.
     fn take_answer(&mut self, number: u32) -> Option<Snapshot> {
         let (query, snapshot) = self.answer.take()?;
         if query == number {
@@ -225,7 +228,8 @@ impl Page {
         None
     }
 
-    /// Nothing that may end the waiting has come for a while: what may be lost is sent again, unless that was done too often.
+    /// Resends all that may be lost, after an interval without an event that could end the wait.
+    /// Fails with `Failed` after too many resends.
     fn resend(&mut self, patience: &mut Patience) -> Result<(), Undone> {
         match patience.quiet() {
             Next::Resend => {
@@ -236,7 +240,8 @@ impl Page {
         }
     }
 
-    /// Takes in a frame that has come. The first one has to be a welcome. One that memory refuses is lost, and comes again.
+    /// Handles a frame from the kernel. The first one must be a welcome. A frame dropped for lack
+    /// of memory comes again after a resend.
     fn take(&mut self, frame: &Frame) -> Result<(), ProcessFault> {
         let Some(locks) = &mut self.locks else {
             return self.welcome(frame);
@@ -247,14 +252,14 @@ impl Page {
         }
     }
 
-    /// The tab is welcomed by this frame.
+    /// Handles the welcome.
     fn welcome(&mut self, frame: &Frame) -> Result<(), ProcessFault> {
         self.locks = Some(welcomed(self.alloc, frame)?);
         self.has_come = true;
         Ok(())
     }
 
-    /// A frame was delivered, and this came of it.
+    /// Handles the agent's result of a delivery.
     fn hear(&mut self, said: Said) -> Result<(), ProcessFault> {
         match said {
             Said::Entered { .. } => return self.enter(),
@@ -268,14 +273,14 @@ impl Page {
         Ok(())
     }
 
-    /// This number is not asked any more.
+    /// Records that this number is decided.
     fn note(&mut self, number: u32) {
         if self.awaited == Some(number) {
             self.has_come = true;
         }
     }
 
-    /// A generation is entered: its report is said, and what the report does not tell of.
+    /// Enters a generation: appends the report, and the commands that the report does not cover.
     fn enter(&mut self) -> Result<(), ProcessFault> {
         self.has_come = true;
         let base = self.say_report()?;
@@ -294,7 +299,7 @@ impl Page {
     }
 }
 
-/// The base of a report.
+/// Returns the base of a report.
 fn base_of(report: &[Frame]) -> u32 {
     match report.first() {
         Some(Frame::Report(report)) => report.base,
@@ -303,7 +308,7 @@ fn base_of(report: &[Frame]) -> u32 {
     }
 }
 
-/// A page that two threads share.
+/// A page shared by two threads.
 #[derive(Drop)]
 pub(crate) struct SharedPage {
     page: Mutex<Page>,
@@ -327,9 +332,9 @@ impl SharedPage {
         }
     }
 
-    // ---- the thread that reads the link
+    // The thread that reads the link
 
-    /// Takes in frames that have come, and wakes the script where they may end its waiting.
+    /// Handles arrived frames, and wakes the script if they may end its wait.
     pub(crate) fn take<R: Host>(&self, rt: &R, frames: Vec<Frame>) -> Result<(), ProcessFault> {
         let mut page = self.page.lock(rt);
         let taken = page.take_all(frames.as_slice());
@@ -341,7 +346,7 @@ impl SharedPage {
         taken
     }
 
-    /// The link has ended.
+    /// Records the end of the link and wakes the script.
     pub(crate) fn end<R: Host>(&self, rt: &R, fault: ProcessFault) {
         let mut page = self.page.lock(rt);
         page.end = Some(fault);
@@ -349,9 +354,10 @@ impl SharedPage {
         self.came.notify_one();
     }
 
-    // ---- the thread that runs the script
+    // The thread that runs the script
 
-    /// Waits until the tab has been welcomed, as long as it waits for a lock at most: a welcome that was lost does not come.
+    /// Waits for the welcome, for at most as long as for a lock. Fails with `Read` on timeout,
+    /// because a lost welcome is not sent again.
     pub(crate) fn wait_for_welcome<R: Host>(&self, rt: &R) -> Result<(), ProcessFault> {
         let most = Duration::from_millis(QUIET * u64::from(RESEND_LIMIT));
         let (page, result) = self
@@ -366,7 +372,7 @@ impl SharedPage {
         }
     }
 
-    /// Whether the link has ended.
+    /// Fails with the link's fault if the link has ended.
     pub(crate) fn check<R: Host>(&self, rt: &R) -> Result<(), ProcessFault> {
         match self.page.lock(rt).end {
             Some(fault) => Err(fault),
@@ -390,7 +396,7 @@ impl SharedPage {
         self.page.lock(rt).abort(number)
     }
 
-    /// Issues a query, waits for it, and gives its answer; None where it is lost.
+    /// Issues a query and waits for its answer. Returns `None` if the query is lost.
     pub(crate) fn query<R: Host>(&self, rt: &R) -> Result<Option<Snapshot>, Undone> {
         let asked = self.page.lock(rt).query()?;
         match asked {
@@ -399,8 +405,10 @@ impl SharedPage {
         }
     }
 
-    /// Waits until a number is not asked any more, and gives the answer of a query that is whole. It is woken by the delivery
-    /// that ends the waiting; while there is none for a while, it sends again what may not have come.
+    /// Waits until a number is decided. Returns the answer if it is that of a complete query.
+    ///
+    /// The delivery that ends the wait wakes this thread. After each quiet interval the tab resends
+    /// all that may be lost.
     pub(crate) fn wait<R: Host>(&self, rt: &R, number: u32) -> Result<Option<Snapshot>, Undone> {
         let mut patience = Patience::new();
         let mut page = self.page.lock(rt);
@@ -421,7 +429,7 @@ impl SharedPage {
     }
 }
 
-/// The locks of a tab, of which its welcome tells. The first frame has to be one.
+/// Creates a tab's locks from its welcome. Fails with `Unexpected` for any other frame.
 fn welcomed(alloc: Global, frame: &Frame) -> Result<TabLocks, ProcessFault> {
     match frame {
         Frame::Welcome(welcome) => Ok(TabLocks::new(alloc, welcome.tab)),

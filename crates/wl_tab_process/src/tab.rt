@@ -1,4 +1,4 @@
-//! A tab's process: one thread reads its link and delivers what comes, another runs its script.
+//! A tab's process: one thread reads the link and delivers frames, another runs the script.
 
 use crate::page::{SharedPage, Undone};
 use std::alloc::{AllocError, Global};
@@ -15,7 +15,7 @@ use wl_process_script::{TabLine, count_of, put_count, read_tab_line};
 use wl_snapshots::snapshot_json;
 use wl_words::Unread;
 
-/// Runs one tab's script over a socket of the kernel, to its end or the end of the link.
+/// Runs one tab's script over a socket of the kernel, until the script or the link ends.
 pub fn run_tab<R: Host>(
     rt: R,
     alloc: Global,
@@ -25,13 +25,14 @@ pub fn run_tab<R: Host>(
     let link = rt.connect(socket).map_err(ProcessFault::of_device)?;
     let (page, reader) = start_reader(rt, alloc, &link)?;
     let ran = run(&rt, alloc, &page, script);
-    // What has come and was not read is read to the end now.
+    // The reader drains the unread input.
     let _ = link.shutdown(Shutdown::Both);
     reader.join(&rt);
     ran
 }
 
-/// Starts the thread that reads this link, and gives what it shares with the script.
+/// Starts the thread that reads the link. Returns the state it shares with the script, and its
+/// handle.
 fn start_reader<R: Host>(
     rt: R,
     alloc: Global,
@@ -55,7 +56,7 @@ fn start_reader<R: Host>(
     Ok((page, reader))
 }
 
-/// Delivers what comes over the link, to its end.
+/// Delivers all frames of the link.
 fn read_link<R: Host>(
     rt: &R,
     alloc: Global,
@@ -80,7 +81,8 @@ fn deliver_all<R: Host, S: Read>(
     Err(ProcessFault::TooManyReads)
 }
 
-/// Reads what still comes over a link to its end: one that is closed over unread bytes ends as a fault.
+/// Reads and discards the rest of a link's input. Closing a socket with unread bytes would look
+/// like a fault to the peer.
 fn drain(link: &UnixStream) {
     let mut buffer = [0; PIECE_LEN];
     let mut reader = link;
@@ -102,7 +104,7 @@ fn run<R: Host>(rt: &R, alloc: Global, page: &SharedPage, path: &str) -> Result<
     Ok(())
 }
 
-/// Runs the line of this number.
+/// Runs one line.
 fn run_line<R: Host>(
     rt: &R,
     alloc: Global,
@@ -117,7 +119,7 @@ fn run_line<R: Host>(
     }
 }
 
-/// What came of the line of this number.
+/// Maps the result of a line to that of the process.
 fn at_line(number: u64, done: Result<(), Undone>) -> Result<(), ProcessFault> {
     match done {
         Ok(()) => Ok(()),
@@ -127,7 +129,7 @@ fn at_line(number: u64, done: Result<(), Undone>) -> Result<(), ProcessFault> {
     }
 }
 
-/// Does what a line says.
+/// Executes a line.
 fn obey<R: Host>(rt: &R, alloc: Global, page: &SharedPage, line: &TabLine) -> Result<(), Undone> {
     match line {
         TabLine::Blank => Ok(()),
@@ -141,13 +143,13 @@ fn obey<R: Host>(rt: &R, alloc: Global, page: &SharedPage, line: &TabLine) -> Re
     }
 }
 
-/// Waits until a number is not asked any more.
+/// Waits until a number is decided.
 fn wait<R: Host>(rt: &R, page: &SharedPage, number: u32) -> Result<(), Undone> {
     let _answer = page.wait(rt, number)?;
     Ok(())
 }
 
-/// Asks for a snapshot, and prints it.
+/// Requests a snapshot and prints it.
 fn print_snapshot<R: Host>(rt: &R, alloc: Global, page: &SharedPage) -> Result<(), Undone> {
     let answer = page.query(rt)?;
     let Ok(text) = text_of(alloc, answer.as_ref()) else {
@@ -159,7 +161,7 @@ fn print_snapshot<R: Host>(rt: &R, alloc: Global, page: &SharedPage) -> Result<(
     Ok(())
 }
 
-/// What is printed for the answer of a query.
+/// Returns the output line for the answer to a query.
 fn text_of(alloc: Global, answer: Option<&Snapshot>) -> Result<String, AllocError> {
     match answer {
         Some(snapshot) => snapshot_json(alloc, snapshot),
@@ -167,8 +169,8 @@ fn text_of(alloc: Global, answer: Option<&Snapshot>) -> Result<String, AllocErro
     }
 }
 
-/// Adds one to the number of a counter's file. It is written over the old one, which is never longer, so that the file has
-/// a number at each moment.
+/// Increments the number in a counter file. The new text is written over the old one and is never
+/// shorter, so the file holds a number at every moment.
 fn add<R: Host>(rt: &R, alloc: Global, path: &str) -> Result<(), Undone> {
     let text = rt.read_file(path).map_err(|error| match error.kind() {
         ErrorKind::OutOfMemory => Undone::Fault(ProcessFault::Memory),

@@ -1,4 +1,4 @@
--- What an indexed table keeps true.
+-- Invariant of an indexed table.
 use Rattle.std.specs.Prelude.{◌≡◌, []}
 use Rattle.wl_index.specs.Index.{IsIndexed, IsLean}
 use Rattle.wl_index.specs.Nexts.{AreCandidates}

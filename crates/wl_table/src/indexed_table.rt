@@ -1,3 +1,4 @@
+//! Lock table with indexes.
 ghost use Rattle.std.specs.Prelude.{◌≡◌, [], ◌∷◌, true, IfOk, OnOk, OnErr};
 ghost use Rattle.wl_draft.specs.Locks.{is_grantable, row_of, grants, probed};
 
@@ -8,15 +9,15 @@ use std::mem;
 use wl_draft::{Entry, Grant, Mode, Name, Row, Standing, rows_of};
 use wl_index::{Candidates, Index};
 
-/// A lock table with an index of its names and one of its clients: what a command costs does not grow with what others
-/// hold or wait for.
+/// A lock table with an index of its names and an index of its clients. The cost of a command does
+/// not grow with the locks and requests of other clients.
 #[derive(Drop)]
 pub struct IndexedTable {
     alloc: Global,
     index: Index,
-    // Whatever can be granted now is among them. None is left once the table is settled.
+    // Every grantable request is among the candidates. A settled table has none.
     candidates: Candidates,
-    // Room for what a command grants. Between commands nothing is in it.
+    // Buffer for the grants of a command. It is empty between commands.
     granted: Vec<Grant>,
 }
 
@@ -52,7 +53,7 @@ impl LockTable for IndexedTable {
         name: &Name,
         mode: Mode,
     ) -> Result<Vec<Grant>, AllocError> {
-        // Where nothing else can be granted, it is granted alone or waits.
+        // If nothing else is grantable, the request is granted alone or waits.
         if self.candidates.is_empty() && self.index.lines.is_next(name, mode) {
             return self.grant_at_once(client, number, name, mode);
         }
@@ -162,7 +163,7 @@ impl LockTable for IndexedTable {
 }
 
 impl IndexedTable {
-    // Holds a lock that can be granted now.
+    // Holds a lock that is grantable.
     fn grant_at_once(
         &mut self,
         client: u16,
@@ -185,7 +186,8 @@ impl IndexedTable {
     }
 }
 
-// What was granted, in a list of its own size. Where there is no memory for one, it is the list with all its room.
+// Returns the grants in a list of exact size. If that cannot be allocated, returns the buffer
+// itself.
 fn hand_out(alloc: Global, granted: &mut Vec<Grant>) -> Vec<Grant>
     ensures value { result.items ≡ granted.old.items }
     ensures emptied { granted.new.items ≡ [] }

@@ -1,4 +1,4 @@
-//! Lock tables: the lock manager of one partition behind a trait, whichever way it is kept.
+//! Lock tables: a trait for the lock manager of one partition, and two implementations.
 #![tactic(auto)]
 
 pub mod indexed_table;

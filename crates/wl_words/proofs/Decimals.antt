@@ -1,4 +1,4 @@
--- Numbers in decimal, written and read.
+-- Lemmas on writing and reading decimal numbers.
 use Rattle.std.proofs.Common.{◌≡◌, ℕ, ◌^◌, ◌<◌, min, true, false, Bool, not, List, length, get_or, Some, None, refl, sym, ap, ◌∙◌, inl, inr, arith, rules}
 use Rattle.std.specs.Prelude.{decimal, nat_lt, ◌&&◌}
 use Rattle.std.specs.Str.{all_ascii_digits}
@@ -12,7 +12,7 @@ use Rattle.wl_words.proofs.Numbers.{number_by, all_on}
 own : IsNumeralModel (λ ds. all_ascii_digits ds ≡ true) (value_after 0)
 own = numerals_by_fold _ tells_all_ascii_digits value_after (search rules)
 
--- ---- what is written is a number
+-- Written decimals are numbers
 
 leading_off : (ds : List ℕ) → 48 < get_or ds 0 0 → has_leading_zero ds ≡ false
 leading_off ds above = grind (arith, nat_tests)
@@ -35,9 +35,9 @@ reads_numbers_back n most le fits =
     let value = digits_value-decimal own n (omega arith) in
     number_by most (decimal n) true (decimal_is n (omega arith)) ∙ ap (λ (v : ℕ). Some v) (ap (λ v. min v most) value ∙ omega arith)
 
--- ---- what is read is a decimal
+-- Numbers read are decimals
 
--- the parts of what makes a number
+-- The three conditions of a number, taken apart.
 parts : (a b d : Bool) → (a && not b && d) ≡ true → (a ≡ true) × (b ≡ false) × (d ≡ true)
 parts true false true e = (refl, refl, refl)
 parts true false false e = absurd cc

@@ -1,4 +1,4 @@
--- Reading numbers.
+-- Lemmas on reading numbers.
 use Rattle.std.proofs.Common.{◌≡◌, ℕ, ◌+◌, ◌-◌, ◌*◌, ◌≤◌, ◌<◌, min, true, false, Bool, not, ◌&&◌, List, [], ◌∷◌, length, drop, get_or, Some, None, refl, sym, ap, ◌∙◌, inl, inr, arith}
 use Rattle.std.specs.Prelude.{nat_lt, if◌then◌else◌}
 use Rattle.std.specs.Char.{is_ascii_digit}
@@ -11,12 +11,12 @@ use Rattle.wl_words.specs.declared.unread.Unread.TheVariants as unread
 use Rattle.wl_words.specs.Words.{Fails}
 use Rattle.wl_words.specs.Reading.{has_leading_zero, is_number, value_after, number_at}
 
--- numbers that are the same up to the most stay so under more digits
+-- Two values that agree up to the cap still agree after more digits.
 value_after-capped : (most n m : ℕ) (ds : List ℕ) → min n most ≡ min m most → min (value_after n ds) most ≡ min (value_after m ds) most
 value_after-capped most n m [] e = e
 value_after-capped most n m (d ∷ ds) e = value_after-capped most (10 * n + (d - 48)) (10 * m + (d - 48)) ds (omega arith)
 
--- one digit more
+-- Reading one more digit.
 pub one_more : (most n m : ℕ) (ds : List ℕ) (i : ℕ) → i < length ds → m ≡ min (min (n * 10) most + (get_or ds i 0 - 48)) most
     → min (value_after m (drop (i + 1) ds)) most ≡ min (value_after n (drop i ds)) most
 one_more most n m ds i lt e =
@@ -31,7 +31,7 @@ more_digits ds i lt e = at_drop_more all_ascii_digits ds i 0 lt ∙ ap (λ b. b 
 pub odd_digit : (ds : List ℕ) (i : ℕ) → i < length ds → is_ascii_digit (get_or ds i 0) ≡ false → all_ascii_digits (drop i ds) ≡ false
 odd_digit ds i lt e = at_drop_more all_ascii_digits ds i 0 lt ∙ ap (λ b. b && all_ascii_digits (drop (i + 1) ds)) e
 
--- ---- what is a number
+-- Conditions of a number
 
 pub number_by : (most : ℕ) (ds : List ℕ) (b : Bool) → is_number ds ≡ b → number_at most ds ≡ (if b then Some (min (value_after 0 ds) most) else None)
 unfolding number_at
@@ -74,7 +74,7 @@ number_is most ds n i some leading le digits value fits =
     number_by most ds true (all_on (nat_lt 0 (length ds)) (has_leading_zero ds) (all_ascii_digits ds) first leading all)
     ∙ ap (λ (v : ℕ). Some v) same
 
--- ---- a lesser most
+-- Lower caps
 
 pub capped_number : (a b : ℕ) (ds : List ℕ) (n : ℕ) → b ≤ a → number_at a ds ≡ Some n → number_at b ds ≡ Some (min n b)
 capped_number a b ds n le e =

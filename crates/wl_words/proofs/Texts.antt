@@ -1,4 +1,4 @@
--- Texts that are UTF-8.
+-- Lemmas on UTF-8 texts.
 use Rattle.std.proofs.Common.{◌≡◌, ℕ, List, Some, None, refl}
 use Rattle.std.specs.Str.{IsUtf8, is_utf8}
 use Rattle.std.proofs.lemmas.Bool.{false_from_ne_true}

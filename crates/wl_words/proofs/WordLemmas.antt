@@ -45,7 +45,7 @@ decodes_back (b ∷ bytes) small =
     decoded_more b (flat_map escaped bytes) (All-head (λ x. x < 256) b bytes small)
     ∙ ap (λ xs. b ∷ xs) (decodes_back bytes (All-tail (λ x. x < 256) b bytes small))
 
--- the word of a text that is not empty is not `%`
+-- The word of a non-empty text is not `%`.
 longer : (b : ℕ) (bytes : List ℕ) → word_of (b ∷ bytes) ≡ 37 ∷ [] → ⊥
 unfolding word_of
 longer b bytes e =
@@ -70,7 +70,7 @@ unfolding word_of
 word_of_some [] h = absurd (omega arith)
 word_of_some (b ∷ bytes) h = refl
 
--- how a word is read
+-- The word `%` is read as the empty text.
 pub read_percent : (word : List ℕ) → word ≡ 37 ∷ [] → unescaped word ≡ Some []
 unfolding unescaped
 read_percent word e =

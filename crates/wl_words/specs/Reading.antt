@@ -1,4 +1,4 @@
--- What the words of a line are, and what each says.
+-- The words of a line, and the meaning of each.
 use Rattle.std.specs.Prelude.{◌≡◌, ℕ, ◌+◌, ◌-◌, ◌*◌, ◌^◌, ◌<◌, ◌≤◌, min, nat_lt, nat_le, ◌==◌, Bool, false, not, ◌&&◌, List, [], ◌∷◌, length, map, slice_index, Option, Some, None, option_and_then, bytes_eq, codes, decimal, if◌then◌else◌}
 use Rattle.std.specs.Str.{is_utf8, all_ascii_digits}
 use Rattle.std.specs.List.{slice_split}
@@ -13,9 +13,9 @@ infixl 10 ◌>>=◌
 abbrev pub ◌>>=◌ : {A B : Type 0} → Option A → (A → Option B) → Option B
 o >>= f = option_and_then f o
 
--- ---- lines
+-- Lines
 
--- the words are what stands between single spaces
+-- The parts of a text between spaces.
 abbrev pub words_of : List ℕ → List (List ℕ)
 words_of text = slice_split (λ b. b == 32) text
 
@@ -23,7 +23,8 @@ abbrev pub begins_comment : List ℕ → Bool
 begins_comment [] = false
 begins_comment (b ∷ bs) = b == 35
 
--- a line over the limit has none; an empty one and a comment say nothing
+-- The words of a line. A line over the limit has no reading. An empty line and a comment have no
+-- words.
 unfoldable pub line_words_at : List ℕ → Option (List (List ℕ))
 line_words_at text =
     if nat_lt LINE_LIMIT (length text) then None
@@ -31,11 +32,11 @@ line_words_at text =
     else if begins_comment text then Some []
     else Some (words_of text)
 
--- words as their texts
+-- The texts of borrowed words.
 abbrev pub texts : List (Bor (List ℕ)) → List (List ℕ)
 texts words = map (λ w. w.now) words
 
--- ---- just so many words
+-- Exact word counts
 
 abbrev pub one : List (List ℕ) → Option (List ℕ)
 one (a ∷ []) = Some a
@@ -53,35 +54,35 @@ abbrev pub none : List (List ℕ) → Option ℕ
 none [] = Some 0
 none words = None
 
--- ---- numbers
+-- Numbers
 
 abbrev pub has_leading_zero : List ℕ → Bool
 has_leading_zero ds = nat_lt 1 (length ds) && slice_index ds 0 == 48
 
--- decimal digits without a leading zero
+-- The digits are decimal, with no leading zero.
 abbrev pub is_number : List ℕ → Bool
 is_number ds = nat_lt 0 (length ds) && not (has_leading_zero ds) && all_ascii_digits ds
 
--- the value of digits after those of n
+-- The value of digits that follow the digits of n.
 abbrev pub value_after : ℕ → List ℕ → ℕ
 value_after n [] = n
 value_after n (d ∷ ds) = value_after (10 * n + (d - 48)) ds
 
--- the number, if it is one; a number above the most is the most, since nothing has so great a number
+-- The number that a word spells, capped at `most`. No command or object has a number above the cap.
 unfoldable pub number_at : ℕ → List ℕ → Option ℕ
 number_at most word = if is_number word then Some (min (value_after 0 word) most) else None
 
--- the greatest number of anything but a command
+-- The cap of all numbers except command numbers: the largest `u64`.
 abbrev pub most_number : ℕ
 most_number = 18446744073709551615
 
--- a tab is 1 to the last one
+-- The number of a tab, 1 to `LAST_TAB`.
 unfoldable pub tab_at : List ℕ → Option ℕ
 tab_at word = do
   n ← number_at most_number word
   if nat_le 1 n && nat_le n LAST_TAB then Some n else None
 
--- ---- other words
+-- Other words
 
 unfoldable pub mode_at : List ℕ → Option Mode
 mode_at word =
@@ -89,24 +90,24 @@ mode_at word =
     else if bytes_eq word (codes "exclusive") then Some Exclusive
     else None
 
--- text, if it is UTF-8
+-- The text of bytes, if they are UTF-8.
 abbrev pub text_of : List ℕ → Option (List ℕ)
 text_of text = if is_utf8 text then Some text else None
 
--- a lock's or a channel's name
+-- The name of a lock or a channel.
 unfoldable pub name_at : List ℕ → Option (List ℕ)
 name_at word = unescaped word >>= text_of
 
--- a URL, as the path of a file, stands as it is, and is not empty
+-- A URL or a file path: not empty and without escapes.
 unfoldable pub url_at : List ℕ → Option (List ℕ)
 url_at word = if length word == 0 then None else text_of word
 
--- ---- laws
+-- Laws
 
--- reading a number undoes writing it
+-- Reading a number's decimal returns the number.
 abbrev pub ReadsNumbersBack : Type 0
 ReadsNumbersBack = (n most : ℕ) → n ≤ most → most < 2 ^ 64 → number_at most (decimal n) ≡ Some n
 
--- nothing but its decimal is read as a number below the most
+-- A number below the cap is read only from its decimal.
 abbrev pub HasOneDecimal : Type 0
 HasOneDecimal = (word : List ℕ) (n most : ℕ) → n < most → most < 2 ^ 64 → number_at most word ≡ Some n → word ≡ decimal n

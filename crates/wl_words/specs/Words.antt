@@ -6,40 +6,41 @@ use Rattle.percent_encoding.specs.Percent.{percent_decode}
 use Rattle.wl_words.specs.declared.unread.Unread.{Unread}
 use Rattle.wl_words.specs.declared.unread.Unread.TheVariants as unread
 
--- a byte that stands for itself: 21 to 7E in hexadecimal, other than `%`
+-- The byte needs no escape: it is 21 to 7E in hexadecimal, other than `%`.
 abbrev pub is_plain : ℕ → Bool
 is_plain b = nat_le 33 b && nat_le b 126 && not (b == 37)
 
--- each other byte is `%` and two upper case hexadecimal digits
+-- The spelling of a byte. A byte that needs an escape is `%` and two uppercase hexadecimal digits.
 unfoldable pub escaped : ℕ → List ℕ
 escaped b = if is_plain b then b ∷ [] else 37 ∷ digit_glyph true (b / 16) ∷ digit_glyph true (b % 16) ∷ []
 
--- the word of a text; that of the empty text is `%`
+-- The word of a text. The word of the empty text is `%`.
 unfoldable pub word_of : List ℕ → List ℕ
 word_of [] = 37 ∷ []
 word_of (b ∷ bs) = flat_map escaped (b ∷ bs)
 
--- these bytes, if this is their word
+-- These bytes, if the word is theirs.
 abbrev pub if_word_of : List ℕ → List ℕ → Option (List ℕ)
 if_word_of bytes word = if bytes_eq (word_of bytes) word then Some bytes else None
 
--- the text whose word this is
+-- The text of a word.
 unfoldable pub unescaped : List ℕ → Option (List ℕ)
 unescaped word = if bytes_eq word (37 ∷ []) then Some [] else if_word_of (percent_decode word) word
 
--- ---- laws
+-- Laws
 
--- reading undoes writing
+-- Reading the word of a text returns the text.
 abbrev pub ReadsBack : Type 0
 ReadsBack = (bytes : List ℕ) → All (λ b. b < 256) bytes → unescaped (word_of bytes) ≡ Some bytes
 
--- nothing but the word of a text is read as that text
+-- A text is read only from its word.
 abbrev pub HasOneSpelling : Type 0
 HasOneSpelling = (word bytes : List ℕ) → unescaped word ≡ Some bytes → word ≡ word_of bytes
 
--- ---- what reading answers
+-- Results of parsing functions
 
--- What a function answered, seen by view, is what reading gives, unless memory was refused.
+-- A parsing function's result, seen through a view, agrees with the definition unless memory ran
+-- out.
 abbrev pub Fails : {Y : Type 0} → Unread → Option Y → Type 0
 Fails unread.Memory read = ⊤
 Fails unread.Form read = read ≡ None

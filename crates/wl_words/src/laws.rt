@@ -1,15 +1,17 @@
-//! Laws over the definitions.
+//! Laws over the definitions of words and numbers.
 
 ghost use Rattle.wl_words.specs.Reading.{ReadsNumbersBack, HasOneDecimal};
 ghost use Rattle.wl_words.specs.Words.{ReadsBack, HasOneSpelling};
 
-/// The law of words: each text has one, and reading it gives the text.
+/// States the laws of words: reading the word of a text returns the text, and each text has one
+/// word.
 pub fn law_words()
     ensures reads_back { ReadsBack }
     ensures one_spelling { HasOneSpelling }
 {}
 
-/// The law of numbers: reading a number's decimal gives the number, and nothing else is read as one below the greatest.
+/// States the laws of numbers: reading a decimal returns its number, and each number below the cap
+/// has one spelling.
 pub fn law_numbers()
     ensures reads_back { ReadsNumbersBack }
     ensures one_decimal { HasOneDecimal }

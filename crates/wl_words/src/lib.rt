@@ -1,4 +1,4 @@
-//! The words of scripts: how names, data and numbers are spelled in lines, and how they are read and written.
+//! The words of script lines: spelling, parsing and printing of names, data and numbers.
 #![tactic(auto)]
 
 pub mod laws;

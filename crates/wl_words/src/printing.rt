@@ -1,4 +1,4 @@
-//! Texts and numbers as they are printed. What is put is appended to what was written before.
+//! Printing of texts and numbers. Each function appends to the output.
 
 ghost use Rattle.std.specs.Prelude.{◌≡◌, ◌++◌, OnOk, decimal};
 ghost use Rattle.wl_words.specs.Printing.{numbered, mode_text};
@@ -7,7 +7,7 @@ use itoa::Buffer;
 use std::alloc::AllocError;
 use wl_draft::Mode;
 
-/// The word of a mode.
+/// Returns the word of a lock mode.
 #[tactic(auto, unfolding(crate::specs::Printing::mode_text))]
 pub fn mode_word(mode: Mode) -> &'static str
     ensures { result.now ≡ mode_text mode }
@@ -18,14 +18,14 @@ pub fn mode_word(mode: Mode) -> &'static str
     }
 }
 
-/// A text as it stands.
+/// Appends a text unchanged.
 pub fn put(out: &mut Vec<u8>, text: &str) -> Result<(), AllocError>
     ensures { OnOk result (out.new.items ≡ out.old.items ++ text.now) }
 {
     out.extend_from_slice(text.as_bytes())
 }
 
-/// A number in decimal.
+/// Appends a number in decimal.
 pub fn put_number(out: &mut Vec<u8>, number: u64) -> Result<(), AllocError>
     ensures { OnOk result (out.new.items ≡ out.old.items ++ decimal number) }
 {
@@ -33,7 +33,7 @@ pub fn put_number(out: &mut Vec<u8>, number: u64) -> Result<(), AllocError>
     out.extend_from_slice(buffer.format(number).as_bytes())
 }
 
-/// A line of a word and a number.
+/// Appends a line of a word and a number.
 pub fn put_numbered(out: &mut Vec<u8>, word: &str, number: u64) -> Result<(), AllocError>
     ensures { OnOk result (out.new.items ≡ out.old.items ++ numbered word.now number) }
 {

@@ -1,4 +1,4 @@
-//! Reading the words of a line.
+//! Parsing of a line's words.
 
 ghost use Rattle.std.specs.Prelude.{◌≡◌, IfOk};
 ghost use Rattle.wl_words.specs.Reading.{has_leading_zero as leading_zero, number_at, tab_at, mode_at, name_at, text_of as text_at, url_at, none, one, two, three, line_words_at, words_of, texts, most_number};
@@ -14,10 +14,10 @@ use wl_draft::{Mode, Name};
 use wl_limits::scripts::LINE_LIMIT;
 use wl_limits::tabs::{LAST_NUMBER, LAST_TAB};
 
-// ---- lines
+// Lines
 
-/// The words of a line without its line feed. An empty line and a comment have none; a line over the limit is of another
-/// form.
+/// Splits a line, without its line feed, into words. An empty line and a comment have no words.
+/// Fails with `Form` if the line is longer than `LINE_LIMIT`.
 #[tactic(auto, unfolding(crate::specs::Reading::line_words_at))]
 pub fn line_words(alloc: Global, text: &[u8]) -> Result<Vec<&[u8]>, Unread>
     ensures { Gives (λ words. texts words.items) result (line_words_at text.now) }
@@ -31,16 +31,16 @@ pub fn line_words(alloc: Global, text: &[u8]) -> Result<Vec<&[u8]>, Unread>
     }
 }
 
-/// What stands between single spaces.
+/// Splits a text at every space.
 fn words_of(alloc: Global, text: &[u8]) -> Result<Vec<&[u8]>, AllocError>
     ensures { IfOk result (λ words. texts words.items ≡ words_of text.now) }
 {
     text.split(|byte| *byte == b' ').collect(alloc)
 }
 
-// ---- just so many words
+// Exact word counts
 
-/// There is no word.
+/// Checks that there is no word. Fails with `Form` otherwise.
 pub fn nothing(words: &[&[u8]]) -> Result<(), Unread>
     ensures { Gives (λ _. 0) result (none (texts words.now)) }
 {
@@ -50,7 +50,7 @@ pub fn nothing(words: &[&[u8]]) -> Result<(), Unread>
     }
 }
 
-/// The one word that there is.
+/// Returns the only word. Fails with `Form` if there is not exactly one.
 pub fn one<'a>(words: &[&'a [u8]]) -> Result<&'a [u8], Unread>
     ensures { Gives (λ x. x.now) result (one (texts words.now)) }
 {
@@ -60,7 +60,7 @@ pub fn one<'a>(words: &[&'a [u8]]) -> Result<&'a [u8], Unread>
     }
 }
 
-/// The two words that there are.
+/// Returns the two words. Fails with `Form` if there are not exactly two.
 pub fn two<'a>(words: &[&'a [u8]]) -> Result<(&'a [u8], &'a [u8]), Unread>
     ensures { Gives (λ x. (x.0.now, x.1.now)) result (two (texts words.now)) }
 {
@@ -70,7 +70,7 @@ pub fn two<'a>(words: &[&'a [u8]]) -> Result<(&'a [u8], &'a [u8]), Unread>
     }
 }
 
-/// The three words that there are.
+/// Returns the three words. Fails with `Form` if there are not exactly three.
 pub fn three<'a>(words: &[&'a [u8]]) -> Result<(&'a [u8], &'a [u8], &'a [u8]), Unread>
     ensures { Gives (λ x. (x.0.now, x.1.now, x.2.now)) result (three (texts words.now)) }
 {
@@ -80,7 +80,7 @@ pub fn three<'a>(words: &[&'a [u8]]) -> Result<(&'a [u8], &'a [u8], &'a [u8]), U
     }
 }
 
-// ---- numbers
+// Numbers
 
 fn has_leading_zero(word: &[u8]) -> bool
     ensures { result ≡ leading_zero word.now }
@@ -88,7 +88,8 @@ fn has_leading_zero(word: &[u8]) -> bool
     word.len() > 1 && word[0] == b'0'
 }
 
-/// What decimal digits without a leading zero write; a number above the greatest `u64` is read as that.
+/// Parses decimal digits without a leading zero. Caps the number at the largest `u64`. Returns
+/// `None` if the word is no number.
 pub fn decimal_of(word: &[u8]) -> Option<u64>
     ensures { result ≡ number_at most_number word.now }
 {
@@ -110,14 +111,15 @@ pub fn decimal_of(word: &[u8]) -> Option<u64>
     Some(number)
 }
 
-/// A number; one above the greatest `u64` is read as that.
+/// Parses a number, capped at the largest `u64`. Fails with `Form` if the word is no number.
 pub fn number_of(word: &[u8]) -> Result<u64, Unread>
     ensures { Gives (λ n. n) result (number_at most_number word.now) }
 {
     decimal_of(word).ok_or(Unread::Form)
 }
 
-/// The number of a command; one above the greatest `u32` is read as that.
+/// Parses a command's number, capped at the largest `u32`. Fails with `Form` if the word is no
+/// number.
 pub fn command_of(word: &[u8]) -> Result<u32, Unread>
     ensures { Gives (λ n. n) result (number_at LAST_NUMBER word.now) }
 {
@@ -125,7 +127,7 @@ pub fn command_of(word: &[u8]) -> Result<u32, Unread>
     Ok(number.min(u64::from(LAST_NUMBER)) as u32)
 }
 
-/// The number of a tab, 1 to 65,535.
+/// Parses a tab number, 1 to 65,535. Fails with `Form` for any other word.
 #[tactic(auto, unfolding(crate::specs::Reading::tab_at))]
 pub fn tab_of(word: &[u8]) -> Result<u16, Unread>
     ensures { Gives (λ n. n) result (tab_at word.now) }
@@ -137,9 +139,9 @@ pub fn tab_of(word: &[u8]) -> Result<u16, Unread>
     Ok(number as u16)
 }
 
-// ---- other words
+// Other words
 
-/// `shared` or `exclusive`.
+/// Parses a lock mode: `shared` or `exclusive`. Fails with `Form` for any other word.
 #[tactic(auto, unfolding(crate::specs::Reading::mode_at))]
 pub fn mode_of(word: &[u8]) -> Result<Mode, Unread>
     ensures { Gives (λ mode. mode) result (mode_at word.now) }
@@ -153,7 +155,7 @@ pub fn mode_of(word: &[u8]) -> Result<Mode, Unread>
     Err(Unread::Form)
 }
 
-/// Bytes as text; those that are not UTF-8 are of another form.
+/// Converts bytes to text. Fails with `Form` if they are not UTF-8.
 fn text_of(alloc: Global, text: &[u8]) -> Result<Name, Unread>
     ensures { Gives (λ name. name) result (text_at text.now) }
 {
@@ -161,7 +163,7 @@ fn text_of(alloc: Global, text: &[u8]) -> Result<Name, Unread>
     Ok(Name::new(String::from_str(alloc, text)?))
 }
 
-/// The name of a lock or a channel, whose word this is.
+/// Parses the name of a lock or a channel. Fails with `Form` if the word is not the word of a name.
 #[tactic(auto, unfolding(crate::specs::Reading::name_at))]
 pub fn name_of(alloc: Global, word: &[u8]) -> Result<Name, Unread>
     ensures { Gives (λ name. name) result (name_at word.now) }
@@ -170,7 +172,8 @@ pub fn name_of(alloc: Global, word: &[u8]) -> Result<Name, Unread>
     text_of(alloc, bytes.as_slice())
 }
 
-/// A URL or the path of a file: it stands as it is, and is not empty.
+/// Parses a URL or a file path, which has no escapes. Fails with `Form` if it is empty or not
+/// UTF-8.
 #[tactic(auto, unfolding(crate::specs::Reading::url_at))]
 pub fn url_of(alloc: Global, word: &[u8]) -> Result<Name, Unread>
     ensures { Gives (λ url. url) result (url_at word.now) }
@@ -181,7 +184,7 @@ pub fn url_of(alloc: Global, word: &[u8]) -> Result<Name, Unread>
     text_of(alloc, word)
 }
 
-/// The data of a post, whose word this is.
+/// Parses the data of a post. Fails with `Form` if the word is not the word of any data.
 pub fn data_of(alloc: Global, word: &[u8]) -> Result<Bytes, Unread>
     ensures { Gives (λ bytes. bytes) result (unescaped word.now) }
 {

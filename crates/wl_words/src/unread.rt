@@ -1,4 +1,4 @@
-//! Why a line, or a word of it, was not read.
+//! Reasons for not parsing a line or a word.
 
 ghost use Rattle.std.specs.Prelude.{◌≡◌};
 ghost use Rattle.wl_words.specs.declared.unread.Unread.TheVariants as unread;
@@ -6,12 +6,12 @@ ghost use Rattle.wl_words.specs.declared.unread.Unread.TheVariants as unread;
 use std::alloc::{AllocError, AllocFailed};
 use std::str::Utf8Error;
 
-/// Why a line, or a word of it, was not read.
+/// Why a line or a word of it was not parsed.
 #[derive(Clone, Copy, Debug, PartialEq, Eq)]
 pub enum Unread {
-    /// It is of another form.
+    /// Syntax error.
     Form,
-    /// Memory was refused.
+    /// Out of memory.
     Memory,
 }
 

@@ -1,4 +1,4 @@
-//! Words: how names, channels and data stand in scripts and replies.
+//! Spelling of names, channels and data as words of scripts and replies.
 
 ghost use Rattle.std.specs.Prelude.{◌≡◌, ◌<◌, ◌++◌, true, OnOk};
 ghost use Rattle.std.specs.Fmt.{digit_glyph};
@@ -8,14 +8,14 @@ use crate::unread::Unread;
 use percent_encoding::percent_decode;
 use std::alloc::{AllocError, Global};
 
-/// Whether the byte stands for itself.
+/// Returns true if the byte needs no escape.
 fn is_plain(byte: u8) -> bool
     ensures { result ≡ is_plain_byte byte }
 {
     b'!' <= byte && byte <= b'~' && byte != b'%'
 }
 
-/// The upper case hexadecimal digit of a number below 16.
+/// Returns the uppercase hexadecimal digit of a number below 16.
 fn hex_digit(number: u8) -> u8
     requires { number < 16 }
     ensures { result ≡ digit_glyph true number }
@@ -34,7 +34,8 @@ fn put_byte(out: &mut Vec<u8>, byte: u8) -> Result<(), AllocError>
     out.extend_from_slice(&[b'%', hex_digit(byte / 16), hex_digit(byte % 16)])
 }
 
-/// Appends the word of a text.
+/// Appends the word of a text: plain bytes as they are, others as `%` and two hexadecimal digits.
+/// The word of the empty text is `%`.
 #[tactic(auto, using(crate::proofs::WordLemmas::word_of_empty, crate::proofs::WordLemmas::word_of_some))]
 pub fn put_word(out: &mut Vec<u8>, bytes: &[u8]) -> Result<(), AllocError>
     ensures { OnOk result (out.new.items ≡ out.old.items ++ word_of bytes.now) }
@@ -49,7 +50,8 @@ pub fn put_word(out: &mut Vec<u8>, bytes: &[u8]) -> Result<(), AllocError>
     Ok(())
 }
 
-/// The text whose word this is.
+/// Parses a word and returns its text. Fails with `Form` if the word is not exactly the one that
+/// `put_word` writes for the text.
 #[tactic(auto, unfolding(crate::specs::Words::unescaped))]
 pub fn unescape(alloc: Global, word: &[u8]) -> Result<Vec<u8>, Unread>
     ensures { Gives (λ bytes. bytes.items) result (unescaped word.now) }

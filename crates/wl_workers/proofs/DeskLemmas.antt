@@ -1,4 +1,4 @@
--- Lemmas on what a desk does with one frame, with one list of frames after another, and with one piece after another.
+-- Lemmas on the desk's steps: over one frame, a list of frames and a piece of input.
 use Rattle.std.proofs.Common.{◌≡◌, ◌≢◌, ℕ, ◌+◌, ◌<◌, nat_eq, length, get_or, drop, List, [], ◌∷◌, ◌++◌, Bool, true, false, Option, Some, None, Result, Ok, Err, IfOk, OnErr, MatchResult, refl, sym, ap, subst, ◌∙◌, append_assoc, append-nil, arith}
 use Rattle.std.specs.Option.{is_some}
 use Rattle.std.specs.List.{AllByRecursion}
@@ -23,9 +23,9 @@ use Rattle.wl_workers.specs.DeskSteps.{state_of, IsSpeaking, spelled, due, IsBeg
 use Rattle.wl_broker.proofs.Speech.{spells_start, spells_taking, spells_burial}
 use Rattle.wl_encoding.proofs.Prefixes.{IsPrefixOf-append, append-IsPrefixOf, IsPrefixOf-trans}
 
--- ---- one frame
+-- One frame
 
--- a desk with no broker yet
+-- A desk without a broker is in its opening state.
 pub opening_of : (o : Option BrokerState) (d : DeskState) → state_of o ≡ d → o ≡ None → d ≡ Opening
 opening_of o d e none = sym e ∙ ap state_of none
 
@@ -76,7 +76,7 @@ pub step_dead_early : (d : Dead) → desk_step Opening (frame.Dead d) ≡ (Refus
 unfolding desk_step
 step_dead_early d = refl
 
--- what comes of a message that is dropped
+-- A dropped message leaves the broker unchanged and sends nothing.
 pub step_unanswered : (b after : BrokerState) (d : DeskState) (s : Stamped) (reason : Dropped) (r : Result (List Addressed) DeskFault) → d ≡ Serving b → after ≡ b
     → (reason ≢ dropped.Memory → taking b s ≡ Drops reason) → MatchResult r (λ outs. (outs ≡ []) × (reason ≢ dropped.Memory)) (λ e. e ≡ desk.Memory)
     → Steps d (frame.Stamped s) (Serving after) r
@@ -88,7 +88,7 @@ step_unanswered b after d s reason (Ok outs) serving same drops h = (
 )
 step_unanswered b after d s reason (Err e) serving same drops h = subst (λ x. Steps d (frame.Stamped s) (Serving after) (Err x)) (sym h) tt
 
--- any other frame is not expected
+-- Any other frame is unexpected.
 pub step_other : (d : DeskState) (f : Frame) → ((s : Start) → f ≡ frame.Start s → ⊥) → ((s : Stamped) → f ≡ frame.Stamped s → ⊥) → ((x : Dead) → f ≡ frame.Dead x → ⊥)
     → desk_step d f ≡ (Refused, [])
 unfolding desk_step
@@ -99,12 +99,12 @@ step_other Opening _ no_start no_stamped no_dead = refl
 step_other (Serving b) _ no_start no_stamped no_dead = refl
 step_other Refused f no_start no_stamped no_dead = refl
 
--- nothing is expected after a frame that was not
+-- After an unexpected frame, every frame is unexpected.
 pub step_refused : (f : Frame) → desk_step Refused f ≡ (Refused, [])
 unfolding desk_step
 step_refused f = refl
 
--- ---- what a frame makes the broker say has a spelling
+-- Frames that the broker sends can be encoded
 
 pub speaking_of : (o : Option BrokerState) (b : BrokerState) → o ≡ Some b → IsSpeaking (state_of o) → IsSpellable b
 speaking_of o b e h = subst (λ x. IsSpeaking (state_of x)) e h
@@ -128,7 +128,7 @@ pub unanswered_spells : (reason : Dropped) (r : Result (List Addressed) DeskFaul
 unanswered_spells reason (Ok outs) h = subst (AllByRecursion IsAddressed) (sym h.0) tt
 unanswered_spells reason (Err e) h = tt
 
--- ---- lists of frames
+-- Lists of frames
 
 pub after_refused : (fs : List Frame) → desk_after Refused fs ≡ Refused
 after_refused [] = refl
@@ -150,7 +150,7 @@ desk_outs-append d (f ∷ fs) gs =
 pub due-append : (d : DeskState) (fs gs : List Frame) → due d (fs ++ gs) ≡ due d fs ++ due (desk_after d fs) gs
 due-append d fs gs = ap spelled (desk_outs-append d fs gs) ∙ flat_map-append (λ a. spelling (frame.Addressed a)) (desk_outs d fs) (desk_outs (desk_after d fs) gs)
 
--- one frame, and then the others
+-- The output for a list of frames is the output for the first one followed by that for the others.
 pub due-cons : (d new : DeskState) (f : Frame) (fs : List Frame) (outs : List Addressed) → desk_step d f ≡ (new, outs) → due d (f ∷ fs) ≡ spelled outs ++ due new fs
 due-cons d new f fs outs e =
     ap (λ (r : DeskState × List Addressed). spelled (r.1 ++ desk_outs r.0 fs)) e
@@ -159,14 +159,14 @@ due-cons d new f fs outs e =
 pub desk_after-cons : (d new : DeskState) (f : Frame) (fs : List Frame) (outs : List Addressed) → desk_step d f ≡ (new, outs) → desk_after d (f ∷ fs) ≡ desk_after new fs
 desk_after-cons d new f fs outs e = ap (λ (r : DeskState × List Addressed). desk_after r.0 fs) e
 
--- a frame that is not expected is the last that counts
+-- An unexpected frame refuses all frames after it.
 pub after_unexpected : (d : DeskState) (f : Frame) (fs : List Frame) → desk_step d f ≡ (Refused, []) → IsRefused (desk_after d (f ∷ fs))
 after_unexpected d f fs e = subst IsRefused (sym (desk_after-cons d Refused f fs [] e ∙ after_refused fs)) tt
 
 pub due_unexpected : (d : DeskState) (f : Frame) (fs : List Frame) → desk_step d f ≡ (Refused, []) → due d (f ∷ fs) ≡ []
 due_unexpected d f fs e = due-cons d Refused f fs [] e ∙ ap spelled (outs_refused fs)
 
--- a desk that is before its first frame has had none
+-- A broker's decision never returns the desk to its opening state.
 past_taken : (b : BrokerState) (t : Taking) → (taken b t).0 ≡ Opening → ⊥
 past_taken b (Drops reason) e = cc
 past_taken b (Does after outs) e = cc
@@ -187,21 +187,22 @@ pub frames_before_opening : (fs : List Frame) → Opening ≡ desk_after Opening
 frames_before_opening [] e = refl
 frames_before_opening (f ∷ fs) e = absurd (past_after fs (desk_step Opening f).0 (past_step Opening f) (sym e))
 
--- ---- frames to tabs, spelled one after another
+-- Encoding frames to tabs in order
 
 pub outs_more : (all rest more : List Addressed) (a : Addressed) (done piece : List ℕ) → rest ≡ a ∷ more → done ++ spelled rest ≡ spelled all → piece ≡ spelling (frame.Addressed a)
     → done ++ piece ++ spelled more ≡ spelled all
 outs_more all rest more a done piece e h p =
     append_assoc done piece (spelled more) ∙ ap (λ l. done ++ (l ++ spelled more)) p ∙ ap (λ l. done ++ spelled l) (sym e) ∙ h
 
--- ---- frames, answered one after another
+-- Answering frames in order
 
 not_refused : (d : DeskState) → IsServing d → IsRefused d → ⊥
 not_refused Opening s r = s
 not_refused (Serving b) s r = r
 not_refused Refused s r = s
 
--- what a desk that has come so far is still to do makes up what it was to do
+-- Helper: the output so far, followed by the output for the remaining frames, is the output for all
+-- frames.
 pub record Leaves (first now : DeskState) (all rest : List Frame) (output : List ℕ) : Type 0 where
   pub is_open : IsRefused now → ⊥
   pub formed : AllByRecursion IsWellFormed rest
@@ -235,7 +236,7 @@ Leaves-end first now all rest output h e = (
   sym (append-nil output) ∙ ap (λ l. output ++ due now l) (sym e) ∙ h.output_is,
 )
 
--- a frame was not answered
+-- If a frame is not answered, the whole list fails with the same fault.
 pub answer_fails : (first now new last : DeskState) (all rest more : List Frame) (f : Frame) (output : List ℕ) (e : DeskFault) → Leaves first now all rest output → rest ≡ f ∷ more
     → Steps now f new (Err e) → Deals first all last (Err e) output
 answer_fails first now new last all rest more f output (desk.Frame x) h e step = step
@@ -248,7 +249,7 @@ answer_fails first now new last all rest more f output desk.Write h e step = abs
 answer_fails first now new last all rest more f output desk.TooManyReads h e step = step
 answer_fails first now new last all rest more f output desk.Memory h e step = (due now rest, sym h.output_is)
 
--- the answers to the frames before, and a prefix of that to the next
+-- A prefix of the next frame's answer, after the earlier answers, is a prefix of the full output.
 begun_is_front : (first now : DeskState) (all rest more : List Frame) (f : Frame) (written before after : List ℕ) → Leaves first now all rest (written ++ before) → rest ≡ f ∷ more
     → IsBegun before (due now (f ∷ [])) after → IsPrefixOf (written ++ after) (due first all)
 begun_is_front first now all rest more f written before after h e (piece, p, q) =
@@ -258,26 +259,26 @@ begun_is_front first now all rest more f written before after h e (piece, p, q) 
     subst (λ l. IsPrefixOf l (due first all)) (append_assoc written before piece ∙ ap (λ l. written ++ l) (sym p))
     (subst (IsPrefixOf ((written ++ before) ++ piece)) (ap (λ l. (written ++ before) ++ l) (sym whole) ∙ h.output_is) all_front)
 
--- its answer stands behind those before
+-- An answered frame's encoding follows the earlier output.
 pub Leaves-spelled : (first now new : DeskState) (all rest more : List Frame) (f : Frame) (written before after : List ℕ) → Leaves first now all rest (written ++ before) → rest ≡ f ∷ more
     → Spells now f new before after (Ok tt) → Leaves first new all more (written ++ after)
 Leaves-spelled first now new all rest more f written before after h e (outs, step, serving, p) =
     subst (Leaves first new all more) (append_assoc written before (spelled outs) ∙ ap (λ l. written ++ l) (sym p))
     (Leaves-more first now new all rest more f outs (written ++ before) (spelled outs) h e (step, serving) refl)
 
--- it was answered, since it is not said why not
+-- A frame without a fault was answered.
 pub answered_unless : (now new : DeskState) (f : Frame) (before after : List ℕ) (r : Result (Unit {0}) DeskFault) → Spells now f new before after r
     → ((e : DeskFault) → r ≡ Err e → ⊥) → Spells now f new before after (Ok tt)
 answered_unless now new f before after (Ok done) spells otherwise = spells
 answered_unless now new f before after (Err e) spells otherwise = absurd (otherwise e refl)
 
--- a bundle was written
+-- Writing a bundle keeps the invariant.
 pub Leaves-bundled : (first now : DeskState) (all rest : List Frame) (written before piece after : List ℕ) → Leaves first now all rest (written ++ before) → before ≡ piece ++ after
     → Leaves first now all rest ((written ++ piece) ++ after)
 Leaves-bundled first now all rest written before piece after h e =
     subst (Leaves first now all rest) (ap (λ l. written ++ l) e ∙ sym (append_assoc written piece after)) h
 
--- a frame was not answered: what was gathered is written
+-- If a frame is not answered, the gathered bytes are written.
 pub spelling_fails : (first now new last : DeskState) (all rest more : List Frame) (f : Frame) (written before after : List ℕ) (e : DeskFault) → Leaves first now all rest (written ++ before)
     → rest ≡ f ∷ more → Spells now f new before after (Err e) → Deals first all last (Err e) (written ++ after)
 spelling_fails first now new last all rest more f written before after (desk.Frame x) h e step = step
@@ -288,7 +289,7 @@ spelling_fails first now new last all rest more f written before after desk.Writ
 spelling_fails first now new last all rest more f written before after desk.TooManyReads h e step = step
 spelling_fails first now new last all rest more f written before after desk.Memory h e step = begun_is_front first now all rest more f written before after h e step
 
--- what was gathered before a frame that was not answered was not written
+-- If a frame is not answered, the gathered bytes are a prefix of the full output.
 spelled_is_front : (first now new : DeskState) (all rest more : List Frame) (f : Frame) (written before after : List ℕ) (e : DeskFault) → Leaves first now all rest (written ++ before)
     → rest ≡ f ∷ more → Spells now f new before after (Err e) → IsPrefixOf (written ++ after) (due first all)
 spelled_is_front first now new all rest more f written before after (desk.Frame x) h e step = absurd step
@@ -304,7 +305,7 @@ pub breaks_off : (first now new last : DeskState) (all rest more : List Frame) (
 breaks_off first now new last all rest more f written before after front e some h next step p =
     (some, IsPrefixOf-trans _ _ _ (append-IsPrefixOf written front after p) (spelled_is_front first now new all rest more f written before after e h next step))
 
--- what was gathered was not written
+-- If a write fails, the written bytes are a prefix of the full output.
 pub writing_fails : (first now last : DeskState) (all rest : List Frame) (written bytes front : List ℕ) → (all ≡ [] → ⊥) → Leaves first now all rest (written ++ bytes)
     → IsPrefixOf front bytes → Deals first all last (Err desk.Write) (written ++ front)
 writing_fails first now last all rest written bytes front some h p = (
@@ -312,7 +313,7 @@ writing_fails first now last all rest written bytes front some h p = (
   subst (IsPrefixOf (written ++ front)) h.output_is (IsPrefixOf-append (written ++ front) _ (due now rest) (append-IsPrefixOf written front bytes p)),
 )
 
--- there is a frame
+-- A list with an index below its length is not empty.
 pub not_empty : (all : List Frame) (n : ℕ) → n < length all → all ≡ [] → ⊥
 not_empty all n h e = let none : length all ≡ 0 = ap length e in omega arith
 
@@ -320,11 +321,11 @@ pub some_frames : (all : List Frame) → nat_eq (length all) 0 ≡ false → all
 some_frames [] h e = cc
 some_frames (f ∷ fs) h e = cc
 
--- the frame at an index, and the ones after it
+-- The frames from an index on are the frame there and those after it.
 pub next_frame : (all : List Frame) (n : ℕ) (f : Frame) → n < length all → f ≡ get_or all n f → drop n all ≡ f ∷ drop (n + 1) all
 next_frame all n f some e = drop_more all n f some ∙ ap (λ x. x ∷ drop (n + 1) all) (sym e)
 
--- ---- whether a writer has failed
+-- Whether a writer has failed
 
 abbrev pub IsWriteFault : Result (Unit {0}) DeskFault → Type 0
 IsWriteFault r = r ≡ Err desk.Write

@@ -1,4 +1,4 @@
--- Lemmas on lanes: one event more, and how a lane ends.
+-- Lemmas on lanes: one more event, and the end of a lane.
 use Rattle.std.proofs.Common.{◌≡◌, ◌+◌, ◌≤◌, ◌⊎◌, ℕ, Bool, true, List, [], ◌∷◌, ◌++◌, length, map, Option, Some, Result, Ok, Err, IfErr, refl, sym, ap, ◌∙◌, subst, append_assoc, append-nil, inl, inr, arith}
 use Rattle.std.specs.List.{AllByRecursion, flat_map}
 use Rattle.std.proofs.lemmas.List.{length_push}
@@ -50,7 +50,7 @@ kept_last : (k0 k1 k2 : ℕ → Option (List Receipt)) {g0 g1 : Option (List (Op
 kept_last k0 k1 k2 {g0} {g1} {d0} {d1} {o0} {o1} {seen} {steps} a h kept shard =
     subst (Grows (k0 shard) (k2 shard)) (sym (kept-push shard h.answers a)) (Grows-trans (k0 shard) (k1 shard) (k2 shard) _ _ (h.kept shard) (kept shard))
 
--- at first nothing was given
+-- A lane begins with no works, answers or frames.
 pub lane_begins : {g0 : Option (List (Option Work))} {d0 : Option (List Answered)} {k0 : ℕ → Option (List Receipt)} {o0 : Option (List PutOut)} → GoesOn g0 g0 d0 d0 k0 k0 o0 o0 0 0
 lane_begins {g0} {d0} {k0} {o0} =
     record {
@@ -64,7 +64,7 @@ lane_begins {g0} {d0} {k0} {o0} =
       length_is = refl;
     }
 
--- an event whose answer's frames were all put out
+-- A lane goes on after an event whose frames were all sent.
 pub lane_goes_on : {g0 g1 g2 : Option (List (Option Work))} {d0 d1 d2 : Option (List Answered)} {k0 k1 k2 : ℕ → Option (List Receipt)} {o0 o1 o2 : Option (List PutOut)} {seen steps : ℕ} (a : Answered) → GoesOn g0 g1 d0 d1 k0 k1 o0 o1 seen steps → IsUnspent a → Grows g1 g2 (Some a.0 ∷ []) → Grows d1 d2 (a ∷ []) → ((shard : ℕ) → Grows (k1 shard) (k2 shard) (receipt_in shard a)) → Grows o1 o2 (all_put (sent_by a))
     → GoesOn g0 g2 d0 d2 k0 k2 o0 o2 (seen + 1) (steps + step_of a)
 lane_goes_on {g0} {g1} {g2} {d0} {d1} {d2} {k0} {k1} {k2} {o0} {o1} {o2} {seen} {steps} a h unspent given answered kept put =
@@ -79,7 +79,7 @@ lane_goes_on {g0} {g1} {g2} {d0} {d1} {d2} {k0} {k1} {k2} {o0} {o1} {o2} {seen} 
       length_is = length_push h.answers a ∙ ap (λ n. n + 1) h.length_is;
     }
 
--- the lane had as many events as it may
+-- A lane ends at `EVENT_LIMIT`.
 pub lane_at_limit : {g0 g1 : Option (List (Option Work))} {d0 d1 : Option (List Answered)} {k0 k1 : ℕ → Option (List Receipt)} {o0 o1 : Option (List PutOut)} {seen steps : ℕ} → GoesOn g0 g1 d0 d1 k0 k1 o0 o1 seen steps → seen ≡ EVENT_LIMIT → RunsLane g0 g1 d0 d1 k0 k1 o0 o1 (record { steps = steps; why = cause.Spent })
 lane_at_limit {g0} {g1} {d0} {d1} {k0} {k1} {o0} {o1} {seen} {steps} h limit =
     record {
@@ -100,7 +100,7 @@ given_last g0 g1 g2 {d0} {d1} {k0} {k1} {o0} {o1} {seen} {steps} a h given =
 ends_with : {g0 g1 : Option (List (Option Work))} {d0 d1 : Option (List Answered)} {k0 k1 : ℕ → Option (List Receipt)} {o0 o1 : Option (List PutOut)} {seen steps : ℕ} (a : Answered) (h : GoesOn g0 g1 d0 d1 k0 k1 o0 o1 seen steps) → EndsWith (h.answers ++ a ∷ []) h.answers a
 ends_with {g0} {g1} {d0} {d1} {k0} {k1} {o0} {o1} {seen} {steps} a h = record { are = refl; unspent = h.unspent }
 
--- the generation is spent
+-- A lane ends when its generation is spent.
 pub lane_spent : {g0 g1 g2 : Option (List (Option Work))} {d0 d1 d2 : Option (List Answered)} {k0 k1 k2 : ℕ → Option (List Receipt)} {o0 o1 : Option (List PutOut)} {seen steps : ℕ} (event : Work) → GoesOn g0 g1 d0 d1 k0 k1 o0 o1 seen steps → Grows g1 g2 (Some event ∷ []) → Grows d1 d2 ((event, Err GenerationSpent) ∷ []) → ((shard : ℕ) → Grows (k1 shard) (k2 shard) [])
     → RunsLane g0 g2 d0 d2 k0 k2 o0 o1 (record { steps = steps; why = cause.Spent })
 lane_spent {g0} {g1} {g2} {d0} {d1} {d2} {k0} {k1} {k2} {o0} {o1} {seen} {steps} event h given answered kept =
@@ -116,7 +116,7 @@ lane_spent {g0} {g1} {g2} {d0} {d1} {d2} {k0} {k1} {k2} {o0} {o1} {seen} {steps}
       ends = (ap all_put (sym (sent-push h.answers a ∙ append-nil (flat_map sent_by h.answers))), inl (h.answers, event, ends_with a h));
     }
 
--- the gate is shut
+-- A lane ends when its gate is shut.
 lane_shut : {g0 g1 g2 : Option (List (Option Work))} {d0 d1 d2 : Option (List Answered)} {k0 k1 k2 : ℕ → Option (List Receipt)} {o0 o1 : Option (List PutOut)} {seen steps : ℕ} (event : Work) (receipt : Receipt) → GoesOn g0 g1 d0 d1 k0 k1 o0 o1 seen steps → Grows g1 g2 (Some event ∷ []) → Grows d1 d2 ((event, Ok receipt) ∷ []) → ((shard : ℕ) → Grows (k1 shard) (k2 shard) (receipt_in shard (event, Ok receipt)))
     → RunsLane g0 g2 d0 d2 k0 k2 o0 o1 (record { steps = steps + 1; why = cause.Shut })
 lane_shut {g0} {g1} {g2} {d0} {d1} {d2} {k0} {k1} {k2} {o0} {o1} {seen} {steps} event receipt h given answered kept =
@@ -132,7 +132,7 @@ lane_shut {g0} {g1} {g2} {d0} {d1} {d2} {k0} {k1} {k2} {o0} {o1} {seen} {steps} 
       ends = (h.answers, event, receipt, ends_with a h, refl);
     }
 
--- the outlet refused a frame
+-- A lane ends when its outlet refuses a frame.
 lane_refused : {g0 g1 g2 : Option (List (Option Work))} {d0 d1 d2 : Option (List Answered)} {k0 k1 k2 : ℕ → Option (List Receipt)} {o0 o1 o2 : Option (List PutOut)} {seen steps : ℕ} (event : Work) (receipt : Receipt) (fault : OutletFault) → GoesOn g0 g1 d0 d1 k0 k1 o0 o1 seen steps → Grows g1 g2 (Some event ∷ []) → Grows d1 d2 ((event, Ok receipt) ∷ []) → ((shard : ℕ) → Grows (k1 shard) (k2 shard) (receipt_in shard (event, Ok receipt)))
     → PutsUpTo o1 o2 (frames_of receipt.reply) fault → RunsLane g0 g2 d0 d2 k0 k2 o0 o2 (record { steps = steps + 1; why = cause.Outlet })
 lane_refused {g0} {g1} {g2} {d0} {d1} {d2} {k0} {k1} {k2} {o0} {o1} {o2} {seen} {steps} event receipt fault h given answered kept p =
@@ -148,7 +148,7 @@ lane_refused {g0} {g1} {g2} {d0} {d1} {d2} {k0} {k1} {k2} {o0} {o1} {o2} {seen} 
       ends = (h.answers, event, receipt, ends_with a h, (fault, p.front, p.refused, p.rest, p.are, refl));
     }
 
--- the last step is not sent, or not all of it
+-- A lane ends if the frames of its last step are not all sent.
 pub lane_unsent : {g0 g1 g2 : Option (List (Option Work))} {d0 d1 d2 : Option (List Answered)} {k0 k1 k2 : ℕ → Option (List Receipt)} {o0 o1 o2 : Option (List PutOut)} {seen steps : ℕ} (event : Work) (receipt : Receipt) (why : Cause) → GoesOn g0 g1 d0 d1 k0 k1 o0 o1 seen steps → Grows g1 g2 (Some event ∷ []) → Grows d1 d2 ((event, Ok receipt) ∷ []) → ((shard : ℕ) → Grows (k1 shard) (k2 shard) (receipt_in shard (event, Ok receipt)))
     → IsUnsent why o1 o2 receipt.reply → RunsLane g0 g2 d0 d2 k0 k2 o0 o2 (record { steps = steps + 1; why = why })
 lane_unsent {g0} {g1} {g2} {d0} {d1} {d2} {k0} {k1} {k2} {o0} {o1} {o2} {seen} {steps} event receipt cause.Ended h given answered kept unsent = absurd unsent
@@ -156,11 +156,11 @@ lane_unsent {g0} {g1} {g2} {d0} {d1} {d2} {k0} {k1} {k2} {o0} {o1} {o2} {seen} {
 lane_unsent {g0} {g1} {g2} {d0} {d1} {d2} {k0} {k1} {k2} {o0} {o1} {o2} {seen} {steps} event receipt cause.Shut h given answered kept unsent = subst (λ o. RunsLane g0 g2 d0 d2 k0 k2 o0 o (record { steps = steps + 1; why = cause.Shut })) (sym unsent) (lane_shut event receipt h given answered kept)
 lane_unsent {g0} {g1} {g2} {d0} {d1} {d2} {k0} {k1} {k2} {o0} {o1} {o2} {seen} {steps} event receipt cause.Outlet h given answered kept unsent = lane_refused event receipt unsent.0 h given answered kept unsent.1
 
--- there are no more steps than events
+-- A lane makes at most as many steps as it takes events.
 pub steps_within : {g0 g1 : Option (List (Option Work))} {d0 d1 : Option (List Answered)} {k0 k1 : ℕ → Option (List Receipt)} {o0 o1 : Option (List PutOut)} {seen steps : ℕ} → GoesOn g0 g1 d0 d1 k0 k1 o0 o1 seen steps → steps ≤ seen
 steps_within {g0} {g1} {d0} {d1} {k0} {k1} {o0} {o1} {seen} {steps} h = omega (arith, h.counts, h.length_is, steps_at_most h.answers)
 
--- a step, and an event that was lost, do not say that the generation is spent
+-- A step and an event lost for lack of memory do not report a spent generation.
 pub step_unspent : (event : Work) (receipt : Receipt) → IsUnspent (event, Ok receipt)
 step_unspent event receipt e =
     let step : Result Receipt NotStepped = Ok receipt in
@@ -173,27 +173,27 @@ lost_unspent event e =
     let spent : Result Receipt NotStepped = Err GenerationSpent in
     let k : lost ≡ spent = e in cc
 
--- ---- frames that are put out
+-- Sending frames
 
--- one more
+-- One more frame is sent.
 pub put_one : (a b c : Option (List PutOut)) (done : List Addressed) (out : Addressed) (r : Result (Unit {0}) OutletFault) → Grows a b (all_put (as_frames done))
     → Grows b c ((frame.Addressed out, r) ∷ []) → r ≡ Ok tt → Grows a c (all_put (as_frames (done ++ out ∷ [])))
 put_one a b c done out r before one ok =
     let same : all_put (as_frames (done ++ out ∷ [])) ≡ all_put (as_frames done) ++ (frame.Addressed out, Ok tt) ∷ [] = ap all_put (map-push _ done out) ∙ map-push _ (as_frames done) (frame.Addressed out) in
     subst (Grows a c) (sym same) (Grows-trans a b c _ _ before (subst (λ s. Grows b c ((frame.Addressed out, s) ∷ [])) ok one))
 
--- all
+-- All frames are sent.
 pub put_whole : (a b : Option (List PutOut)) (outs done rest : List Addressed) → outs ≡ done ++ rest → rest ≡ [] → Grows a b (all_put (as_frames done)) → Grows a b (all_put (as_frames outs))
 put_whole a b outs done rest split none h =
     subst (λ l. Grows a b (all_put (as_frames l))) (sym (split ∙ ap (λ l. done ++ l) none ∙ append-nil done)) h
 
--- one frame alone was put out or refused
+-- A single frame is sent or refused.
 pub put_alone : (a b : Option (List PutOut)) (out : Addressed) (r : Result (Unit {0}) OutletFault) → Grows a b ((frame.Addressed out, r) ∷ [])
     → IfErr r (λ fault. PutsUpTo a b (as_frames (out ∷ [])) fault)
 put_alone a b out (Ok done) grown = tt
 put_alone a b out (Err fault) grown = record { front = []; refused = frame.Addressed out; rest = []; are = refl; put = grown }
 
--- the next is refused
+-- The next frame is refused.
 pub put_refused : (a b c : Option (List PutOut)) (outs done rest : List Addressed) (out : Addressed) (r : Result (Unit {0}) OutletFault) (fault : OutletFault) → outs ≡ done ++ out ∷ rest
     → Grows a b (all_put (as_frames done)) → Grows b c ((frame.Addressed out, r) ∷ []) → r ≡ Err fault → PutsUpTo a c (as_frames outs) fault
 put_refused a b c outs done rest out r fault split before one refused =
@@ -205,9 +205,9 @@ put_refused a b c outs done rest out r fault split before one refused =
       put = Grows-trans a b c _ _ before (subst (λ s. Grows b c ((frame.Addressed out, s) ∷ [])) refused one);
     }
 
--- ---- what the gate lets pass
+-- Passing the gate
 
--- a step that was sent was let pass
+-- A step whose frames were sent was let pass.
 pub sent_is_let : {lets : Bool} {u : Unit {0}} → (◌≡◌ {A = Result (Unit {0}) Cause} (Ok u) (Err cause.Shut)) ⊎ (lets ≡ true) → lets ≡ true
 sent_is_let {lets} {u} (inl shut) =
     let sent : Result (Unit {0}) Cause = Ok u in
@@ -215,12 +215,12 @@ sent_is_let {lets} {u} (inl shut) =
     let k : sent ≡ unsent = shut in cc
 sent_is_let {lets} {u} (inr is) = is
 
--- a lane that ends has been let pass, or has made no step
+-- A lane that ends was let pass or has made no step.
 pub ended_is_let : {lets : Bool} {steps : ℕ} (why : Cause) → (lets ≡ true) ⊎ (steps ≡ 0) → IsLet lets (record { steps = steps; why = why })
 ended_is_let {lets} {steps} why (inl is) = inl is
 ended_is_let {lets} {steps} why (inr none) = inr (inl none)
 
--- the same of a lane whose last step was not sent
+-- A lane whose last step was not sent was let pass before, or made that step only.
 pub unsent_is_let : {lets : Bool} {steps : ℕ} (why : Cause) → (lets ≡ true) ⊎ (steps ≡ 0) → (◌≡◌ {A = Result (Unit {0}) Cause} (Err why) (Err cause.Shut)) ⊎ (lets ≡ true) → IsLet lets (record { steps = steps + 1; why = why })
 unsent_is_let {lets} {steps} why h (inr is) = inl is
 unsent_is_let {lets} {steps} why (inl is) (inl shut) = inl is

@@ -1,4 +1,4 @@
--- Lemmas on readings of one piece of the input after another.
+-- Lemmas on reading one piece of input after another.
 use Rattle.std.proofs.Common.{◌≡◌, ℕ, List, [], ◌++◌, true, false, Ok, Err, inl, inr, refl, sym, ap, subst, ◌∙◌, append_assoc, append-nil}
 use Rattle.std.specs.List.{flat_map}
 use Rattle.std.proofs.lemmas.List.Concat.{flat_map-append}
@@ -15,7 +15,7 @@ use Rattle.wl_encoding.specs.Prefixes.{IsPrefixOf}
 use Rattle.wl_workers.specs.Desk.{DeskState, desk_after, IsRefused, IsReadPart}
 use Rattle.wl_workers.specs.DeskSteps.{due, Deals, EndsBy, Breaks}
 
--- a reading up to a rest, and one of the rest and more, are one reading
+-- A reading up to a rest and a reading of that rest with more input join into one reading.
 pub Reads-join : (stream piece rest : List ℕ) (fs gs : List Frame) (stop : Stop) → Reads stream fs (Rest rest) → Reads (rest ++ piece) gs stop → Reads (stream ++ piece) (fs ++ gs) stop
 Reads-join stream piece rest fs gs stop p q = record {
   after = q.after;
@@ -29,13 +29,13 @@ Reads-join stream piece rest fs gs stop p q = record {
   stops = q.stops;
 }
 
--- nothing more was read
+-- An empty piece adds no frame.
 pub Reads-none : (rest : List ℕ) → IsPartial rest → Reads (rest ++ []) [] (Rest rest)
 Reads-none rest partial = record { after = rest; spelled = append-nil rest; well_formed = tt; stops = (refl, partial) }
 
--- ---- what a fault of the answers says of the piece
+-- From a fault in answering to the piece that was read
 
--- the part that is all of it
+-- For every fault, a whole piece counts as its own decoded part.
 part_whole : (piece : List ℕ) (e : DeskFault) → IsReadPart piece piece (Err e)
 part_whole piece (desk.Frame f) = refl
 part_whole piece desk.Unexpected = refl
@@ -63,7 +63,7 @@ breaks_by_deals old new rest piece frames stop e output reads h = record {
   ends = ends_by_deals old new frames stop e output h;
 }
 
--- a piece that memory refused
+-- Running out of memory while decoding a piece breaks the run.
 breaks_by_memory : (old : DeskState) (rest piece : List ℕ) (output : List ℕ) → IsPartial rest → output ≡ [] → Breaks old rest piece desk.Memory output
 breaks_by_memory old rest piece output partial none = record {
   part = [];
@@ -101,7 +101,7 @@ breaks_by_fault old new rest piece frames fault output reads h = record {
   ends = (refl, λ refused. h.1 (subst IsRefused (sym h.0) refused), h.2);
 }
 
--- the frames before a fault were not all answered
+-- A fault in answering the frames before a decoding fault ends the run.
 pub breaks_before : (old new : DeskState) (before after : Feeding) (piece : List ℕ) (frames : List Frame) (fault : FrameFault) (e : DeskFault) (output : List ℕ) → before.has_failed ≡ false
     → IsPartial before.rest → (IsRefused old → ⊥) → Refuses before after piece frames fault → Deals old frames new (Err e) output → Breaks old before.rest piece e output
 breaks_before old new before after piece frames fault.BadLength e output sound partial is_open refuses h =
@@ -120,7 +120,7 @@ breaks_before old new before after piece frames fault.Memory e output sound part
 breaks_before old new before after piece frames fault.Failed e output sound partial is_open refuses h =
     let failed = refuses.failed_before.0 refl in absurd (let e : true ≡ false = sym failed ∙ sound in cc)
 
--- the frames before a fault were answered, and then it counts
+-- After the frames before a decoding fault are answered, that fault ends the run.
 pub breaks_after : (old new : DeskState) (before after : Feeding) (piece : List ℕ) (frames : List Frame) (fault : FrameFault) (output : List ℕ) → before.has_failed ≡ false
     → IsPartial before.rest → Refuses before after piece frames fault → Deals old frames new (Ok tt) output → Breaks old before.rest piece (of_frame desk.Memory desk.Frame fault) output
 breaks_after old new before after piece frames fault.BadLength output sound partial refuses h =
@@ -140,7 +140,7 @@ breaks_after old new before after piece frames fault.Memory output sound partial
 breaks_after old new before after piece frames fault.Failed output sound partial refuses h =
     let failed = refuses.failed_before.0 refl in absurd (let e : true ≡ false = sym failed ∙ sound in cc)
 
--- a fault that stands next is no frame cut short
+-- A fault that comes next is not a truncated frame.
 pub no_cut : (after : List ℕ) (f : FrameFault) → HasFaultNext after f → f ≡ fault.Truncated → ⊥
 no_cut after f (inl h) cut = let e : fault.BadLength ≡ fault.Truncated = sym h.5 ∙ cut in cc
 no_cut after f (inr h) cut = subst (λ (g : FrameFault). HasFault h.0 g) cut h.4

@@ -1,4 +1,4 @@
--- Lemmas on handing up, and on how the reading of a tab's link goes on and ends.
+-- Lemmas on forwarding frames, and on how reading a tab's link goes on and ends.
 use Rattle.std.proofs.Common.{◌≡◌, ◌≢◌, ◌↔◌, ◌⊎◌, ◌≤◌, ℕ, List, [], ◌∷◌, ◌++◌, Bool, true, false, length, map, Option, Result, Ok, Err, inl, inr, refl, sym, ap, subst, ◌∙◌, ⊎_elim, append_assoc, append-nil, length-append, arith, lit<}
 use Rattle.std.specs.Io.KnownBytes.{Consumes, IsAtEnd}
 use Rattle.std.proofs.KnownBytes.{Consumes-nil, Consumes-trans}
@@ -18,7 +18,7 @@ use Rattle.wl_workers.specs.TabReader.{ended, dead_look, HandsUp, IsButLastPiece
 use Rattle.wl_workers.proofs.ToldLemmas.{Grows-nil, Grows-trans}
 use Rattle.wl_workers.proofs.PieceLemmas.{Reads-join, Reads-none, no_cut}
 
--- ---- handing up
+-- Forwarding
 
 pub HandsUp-none : (tab : ℕ) (a : Option (List (ℕ × Life))) (x : Option (List (ℕ × Frame))) → HandsUp tab a a x x [] []
 HandsUp-none tab a x = record { looks = []; not_dead = tt; one_each = refl; looked = Grows-nil a; handed = Grows-nil x }
@@ -35,14 +35,14 @@ HandsUp-more tab a b c x y z fs gs last h k = record {
   handed = subst (Grows x z) (sym (map-append (λ (f : Frame). (tab, f)) fs gs)) (Grows-trans x y z (map (λ (f : Frame). (tab, f)) fs) (map (λ (f : Frame). (tab, f)) gs) h.handed k.handed);
 }
 
--- one more frame was handed up after a look
+-- One more frame is forwarded after a look that did not find the tab dead.
 pub HandsUp-one : (tab : ℕ) (a b c : Option (List (ℕ × Life))) (x y z : Option (List (ℕ × Frame))) (fs : List Frame) (found : Bool) (f : Frame) → HandsUp tab a b x y fs [] → found ≡ false → FindsDead tab found b c
     → Grows y z ((tab, f) ∷ []) → HandsUp tab a c x z (fs ++ f ∷ []) []
 HandsUp-one tab a b c x y z fs true f h is found handed = absurd cc
 HandsUp-one tab a b c x y z fs false f h is found handed =
     HandsUp-more tab a b c x y z fs (f ∷ []) [] h record { looks = found.0 ∷ []; not_dead = (found.1, tt); one_each = refl; looked = found.2; handed = handed }
 
--- the tab was found dead
+-- Forwarding ends when a look finds the tab dead.
 pub HandsUp-dead : (tab : ℕ) (a b c : Option (List (ℕ × Life))) (x y : Option (List (ℕ × Frame))) (fs : List Frame) (found : Bool) → HandsUp tab a b x y fs [] → found ≡ true → FindsDead tab found b c
     → HandsUp tab a c x y fs (life.Dead ∷ [])
 HandsUp-dead tab a b c x y fs false h is found = absurd cc
@@ -50,13 +50,13 @@ HandsUp-dead tab a b c x y fs true h is found =
     subst (λ gs. HandsUp tab a c x y gs (life.Dead ∷ [])) (append-nil fs)
     (HandsUp-more tab a b c x y y fs [] (life.Dead ∷ []) h record { looks = []; not_dead = tt; one_each = refl; looked = found; handed = Grows-nil y })
 
--- all were handed up
+-- All frames are forwarded.
 pub handed_all : (tab : ℕ) (a b : Option (List (ℕ × Life))) (x y : Option (List (ℕ × Frame))) (frames done rest : List Frame) → frames ≡ done ++ rest → rest ≡ [] → HandsUp tab a b x y done [] → HandsUp tab a b x y frames []
 handed_all tab a b x y frames done rest split none h = subst (λ fs. HandsUp tab a b x y fs []) (sym (split ∙ ap (λ l. done ++ l) none ∙ append-nil done)) h
 
--- ---- a piece
+-- Pieces
 
--- a piece is refused when out of memory, and had no frames then, or for the fault that stands next
+-- Decoding a piece fails for lack of memory, without any frame, or for the fault that comes next.
 refused_by : (old new : Feeding) (piece : List ℕ) (before : List Frame) (f : FrameFault) → old.has_failed ≡ false → Refuses old new piece before f
     → ((f ≡ fault.Memory) × (before ≡ [])) ⊎ Reads (old.rest ++ piece) before (Fault f)
 refused_by old new piece before fault.BadLength sound h = inr (h.stops (λ x. cc) (λ x. cc)).0
@@ -68,7 +68,7 @@ refused_by old new piece before fault.Truncated sound h = inr (h.stops (λ x. cc
 refused_by old new piece before fault.Memory sound h = inl (refl, (h.memory refl).0)
 refused_by old new piece before fault.Failed sound h = let failed = h.failed_before.0 refl in absurd (let e : true ≡ false = sym failed ∙ sound in cc)
 
--- all frames before the fault were handed up
+-- A reading ends with a fault after all frames before the fault are forwarded.
 pub fault_after : (old new : Feeding) (piece : List ℕ) (before : List Frame) (f : FrameFault) → old.has_failed ≡ false → IsPartial old.rest → length piece ≤ 4096 → Refuses old new piece before f
     → EndsAfter old.rest piece before (end.Frame f)
 fault_after old new piece before f sound partial short h = ⊎_elim
@@ -76,16 +76,16 @@ fault_after old new piece before f sound partial short h = ⊎_elim
     (λ (r : Reads (old.rest ++ piece) before (Fault f)). inr (inl r))
     (refused_by old new piece before f sound h)
 
--- no piece is cut short
+-- A fault within a piece is not a truncated frame.
 pub fault_is_whole : (old new : Feeding) (piece : List ℕ) (before : List Frame) (f : FrameFault) → old.has_failed ≡ false → Refuses old new piece before f → f ≢ fault.Truncated
 fault_is_whole old new piece before f sound h cut = ⊎_elim
     (λ (m : (f ≡ fault.Memory) × (before ≡ [])). absurd (let e : fault.Memory ≡ fault.Truncated = sym m.0 ∙ cut in cc))
     (λ (r : Reads (old.rest ++ piece) before (Fault f)). no_cut r.after f r.stops cut)
     (refused_by old new piece before f sound h)
 
--- ---- the whole
+-- Whole readings
 
--- how the reading ends, with what was read before
+-- The end of a reading carries over when earlier input is put before it.
 ends_join : (before piece rest : List ℕ) (fs gs : List Frame) (e : ReadEnd) → Reads before fs (Rest rest) → EndsAfter rest piece gs e → EndsAfter [] (before ++ piece) (fs ++ gs) e
 ends_join before piece rest fs gs end.End p h = Reads-join before piece rest fs gs (Rest []) p h
 ends_join before piece rest fs gs (end.Frame f) p h = ⊎_elim
@@ -101,7 +101,7 @@ ends_join before piece rest fs gs end.TooManyReads p h = (h.0, Reads-join before
 ends_join before piece rest fs gs end.Dead p h =
     (fs ++ h.0, h.1, Reads-join before piece rest fs h.0 h.1 p h.2, (h.3.0, h.3.1, ap (λ l. fs ++ l) h.3.2 ∙ sym (append_assoc fs gs (h.3.0 ∷ h.3.1))))
 
--- all that was read so far is handed up, but for a rest that is no whole frame
+-- Helper: all frames read so far are forwarded, up to a rest that is no whole frame.
 pub record Handing (tab : ℕ) (reader_before reader_now : Option (List ℕ)) (lives_before lives_now : Option (List (ℕ × Life))) (handed_before handed_now : Option (List (ℕ × Frame))) (rest : List ℕ) : Type 0 where
   pub input : List ℕ
   pub frames : List Frame
@@ -128,7 +128,7 @@ Handing-more tab r s t a b c x y z rest piece feed h consumed p = record {
   hands = HandsUp-more tab a b c x y z h.frames p.frames [] h.hands p.hands;
 }
 
--- a piece ended the reading
+-- A piece ends the reading.
 pub ends_in_piece : (tab : ℕ) (r s t : Option (List ℕ)) (a b c : Option (List (ℕ × Life))) (x y z : Option (List (ℕ × Frame))) (rest piece : List ℕ) (more : List Frame) (e : ReadEnd) → Handing tab r s a b x y rest
     → Consumes s t piece → EndsAfter rest piece more e → HandsUp tab b c y z more (dead_look e) → ReadsTab tab r t a c x z e
 ends_in_piece tab r s t a b c x y z rest piece more e h consumed ends hands = record {
@@ -139,7 +139,7 @@ ends_in_piece tab r s t a b c x y z rest piece more e h consumed ends hands = re
   hands = HandsUp-more tab a b c x y z h.frames more (dead_look e) h.hands hands;
 }
 
--- ---- ends that a piece brings
+-- Ends that a piece causes
 
 abbrev refused : ReadEnd → Result (Unit {0}) ReadEnd
 refused e = Err e
@@ -168,7 +168,7 @@ no_limit end.Read n h is = absurd h
 no_limit end.TooManyReads n h is = absurd h
 no_limit end.Dead n h is = cc
 
--- ---- ends for want of more input
+-- Ends because the input ended
 
 pub piece_needs_no_end : (e : ReadEnd) (reader : Option (List ℕ)) → IsPieceEnd e → NeedsEnd e reader
 piece_needs_no_end end.End reader h = absurd h

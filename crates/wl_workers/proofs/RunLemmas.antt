@@ -1,4 +1,4 @@
--- Lemmas on whole runs: what was read and written so far, and how a run ends.
+-- Lemmas on whole runs: the input and output so far, and how a run ends.
 use Rattle.std.proofs.Common.{◌≡◌, ◌↔◌, ℕ, List, [], ◌++◌, Bool, true, false, Option, Result, Ok, Err, refl, sym, ap, subst, ◌∙◌, append-nil, inl, inr, lit<}
 use Rattle.std.specs.Io.KnownBytes.{Consumes, Appends, Keeps, IsAtEnd}
 use Rattle.std.proofs.KnownBytes.{Consumes-nil, Appends-nil, Consumes-trans, Appends-trans, Consumes-kept}
@@ -16,7 +16,7 @@ use Rattle.wl_encoding.proofs.Prefixes.{append-IsPrefixOf}
 use Rattle.wl_workers.proofs.DeskLemmas.{desk_after-append, due-append, frames_before_opening, IsWriteFault}
 use Rattle.wl_workers.proofs.PieceLemmas.{Reads-join, no_cut}
 
--- all that was read so far is answered, but for a rest that is no whole frame
+-- Helper: all frames read so far are answered, up to a rest that is no whole frame.
 pub record Serves (reader_before reader_now writer_before writer_now : Option (List ℕ)) (rest : List ℕ) (d : DeskState) : Type 0 where
   pub input : List ℕ
   pub output : List ℕ
@@ -41,11 +41,11 @@ Serves-start reader writer = record {
   output_is = refl;
 }
 
--- the rest is no whole frame
+-- The undecoded rest is no whole frame.
 pub Serves-partial : (a b c d : Option (List ℕ)) (rest : List ℕ) (state : DeskState) → Serves a b c d rest state → IsPartial rest
 Serves-partial a b c d rest state h = h.reads.stops.1
 
--- all that is due for frames after these
+-- The full output for some frames followed by the output for later frames is the output for all.
 written-append : (frames more : List Frame) (state : DeskState) (output piece : List ℕ) → state ≡ desk_after Opening frames → output ≡ written frames → output ++ due state more ≡ written (frames ++ more)
 written-append frames more state output piece at is =
     ap (λ l. l ++ due state more) is ∙ ap (λ s. written frames ++ due s more) at ∙ sym (due-append Opening frames more)
@@ -67,7 +67,7 @@ Serves-more a b b' c d d' rest piece output old new feed h consumed appended p =
   output_is = ap (λ l. h.output ++ l) p.output_is ∙ written-append h.frames p.frames old h.output output h.desk_is h.output_is;
 }
 
--- ---- how a run ends
+-- How a run ends
 
 part_after : (before part piece : List ℕ) (e : DeskFault) → IsReadPart part piece (Err e) → IsReadPart (before ++ part) (before ++ piece) (Err e)
 part_after before part piece (desk.Frame f) h = ap (λ l. before ++ l) h
@@ -77,7 +77,7 @@ part_after before part piece desk.Write h = ap (λ l. before ++ l) h
 part_after before part piece desk.TooManyReads h = ap (λ l. before ++ l) h
 part_after before part piece desk.Memory h = append-IsPrefixOf before part piece h
 
--- a prefix of what is due for the later frames, behind all that was due before
+-- A prefix of the output for later frames, after the full earlier output, is a prefix of the whole.
 front_after : (frames more : List Frame) (state : DeskState) (output piece : List ℕ) → state ≡ desk_after Opening frames → output ≡ written frames → IsPrefixOf piece (due state more)
     → IsPrefixOf (output ++ piece) (written (frames ++ more))
 front_after frames more state output piece at is h =
@@ -109,7 +109,7 @@ needs_no_end stream before more state stop desk.Write output reader at reads h =
 needs_no_end stream before more state stop desk.TooManyReads output reader at reads h = tt
 needs_no_end stream before more state stop desk.Memory output reader at reads h = tt
 
--- a piece was not read or not answered
+-- A run ends if a piece is not decoded or not answered.
 pub Runs-broken : (a b b' c d d' : Option (List ℕ)) (rest piece output : List ℕ) (old : DeskState) (e : DeskFault) → Serves a b c d rest old → Consumes b b' piece → Appends d d' output
     → Breaks old rest piece e output → Runs a b' c d' (Err e)
 Runs-broken a b b' c d d' rest piece output old e h consumed appended p = record {
@@ -128,7 +128,7 @@ Runs-broken a b b' c d d' rest piece output old e h consumed appended p = record
   at_end = needs_no_end (rest ++ p.part) h.frames p.frames old p.stop e output b' h.desk_is p.reads p.ends;
 }
 
--- the reader failed
+-- A run ends if the reader fails.
 pub Runs-read : (a b b' c d : Option (List ℕ)) (rest : List ℕ) (state : DeskState) → Serves a b c d rest state → Keeps b b' → Runs a b' c d (Err desk.Read)
 Runs-read a b b' c d rest state h kept = record {
   input = h.input;
@@ -146,7 +146,7 @@ Runs-read a b b' c d rest state h kept = record {
   at_end = tt;
 }
 
--- it was read as often as it may be
+-- A run ends at the read limit.
 pub Runs-limit : (a b c d : Option (List ℕ)) (rest : List ℕ) (state : DeskState) → Serves a b c d rest state → Runs a b c d (Err desk.TooManyReads)
 Runs-limit a b c d rest state h = record {
   input = h.input;
@@ -164,7 +164,7 @@ Runs-limit a b c d rest state h = record {
   at_end = tt;
 }
 
--- the input is at its end
+-- At end of input, the decoded part is the whole input.
 part_at_end : (input : List ℕ) (r : Result (Unit {0}) DeskFault) (state : DeskState) (rest : List ℕ) → Closes state rest r → IsReadPart input input r
 part_at_end input (Ok done) state rest h = refl
 part_at_end input (Err (desk.Frame f)) state rest h = refl
@@ -211,7 +211,7 @@ Runs-end a b b' c d rest none state r h consumed empty at_end closes = record {
   at_end = end_is_needed h.frames r b' at_end;
 }
 
--- ---- the same, as the loop meets it
+-- The same lemmas in the form that the loop needs
 
 pub Serves-started : (reader writer : Option (List ℕ)) (feed : Feeding) (state : DeskState) → feed ≡ at_start → state ≡ Opening → Serves reader reader writer writer feed.rest state
 Serves-started reader writer feed state e is =
@@ -222,7 +222,7 @@ pub Runs-unread : (a b b' c d : Option (List ℕ)) (rest : List ℕ) (state : De
 Runs-unread a b b' c d rest state read.Failed h failed limit = Runs-read a b b' c d rest state h (failed refl)
 Runs-unread a b b' c d rest state read.TooManyReads h failed limit = subst (λ x. Runs a x c d (Err desk.TooManyReads)) (sym (limit refl)) (Runs-limit a b c d rest state h)
 
--- ---- whose fault it is
+-- Reader and writer failures
 
 abbrev pub IsReadFault : Result (Unit {0}) DeskFault → Type 0
 IsReadFault r = r ≡ Err desk.Read

@@ -1,4 +1,4 @@
--- Lists that are told and grow.
+-- Lemmas on recorded lists that grow.
 use Rattle.std.proofs.Common.{List, [], ◌++◌, Option, None, Some, sym, ap, ◌∙◌, append_assoc, append-nil}
 use Rattle.wl_workers.specs.Told.{Grows}
 

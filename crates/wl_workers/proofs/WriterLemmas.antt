@@ -1,4 +1,4 @@
--- Lemmas on what is written of what was taken.
+-- Lemmas on writing the frames of parcels.
 use Rattle.std.proofs.Common.{◌≡◌, ℕ, List, [], ◌∷◌, ◌++◌, Bool, true, false, Option, Result, Ok, Err, OnOk, OnErr, map, refl, sym, ap, subst, ◌∙◌, append_assoc, append-nil}
 use Rattle.std.specs.List.{flat_map}
 use Rattle.std.specs.Io.KnownBytes.{Appends}
@@ -21,9 +21,9 @@ use Rattle.wl_workers.specs.Looks.{at_tab, FindsDead, LooksOnly, FoundDead}
 use Rattle.wl_workers.specs.TabWriter.{IsWritten, WritesFrames, WritesTab}
 use Rattle.wl_workers.proofs.ToldLemmas.{Grows-nil, Grows-trans}
 
--- ---- one frame
+-- One frame
 
--- a frame that is lost
+-- A lost frame writes nothing.
 pub writes_nothing : (f : Frame) (a : Option (List ℕ)) (has_failed : Bool) → has_failed ≡ false → WritesFrames (f ∷ []) a a has_failed
 writes_nothing f a has_failed sound = record {
   kept = [];
@@ -51,13 +51,13 @@ writes_part f a b bytes has_failed form is failed h = record {
   written = subst (λ c. IsWritten c h.0 (f ∷ [])) (sym failed) (subst (IsPrefixOf h.0) (is ∙ sym (append-nil (spelling f))) h.1);
 }
 
--- by what the writer answered
+-- One frame is written according to the writer's result.
 pub writes_by : {E : Type 0} (f : Frame) (a b : Option (List ℕ)) (bytes : List ℕ) (r : Result (Unit {0}) E) (was now : Bool) → IsWellFormed f → bytes ≡ spelling f → was ≡ false → OnOk r (Appends a b bytes)
     → OnOk r (now ≡ was) → OnErr r ((now ≡ true) × WritesPrefix a b bytes) → WritesFrames (f ∷ []) a b now
 writes_by f a b bytes (Ok done) was now form is sound appended same failed = writes_one f a b bytes now form is (same ∙ sound) appended
 writes_by f a b bytes (Err e) was now form is sound appended same failed = writes_part f a b bytes now form is failed.0 failed.1
 
--- ---- one frame after another
+-- One frame after another
 
 IsPickedFrom-append : {A : Type 0} (xs ys us vs : List A) → IsPickedFrom xs us → IsPickedFrom ys vs → IsPickedFrom (xs ++ ys) (us ++ vs)
 IsPickedFrom-append xs ys us vs nothing q = q
@@ -97,17 +97,17 @@ WritesTab-more start old new p f a b c false has_failed h sound is same w =
       };
     }
 
--- nothing was taken yet
+-- At first no parcel is taken.
 pub WritesTab-start : (taken : List Packed) (a : Option (List ℕ)) (has_failed : Bool) → has_failed ≡ false → WritesTab taken taken a a has_failed
 WritesTab-start taken a has_failed sound = subst (λ b. WritesTab taken taken a a b) (sym sound) (WritesTab-none taken a)
 
--- nothing more was taken
+-- Taking no parcel writes nothing.
 pub WritesTab-still : (start : List Packed) (old new : Handed) (a b : Option (List ℕ)) (has_failed : Bool) → WritesTab start old.view.parcels a b has_failed → new ≡ old → WritesTab start new.view.parcels a b has_failed
 WritesTab-still start old new a b has_failed h same = subst (λ (p : Handed). WritesTab start p.view.parcels a b has_failed) (sym same) h
 
--- ---- looks and passes
+-- Looks and passes
 
--- what the looks so far have found
+-- The result of the looks so far.
 abbrev pub Looked : ℕ → Bool → Option (List (ℕ × Life)) → Option (List (ℕ × Life)) → Type 0
 Looked tab true a b = FoundDead tab a b
 Looked tab false a b = LooksOnly tab a b
@@ -115,7 +115,7 @@ Looked tab false a b = LooksOnly tab a b
 pub Looked-none : (tab : ℕ) (a : Option (List (ℕ × Life))) → Looked tab false a a
 Looked-none tab a = ([], Grows-nil a)
 
--- one more look
+-- One more look extends the record.
 looks_more : (tab : ℕ) (a b c : Option (List (ℕ × Life))) (looks : List Life) (l : Life) → Grows a b (at_tab tab looks) → Grows b c ((tab, l) ∷ []) → Grows a c (at_tab tab (looks ++ l ∷ []))
 looks_more tab a b c looks l h k = subst (Grows a c) (sym (map-append (λ (m : Life). (tab, m)) looks (l ∷ []))) (Grows-trans a b c (at_tab tab looks) ((tab, l) ∷ []) h k)
 

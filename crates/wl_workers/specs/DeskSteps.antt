@@ -1,4 +1,5 @@
--- Helpers of the desk's private contracts: what one frame, one list of frames and one piece of the input do at a desk.
+-- Helpers of the desk's private contracts: the effect of one frame, of a list of frames and of one
+-- piece of the input.
 use Rattle.std.specs.Prelude.{◌≡◌, ◌≢◌, ℕ, List, [], ◌∷◌, ◌++◌, false, Option, Some, None, Result, Ok, Err}
 use Rattle.std.specs.List.{flat_map}
 use Rattle.wl_grammar.specs.declared.frame.Addressed.{Addressed}
@@ -14,30 +15,30 @@ use Rattle.wl_workers.specs.declared.desk.DeskFault.TheVariants as desk
 use Rattle.wl_encoding.specs.Prefixes.{IsPrefixOf}
 use Rattle.wl_workers.specs.Desk.{DeskState, Opening, Serving, Refused, desk_step, desk_after, desk_outs, IsServing, IsRefused, IsReadPart}
 
--- ---- the desk's state
+-- State
 
--- a desk has a broker from its first frame on
+-- The state of a desk: it has a broker after its first frame.
 abbrev pub state_of : Option BrokerState → DeskState
 state_of None = Opening
 state_of (Some broker) = Serving broker
 
--- all that the broker knows has a spelling
+-- Everything the desk's broker knows can be encoded.
 abbrev pub IsSpeaking : DeskState → Type 0
 IsSpeaking Opening = Unit {0}
 IsSpeaking (Serving broker) = IsSpellable broker
 IsSpeaking Refused = Unit {0}
 
--- the bytes of these frames to tabs
+-- The encodings of frames addressed to tabs, in order.
 abbrev pub spelled : List Addressed → List ℕ
 spelled outs = flat_map (λ a. spelling (frame.Addressed a)) outs
 
--- all that a desk writes for these frames
+-- All bytes that a desk writes for a list of frames.
 abbrev pub due : DeskState → List Frame → List ℕ
 due d frames = spelled (desk_outs d frames)
 
--- ---- what a frame, frames and a piece do
+-- Steps over a frame, a list of frames and a piece of input
 
--- a frame is answered, is not expected, or is not answered when out of memory
+-- A frame is answered, or it is unexpected, or memory runs out.
 abbrev pub Steps : DeskState → Frame → DeskState → Result (List Addressed) DeskFault → Type 0
 Steps old f new (Ok outs) = (desk_step old f ≡ (new, outs)) × IsServing new
 Steps old f new (Err (desk.Frame e)) = ⊥
@@ -47,11 +48,11 @@ Steps old f new (Err desk.Write) = ⊥
 Steps old f new (Err desk.TooManyReads) = ⊥
 Steps old f new (Err desk.Memory) = Unit {0}
 
--- a prefix of these bytes stands behind the old ones
+-- A prefix of `bytes` was appended to the old bytes.
 abbrev pub IsBegun : List ℕ → List ℕ → List ℕ → Type 0
 IsBegun old bytes new = (piece : List ℕ) × (new ≡ old ++ piece) × IsPrefixOf piece bytes
 
--- a frame was answered behind the bytes before, was not expected, or was not answered when out of memory
+-- The answer to a frame was appended to the bytes, or the frame is unexpected, or memory ran out.
 abbrev pub Spells : DeskState → Frame → DeskState → List ℕ → List ℕ → Result (Unit {0}) DeskFault → Type 0
 Spells old f new before after (Ok done) =
     (outs : List Addressed) × (desk_step old f ≡ (new, outs)) × IsServing new × (after ≡ before ++ spelled outs)
@@ -62,7 +63,7 @@ Spells old f new before after (Err desk.Write) = ⊥
 Spells old f new before after (Err desk.TooManyReads) = ⊥
 Spells old f new before after (Err desk.Memory) = IsBegun before (due old (f ∷ [])) after
 
--- frames are answered, up to the end or the first fault
+-- Frames are answered in order, up to the last one or the first fault.
 abbrev pub Deals : DeskState → List Frame → DeskState → Result (Unit {0}) DeskFault → List ℕ → Type 0
 Deals old frames new (Ok done) output = (new ≡ desk_after old frames) × (IsRefused new → ⊥) × (output ≡ due old frames)
 Deals old frames new (Err (desk.Frame e)) output = ⊥
@@ -72,7 +73,7 @@ Deals old frames new (Err desk.Write) output = (frames ≢ []) × IsPrefixOf out
 Deals old frames new (Err desk.TooManyReads) output = ⊥
 Deals old frames new (Err desk.Memory) output = IsPrefixOf output (due old frames)
 
--- a piece was read as these frames and answered, up to the fault that ends the run
+-- Frames decoded up to a stop were answered, up to the fault that ends the run.
 abbrev pub EndsBy : DeskState → List Frame → Stop → DeskFault → List ℕ → Type 0
 EndsBy old frames stop (desk.Frame e) output = (stop ≡ Fault e) × (IsRefused (desk_after old frames) → ⊥) × (output ≡ due old frames)
 EndsBy old frames stop desk.Unexpected output = IsRefused (desk_after old frames) × (output ≡ due old frames)
@@ -97,12 +98,13 @@ pub record Breaks (old : DeskState) (rest piece : List ℕ) (e : DeskFault) (out
   pub reads : Reads (rest ++ part) frames stop
   pub ends : EndsBy old frames stop e output
 
--- one more piece of the input, at a desk with this rest of the pieces before
+-- A piece of the input was decoded after the rest of the earlier pieces, and its frames were
+-- answered.
 abbrev pub Treats : DeskState → DeskState → List ℕ → List ℕ → Feeding → Result (Unit {0}) DeskFault → List ℕ → Type 0
 Treats old new rest piece feed (Ok done) output = Passes old new rest piece feed output
 Treats old new rest piece feed (Err e) output = Breaks old rest piece e output
 
--- the end of the input
+-- The result of a run whose input ends after an undecoded rest.
 abbrev pub Closes : DeskState → List ℕ → Result (Unit {0}) DeskFault → Type 0
 Closes d rest (Ok done) = IsServing d × (rest ≡ [])
 Closes d rest (Err (desk.Frame e)) = (rest ≢ []) × (e ≡ fault.Truncated)

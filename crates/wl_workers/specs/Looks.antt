@@ -1,4 +1,4 @@
--- What looks at a tab find.
+-- Results of looks at a tab.
 use Rattle.std.specs.Prelude.{◌≢◌, ◌≤◌, ℕ, List, [], ◌∷◌, ◌++◌, Bool, true, false, map, Option}
 use Rattle.wl_board.specs.declared.tab.Life.{Life}
 use Rattle.wl_board.specs.declared.tab.Life.TheVariants as life
@@ -8,30 +8,30 @@ use Rattle.wl_workers.specs.Told.{Grows}
 abbrev pub IsNotDead : Life → Type 0
 IsNotDead l = l ≢ life.Dead
 
--- looks at one tab
+-- Looks at one tab, each paired with the tab.
 abbrev pub at_tab : ℕ → List Life → List (ℕ × Life)
 at_tab tab looks = map (λ l. (tab, l)) looks
 
--- one look was made, and found the tab dead or not
+-- One look was made, and it found the tab dead exactly if the Boolean is true.
 abbrev pub FindsDead : ℕ → Bool → Option (List (ℕ × Life)) → Option (List (ℕ × Life)) → Type 0
 FindsDead tab true before after = Grows before after ((tab, life.Dead) ∷ [])
 FindsDead tab false before after = (l : Life) × IsNotDead l × Grows before after ((tab, l) ∷ [])
 
--- some looks were made, all at this tab
+-- Any number of looks were made, all at this tab.
 abbrev pub LooksOnly : ℕ → Option (List (ℕ × Life)) → Option (List (ℕ × Life)) → Type 0
 LooksOnly tab before after = (looks : List Life) × Grows before after (at_tab tab looks)
 
--- some looks were made, and the last one found the tab dead
+-- Looks were made at this tab, and the last one found it dead.
 abbrev pub FoundDead : ℕ → Option (List (ℕ × Life)) → Option (List (ℕ × Life)) → Type 0
 FoundDead tab before after = (looks : List Life) × Grows before after (at_tab tab (looks ++ life.Dead ∷ []))
 
--- ---- looks from a seat
+-- Looks from a seat
 
--- a seat, and the board that it is of
+-- A board with one of its seats.
 pub record Watching : Type 0 where
   pub board : SharedBoard
   pub seat : Sitting
 
--- the board has a tab of this number
+-- The board has a tab of this number.
 abbrev pub IsOnBoard : ℕ → SharedBoard → Type 0
 IsOnBoard tab board = (1 ≤ tab) × (tab ≤ board.tabs)

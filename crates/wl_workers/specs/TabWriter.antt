@@ -1,4 +1,4 @@
--- The writing of a tab's link: what is taken from its outbox is written.
+-- Writing a tab's link: the frames taken from its outbox are written.
 use Rattle.std.specs.Prelude.{◌≡◌, ℕ, List, ◌++◌, Bool, true, false, map, Option}
 use Rattle.std.specs.List.{flat_map, AllByRecursion}
 use Rattle.std.specs.Io.KnownBytes.{Appends}
@@ -8,16 +8,16 @@ use Rattle.wl_encoding.specs.Prefixes.{IsPrefixOf}
 use Rattle.wl_outbox.specs.Parcels.{Packed}
 use Rattle.wl_outbox.specs.MergeLaws.{IsPickedFrom}
 
--- of these frames some were kept, in order, each of which has a spelling
+-- `kept` is a subsequence of the frames, and each kept frame is well-formed.
 abbrev pub Keeps : List Frame → List Frame → Type 0
 Keeps kept frames = IsPickedFrom kept frames × AllByRecursion IsWellFormed kept
 
--- the encodings of the kept frames, or a prefix of that where the writer has failed
+-- The output is the encodings of the kept frames, or a prefix of them if the writer has failed.
 abbrev pub IsWritten : Bool → List ℕ → List Frame → Type 0
 IsWritten false output kept = output ≡ flat_map spelling kept
 IsWritten true output kept = IsPrefixOf output (flat_map spelling kept)
 
--- the encodings of the frames were written, without those that are lost
+-- The encodings of the frames were written, except for lost frames.
 pub record WritesFrames (frames : List Frame) (writer_before writer_after : Option (List ℕ)) (has_failed : Bool) : Type 0 where
   pub kept : List Frame
   pub output : List ℕ
@@ -25,7 +25,7 @@ pub record WritesFrames (frames : List Frame) (writer_before writer_after : Opti
   pub appended : Appends writer_before writer_after output
   pub written : IsWritten has_failed output kept
 
--- these parcels were taken, and the encodings of their frames written
+-- These parcels were taken, and the encodings of their frames were written.
 pub record WritesTab (taken_before taken_after : List Packed) (writer_before writer_after : Option (List ℕ)) (has_failed : Bool) : Type 0 where
   pub taken : List Packed
   pub all : taken_after ≡ taken_before ++ taken

@@ -1,4 +1,4 @@
-//! The desk: frames in, the broker's answers out.
+//! The desk: a broker between a frame reader and a frame writer.
 
 ghost use Rattle.std.specs.Prelude.{◌≡◌, ◌≢◌, ◌↔◌, ℕ, List, [], ◌++◌, true, false, Err, IfOk, OnOk, OnErr, MatchResult};
 ghost use Rattle.std.specs.List.{AllByRecursion};
@@ -21,13 +21,13 @@ use wl_frames::device::{BUNDLE_LEN, PIECE_LEN, READ_LIMIT, ReadFault, Sink, Sour
 use wl_frames::{Addressed, Dead, Feed, Frame, FrameFault, Stamped, Start, encode_into};
 use wl_table::IndexedTable;
 
-/// Why a run of the desk did not end well.
+/// Why a run of the desk failed.
 #[derive(Clone, Copy, Debug, PartialEq, Eq, Error)]
 pub enum DeskFault {
-    /// The input is no stream of frames; or it ended within a frame.
+    /// The input is not a valid stream of frames, or it ended within a frame.
     #[error("{0}")]
     Frame(FrameFault),
-    /// A frame that the desk does not expect; or no frame at all.
+    /// The desk received a frame that it does not expect, or the input had no frame at all.
     #[error("Unexpected")]
     Unexpected,
     /// The reader failed.
@@ -36,10 +36,10 @@ pub enum DeskFault {
     /// The writer failed.
     #[error("Write")]
     Write,
-    /// The reader was read as often as it may be.
+    /// The input was not at its end after `READ_LIMIT` reads.
     #[error("TooManyReads")]
     TooManyReads,
-    /// Memory was refused.
+    /// Out of memory.
     #[error("Memory")]
     Memory,
 }
@@ -106,7 +106,7 @@ impl<T: LockTable> Desk<T> {
         Desk { broker: None }
     }
 
-    /// Starts the broker, once.
+    /// Starts the broker. Fails with `Unexpected` if it was started before.
     fn start(&mut self, alloc: Global, start: &Start) -> Result<Outs, DeskFault>
         requires { IsWellFormed (Frame.Start start.now) }
         ensures step { Steps self.old (Frame.Start start.now) self.new result }
@@ -120,7 +120,7 @@ impl<T: LockTable> Desk<T> {
         Ok(outs)
     }
 
-    /// Gives the broker a tab's message.
+    /// Passes a tab's message to the broker and returns the frames that the broker sends.
     fn take(&mut self, alloc: Global, stamped: &Stamped) -> Result<Outs, DeskFault>
         requires { IsWellFormed (Frame.Stamped stamped.now) }
         ensures step { Steps self.old (Frame.Stamped stamped.now) self.new result }
@@ -135,7 +135,7 @@ impl<T: LockTable> Desk<T> {
         }
     }
 
-    /// Tells the broker of a tab's death.
+    /// Tells the broker that a tab has died and returns the frames that the broker sends.
     fn bury(&mut self, dead: &Dead) -> Result<Outs, DeskFault>
         requires { IsWellFormed (Frame.Dead dead.now) }
         ensures step { Steps self.old (Frame.Dead dead.now) self.new result }
@@ -147,7 +147,7 @@ impl<T: LockTable> Desk<T> {
         Ok(broker.dead(dead.tab)?)
     }
 
-    /// The broker's frames in answer to one frame.
+    /// Returns the frames that the broker sends in answer to one frame.
     fn answer(&mut self, alloc: Global, frame: &Frame) -> Result<Outs, DeskFault>
         requires { IsWellFormed frame.now }
         ensures step { Steps self.old frame.now self.new result }
@@ -161,7 +161,7 @@ impl<T: LockTable> Desk<T> {
         }
     }
 
-    /// Appends the bytes of the answer to one frame.
+    /// Appends the encoding of the broker's answer to one frame.
     fn spell_answer(
         &mut self,
         alloc: Global,
@@ -176,7 +176,8 @@ impl<T: LockTable> Desk<T> {
         Ok(())
     }
 
-    /// Answers frames in order, up to the first fault. What is ready is written at once, in the room that the bytes have.
+    /// Answers frames in order, up to the first fault, and writes the answers before it returns.
+    /// The buffer `bytes` is reused between calls.
     fn answer_all<W: Write>(
         &mut self,
         alloc: Global,
@@ -198,7 +199,7 @@ impl<T: LockTable> Desk<T> {
         bytes.clear();
         for frame in frames {
             if let Err(fault) = self.spell_answer(alloc, frame, bytes) {
-                // What stands before the fault is written first.
+                // Write the answers to the frames before the fault.
                 sink.write(bytes.as_slice())?;
                 return Err(fault);
             }
@@ -208,7 +209,8 @@ impl<T: LockTable> Desk<T> {
         Ok(())
     }
 
-    /// Reads a piece of the input, and answers its frames. What stands before a fault is answered first.
+    /// Decodes a piece of the input and answers its frames. If a fault is found, the frames before
+    /// it are answered first.
     fn take_piece<W: Write>(
         &mut self,
         alloc: Global,
@@ -235,7 +237,8 @@ impl<T: LockTable> Desk<T> {
         }
     }
 
-    /// What the end of the input means.
+    /// Checks that the input may end here. Fails with `Frame` within a frame, and with `Unexpected`
+    /// if no frame came.
     fn end(&self, feed: Feed) -> Result<(), DeskFault>
         requires { feed.has_failed ≡ false }
         ensures { Closes self.now feed.rest result }
@@ -247,7 +250,7 @@ impl<T: LockTable> Desk<T> {
         Ok(())
     }
 
-    /// Reads the input and writes the answers to its frames, up to its end or the first fault.
+    /// Reads the input and writes the answers to its frames, up to end of input or the first fault.
     fn run<R: Read, W: Write>(
         &mut self,
         alloc: Global,
@@ -268,7 +271,7 @@ impl<T: LockTable> Desk<T> {
         let mut feed = Feed::new(alloc);
         let mut buffer = [0; PIECE_LEN];
         let mut bytes = Vec::new(alloc);
-        // A loop is proved to end, so this one counts the reads too.
+        // The prover needs a bounded loop, so this loop counts the reads too.
         for _reads in 0..READ_LIMIT {
             let n = source.read(&mut buffer)?;
             if n == 0 {
@@ -280,7 +283,8 @@ impl<T: LockTable> Desk<T> {
     }
 }
 
-/// A message that is dropped is not answered; but when out of memory the run ends.
+/// Returns no frames for a dropped message. Fails with `Memory` if it was dropped for lack of
+/// memory.
 fn unanswered(alloc: Global, reason: Dropped) -> Result<Outs, DeskFault>
     ensures { MatchResult result (λ outs.
         (outs ≡ []) × (reason ≢ Dropped.Memory)) (λ e. e ≡ DeskFault.Memory) }
@@ -303,7 +307,7 @@ fn spell_all(outs: Outs, bytes: &mut Vec<u8>) -> Result<(), AllocError>
     }
 }
 
-/// The same of frames in a list.
+/// Appends the encodings of the frames in a list, in order.
 fn spell_list(listed: Vec<Addressed>, bytes: &mut Vec<u8>) -> Result<(), AllocError>
     requires { AllByRecursion IsAddressed listed.items }
     ensures spelled { OnOk result (bytes.new.items ≡ bytes.old.items ++ spelled listed.items) }
@@ -315,7 +319,7 @@ fn spell_list(listed: Vec<Addressed>, bytes: &mut Vec<u8>) -> Result<(), AllocEr
     Ok(())
 }
 
-/// Appends the encoding of one of the broker's frames. Where memory is refused, the bytes are as they were.
+/// Appends the encoding of one of the broker's frames. Leaves the bytes unchanged if out of memory.
 fn spell_one(addressed: Addressed, bytes: &mut Vec<u8>) -> Result<(), AllocError>
     requires { IsAddressed addressed }
     ensures spelled { OnOk result
@@ -328,7 +332,7 @@ fn spell_one(addressed: Addressed, bytes: &mut Vec<u8>) -> Result<(), AllocError
     spelled
 }
 
-/// Writes the bytes and takes them away, once they are many.
+/// Writes the bytes and clears the buffer if it holds at least `BUNDLE_LEN` bytes.
 fn write_bundle<W: Write>(bytes: &mut Vec<u8>, sink: &mut Sink<W>) -> Result<(), WriteFault>
     ensures written { OnOk result
         ((piece : List ℕ) × Appends (W.contents sink.old.writer) (W.contents sink.new.writer) piece
@@ -345,8 +349,10 @@ fn write_bundle<W: Write>(bytes: &mut Vec<u8>, sink: &mut Sink<W>) -> Result<(),
     Ok(())
 }
 
-/// Runs a broker between a reader and a writer: reads frames, a Start frame first and then stamped frames and deaths,
-/// and writes the frames that the broker sends, up to the end of the input or the first fault.
+/// Runs a broker between a reader and a writer, up to end of input or the first fault.
+///
+/// The input is a Start frame followed by stamped frames and deaths. The output is the frames that
+/// the broker sends.
 pub fn desk_run_on<T: LockTable, R: Read, W: Write>(
     alloc: Global,
     source: &mut Source<R>,
@@ -356,12 +362,12 @@ pub fn desk_run_on<T: LockTable, R: Read, W: Write>(
     requires reads { source.old.reads ≡ 0 }
     requires sink { sink.old.has_failed ≡ false }
 
-    // What is written is the answer to what was read, and nothing else.
+    // The output is exactly the answer to the input.
     ensures runs { Runs (R.remaining source.old.reader) (R.remaining source.new.reader)
         (W.contents sink.old.writer) (W.contents sink.new.writer) result }
     ensures end { OnOk result (IsAtEnd (R.remaining source.new.reader)) }
 
-    // `Read` and `Write` are returned exactly if the source or the sink noted a failure.
+    // `Read` and `Write` are returned exactly if the source or the sink recorded a failure.
     ensures read { (result ≡ Err DeskFault.Read) ↔ (source.new.has_failed ≡ true) }
     ensures write { (result ≡ Err DeskFault.Write) ↔ (sink.new.has_failed ≡ true) }
     ensures limit { result ≡ Err DeskFault.TooManyReads → source.new.reads ≡ READ_LIMIT }
@@ -372,8 +378,11 @@ pub fn desk_run_on<T: LockTable, R: Read, W: Write>(
     ran
 }
 
-/// Runs a broker over indexed lock tables between a reader and a writer: reads frames, a Start frame first and then stamped
-/// frames and deaths, and writes the frames that the broker sends, up to the end of the input or the first fault.
+/// Runs a broker over indexed lock tables between a reader and a writer, up to end of input or the
+/// first fault.
+///
+/// The input is a Start frame followed by stamped frames and deaths. The output is the frames that
+/// the broker sends.
 pub fn desk_run<R: Read, W: Write>(
     alloc: Global,
     source: &mut Source<R>,
@@ -383,12 +392,12 @@ pub fn desk_run<R: Read, W: Write>(
     requires reads { source.old.reads ≡ 0 }
     requires sink { sink.old.has_failed ≡ false }
 
-    // What is written is the answer to what was read, and nothing else.
+    // The output is exactly the answer to the input.
     ensures runs { Runs (R.remaining source.old.reader) (R.remaining source.new.reader)
         (W.contents sink.old.writer) (W.contents sink.new.writer) result }
     ensures end { OnOk result (IsAtEnd (R.remaining source.new.reader)) }
 
-    // `Read` and `Write` are returned exactly if the source or the sink noted a failure.
+    // `Read` and `Write` are returned exactly if the source or the sink recorded a failure.
     ensures read { (result ≡ Err DeskFault.Read) ↔ (source.new.has_failed ≡ true) }
     ensures write { (result ≡ Err DeskFault.Write) ↔ (sink.new.has_failed ≡ true) }
     ensures limit { result ≡ Err DeskFault.TooManyReads → source.new.reads ≡ READ_LIMIT }

@@ -1,4 +1,4 @@
-//! Lanes on threads of their own.
+//! Runs each lane on a thread of its own.
 
 ghost use Rattle.std.specs.Prelude.{◌≡◌, ◌<◌, ◌≤◌, length};
 ghost use Rattle.wl_locked.specs.declared.locked.TheConstants.{LANE_LIMIT};
@@ -11,17 +11,17 @@ use std::thread;
 use std::thread::Threads;
 use wl_locked::{NotStepped, Receipt, ShardLane, Sharded, Shards, Work};
 
-/// What a lane works with, and how it ended.
+/// A lane with its intake, its outlet and its result.
 #[derive(Drop)]
 pub struct Job<J: Shards, I, O> {
     pub lane: ShardLane<J>,
     pub intake: I,
     pub outlet: O,
-    /// None until it was run.
+    /// How the lane ended; `None` until it has run.
     pub end: Option<LaneEnd>,
 }
 
-/// The desk of a lane: a broker in shards, which steps for it.
+/// A lane's desk over a sharded broker.
 #[derive(Drop)]
 struct LaneDesk<'a, J: Shards> {
     broker: &'a Sharded<J>,
@@ -43,8 +43,9 @@ impl<'a, J: Shards> Desk for LaneDesk<'a, J> {
     }
 }
 
-/// Runs each job's lane to its end, on a thread of its own. Tells the job's intake how the lane ended, and leaves it in the job. It
-/// takes no memory.
+/// Runs each job's lane to its end, on a thread of its own, and allocates nothing.
+///
+/// When a lane ends, its end is passed to the job's intake and stored in the job.
 pub fn run_lanes<
     J: Shards + Send + Sync,
     I: Intake + Send,
@@ -54,7 +55,8 @@ pub fn run_lanes<
 >(rt: &R, broker: &Sharded<J>, jobs: &mut [Job<J, I, O>], gate: &G)
     requires count { (0 < length jobs.old) × (length jobs.old ≤ LANE_LIMIT) }
     requires shards { DealTo I.shards J.run.shards jobs.old }
-    // Each lane has the receipts of what its intake gave, and its outlet was given what they send.
+    // Each lane holds the receipts of the works its intake gave, and its outlet was given their
+    // frames.
     ensures { RunsJobs I.given O.put_out jobs.old jobs.new }
 {
     let threads = jobs.len();
@@ -70,7 +72,7 @@ pub fn run_lanes<
     );
 }
 
-/// Runs one job's lane.
+/// Runs one job's lane and records how it ended.
 fn run<J: Shards, I: Intake, O: Outlet, G: Gate, R: Wait + Clock>(
     rt: &R,
     number: u16,

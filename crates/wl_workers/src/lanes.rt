@@ -1,5 +1,5 @@
-//! A lane: one thread's part of a broker. It takes works from an intake, has the desk take them, and puts what the broker
-//! sends out.
+//! A lane: one thread's share of a broker. It takes works from an intake, passes them to its desk,
+//! and gives the frames that the broker sends to an outlet.
 
 ghost use Rattle.std.specs.Prelude.{◌≡◌, ◌⊎◌, [], ◌∷◌, true, Err, OnOk, IfErr};
 ghost use Rattle.wl_grammar.specs.declared.frame.Frame.TheVariants as frame;
@@ -12,36 +12,36 @@ use thiserror::Error;
 use wl_frames::{Addressed, Frame};
 use wl_locked::{Frames, NotStepped, Receipt, Reply, Work};
 
-/// The most events that a lane takes.
+/// The largest number of events that a lane takes.
 pub const EVENT_LIMIT: u32 = 1_000_000;
 
-/// Gives a lane its works, in order.
+/// Source of a lane's works, in order.
 pub trait Intake {
     ghost use Rattle.std.specs.Prelude.{◌≡◌, ℕ, List, [], ◌∷◌, Option, None, IfSome};
     ghost use Rattle.wl_locked.specs.declared.work.Work.{Work};
     ghost use Rattle.wl_locked.specs.Sharding.{IsDealt};
     ghost use Rattle.wl_workers.specs.Told.{Grows};
 
-    /// What it gave at each call, None for an end, if it tells.
+    /// The results of `next` so far, with `None` for an end. `None` if the intake keeps no record.
     ghost given: { Self → Option (List (Option Work)) } = { λ _. None };
 
-    /// To how many shards it deals.
+    /// The number of shards that the works are dealt to.
     ghost shards: { Self → ℕ };
 
-    /// The next work, or None where no more will come.
+    /// Returns the next work, or `None` if no more will come.
     fn next<R: Wait + Clock>(&mut self, rt: &R) -> Option<Work>
         ensures given { Grows (given self.old) (given self.new) (result ∷ []) }
         ensures dealt { IfSome result (IsDealt (shards self.old)) }
         ensures shards { shards self.new ≡ shards self.old };
 
-    /// Hears how its lane has ended. `run_lanes` calls it once, after the last `next`.
+    /// Receives how the lane ended. `run_lanes` calls it once, after the last `next`.
     fn end<R: Wait + Clock>(&mut self, _rt: &R, _end: LaneEnd)
         ensures given { given self.new ≡ given self.old }
         ensures shards { shards self.new ≡ shards self.old }
     {}
 }
 
-/// Takes one work at a time, and answers with the receipt of the step.
+/// Takes one work at a time and returns the receipt of its step.
 pub trait Desk {
     ghost use Rattle.std.specs.Prelude.{◌≡◌, ℕ, List, [], ◌∷◌, Option, None, Result};
     ghost use Rattle.wl_locked.specs.declared.work.Work.{Work};
@@ -51,18 +51,19 @@ pub trait Desk {
     ghost use Rattle.wl_workers.specs.Told.{Grows};
     ghost use Rattle.wl_workers.specs.Lane.{receipt_in};
 
-    /// The works that it was handed, each with its answer, if it tells.
+    /// The works taken so far, each with its result. `None` if the desk keeps no record.
     ghost answered: { Self → Option (List (Work × Result Receipt NotStepped)) } = { λ _. None };
 
-    /// The receipts that it keeps of its steps in each shard, if it tells.
+    /// The receipts kept for the steps of each shard. `None` if the desk keeps no record.
     ghost kept: { Self → ℕ → Option (List Receipt) } = { λ _ _. None };
 
-    /// What it keeps them in, by name, where it borrows that.
+    /// The ghost name of the lane that the desk borrows, or 0.
     ghost borrowed: { Self → ℕ } = { λ _. 0 };
 
-    /// How many shards it has.
+    /// The number of shards of the broker.
     ghost shards: { Self → ℕ };
 
+    /// Passes one work to the broker and returns the step's receipt. Fails if no step was made.
     fn take_one<R: Wait + Clock>(&mut self, rt: &R, work: Work) -> Result<Receipt, NotStepped>
         requires { IsDealt (shards self.old) work }
         ensures answered { Grows (answered self.old) (answered self.new) ((work, result) ∷ []) }
@@ -72,42 +73,45 @@ pub trait Desk {
         ensures shards { shards self.new ≡ shards self.old };
 }
 
-/// Stands between a step and what is sent for it. Several lanes call one gate.
+/// Decides when the frames of a step may be sent. Several lanes share one gate.
 pub trait Gate {
     ghost use Rattle.std.specs.Prelude.{◌≡◌, ℕ, Bool, true};
 
-    /// Whether it may ever let the lane of this number pass, if it tells.
+    /// Whether the gate may ever let this lane pass. `true` if the gate makes no promise.
     ghost lets: { Self → ℕ → Bool } = { λ _ _. true };
 
-    /// Whether the lane may send what its step answered; else the lane ends. It may wait.
+    /// Returns true if the lane may send the frames of its last step, and false if the lane must
+    /// end. May block.
     fn pass<R: Wait + Clock>(&self, rt: &R, lane: u16) -> bool
         ensures { result ≡ true → lets self.now lane ≡ true };
 
-    /// The lane has sent all that its step answered.
+    /// Notes that the lane has sent all frames of its last step.
     fn answered<R: Wait + Clock>(&self, rt: &R, lane: u16);
 }
 
-/// Why a frame was not put out.
+/// Why an outlet refused a frame.
 #[derive(Clone, Copy, Debug, PartialEq, Eq, Error)]
 pub enum OutletFault {
-    /// It could not be written.
+    /// The frame could not be written.
     #[error("Write")]
     Write,
-    /// Memory was refused.
+    /// Out of memory.
     #[error("Memory")]
     Memory,
 }
 
-/// Puts frames out, on their way to tabs.
+/// Sends the broker's frames on their way to tabs.
 pub trait Outlet {
     ghost use Rattle.std.specs.Prelude.{List, [], ◌∷◌, Option, None, Result};
     ghost use Rattle.wl_grammar.specs.declared.frame.Frame.{Frame};
     ghost use Rattle.wl_workers.specs.declared.lanes.OutletFault.{OutletFault};
     ghost use Rattle.wl_workers.specs.Told.{Grows};
 
-    /// The frames that it was given, each with its answer, if it tells.
+    /// The frames given to `put` so far, each with its result. `None` if the outlet keeps no
+    /// record.
     ghost put_out: { Self → Option (List (Frame × Result (Unit {0}) OutletFault)) } = { λ _. None };
 
+    /// Sends one frame.
     fn put<R: Wait + Clock>(&mut self, rt: &R, frame: &Frame) -> Result<(), OutletFault>
         ensures { Grows (put_out self.old) (put_out self.new) ((frame.now, result) ∷ []) };
 }
@@ -117,23 +121,23 @@ pub trait Outlet {
 pub enum Cause {
     /// The intake has no more events.
     Ended,
-    /// The generation has all the steps that it may have, or the lane all its events.
+    /// The generation used up its steps, or the lane its `EVENT_LIMIT` events.
     Spent,
-    /// The gate did not let it pass.
+    /// The gate did not let the lane pass.
     Shut,
-    /// The outlet did not take a frame.
+    /// The outlet refused a frame.
     Outlet,
 }
 
 /// How a lane ended.
 #[derive(Clone, Copy, Debug, PartialEq, Eq)]
 pub struct LaneEnd {
-    /// How many of its events were steps.
+    /// The number of events that made a step.
     pub steps: u32,
     pub why: Cause,
 }
 
-/// Puts one frame out.
+/// Sends one frame.
 fn put_one<R: Wait + Clock, O: Outlet>(
     rt: &R,
     addressed: Addressed,
@@ -147,7 +151,7 @@ fn put_one<R: Wait + Clock, O: Outlet>(
     put
 }
 
-/// Puts frames out, in order, up to the first one that is refused.
+/// Sends frames in order, up to the first one that the outlet refuses.
 fn put_frames<R: Wait + Clock, O: Outlet>(
     rt: &R,
     outs: Vec<Addressed>,
@@ -164,7 +168,7 @@ fn put_frames<R: Wait + Clock, O: Outlet>(
     Ok(())
 }
 
-/// Puts out what a step sends.
+/// Sends the frames of a reply.
 fn put_reply<R: Wait + Clock, O: Outlet>(
     rt: &R,
     reply: Reply,
@@ -184,14 +188,14 @@ fn put_reply<R: Wait + Clock, O: Outlet>(
     }
 }
 
-/// What a step answered, without the rest of its receipt.
+/// Extracts the reply from a receipt.
 fn reply_of(receipt: Receipt) -> Reply
     ensures { result ≡ receipt.reply }
 {
     receipt.reply
 }
 
-/// Puts out what a step sends, once the gate lets it pass; or why the lane ends.
+/// Waits at the gate, then sends the frames of a step. Fails with the cause of the lane's end.
 fn send<R: Wait + Clock, G: Gate, O: Outlet>(
     rt: &R,
     number: u16,
@@ -216,8 +220,10 @@ fn send<R: Wait + Clock, G: Gate, O: Outlet>(
     Ok(())
 }
 
-/// Has the desk take what the intake gives, one event after another, and puts out what each step sends, once the gate lets
-/// it pass. An event that is lost when out of memory is no step, and nothing is sent for it.
+/// Runs a lane: takes works from the intake, passes each to the desk, and sends the frames of each
+/// step after the gate lets the lane pass.
+///
+/// An event that is lost for lack of memory makes no step, and nothing is sent for it.
 pub fn lane<R: Wait + Clock, I: Intake, D: Desk, G: Gate, O: Outlet>(
     rt: &R,
     number: u16,

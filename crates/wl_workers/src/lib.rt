@@ -1,4 +1,4 @@
-//! Loops over readers and writers, and a broker's lanes on their threads.
+//! Loops over readers and writers, and the threads of a broker's lanes.
 #![tactic(auto)]
 
 pub mod desk;

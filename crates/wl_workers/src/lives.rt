@@ -1,4 +1,4 @@
-//! Who tells whether a tab lives.
+//! Access to the life state of tabs.
 
 ghost use Rattle.std.specs.Prelude.{◌≡◌, ◌+◌, ◌<◌, ◌≤◌, Err, IfOk, OnOk, OnErr};
 ghost use Rattle.std.specs.Arc.{arc_value};
@@ -14,20 +14,22 @@ use std::sync::{Arc, Mutex, Wait};
 use std::thread::Parker;
 use wl_board::{Birth, Board, DrawFault, Life, Seat, SeatSpent, Ticket};
 
-/// Looks whether tabs live. A look may wait, as for a bell.
+/// Tells whether tabs live. A look may block, for instance until a bell rings.
 pub trait Lives {
     ghost use Rattle.std.specs.Prelude.{ℕ, List, [], ◌∷◌, Option, None};
     ghost use Rattle.wl_board.specs.declared.tab.Life.{Life};
     ghost use Rattle.wl_workers.specs.Told.{Grows};
 
-    /// Which tab each of its looks was at and what it found, if it tells.
+    /// The looks made so far, each with its tab and result. `None` if the implementation keeps no
+    /// record.
     ghost answered: { Self → Option (List (ℕ × Life)) } = { λ _. None };
 
+    /// Returns the life state of a tab.
     fn look<R: Wait + Clock>(&mut self, rt: &R, tab: u16) -> Life
         ensures { Grows (answered self.old) (answered self.new) ((tab, result) ∷ []) };
 }
 
-/// A board and a seat of it. Its looks do not wait.
+/// A board and one of its seats. Its looks do not block.
 #[derive(Drop)]
 pub struct BoardSeat {
     board: Arc<Board>,
@@ -47,6 +49,7 @@ impl Model for BoardSeat {
 }
 
 impl BoardSeat {
+    /// Combines a board and one of its seats.
     pub fn new(board: Arc<Board>, seat: Seat) -> BoardSeat
         requires { IsOf seat (arc_value board) }
         ensures { result ≡ record { board = arc_value board; seat = seat } }
@@ -54,7 +57,8 @@ impl BoardSeat {
         BoardSeat { board, seat }
     }
 
-    /// Draws the next number. A seat that found the numbers used up says so from then on, without a step.
+    /// Draws the next tab number. After a draw fails with `TabsUsedUp`, every later draw fails so
+    /// too, and takes no step.
     pub fn draw(&mut self) -> Result<Ticket, DrawFault>
         ensures same { (self.new.board ≡ self.old.board) × IsSameSeat self.old.seat self.new.seat }
         ensures range { IfOk result (λ t. IsOnBoard t self.old.board) }
@@ -74,7 +78,7 @@ impl BoardSeat {
         self.board.draw(&mut self.seat)
     }
 
-    /// Brings the tab of a ticket to life, unless it was marked dead before.
+    /// Brings the tab of a ticket to life. Returns `WasDead` if the tab was marked dead before.
     pub fn birth(&mut self, ticket: Ticket) -> Birth
         requires drawn { Has ticket self.old.seat.view.drawn }
         requires unborn { ¬ Has ticket self.old.seat.view.born }
@@ -85,7 +89,7 @@ impl BoardSeat {
         self.board.birth(&mut self.seat, ticket)
     }
 
-    /// Marks a tab dead, whether it ever lived or not. A number that the board does not have is of no tab.
+    /// Marks a tab dead, whether it ever lived or not. Ignores a number that is not on the board.
     pub fn mark_dead(&mut self, tab: u16)
         ensures same { (self.new.board ≡ self.old.board) × IsSameSeat self.old.seat self.new.seat }
         ensures marked { IsOnBoard tab self.old.board → self.new.seat.view ≡ marks self.old.seat.view tab }
@@ -97,7 +101,7 @@ impl BoardSeat {
         self.board.mark_dead(&mut self.seat, tab);
     }
 
-    /// Begins the next generation, and answers it.
+    /// Starts the next generation and returns its number. Fails if the seat has used up its steps.
     pub fn bump(&mut self) -> Result<u64, SeatSpent>
         ensures same { (self.new.board ≡ self.old.board) × IsSameSeat self.old.seat self.new.seat }
         ensures later { IfOk result (λ g. generation_seen self.old.seat.view < g) }
@@ -111,7 +115,7 @@ impl BoardSeat {
 }
 
 impl Lives for BoardSeat {
-    /// A number that the board does not have is of no tab.
+    /// Returns `Life::None` for a number that is not on the board.
     fn look<R: Wait + Clock>(&mut self, _rt: &R, tab: u16) -> Life
         ensures same { (self.new.board ≡ self.old.board) × IsSameSeat self.old.seat self.new.seat }
         ensures seen { IsOnBoard tab self.old.board
@@ -126,13 +130,14 @@ impl Lives for BoardSeat {
     }
 }
 
-/// A seat that threads take turns at. Its looks wait for their turn alone.
+/// A board seat behind a mutex. Its looks wait only for the mutex.
 #[derive(Drop)]
 pub struct SharedSeat {
     seat: Arc<Mutex<BoardSeat>>,
 }
 
 impl SharedSeat {
+    /// Creates a handle of a seat behind a mutex.
     pub fn new(seat: Arc<Mutex<BoardSeat>>) -> SharedSeat {
         SharedSeat { seat }
     }
@@ -144,7 +149,8 @@ impl Lives for SharedSeat {
     }
 }
 
-/// Looks that sleep until the bell was rung since the last one. Who puts a parcel or marks a tab dead rings it afterwards.
+/// Looks that sleep until the bell rings. The bell must be rung after a parcel is put and after a
+/// tab is marked dead. A ring since the last look is not lost.
 #[derive(Drop)]
 pub struct Rung<L> {
     bell: Arc<Parker>,
@@ -152,6 +158,7 @@ pub struct Rung<L> {
 }
 
 impl<L> Rung<L> {
+    /// Makes the looks of `lives` wait for a bell.
     pub fn new(bell: Arc<Parker>, lives: L) -> Rung<L>
         ensures { result.lives ≡ lives }
     {
@@ -168,7 +175,7 @@ impl<L: Lives> Lives for Rung<L> {
     }
 }
 
-/// Looks once, whether a tab is dead.
+/// Looks once and returns true if the tab is dead.
 pub(crate) fn finds_dead<R: Wait + Clock, L: Lives>(rt: &R, tab: u16, lives: &mut L) -> bool
     ensures { FindsDead tab result (L.answered lives.old) (L.answered lives.new) }
 {

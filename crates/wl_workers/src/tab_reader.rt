@@ -17,18 +17,18 @@ use std::sync::Wait;
 use wl_frames::device::{PIECE_LEN, READ_LIMIT, ReadFault, Source};
 use wl_frames::{Feed, Frame, FrameFault};
 
-/// How the reading of a tab's link ended.
+/// How reading a tab's link ended.
 #[derive(Clone, Copy, Debug, PartialEq, Eq)]
 pub enum ReadEnd {
     /// The input ended between two frames.
     End,
-    /// The input is no stream of frames, or it ended within a frame; or memory was refused.
+    /// The input is not a valid stream of frames, it ended within a frame, or memory ran out.
     Frame(FrameFault),
     /// The reader failed.
     Read,
-    /// The reader was read as often as it may be.
+    /// The input was not at its end after `READ_LIMIT` reads.
     TooManyReads,
-    /// The tab was found dead.
+    /// A look found the tab dead.
     Dead,
 }
 
@@ -51,7 +51,8 @@ impl From<ReadFault> for ReadEnd {
     }
 }
 
-/// Hands up frames in order, each after a look, until the tab is found dead. A frame that is refused above is lost.
+/// Forwards frames to the uplink in order, each after a look, until a look finds the tab dead. A
+/// frame that the uplink refuses is lost.
 fn hand_up<R: Wait + Clock, L: Lives, U: Uplink>(
     rt: &R,
     tab: u16,
@@ -77,7 +78,8 @@ fn hand_up<R: Wait + Clock, L: Lives, U: Uplink>(
     Ok(())
 }
 
-/// Hands up the frames of a piece of the input. What stands before a fault is handed up first.
+/// Decodes a piece of the input and forwards its frames. If a fault is found, the frames before it
+/// are forwarded first.
 fn take_piece<R: Wait + Clock, L: Lives, U: Uplink>(
     rt: &R,
     tab: u16,
@@ -105,7 +107,7 @@ fn take_piece<R: Wait + Clock, L: Lives, U: Uplink>(
     }
 }
 
-/// What the end of the input means.
+/// Checks that the input ended between two frames.
 fn close(feed: Feed) -> Result<(), ReadEnd>
     requires { feed.has_failed ≡ false }
     ensures { Closes feed.rest result }
@@ -114,7 +116,7 @@ fn close(feed: Feed) -> Result<(), ReadEnd>
     Ok(())
 }
 
-/// Reads and hands up, to the end of the input.
+/// Forwards every frame to the uplink until end of input, a fault, or the tab's death.
 fn read_all<R: Wait + Clock, S: Read, L: Lives, U: Uplink>(
     rt: &R,
     alloc: Global,
@@ -135,7 +137,7 @@ fn read_all<R: Wait + Clock, S: Read, L: Lives, U: Uplink>(
 {
     let mut feed = Feed::new(alloc);
     let mut buffer = [0; PIECE_LEN];
-    // A loop is proved to end, so this one counts the reads too.
+    // The prover needs a bounded loop, so this loop counts the reads too.
     for _reads in 0..READ_LIMIT {
         let n = source.read(&mut buffer)?;
         if n == 0 {
@@ -146,8 +148,10 @@ fn read_all<R: Wait + Clock, S: Read, L: Lives, U: Uplink>(
     Err(ReadEnd::TooManyReads)
 }
 
-/// Reads frames that a tab sends and hands them up, each after a look that did not find the tab dead, up to the end of the
-/// input, the first fault, or the look that finds it dead. A frame that is refused above is lost.
+/// Reads a tab's frames and forwards them to the uplink until end of input, a fault, or the tab's
+/// death.
+///
+/// Before each frame it looks whether the tab lives. A frame that the uplink refuses is lost.
 pub fn tab_reader<R: Wait + Clock, S: Read, L: Lives, U: Uplink>(
     rt: &R,
     alloc: Global,
@@ -159,12 +163,12 @@ pub fn tab_reader<R: Wait + Clock, S: Read, L: Lives, U: Uplink>(
     requires source { source.old.has_failed ≡ false }
     requires reads { source.old.reads ≡ 0 }
 
-    // The frames of what was read are handed up, in order, and nothing else.
+    // Exactly the frames of the input are forwarded, in order.
     ensures reads { ReadsTab tab (S.remaining source.old.reader) (S.remaining source.new.reader)
         (L.answered lives.old) (L.answered lives.new) (U.handed uplink.old) (U.handed uplink.new) result }
     ensures end { NeedsEnd result (S.remaining source.new.reader) }
 
-    // `Read` is returned exactly if the source noted a failure of its reader.
+    // `Read` is returned exactly if the source recorded a failure of its reader.
     ensures failed { (result ≡ ReadEnd.Read) ↔ (source.new.has_failed ≡ true) }
     ensures limit { result ≡ ReadEnd.TooManyReads → source.new.reads ≡ READ_LIMIT }
 {

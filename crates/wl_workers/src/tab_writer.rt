@@ -16,16 +16,17 @@ use wl_frames::device::{Sink, WriteFault};
 use wl_frames::{Frame, encode};
 use wl_outbox::{Outbox, Pass};
 
-/// How the writing of a tab's link ended.
+/// How writing a tab's link ended.
 #[derive(Clone, Copy, Debug, PartialEq, Eq)]
 pub enum WriteEnd {
-    /// The tab was found dead, and then nothing was left for it.
+    /// A look found the tab dead, and its outbox was empty afterwards.
     Dead,
     /// The writer failed.
     Write,
 }
 
-/// Writes the encoding of a frame. One that has no spelling, or for which memory was refused, is lost.
+/// Writes the encoding of a frame. A malformed frame is lost, and so is any frame when memory runs
+/// out.
 fn write_frame<W: Write>(alloc: Global, frame: &Frame, sink: &mut Sink<W>) -> Result<(), WriteFault>
     requires { sink.old.has_failed ≡ false }
     ensures written { WritesFrames (frame.now ∷ [])
@@ -41,7 +42,7 @@ fn write_frame<W: Write>(alloc: Global, frame: &Frame, sink: &mut Sink<W>) -> Re
     sink.write(bytes.as_slice())
 }
 
-/// Takes parcels and writes their frames, until the tab is found dead and then nothing is left.
+/// Takes parcels and writes their frames until the tab is dead and its outbox is empty.
 fn write_all<R: Wait + Clock, L: Lives, W: Write>(
     rt: &R,
     alloc: Global,
@@ -78,8 +79,10 @@ fn write_all<R: Wait + Clock, L: Lives, W: Write>(
     unreachable!()
 }
 
-/// Takes the parcels of a tab's outbox and writes the encodings of their frames, in order, until the tab is found dead and
-/// then nothing is left, or the writer fails. It looks only where the outbox was empty, so a look may wait for the next put.
+/// Takes the parcels of a tab's outbox and writes their frames, in order. Ends when the writer
+/// fails, or when the tab is dead and its outbox is empty.
+///
+/// It looks only after finding the outbox empty, so a look may block until the next put.
 pub fn tab_writer<R: Wait + Clock, L: Lives, W: Write>(
     rt: &R,
     alloc: Global,
@@ -94,14 +97,14 @@ pub fn tab_writer<R: Wait + Clock, L: Lives, W: Write>(
     requires sink { sink.old.has_failed ≡ false }
     ensures pass { IsSamePass pass.old pass.new }
 
-    // What is written is the encodings of what was taken, in order, without the lost ones.
+    // The output is the encodings of the frames taken, in order, except for lost ones.
     ensures writes { WritesTab pass.old.view.parcels pass.new.view.parcels
         (W.contents sink.old.writer) (W.contents sink.new.writer) sink.new.has_failed }
     ensures looks { LooksOnly tab (L.answered lives.old) (L.answered lives.new) }
     ensures dead { result ≡ WriteEnd.Dead → FoundDead tab (L.answered lives.old) (L.answered lives.new) }
     ensures empty { result ≡ WriteEnd.Dead → Held 0 (IsMoment pass.new.view) }
 
-    // `Write` is returned exactly if the sink noted a failure of its writer.
+    // `Write` is returned exactly if the sink recorded a failure of its writer.
     ensures failed { (result ≡ WriteEnd.Dead) ↔ (sink.new.has_failed ≡ false) }
 {
     match write_all(rt, alloc, tab, outbox, pass, lives, sink) {

@@ -1,4 +1,4 @@
--- What the world becomes where its broker takes a message, is told of a death, or starts.
+-- The world after its broker takes a message, takes a death, or starts.
 use Rattle.std.proofs.Common.{ℕ, List, Some}
 use Rattle.wl_broker.specs.Broker.{BrokerState, started, hellos, Taking, burial}
 use Rattle.wl_kernel.specs.Kernel.{placed}

@@ -1,4 +1,4 @@
--- Apart: events and world, cut to one partition.
+-- Separate partitions: events and worlds restricted to one partition.
 pub mod Cuts
 pub mod CutMail
 pub mod CutKernel

@@ -1,4 +1,4 @@
--- The code of a call: what it makes of the tables that it is lent is what the definition makes of the world.
+-- Code of the calls: its changes to the tables equal the definition's changes to the world.
 pub mod SupervisorParts
 pub mod StampedMessages
 pub mod OneAfterAnother

@@ -1,4 +1,4 @@
--- Exclusion: a world that a run reaches is sound, event by event, and a sound world excludes.
+-- Exclusion: each event keeps a world sound, and a sound world satisfies exclusion.
 pub mod HeldAfterSettling
 pub mod ToldParts
 pub mod Invariant

@@ -1,2 +1,2 @@
--- Honest tabs beside those that were taken over.
+-- Honest tabs beside tabs that were taken over.
 pub mod StaysHonest

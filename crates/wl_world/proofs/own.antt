@@ -1,4 +1,4 @@
--- Own, and the list of what is held: who holds a lock asked for it by an event of its own.
+-- Own and the list of holdings: the holder of a lock requested it by an event of its own.
 pub mod AskedByEvents
 pub mod TabNumbers
 pub mod ListedHoldings

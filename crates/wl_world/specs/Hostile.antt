@@ -1,4 +1,4 @@
--- What a tab that was taken over cannot do, and who was not.
+-- Limits on tabs that were taken over, and the honesty of all others.
 use Rattle.std.specs.Prelude.{◌≡◌, ◌≢◌, ◌⊎◌, ℕ, List, Some}
 use Rattle.wl_draft.specs.Locks.{Locks, settle}
 use Rattle.wl_grammar.specs.declared.frame.Stamped.{Stamped}
@@ -11,33 +11,33 @@ use Rattle.wl_world.specs.declared.event.Event.TheVariants as event
 use Rattle.wl_world.specs.World.{WorldState, empty_world, happens, run}
 use Rattle.wl_world.specs.Holdings.{IsHonest}
 
--- locks of one tab were added or removed in its partition; those of others are the same, each in its order, and then
--- may be settled; other partitions' are the same
+-- The step adds or removes locks of one tab in its partition, and may then settle. Other tabs' locks keep
+-- their order, and other partitions do not change.
 pub record MovesOwnAlone (t p : ℕ) (old new : BrokerState) : Type 0 where
   pub elsewhere : (q : ℕ) → q ≢ p → manager_of new q ≡ manager_of old q
   pub between : Locks
   pub others : SameOfOthers t (manager_of old p) between
   pub here : (manager_of new p ≡ between) ⊎ (manager_of new p ≡ settle between)
 
--- so it is in any world where a message comes to the broker, forged or not
+-- A message that arrives at the broker moves its own tab's locks alone, in any world, forged or not.
 abbrev pub TakesOwnAlone : Type 0
 TakesOwnAlone =
     (w : WorldState) (s : Stamped) (old new : BrokerState) → w.broker ≡ Some old → (happens w (event.Deliver (Up s))).broker ≡ Some new
     → MovesOwnAlone s.tab s.partition old new
 
--- the same of one event, between the world before it and the world after it
+-- The same fact for one event, between the world before it and the world after it.
 abbrev pub MovesOwnAloneBetween : WorldState → Event → WorldState → Type 0
 MovesOwnAloneBetween v e w =
     (s : Stamped) (old new : BrokerState) → e ≡ event.Deliver (Up s) → v.broker ≡ Some old → w.broker ≡ Some new
     → MovesOwnAlone s.tab s.partition old new
 
--- a tab that no event names as taken over is honest
+-- A tab that no event names as taken over is honest.
 abbrev pub HonestIfUnnamed : List Event → WorldState → Type 0
 HonestIfUnnamed events w = (t : ℕ) → (In (event.Corrupt t) events → ⊥) → IsHonest w t
 
 abbrev pub HonestUnlessNamed : Type 0
 HonestUnlessNamed = (events : List Event) → HonestIfUnnamed events (run events empty_world)
 
--- who is honest after more events was so before
+-- A tab that is honest after more events was honest before them.
 abbrev pub HonestBefore : Type 0
 HonestBefore = (events more : List Event) (t : ℕ) → IsHonest (run more (run events empty_world)) t → IsHonest (run events empty_world) t

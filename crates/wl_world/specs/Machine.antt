@@ -1,4 +1,4 @@
--- A run as it is kept: the events, what they made of the world, and what tabs hold in it.
+-- A run as the program keeps it: the events, the world after them, and the locks held in it.
 use Rattle.std.specs.Prelude.{◌≡◌, ◌⊎◌, ℕ, ◌<◌, List, [], ◌∷◌}
 use Rattle.std.specs.List.{AllByRecursion, flat_map}
 use Rattle.wl_kernel.specs.Kernel.{living_tabs}
@@ -13,26 +13,26 @@ pub record Machine : Type 0 where
   pub events : List Event
   pub world : WorldState
 
--- what each living tab holds, by tab and then by number
+-- The locks of all living tabs, by tab and then by number.
 abbrev pub held_by_living : WorldState → List Holding
 held_by_living w = flat_map (λ t. holdings_of (tab_of w t)) (living_tabs w.kernel)
 
--- ---- the same, by what is held
+-- Holdings, characterised without the list
 
--- the lock that a tab's number stands for
+-- The lock with number `k` of tab `t`.
 abbrev pub holding_of : WorldState → ℕ → ℕ → Holding
 holding_of w t k = record { tab = t; number = k; mode = mode_at w t k; name = name_at w t k }
 
--- by tab, and of one tab by number
+-- Holdings are ordered by tab, and for one tab by number.
 abbrev pub IsBefore : Holding → Holding → Type 0
 IsBefore x y = (x.tab < y.tab) ⊎ ((x.tab ≡ y.tab) × (x.number < y.number))
 
--- each stands before all that follow it, so none stands twice
+-- Each holding is before all that follow it, so none occurs twice.
 abbrev pub AreOrdered : List Holding → Type 0
 AreOrdered [] = Unit {0}
 AreOrdered (x ∷ xs) = AllByRecursion (IsBefore x) xs × AreOrdered xs
 
--- the list has each lock that a living tab holds, and no other
+-- The list contains each lock that a living tab holds, and no other.
 pub record AreHoldings (w : WorldState) (holdings : List Holding) : Type 0 where
   pub whole : (t k : ℕ) → IsHolding w t k → In (holding_of w t k) holdings
   pub held : (x : Holding) → In x holdings → IsHolding w x.tab x.number × (x ≡ holding_of w x.tab x.number)

@@ -1,4 +1,4 @@
--- Only a helper: what a post reached, from the lists of its destinations, and what other tabs are sent of it.
+-- Helpers that merge the destination lists of a post, and that turn its frames into messages.
 use Rattle.std.specs.Prelude.{ℕ, List, [], ◌∷◌, ◌++◌, map, take, drop, nat_lt, Option, Some, None}
 use Rattle.std.specs.List.{prefix_len}
 use Rattle.wl_grammar.specs.declared.frame.Frame.{Frame}
@@ -16,16 +16,16 @@ use Rattle.wl_bag.specs.declared.message.Message.{Message}
 use Rattle.wl_bag.specs.declared.message.Message.TheVariants.{Across}
 use Rattle.wl_world.specs.Replies.{letter_of}
 
--- how many of the first numbers are below a bound
+-- The length of the longest prefix of numbers below the bound.
 abbrev pub count_below : ℕ → List ℕ → ℕ
 count_below bound numbers = prefix_len (λ n. nat_lt n bound) numbers
 
--- the destinations that took a post and those that were full, put together by rising number
+-- Merges the destinations that took a post with those that were full, by rising number.
 abbrev pub merged : List ℕ → List ℕ → List Reached
 merged took [] = map Took took
 merged took (f ∷ fs) = map Took (take (count_below f took) took) ++ Full f ∷ merged (drop (count_below f took) took) fs
 
--- a frame that the kernel passes on to a tab, as the message that comes there
+-- A frame that the kernel routes to a tab, as the message that arrives there. Only `Heard` frames become messages.
 abbrev pub across_to : ℕ → Frame → Option Message
 across_to t (frame.Heard x) = Some (Across t x)
 across_to t f = None
@@ -34,10 +34,11 @@ abbrev pub number_in : Frame → ℕ
 number_in (frame.Post p) = p.number
 number_in f = 0
 
--- what is said of a post, and of a post of another tab
+-- The reply to a post.
 abbrev pub posted_said : ℕ → List ℕ → Posted → Said
 posted_said t bytes p = said.Posted t (number_in p.frame) bytes (merged p.took p.full)
 
+-- The reply to the arrival of another tab's post.
 abbrev pub hearing_said : ℕ → Heard → Hearing → Said
 hearing_said t x Old = said.Dropped reason.OldPost
 hearing_said t x (New took full) = said.Heard t (letter_of x) (merged took full)

@@ -1,4 +1,4 @@
--- The world as the program keeps it: of which parts it is made, what holds of them, and what its private functions answer.
+-- The program's view of the world: its parts, their invariants, and the definitions that its private functions cite.
 use Rattle.std.specs.Prelude.{◌≡◌, ℕ, List, [], ◌∷◌, Bool, true, false, is_some}
 use Rattle.wl_kernel.specs.Kernel.{KernelState, is_living}
 use Rattle.wl_draft.specs.Tables.{Table, find}
@@ -22,26 +22,26 @@ use Rattle.wl_world.specs.Sends.{stamped, report_messages, to_hearers}
 use Rattle.wl_world.specs.declared.event.Event.{Event}
 use Rattle.wl_world.specs.declared.event.Event.TheVariants as event
 
--- the world that these parts are; the supervisor is the kernel, and the broker that is up
+-- The world made of these parts. The supervisor holds the kernel and the running broker.
 abbrev pub world_of : Table TabState → Table ChannelState → Supervisor → List Message → List ℕ → WorldState
 world_of tabs channels s bag corrupt =
     record { tabs = tabs; channels = channels; kernel = kernel_of s; broker = broker_of s; bag = bag; corrupt = corrupt }
 
--- ---- what its functions answer
+-- Results of private functions
 
--- what a tab sends, by what is said of a frame that it heard: its report, where it has entered a generation
+-- The report that a tab sends if it has entered a generation, judged by the reply `s` to the frame that it received.
 abbrev pub report_if_said : KernelState → ℕ → TabState → Said → List Message
 report_if_said k t a (said.Entered g es) = report_messages k t a
 report_if_said k t a s = []
 
--- a command, a report or a part of one, as the kernel passes it on; other frames do not go to the broker
+-- A command, a report or a part of a report, as the kernel routes it up. Other frames do not go to the broker.
 abbrev pub passed_up : KernelState → ℕ → Frame → List Message
 passed_up k t (frame.Command c) = stamped k t (up.Command c) ∷ []
 passed_up k t (frame.Report r) = stamped k t (up.Report r) ∷ []
 passed_up k t (frame.ReportPart r) = stamped k t (up.ReportPart r) ∷ []
 passed_up k t f = []
 
--- all events but an opening, a start and a stop
+-- Whether the event is neither an opening, a start nor a stop.
 abbrev pub is_in_place : Event → Bool
 is_in_place (event.Open t p) = false
 is_in_place (event.OpenTwo t p) = false
@@ -49,24 +49,24 @@ is_in_place event.Stop = false
 is_in_place (event.Start ts) = false
 is_in_place e = true
 
--- what is said of a post that is refused
+-- The refusal that stands for a failed post or read.
 abbrev pub of_posting : ChannelRefusal → Refusal
 of_posting channel_refusal.NoChannel = refusal.NoChannel
 of_posting channel_refusal.Closed = refusal.InvalidState
 of_posting (channel_refusal.Fault f) = refusal.Channel f
 
--- a post, as the kernel passes it on; other frames do not go to other tabs
+-- A post, as the kernel routes it to other tabs. Other frames do not go to tabs.
 abbrev pub crossed : KernelState → ℕ → Frame → List Message
 crossed k t (frame.Post p) = to_hearers k t p
 crossed k t f = []
 
--- ---- what holds of the parts
+-- Invariants of the parts
 
--- each row is its own tab's
+-- Each row of channels belongs to the tab under whose number it is stored.
 abbrev pub OwnRows : Table ChannelState → Type 0
 OwnRows rows = (t : ℕ) → (channels_in t (find rows t)).tab ≡ t
 
--- each living tab has a row
+-- Each living tab has a row.
 abbrev pub HasRows : {X : Type 0} → KernelState → Table X → Type 0
 HasRows k rows = (t : ℕ) → is_living k t ≡ true → is_some (find rows t) ≡ true
 

@@ -1,4 +1,4 @@
--- What a tab sends, as the kernel passes it on: commands and reports to the broker, posts to other tabs.
+-- Messages that a tab sends, as the kernel routes them: commands and reports to the broker, posts to other tabs.
 use Rattle.std.specs.Prelude.{ℕ, List, [], ◌∷◌, ◌++◌, ◌==◌, map, if◌then◌else◌}
 use Rattle.wl_grammar.specs.declared.frame.Post.{Post}
 use Rattle.wl_grammar.specs.declared.frame.Upward.{Upward}
@@ -13,43 +13,43 @@ use Rattle.wl_bag.specs.declared.message.Message.TheVariants.{Up, Across}
 use Rattle.wl_world.specs.declared.event.Forged.{Forged}
 use Rattle.wl_world.specs.declared.event.Forged.TheVariants as forged
 
--- commands and reports get their stamp when they are put on their way
+-- A message to the broker with the kernel's stamp: the tab's number and its partition's number.
 abbrev pub stamped : KernelState → ℕ → Upward → Message
 stamped k t x = Up (record { tab = t; partition = partition_number k t; inner = x })
 
 abbrev pub command_message : KernelState → ℕ → TabState → ℕ → Message
 command_message k t a n = stamped k t (up.Command (record { generation = a.entered; number = n; operation = operation_of a n }))
 
--- the message of a new command exists once a generation is entered
+-- The message of a new command. None is sent until the tab has entered a generation.
 abbrev pub issued_messages : KernelState → ℕ → TabState → ℕ → List Message
 issued_messages k t a n = if a.entered == 0 then [] else command_message k t a n ∷ []
 
--- the report, in its parts
+-- The messages of the tab's report, one for each part.
 abbrev pub report_messages : KernelState → ℕ → TabState → List Message
 report_messages k t a = map (stamped k t) (report_bodies a.in_parts a.report)
 
--- a tab that enters a generation sends its report
+-- A tab that enters a generation sends its report.
 abbrev pub report_if_entered : KernelState → ℕ → TabState → Delivered → List Message
 report_if_entered k t a (Entered reports) = report_messages k t a
 report_if_entered k t a d = []
 
--- the report, where nothing of its generation but the hello has come
+-- The report, if the tab has received nothing but the hello of its generation.
 abbrev pub report_if_due : KernelState → ℕ → TabState → List Message
 report_if_due k t a = if is_report_due a then report_messages k t a else []
 
--- what a tab sends again
+-- The messages that a tab sends again: a report that is due, then every command that is due.
 abbrev pub resent : KernelState → ℕ → TabState → List Message
 resent k t a = report_if_due k t a ++ map (command_message k t a) (due a)
 
--- a post goes to a tab as that one hears it
+-- A post as a message to the tab `u`.
 abbrev pub across : ℕ → Post → ℕ → Message
 across t p u = Across u (heard_post t p)
 
--- a post goes to the other living tabs of the partition, by rising number
+-- A post goes to the other living tabs of the partition, by rising number.
 abbrev pub to_hearers : KernelState → ℕ → Post → List Message
 to_hearers k t p = map (across t p) (hearers t k)
 
--- the kernel passes on what is forged like the tab's own
+-- The kernel routes forged bodies in the same way as the tab's own.
 abbrev pub forgery : KernelState → ℕ → Forged → List Message
 forgery k t (forged.Upward x) = stamped k t x ∷ []
 forgery k t (forged.Post p) = to_hearers k t p

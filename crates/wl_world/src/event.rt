@@ -1,4 +1,4 @@
-//! What may happen.
+//! Events of the world, and bodies that a tab may forge.
 
 ghost use Rattle.std.specs.Prelude.{◌≡◌, IfOk};
 
@@ -9,46 +9,46 @@ use wl_draft::{Mode, Name};
 use wl_grammar::{Post, Sequence, Upward};
 use wl_origin::Partition;
 
-/// One event. The loss of a message is a delivery that never comes.
+/// One event. A message that is lost is one that no `Deliver` event ever names.
 #[derive(Drop)]
 pub enum Event {
-    /// A tab is born.
+    /// The kernel opens a tab.
     Open {
         tab: u16,
         partition: Partition,
     },
-    /// A tab is born that may have more locks, and tells its reports in parts.
+    /// The kernel opens a tab of the second kind, which may have more locks and reports in parts.
     OpenTwo {
         tab: u16,
         partition: Partition,
     },
-    /// The tab requests a lock, and waits for it.
+    /// The tab requests a lock and waits for it.
     Ask {
         tab: u16,
         mode: Mode,
         name: Name,
     },
-    /// The tab requests a lock if it is available.
+    /// The tab requests a lock with `ifAvailable`.
     Probe {
         tab: u16,
         mode: Mode,
         name: Name,
     },
-    /// The tab asks what its partition holds and waits for.
+    /// The tab queries the held locks and pending requests of its partition.
     Query {
         tab: u16,
     },
-    /// The tab takes the request of this number back.
+    /// The tab aborts the request with this number.
     Abort {
         tab: u16,
         number: u32,
     },
-    /// The tab gives the lock of this number up.
+    /// The tab releases the lock with this number.
     Release {
         tab: u16,
         number: u32,
     },
-    /// The tab sends again whatever may have been lost.
+    /// The tab sends again every message that may have been lost.
     Resend {
         tab: u16,
     },
@@ -57,13 +57,13 @@ pub enum Event {
         tab: u16,
         name: Name,
     },
-    /// The tab posts on its channel object of this number.
+    /// The tab posts on its channel object with this number.
     Post {
         tab: u16,
         channel: usize,
         bytes: Bytes,
     },
-    /// The tab takes the oldest post out of the channel's inbox.
+    /// The tab takes the oldest post out of the channel object's inbox.
     Read {
         tab: u16,
         channel: usize,
@@ -73,45 +73,45 @@ pub enum Event {
         tab: u16,
         channel: usize,
     },
-    /// A message that was sent once comes.
+    /// A message that was sent before arrives. It may arrive any number of times.
     Deliver(Message),
     /// The tab dies.
     Kill {
         tab: u16,
     },
-    /// The broker is told that the tab is dead.
+    /// The kernel tells the broker that the tab is dead.
     Tell {
         tab: u16,
     },
     /// The broker stops.
     Stop,
-    /// The next broker starts, with these tabs listed.
+    /// The broker of the next generation starts with this start list.
     Start(Sequence<u16>),
-    /// The kernel tells the tab the broker's generation.
+    /// The kernel sends the tab a hello with the broker's generation.
     Hello {
         tab: u16,
     },
-    /// The tab is taken over.
+    /// The tab is taken over: from here on it may send arbitrary frames.
     Corrupt {
         tab: u16,
     },
-    /// A tab that was taken over sends this.
+    /// A tab that was taken over sends this body.
     Forge {
         tab: u16,
         forged: Forged,
     },
 }
 
-/// What a tab that was taken over may send: any body of a tab's kind.
+/// A body that a tab may forge: any body of a kind that tabs send.
 #[derive(Drop)]
 pub enum Forged {
-    /// A command, a report or a part of one.
+    /// A command, a report or a part of a report.
     Upward(Upward),
     Post(Post),
 }
 
 impl Event {
-    /// An equal event. The bytes of a post are shared with this one, and all else is in memory of its own.
+    /// Returns an equal event. The bytes of a post are shared with this event. Everything else is copied.
     pub fn copy(&self, alloc: Global) -> Result<Event, AllocError>
         ensures equals { IfOk result (λ copy. copy ≡ self.now) }
     {
@@ -181,7 +181,7 @@ impl Event {
 }
 
 impl Forged {
-    /// An equal body. The bytes of a post are shared with this one, and all else is in memory of its own.
+    /// Returns an equal body. The bytes of a post are shared with this body. Everything else is copied.
     pub fn copy(&self, alloc: Global) -> Result<Forged, AllocError>
         ensures equals { IfOk result (λ copy. copy ≡ self.now) }
     {

@@ -1,4 +1,4 @@
-//! What no list of events can break.
+//! Safety laws that hold after every list of events.
 
 ghost use Rattle.wl_broker.specs.Shards.{AnsweredByItsShard, DeathsSentByOneShard, DeathsSentByShards, HellosOfShards, InOneOrder, SeenAtEachShard};
 ghost use Rattle.wl_world.specs.Apart.{DroppedLeavesAlone, KeptDoesAlike, RunsApartForAll};
@@ -8,71 +8,82 @@ ghost use Rattle.wl_world.specs.Hostile.{HonestBefore, HonestUnlessNamed, TakesO
 ghost use Rattle.wl_world.specs.Orders.{CommandsInOrderForAll, GrantedWereHeldForAll, GrantsWereSentForAll, ManagerIsFoldForAll};
 ghost use Rattle.wl_world.specs.Refusals.{MemoryIsNeverSaid, RefusedChangesNothing};
 
-/// The laws of the whole, over its definitions alone: `refused` and `moves` of any world, all others for every list of events.
+/// The laws of the whole system, stated over its definitions alone. `refused` and `moves` hold in any world. The shard
+/// laws hold for lists of messages and deaths, all others after every list of events.
 ///
-/// A tab is honest where it was never taken over. Exclusion speaks of what living honest tabs hold, Own of what living tabs
-/// hold. Order within a generation speaks, for every generation and partition, of the list of what the generation took of the
-/// partition, which is picked from the events. Apart speaks of what belongs to a partition: its tabs with their locks and
-/// channels, all that the broker holds of them, the messages to and from them; and beside these of whether a broker is up, and
-/// of its generation. Heard speaks of what a channel object takes, read or not. Shards speaks of a broker's list of messages and
-/// deaths, in which each tab stands under one partition, as each tab of a world does.
+/// - A tab is honest unless it was taken over. Exclusion is about locks held by living honest tabs, Own about
+///   locks held by living tabs.
+/// - The order laws are about the taken list of a generation and partition: the items that the broker of that
+///   generation took in the partition, picked from the events.
+/// - The laws on separate partitions are about the part of a world that belongs to a partition: its tabs with
+///   their locks, channels and messages, the broker's state for these tabs, whether a broker is up, and the
+///   generation.
+/// - The channel laws are about the posts that a channel object takes, whether they are read or not.
+/// - The shard laws are about a broker's list of messages and deaths in which each tab has one partition, as
+///   in every world.
 pub fn law_safety()
-    // An event that is answered by a refusal leaves any world as it was, and sends nothing.
+    // An event whose reply is a refusal leaves any world unchanged and sends nothing.
     ensures refused { RefusedChangesNothing }
 
-    // Of two locks of one name that living honest tabs of a partition hold both are shared.
+    // If living honest tabs of one partition hold two different locks of one name, both are shared.
     ensures exclusion { ExclusionForAll }
-    // Each lock that is held was asked for by its holder, which has neither released nor aborted it.
+    // Each held lock was requested by its holder, which has neither released nor aborted it.
     ensures own { OwnForAll }
 
-    // Of each honest tab the taken commands are a prefix of its issued list from its report's base on, each once, in order.
+    // An honest tab's taken commands are a prefix of its issued commands from its report's base on, each once and in order.
     ensures commands { CommandsInOrderForAll }
-    // A granted answer is sent only for a pair that is held after some prefix of the list.
+    // A granted answer is sent only for a lock that is held after some prefix of the taken list.
     ensures held { GrantedWereHeldForAll }
-    // Each pair that settling or a probe newly grants is sent a granted answer.
+    // Each lock that settling or a probe newly grants is sent a granted answer.
     ensures sent { GrantsWereSentForAll }
-    // While the generation is up, its broker's locks of the partition are the draft's commands folded over the list.
+    // While a generation is up, its broker's locks in a partition are the draft's commands folded over the taken list.
     ensures fold { ManagerIsFoldForAll }
 
-    // After any list of events, one that the projection to the partition drops leaves all of the partition's alone.
+    // After any list of events, an event that the projection drops leaves the partition's part unchanged.
     ensures dropped { DroppedLeavesAlone }
-    // One that it keeps, a Start's list cut, does the same to them in any world of that partition alone that agrees.
+    // An event that the projection keeps has the same effect in every world that contains only this partition
+    // and agrees on it. A Start is kept with a shorter list.
     ensures kept { KeptDoesAlike }
-    // So after the whole list they are what the world is after the projection.
+    // After the whole list, the partition's part is the world after the projected list.
     ensures apart { RunsApartForAll }
 
-    // Of one source a channel object takes posts with strictly rising numbers.
+    // A channel object takes posts of one source with strictly rising numbers.
     ensures rising { HeardRisingForAll }
-    // Of honest sources it takes nothing but posts of its partition's tabs to its name, none of them made on the object itself.
+    // A channel object takes from honest sources only posts to its name, by tabs of its partition, that were
+    // not made on the object itself.
     ensures posts { HeardPostsForAll }
-    // It takes nothing after its close, and nothing is read of it then.
+    // A closed channel object takes no posts, and none are read from it.
     ensures closed { HeardTillClosedForAll }
-    // What it took is what was read of it, as the replies say, and then a rest, which waits in its inbox while it is open.
+    // The posts taken are those read, as the replies say, followed by a rest. The rest is the
+    // inbox while the object is open.
     ensures told { HeardIsReadForAll }
 
-    // A message that comes to the broker, forged or not, moves locks of its own tab alone; others move only by settling.
+    // A message that arrives at the broker, forged or not, moves its own tab's locks alone. Other
+    // locks move only by settling.
     ensures moves { TakesOwnAlone }
-    // A tab that no event names as taken over is honest,
+    // A tab that no event names as taken over is honest.
     ensures unnamed { HonestUnlessNamed }
-    // and who is honest was so before.
+    // A tab that is honest after more events was honest before them.
     ensures before { HonestBefore }
 
-    // The broker of all, seen at a shard, is the shard's, which is given its partitions' messages and every death.
+    // The state of the unsharded broker, seen at a shard, is the shard's state. The shard is given its
+    // partitions' messages and every death.
     ensures shards { SeenAtEachShard }
-    // A message is dropped by the shard of its partition for the same reason, or answered by the same.
+    // The shard of a message's partition drops it for the same reason as the unsharded broker, or answers it identically.
     ensures answers { AnsweredByItsShard }
-    // What the shards send on a death is together what the broker of all sends,
+    // The frames that all shards send on a death are together those that the unsharded broker sends.
     ensures deaths { DeathsSentByShards }
-    // and the shard in which the dead tab had its place sends it all, every other one nothing.
+    // The shard in which the dead tab had its seat sends all of these frames, every other shard none.
     ensures one_sends { DeathsSentByOneShard }
-    // The hellos of the shards, by rising shard, are those of the list in another order.
+    // The hellos of all shards, by rising shard, are the hellos of the list in another order.
     ensures hellos { HellosOfShards }
-    // Whatever came first among messages of two shards, one list gives each shard what came to it, if deaths came in one order.
+    // For any order of arrival at two shards, some single list gives each shard its messages in order, if all
+    // shards saw the deaths in one order.
     ensures order { InOneOrder }
 {}
 
-/// What no answer is, in any world.
+/// Replies that no event has, in any world.
 pub fn law_answers()
-    // No answer gives refused memory as its reason: an event that memory ended has none.
+    // No reply gives out of memory as its reason. If memory runs out, the event has no reply.
     ensures memory { MemoryIsNeverSaid }
 {}

@@ -1,4 +1,4 @@
-//! Every part of the browser's locks and channels as one machine over events.
+//! Model of the browser's locks and channels as one machine over events.
 #![tactic(auto)]
 
 pub mod event;

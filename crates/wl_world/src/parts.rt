@@ -1,4 +1,4 @@
-//! The parts of the world: tabs, channels, the supervisor with its broker, and the bag.
+//! Parts of the world: tabs, channels, the supervisor with its broker, and the bag.
 
 ghost use Rattle.std.specs.Prelude.{◌≡◌, [], ◌++◌, true, IfOk, OnOk, is_some, map, slice_get};
 ghost use Rattle.std.specs.Option.{option_copied};
@@ -48,7 +48,7 @@ impl Model for Parts {
     ghost invariant = { λ p. IsRowed (kernel_of p.supervisor) p.tabs.entries p.channels.entries };
 }
 
-/// What came of an event, and what was sent, in its order.
+/// Effect of an event: the reply's text, and the messages sent, in order.
 #[derive(Drop)]
 pub struct Done {
     pub said: Said,
@@ -56,6 +56,7 @@ pub struct Done {
 }
 
 impl Parts {
+    /// Returns the world before any event.
     pub fn new(alloc: Global) -> Parts
         ensures { result ≡ empty_world }
     {
@@ -69,27 +70,28 @@ impl Parts {
         }
     }
 
+    /// Returns whether a broker is up.
     pub fn is_up(&self) -> bool
         ensures { result ≡ is_some self.now.broker }
     {
         self.supervisor.is_up()
     }
 
-    /// The living tabs, by rising number.
+    /// Returns the living tabs, by rising number.
     pub fn living(&self) -> &[u16]
         ensures { result.now ≡ living_tabs self.now.kernel }
     {
         self.supervisor.tabs().living()
     }
 
-    /// The message at a place of the bag.
+    /// Returns the message at a place of the bag, counted from 0.
     pub fn message(&self, place: usize) -> Option<&Message>
         ensures { option_copied result ≡ slice_get self.now.bag place }
     {
         self.bag.get(place)
     }
 
-    /// What living tabs hold, by tab and then by number.
+    /// Returns the locks that living tabs hold, by tab and then by number.
     pub fn holdings(&self) -> Result<Vec<Holding>, AllocError>
         ensures { IfOk result (λ holdings. holdings.items ≡ held_by_living self.now) }
     {
@@ -105,12 +107,12 @@ impl Parts {
     {
         match self.tabs.get(&tab) {
             Some(locks) => locks.add_holdings(holdings),
-            // It was never opened, and holds nothing.
+            // The tab was never opened, so it holds nothing.
             None => Ok(()),
         }
     }
 
-    /// The locks of a living tab, which has its row.
+    /// Returns the locks of a living tab, which always has a row.
     fn locks(&self, tab: u16) -> &TabLocks
         requires { lives self.now tab ≡ true }
         ensures { result.now ≡ tab_of self.now tab }
@@ -128,7 +130,7 @@ impl Parts {
     }
 }
 
-/// An event that sends nothing.
+/// Returns the effect of an event that sends nothing.
 fn silent(alloc: Global, said: Said) -> Done
     ensures said { result.said ≡ said }
     ensures sends { result.sends.items ≡ [] }
@@ -139,7 +141,7 @@ fn silent(alloc: Global, said: Said) -> Done
     }
 }
 
-/// An event that does nothing.
+/// Returns the effect of an event that is refused: nothing is done or sent.
 fn refused(alloc: Global, refusal: Refusal) -> Done
     ensures said { result.said ≡ said.Refused refusal }
     ensures sends { result.sends.items ≡ [] }
@@ -147,7 +149,7 @@ fn refused(alloc: Global, refusal: Refusal) -> Done
     silent(alloc, Said::Refused(refusal))
 }
 
-/// What came of an event at the broker.
+/// Converts an outcome of the broker into the effect of an event.
 fn of_broker(alloc: Global, outcome: Outcome) -> Result<Done, AllocError>
     ensures said { IfOk result (λ done. done.said ≡ outcome.said) }
     ensures sends { IfOk result (λ done. done.sends.items ≡ map from_broker outcome.outs) }

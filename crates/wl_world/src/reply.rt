@@ -1,13 +1,13 @@
-//! What an event is answered.
+//! Reply to an event.
 
 pub use wl_bag::Sent;
 use wl_grammar::Sequence;
 pub use wl_said::{Ended, Reached, Reason, Refusal, Said};
 
-/// The whole answer to one event.
+/// Complete reply to one event.
 #[derive(Drop)]
 pub struct Reply {
     pub said: Said,
-    /// What was sent, in its order.
+    /// The messages sent, in order.
     pub sent: Sequence<Sent>,
 }

@@ -1,4 +1,4 @@
-//! What tabs and the broker send, as messages of the bag.
+//! Messages that tabs and the broker send, in the form that the bag stores.
 
 ghost use Rattle.std.specs.Prelude.{◌≡◌, ◌++◌, [], ◌∷◌, IfOk, OnOk, map};
 ghost use Rattle.std.specs.List.{flat_map};
@@ -13,7 +13,7 @@ use wl_grammar::{Addressed, Frame, Sequence};
 use wl_kernel::{Routed, Tabs};
 use wl_tab::TabLocks;
 
-/// What the broker sends.
+/// Converts the broker's output frames into messages. Fails if out of memory.
 pub fn from_broker(alloc: Global, outs: Outs) -> Result<Vec<Message>, AllocError>
     ensures { IfOk result (λ ms. ms.items ≡ map from_broker outs) }
 {
@@ -21,7 +21,7 @@ pub fn from_broker(alloc: Global, outs: Outs) -> Result<Vec<Message>, AllocError
     list.into_iter().map(message_of).collect(alloc)
 }
 
-/// A frame of the broker, as a message.
+/// Converts one frame of the broker into a message.
 fn message_of(addressed: Addressed) -> Message
     ensures { result ≡ from_broker addressed }
 {
@@ -31,7 +31,7 @@ fn message_of(addressed: Addressed) -> Message
     }
 }
 
-/// Adds what a tab says to the broker, with the kernel's stamp.
+/// Adds a tab's frame for the broker, with the kernel's stamp. Fails if out of memory.
 pub fn add_stamped(
     kernel: &Tabs,
     tab: u16,
@@ -42,13 +42,13 @@ pub fn add_stamped(
 {
     match kernel.route_up(tab, frame) {
         Ok(Routed::Broker(Frame::Stamped(stamped))) => sends.push(Message::Up(stamped))?,
-        // What a living tab says to the broker goes there, so memory was refused.
+        // A living tab's frame for the broker is always routed there, so the kernel ran out of memory.
         _ => return Err(AllocError),
     }
     Ok(())
 }
 
-/// The message of a new command, once a generation is entered.
+/// Returns the message of a newly issued command, or none if the tab has not entered a generation.
 pub fn issued(
     alloc: Global,
     kernel: &Tabs,
@@ -78,12 +78,12 @@ fn add_command(
 {
     match locks.message(number) {
         Ok(frame) => add_stamped(kernel, tab, frame, sends),
-        // The tab has issued the command and entered a generation, so memory was refused.
+        // The tab has issued the command and entered a generation, so memory has run out.
         Err(_) => Err(AllocError),
     }
 }
 
-/// Adds the tab's report, in its parts.
+/// Adds the messages of the tab's report, one for each part. Fails if out of memory.
 pub fn add_report(
     kernel: &Tabs,
     tab: u16,
@@ -94,7 +94,7 @@ pub fn add_report(
 {
     match locks.report_frames() {
         Ok(frames) => add_all_stamped(kernel, tab, frames, sends),
-        // The tab has entered a generation, so memory was refused.
+        // The tab has entered a generation, so memory has run out.
         Err(_) => Err(AllocError),
     }
 }
@@ -113,7 +113,7 @@ fn add_all_stamped(
     Ok(())
 }
 
-/// What the tab sends again.
+/// Returns the messages that the tab sends again: its report and commands, as far as they are due.
 pub fn resent(
     alloc: Global,
     kernel: &Tabs,

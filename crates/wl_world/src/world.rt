@@ -1,4 +1,4 @@
-//! The world.
+//! World: a list of events and the state after them.
 
 ghost use Rattle.std.specs.Prelude.{◌≡◌, [], ◌∷◌, ◌++◌, IfOk, is_some, slice_get};
 ghost use Rattle.std.specs.Option.{option_copied};
@@ -17,7 +17,7 @@ use wl_bag::Message;
 use wl_grammar::Sequence;
 use wl_tab::Holding;
 
-/// A list of events, and what they made of the world. Its drop spends what it holds.
+/// A list of events and the state after them. Dropping it spends the tokens that it holds.
 #[derive(Drop)]
 pub struct World {
     events: Vec<Event>,
@@ -37,7 +37,7 @@ impl Model for World {
 }
 
 impl World {
-    /// Nothing has happened.
+    /// Returns the world before any event.
     pub fn new(alloc: Global) -> World
         ensures events { result.events ≡ [] }
         ensures world { result.world ≡ empty_world }
@@ -48,21 +48,23 @@ impl World {
         }
     }
 
-    /// An event happens, and is answered. After a refusal of memory the world is gone.
+    /// Applies an event and returns the new world with the reply. Fails if out of memory; the world is lost then.
     pub fn step(self, event: Event) -> Result<(World, Reply), AllocError>
         ensures events { IfOk result (λ r. r.0.events ≡ self.events ++ event ∷ []) }
         ensures world { IfOk result (λ r. r.0.world ≡ happens self.world event) }
         ensures reply { IfOk result (λ r. r.1 ≡ reply_of self.world event) }
-        // A message that comes to the broker, forged or not, moves locks of its own tab alone; others move only by settling.
+        // A message that arrives at the broker, forged or not, moves its own tab's locks alone. Other locks
+        // move only by settling.
         ensures moves { IfOk result (λ r. MovesOwnAloneBetween self.world event r.0.world) }
     {
         let World { mut events, parts } = self;
-        // Kept first, so that no exit drops an event or a reply, which would be a match over all its kinds.
+        // The event is stored first, so that no exit has to drop an event or a reply. A drop would be a match
+        // over all kinds of events.
         let (parts, reply) = parts.happen(events.push_mut(event)?)?;
         Ok((World { events, parts }, reply))
     }
 
-    /// All that has happened.
+    /// Returns all events so far, in order.
     pub fn events(&self) -> &[Event]
         ensures events { result.now ≡ self.now.events }
         ensures world { self.now.world ≡ run self.now.events empty_world }
@@ -70,14 +72,14 @@ impl World {
         self.events.as_slice()
     }
 
-    /// The message at a place of the bag.
+    /// Returns the message at a place of the bag, counted from 0.
     pub fn message(&self, place: usize) -> Option<&Message>
         ensures { option_copied result ≡ slice_get self.now.world.bag place }
     {
         self.parts.message(place)
     }
 
-    /// What living tabs hold, by tab and then by number: each lock that is held, and no other.
+    /// Returns every lock that a living tab holds, by tab and then by number. Fails if out of memory.
     pub fn holdings(&self) -> Result<Sequence<Holding>, AllocError>
         ensures list { IfOk result (λ holdings. holdings ≡ held_by_living self.now.world) }
         ensures exact { IfOk result (λ holdings. AreHoldings self.now.world holdings) }
@@ -85,14 +87,14 @@ impl World {
         Ok(Sequence::new(self.parts.holdings()?))
     }
 
-    /// Whether a broker is up.
+    /// Returns whether a broker is up.
     pub fn is_up(&self) -> bool
         ensures { result ≡ is_some self.now.world.broker }
     {
         self.parts.is_up()
     }
 
-    /// The living tabs, by rising number.
+    /// Returns the living tabs, by rising number.
     pub fn living(&self) -> &[u16]
         ensures { result.now ≡ living_tabs self.now.world.kernel }
     {

@@ -1,4 +1,4 @@
-//! `wlb`: the lock broker of a browser's tabs, as a program.
+//! `wlb`: a broker of Web Locks for browser tabs, as a program.
 #![tactic(auto)]
 
 use std::alloc::{AllocError, Global};
@@ -13,7 +13,7 @@ use wl_script::sim::{SimFault, sim_run};
 use wl_tab_process::run_tab;
 use wl_workers::{DeskFault, desk_run};
 
-/// The status where the command line is wrong.
+/// Exit status for a wrong command line.
 const USAGE: u8 = 2;
 
 fn main(rt: HostRuntime) -> ExitCode {
@@ -85,7 +85,7 @@ fn main(rt: HostRuntime) -> ExitCode {
     }
 }
 
-/// Says why the words are no command. A usage stands as clap spells it.
+/// Prints why the command line was refused. A usage message is printed as clap formats it.
 fn misused(rt: &impl Eprint, fault: LineFault) -> ExitCode {
     match fault {
         LineFault::Usage(_) => {
@@ -96,13 +96,13 @@ fn misused(rt: &impl Eprint, fault: LineFault) -> ExitCode {
     }
 }
 
-/// The program that the first word names, which the kernel's children run too.
+/// Returns the program's own name, which the kernel uses to start its children.
 fn program_of(alloc: Global, words: &[String]) -> Result<String, AllocError> {
     let program = words.first().map_or("", |word| word.as_str());
     String::from_str(alloc, program)
 }
 
-/// The status of a process.
+/// Returns the exit status of a finished process, after printing its fault.
 fn ended(rt: &impl Eprint, end: Result<(), ProcessFault>) -> ExitCode {
     match end {
         Ok(()) => ExitCode::SUCCESS,
@@ -110,7 +110,7 @@ fn ended(rt: &impl Eprint, end: Result<(), ProcessFault>) -> ExitCode {
     }
 }
 
-/// Names the fault on standard error. Where that fails too there is nobody left to tell.
+/// Prints the fault to standard error and returns the status. A failure to print is ignored.
 fn failed(rt: &impl Eprint, fault: impl std::fmt::Display + Drop, status: u8) -> ExitCode {
     let _ = eprintln!(rt; "wlb: {fault}");
     ExitCode::from(status)

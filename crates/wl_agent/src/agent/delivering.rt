@@ -1,4 +1,4 @@
-//! Frames that come to the tab.
+//! Delivery of frames to the tab.
 
 ghost use Rattle.std.specs.Prelude.{◌≡◌, ◌≢◌, true, IfOk, OnOk, OnErr, None};
 ghost use Rattle.wl_agent.specs.Delivery.{delivery, takes_memory, noted, acknowledged_by, has_entered, of_other, told_by_answer, told_by_part, after_answer, after_part, part_refusal, IsSendable};
@@ -14,13 +14,14 @@ use std::alloc::AllocError;
 use wl_grammar::{Answer, Frame, Hello, Snapshot};
 
 impl Agent {
-    /// Takes in a frame. A frame that is dropped when out of memory may be delivered again.
+    /// Processes a received frame, and returns its result. A frame that is dropped because of lack
+    /// of memory may be delivered again.
     pub fn deliver(&mut self, frame: &Frame) -> Delivered
         ensures done { result ≢ Delivered.Dropped Unheard.Memory
             → (self.new, result) ≡ delivery frame.now self.old }
-        // The frames of a report can be sent as they are.
+        // The frames of a report can be sent unchanged.
         ensures sendable { IsSendable result }
-        // When out of memory a frame is dropped only where it takes memory, and then nothing is changed.
+        // A frame is dropped for lack of memory only if it allocates. Nothing changes then.
         ensures memory { result ≡ Delivered.Dropped Unheard.Memory
             → (self.new ≡ self.old) × (takes_memory (delivery frame.now self.old).1 ≡ true) }
     {
@@ -83,14 +84,14 @@ impl Agent {
         Ok(delivered)
     }
 
-    /// Whether this is the generation that it has entered.
+    /// Returns whether the tab has entered this generation.
     fn has_entered(&self, generation: u32) -> bool
         ensures { result ≡ has_entered generation self.now }
     {
         generation == self.entered && self.entered != 0
     }
 
-    /// What a frame of a generation is that it has not entered.
+    /// Returns the result of a frame whose generation the tab has not entered.
     fn of_other(&self, generation: u32) -> Delivered
         ensures { result ≡ of_other generation self.now }
     {
@@ -116,7 +117,7 @@ impl Agent {
         }
     }
 
-    /// Changes the status that an answer changes.
+    /// Changes the status of the number that an answer concerns.
     fn follow(&mut self, delivered: &Delivered)
         requires { CanFollow delivered.now self.old }
         ensures { self.new ≡ after_answer delivered.now self.old }
@@ -129,7 +130,8 @@ impl Agent {
         }
     }
 
-    /// Notes that something of the entered generation has come, when the broker had taken so many commands.
+    /// Records that a frame of the entered generation was received, when the broker had taken
+    /// `upto` commands.
     fn note(&mut self, upto: usize)
         ensures { self.new ≡ noted upto self.old }
     {
@@ -159,7 +161,7 @@ impl Agent {
         }
     }
 
-    /// Takes in a part, if it is one that is missing.
+    /// Adds a snapshot part if it is missing. Returns the result. Fails if out of memory.
     fn take_part(&mut self, part: &Snapshot) -> Result<Delivered, AllocError>
         ensures ok { OnOk result (self.new ≡ after_part part.now self.old) }
         ensures told { IfOk result (λ d. d ≡ told_by_part part.now self.old) }

@@ -1,4 +1,4 @@
-//! The end of a tab.
+//! End of a tab's agent.
 
 ghost use Rattle.std.specs.Prelude.{◌≡◌};
 
@@ -6,7 +6,8 @@ use crate::agent::Agent;
 use crate::token::{Asking, HeldLock, Pending, Probe, Token};
 use std::marker::Model;
 
-/// What is left of a dead tab's agent: it spends the tokens that are still about. Contracts see it as the tab's number.
+/// The remains of a dead tab's agent, which consume its remaining tokens. Contracts see it as the
+/// tab's number.
 #[derive(Debug, Drop)]
 pub struct DeadAgent {
     tab: u16,
@@ -21,7 +22,7 @@ impl Model for DeadAgent {
 }
 
 impl Agent {
-    /// The tab is dead, and with it all that it knew.
+    /// Ends the agent of a dead tab.
     pub fn die(self) -> DeadAgent
         ensures { result ≡ self.tab }
     {
@@ -30,14 +31,14 @@ impl Agent {
 }
 
 impl DeadAgent {
-    /// The number of the tab that is dead.
+    /// Returns the number of the dead tab.
     pub fn tab(&self) -> u16
         ensures { result ≡ self.now }
     {
         self.tab
     }
 
-    /// Spends a token. It takes no memory.
+    /// Consumes a token. Does not allocate.
     pub fn void(&self, token: Token) {
         match token {
             Token::Pending(Pending { tab: _, number: _ }) => {}

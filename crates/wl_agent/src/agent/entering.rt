@@ -12,7 +12,8 @@ use std::alloc::AllocError;
 use wl_grammar::{Frame, Report, Sequence};
 
 impl Agent {
-    /// Enters a later generation, and gives the frames of its report.
+    /// Enters a later generation, and returns the frames of its report. Fails if out of memory, and
+    /// then changes nothing.
     pub(crate) fn enter(&mut self, generation: u32) -> Result<Sequence<Frame>, AllocError>
         requires { self.old.entered < generation }
         ensures ok { OnOk result (self.new ≡ enter generation self.old) }
@@ -27,7 +28,8 @@ impl Agent {
         Ok(frames)
     }
 
-    /// What entering makes of the statuses, but for the first entering of a life.
+    /// Updates the statuses for a later generation. In the first generation of a life they stay
+    /// unchanged.
     fn carry(&mut self)
         ensures { self.new ≡ carried_tab self.old }
     {
@@ -37,7 +39,7 @@ impl Agent {
         self.statuses.carry(&self.issued);
     }
 
-    /// Begins the generation of this report.
+    /// Starts the generation of this report.
     fn begin(&mut self, report: Report)
         requires base { report.base ≤ length self.old.issued }
         requires tellable { IsTellable self.old.in_parts report }
@@ -49,7 +51,7 @@ impl Agent {
         self.report = report;
     }
 
-    /// The report of the generation that is entered next.
+    /// Returns the report of the next generation to enter.
     fn next_report(&self, generation: u32) -> Result<Report, AllocError>
         ensures report { IfOk result (λ report. report ≡ (enter generation self.now).report) }
         ensures tellable { IfOk result (λ report. IsTellable self.now.in_parts report) }

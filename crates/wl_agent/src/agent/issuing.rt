@@ -16,7 +16,9 @@ use wl_grammar::{Mode, Name, Operation};
 use wl_limits::texts::NAME_LIMIT;
 
 impl Agent {
-    /// Asks for a lock.
+    /// Issues a request for a lock (Web Locks, "request"), and returns its token. Fails with
+    /// `NotSupported`, `NameTooLong`, `TooMany` or `NumbersUsedUp`, or with `Memory` if out of
+    /// memory.
     pub fn request(&mut self, name: &str, mode: Mode) -> Result<Pending, AgentFault>
         ensures ok { OnOk result (self.new ≡ asked mode false name.now self.old) }
         ensures pending { IfOk result (λ p. (p.tab ≡ self.old.tab) × (p.number ≡ length self.old.issued)) }
@@ -28,7 +30,8 @@ impl Agent {
         Ok(Pending { tab, number })
     }
 
-    /// Asks for a lock that is to be had at once or not at all.
+    /// Issues a probe, which is a request with `ifAvailable`, and returns its token. Fails like
+    /// `request`.
     pub fn probe(&mut self, name: &str, mode: Mode) -> Result<Probe, AgentFault>
         ensures ok { OnOk result (self.new ≡ asked mode true name.now self.old) }
         ensures probe { IfOk result (λ p. (p.tab ≡ self.old.tab) × (p.number ≡ length self.old.issued)) }
@@ -40,7 +43,8 @@ impl Agent {
         Ok(Probe { tab, number })
     }
 
-    /// Asks for a snapshot of the partition's locks.
+    /// Issues a query for a snapshot of the partition's locks (Web Locks, "query"), and returns its
+    /// token. Fails with `TooMany` or `NumbersUsedUp`, or with `Memory` if out of memory.
     pub fn query(&mut self) -> Result<Asking, AgentFault>
         ensures ok { OnOk result (self.new ≡ queried self.old) }
         ensures asking { IfOk result (λ q. (q.tab ≡ self.old.tab) × (q.number ≡ length self.old.issued)) }
@@ -56,7 +60,7 @@ impl Agent {
         Ok(Asking { tab, number })
     }
 
-    /// Issues a request or a probe.
+    /// Issues a request or a probe, and returns its number.
     fn ask(&mut self, name: &str, mode: Mode, if_available: bool) -> Result<u32, AgentFault>
         ensures ok { OnOk result (self.new ≡ asked mode if_available name.now self.old) }
         ensures number { IfOk result (λ n. n ≡ length self.old.issued) }
@@ -75,7 +79,8 @@ impl Agent {
         Ok(self.issue(operation, Status::Asked)?)
     }
 
-    /// Why a request or a probe of the name is refused, if it is, though memory be had. Never Memory.
+    /// Returns the fault with which `request` and `probe` fail even if there is enough memory, or
+    /// `None`. Never returns `Memory`.
     pub fn ask_refusal(&self, name: &str) -> Option<AgentFault>
         ensures { result ≡ ask_refusal self.now name.now }
     {
@@ -88,14 +93,15 @@ impl Agent {
         self.live_refusal(2)
     }
 
-    /// Why a query is refused, if it is, though memory be had. Never Memory.
+    /// Returns the fault with which `query` fails even if there is enough memory, or `None`. Never
+    /// returns `Memory`.
     pub fn query_refusal(&self) -> Option<AgentFault>
         ensures { result ≡ query_refusal self.now }
     {
         self.live_refusal(1)
     }
 
-    /// Why a command that needs so many numbers, used or kept, is refused.
+    /// Returns the fault of a command that uses or reserves `more` numbers, or `None`.
     fn live_refusal(&self, more: usize) -> Option<AgentFault>
         requires { more ≤ 2 }
         ensures { result ≡ live_refusal self.now more }
@@ -109,7 +115,8 @@ impl Agent {
         None
     }
 
-    /// Issues a command, with room for what is kept then.
+    /// Issues a command, and reserves capacity for the release or abort of each number that needs
+    /// one.
     fn issue(&mut self, operation: Operation, status: Status) -> Result<u32, AllocError>
         requires few { live_numbers self.old < live_limit self.old.in_parts }
         requires becomes { can_become operation status ≡ true }
@@ -129,7 +136,7 @@ impl Agent {
     }
 }
 
-/// Whether the draft lets a lock have the name.
+/// Returns whether the Web Locks API supports the name.
 fn is_supported(name: &str) -> bool
     ensures { result ≡ is_supported name.now }
 {

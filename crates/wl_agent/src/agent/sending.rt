@@ -1,4 +1,4 @@
-//! What the tab sends.
+//! Frames that the tab sends.
 
 ghost use Rattle.std.specs.Prelude.{◌≡◌, ◌≢◌, [], IfOk, OnErr};
 ghost use Rattle.wl_draft.specs.Refusals.{RefusesBy};
@@ -11,17 +11,19 @@ use crate::fault::MessageFault;
 use crate::reporting::report_frames;
 use wl_grammar::{Command, Frame, Memory, Sequence};
 
-/// What the tab sends again, since nothing may have come of it.
+/// Frames that the tab sends again, since they may have been lost.
 #[derive(Debug, Drop)]
 pub struct Resend {
-    /// Whether the report is sent again, before the commands.
+    /// Whether to send the report again, before the commands.
     pub report: bool,
-    /// The commands, by rising number.
+    /// Numbers of the commands to send again, in rising order.
     pub numbers: Vec<u32>,
 }
 
 impl Agent {
-    /// The message of a command, for the broker of the entered generation.
+    /// Returns the frame of a command, for the broker of the entered generation. Fails with
+    /// `NotEntered` if the tab has entered none, with `NoSuchNumber` if no command has the number,
+    /// and with `Memory` if out of memory.
     pub fn message(&self, number: u32) -> Result<Frame, MessageFault>
         ensures message { IfOk result (λ f. f ≡ command_frame self.now number) }
         ensures spoken { IfOk result IsWellFormed }
@@ -40,7 +42,9 @@ impl Agent {
         }))
     }
 
-    /// The report of the entered generation: one frame, or one for each of its parts by rising number.
+    /// Returns the frames of the report of the entered generation: a single frame, or one for each
+    /// part by rising index. Fails with `NotEntered` if the tab has entered none, and with `Memory`
+    /// if out of memory.
     pub fn report_frames(&self) -> Result<Sequence<Frame>, MessageFault>
         ensures report { IfOk result (λ frames. frames ≡ report_frames self.now) }
         ensures spoken { IfOk result (λ frames. AllByRecursion IsWellFormed frames) }
@@ -52,7 +56,8 @@ impl Agent {
         Ok(report_frames(self.alloc, self.in_parts, &self.report)?)
     }
 
-    /// What is sent again. The broker takes each message once, however often it comes.
+    /// Returns the report and the commands to send again. The broker takes each frame once, however
+    /// often it arrives. Fails if out of memory.
     pub fn resend(&self) -> Result<Resend, Memory>
         ensures report { IfOk result (λ r. r.report ≡ is_report_due self.now) }
         ensures numbers { IfOk result (λ r. r.numbers.items ≡ due self.now) }

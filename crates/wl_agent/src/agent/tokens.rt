@@ -1,4 +1,4 @@
-//! What tokens are told, and how they are spent.
+//! Results for tokens, and calls that consume them.
 
 ghost use Rattle.std.specs.Prelude.{◌≡◌, true, false, length, IfOk, OnOk, IfErr, OnErr};
 ghost use Rattle.wl_draft.specs.Refusals.{RefusesOnlyBy};
@@ -15,7 +15,8 @@ use crate::token::{
 use wl_grammar::Operation;
 
 impl Agent {
-    /// Tells what became of a request. It takes no memory.
+    /// Returns the state of a request. Fails if the token is foreign, and then returns it. Does not
+    /// allocate.
     pub fn settle(&mut self, pending: Pending) -> Result<Settled, Foreign<Pending>>
         ensures told { IfOk result (λ told. told ≡ told_pending self.old pending) }
         ensures own { OnOk result (is_own is_pending self.old pending.tab pending.number ≡ true) }
@@ -33,7 +34,8 @@ impl Agent {
         Ok(Settled::Waiting(pending))
     }
 
-    /// Tells what became of a probe. It takes no memory.
+    /// Returns the state of a probe. Fails if the token is foreign, and then returns it. Does not
+    /// allocate.
     pub fn settle_probe(&mut self, probe: Probe) -> Result<ProbeSettled, Foreign<Probe>>
         ensures told { IfOk result (λ told. told ≡ told_probe self.old probe) }
         ensures own { OnOk result (is_own is_probing self.old probe.tab probe.number ≡ true) }
@@ -54,7 +56,8 @@ impl Agent {
         Ok(ProbeSettled::Null)
     }
 
-    /// Tells what became of a query, whose number is over then if it is asked no more. It takes no memory.
+    /// Returns the state of a query, and ends its number unless it is still asked. Fails if the
+    /// token is foreign, and then returns it. Does not allocate.
     pub fn settle_query(&mut self, asking: Asking) -> Result<QuerySettled, Foreign<Asking>>
         ensures told { IfOk result (λ told. told ≡ told_query self.old asking) }
         ensures ok { OnOk result (self.new ≡ after_query asking.number self.old) }
@@ -76,7 +79,9 @@ impl Agent {
         }
     }
 
-    /// Takes a request back, by a command whose number it answers. It takes no memory.
+    /// Aborts a request (Web Locks, "abort the request"), and returns the number of the abort
+    /// command. Fails if the token is foreign or the lock is held, and then returns a token. Does
+    /// not allocate.
     pub fn abort(&mut self, pending: Pending) -> Result<u32, AbortFault>
         ensures ok { OnOk result (self.new ≡ aborted pending.number self.old) }
         ensures number { IfOk result (λ n. n ≡ length self.old.issued) }
@@ -93,7 +98,8 @@ impl Agent {
         Ok(self.finish(Operation::Abort { number }, number))
     }
 
-    /// Lets go of a lock, by a command whose number it answers. It takes no memory.
+    /// Releases a lock (Web Locks, "release the lock"), and returns the number of the release
+    /// command. Fails if the token is foreign, and then returns it. Does not allocate.
     pub fn release(&mut self, lock: HeldLock) -> Result<u32, Foreign<HeldLock>>
         ensures ok { OnOk result (self.new ≡ released lock.number self.old) }
         ensures number { IfOk result (λ n. n ≡ length self.old.issued) }
@@ -137,7 +143,7 @@ impl Agent {
             && self.statuses.get(asking.number).is_some()
     }
 
-    /// Issues the command that makes a number over, in the room that the number kept for it.
+    /// Issues the command that ends a number, in the capacity reserved for it.
     fn finish(&mut self, operation: Operation, number: u32) -> u32
         requires keeps { keeps_number (status_of self.old number) ≡ true }
         requires spoken { IsOperation operation }

@@ -1,4 +1,4 @@
--- What a cut of a list or a table keeps. Helpers of the proofs on shards.
+-- Filtered lists and tables, for the proofs on shards.
 use Rattle.std.proofs.Common.{◌≡◌, ℕ, ◌+◌, ◌<◌, Bool, true, false, cond, not, [], ◌∷◌, filter, Option, Some, None, unwrap_or, refl, sym, ap, ◌∙◌, subst, arith}
 use Rattle.std.specs.Prelude.{◌==◌, nat_lt}
 use Rattle.std.proofs.lemmas.Bool.{cond-true, cond-false, eqb-true, ltb-true}
@@ -8,9 +8,9 @@ use Rattle.wl_draft.proofs.Membership.{either, In-head, by_test}
 use Rattle.wl_draft.specs.Membership.{In, Later}
 use Rattle.wl_draft.proofs.RisingTables.{Rises-filter, find_below, put-below}
 
--- ---- tables
+-- Tables
 
--- the row that a look-up finds, if it is kept
+-- The row that a look-up finds, if the filter keeps it.
 abbrev pub sieved : {X : Type 0} → (ℕ × X → Bool) → ℕ → Option X → Option X
 sieved keep k None = None
 sieved keep k (Some x) = cond (keep (k, x)) (Some x) None
@@ -18,7 +18,7 @@ sieved keep k (Some x) = cond (keep (k, x)) (Some x) None
 this_row : {X : Type 0} (p : ℕ × X) (k : ℕ) → p.0 ≡ k → p ≡ (k, p.1)
 this_row p k e = ap (λ z. (z, p.1)) e
 
--- in a table whose numbers rise, a cut by rows is a cut of what is found
+-- A look-up in a filtered table with rising numbers finds the row if the filter keeps it.
 pub find-sieved : {X : Type 0} (keep : ℕ × X → Bool) (k a : ℕ) (ps : Table X) → Rises a ps → find (filter keep ps) k ≡ sieved keep k (find ps k)
 find-sieved keep k a [] r = refl
 find-sieved keep k a (p ∷ ps) r =
@@ -34,7 +34,7 @@ find-sieved keep k a (p ∷ ps) r =
     (λ _. find-sieved keep k (p.0 + 1) ps r.1))
     refl
 
--- of a cut by numbers
+-- If a filter by numbers keeps a number, its value in the filtered table is the same.
 pub at-sieved : {X : Type 0} (f : ℕ → Bool) (d : X) (k a : ℕ) (ps : Table X) → Rises a ps → f k ≡ true → at d (filter (λ row. f row.0) ps) k ≡ at d ps k
 at-sieved {X = X} f d k a ps r e =
     at-find d (filter (λ row. f row.0) ps) k ∙ ap (λ z. unwrap_or z d) (find-sieved (λ row. f row.0) k a ps r ∙ go (find ps k)) ∙ sym (at-find d ps k)
@@ -43,7 +43,7 @@ at-sieved {X = X} f d k a ps r e =
     go None = refl
     go (Some x) = cond-true _ _ _ e
 
--- a row that is kept may be put before the cut or after it
+-- Putting a row that the filter keeps commutes with the filter.
 pub put-kept : {X : Type 0} (keep : ℕ × X → Bool) (k : ℕ) (x : X) (a : ℕ) (ps : Table X) → keep (k, x) ≡ true → Rises a ps → filter keep (put k x ps) ≡ put k x (filter keep ps)
 put-kept keep k x a [] e r = cond-true _ _ _ e
 put-kept keep k x a (p ∷ ps) e r =
@@ -61,7 +61,7 @@ put-kept keep k x a (p ∷ ps) e r =
     refl)
     refl
 
--- a row that is cut away, put where no row is kept
+-- Putting a row that the filter drops changes nothing, if the filter also drops the old row.
 pub put-lost : {X : Type 0} (keep : ℕ × X → Bool) (k : ℕ) (x : X) (ps : Table X) → keep (k, x) ≡ false → ((y : X) → find ps k ≡ Some y → keep (k, y) ≡ false) → filter keep (put k x ps) ≡ filter keep ps
 put-lost keep k x [] e h = cond-false _ _ _ e
 put-lost keep k x (p ∷ ps) e h =
@@ -72,7 +72,7 @@ put-lost keep k x (p ∷ ps) e h =
     (λ _. ap (λ zs. cond (keep p) (p ∷ zs) zs) (put-lost keep k x ps e (λ y i. h y (cond-false _ _ _ n ∙ i)))))
     refl
 
--- without a row that is cut away
+-- Removing a row that the filter drops changes nothing.
 pub filter-spare : {X : Type 0} (keep : ℕ × X → Bool) (t : ℕ) (ps : Table X) → ((y : X) → In (t, y) ps → keep (t, y) ≡ false) → filter keep (filter (λ row. not (row.0 == t)) ps) ≡ filter keep ps
 filter-spare keep t [] h = refl
 filter-spare keep t (p ∷ ps) h =

@@ -1,4 +1,4 @@
--- Each tab has one partition, its home, and all that a broker has of a tab stands there.
+-- Home of a tab: its only partition, in which all of the broker's state about the tab belongs.
 use Rattle.std.proofs.Common.{◌≡◌, ⊎_elim, ℕ, ◌+◌, Bool, not, List, [], ◌∷◌, Option, Some, None, refl, sym, subst, arith}
 use Rattle.std.specs.Prelude.{◌==◌}
 use Rattle.std.proofs.lemmas.Bool.{eqb-true}
@@ -16,7 +16,7 @@ use Rattle.wl_broker.specs.declared.seat.Seat.TheVariants.{Joined, Dead}
 use Rattle.wl_broker.specs.Broker.{BrokerState, started, seat_of, manager_of, is_active, with_seat, settled_at, newly_at, listed_at, seated_at, or_else, limit_of, place_of, partial_of, keeping, burial}
 use Rattle.wl_broker.proofs.Takings.{Takes, joins, keeps, repeats, performs, Buries, again, stranger, ends, burial-Buries}
 
--- ---- a partition's locks
+-- Locks of a partition
 
 settle_if-Stands : (Q : ℕ → Type 0) (now : Bool) (m : Locks) → Stands Q m → Stands Q (settle_if now m)
 settle_if-Stands Q now m s = either (Stands Q) now (settle m) m (λ _. settle-Stands Q m s) (λ _. s)
@@ -25,13 +25,13 @@ pub newly_at-Own : (Q : ℕ → Type 0) (b : BrokerState) (p : ℕ) (m : Locks) 
 unfolding newly_at
 newly_at-Own Q b p m s = either (Own Q) (is_active b p) (newly m) [] (λ _. newly-Own Q m s) (λ _ r i. absurd (In-nil i))
 
--- ---- the broker
+-- The broker
 
 abbrev pub Seated : (ℕ → ℕ) → ℕ → Seat → Type 0
 Seated home t (Joined p n l) = home t ≡ p
 Seated home t Dead = Unit {0}
 
--- the clients of these locks have their home here
+-- The clients of these locks have this partition as their home.
 abbrev pub AtHome : (ℕ → ℕ) → ℕ → Locks → Type 0
 AtHome home p m = Stands (λ t. home t ≡ p) m
 
@@ -106,7 +106,7 @@ module _ (home : ℕ → ℕ) where
     partial_rise = h.partial_rise;
   }
 
-  -- where a part is kept
+  -- The partition of the parts kept.
   pub with_told-home : (b : BrokerState) (t p : ℕ) (x : Told) → home t ≡ p → Homes home b → home t ≡ (with_told p x (partial_of b t)).partition
   unfolding with_told
   with_told-home b t p x e h = go (partial_of b t) refl
@@ -130,7 +130,7 @@ module _ (home : ℕ → ℕ) where
       go (Some (Joined p n l)) e = h.seats (t, Joined p n l) (find-In b.seats t (Joined p n l) e)
       go (Some Dead) e = listed_at-Placed t b.listed h.listed
 
-  -- ---- a message and a death leave all at home
+  -- A message and a death keep all state at home
 
   pub Takes-Homes : {b : BrokerState} {t p : ℕ} {u : Upward} {after : BrokerState} {outs : List Addressed} → Takes b t p u after outs → home t ≡ p → Homes home b → Homes home after
   Takes-Homes {b = b} {t = t} {p = p} (joins {x = x} is pass may full) e h =

@@ -1,4 +1,5 @@
--- One list of events for all shards: between two deaths the messages of one shard after those of another.
+-- Single list of events for all shards. Between two deaths, the messages of one shard come after
+-- those of another.
 use Rattle.std.proofs.Common.{◌≡◌, ⊎_elim, ℕ, zero, suc, ◌+◌, ◌<◌, Bool, true, cond, List, [], ◌∷◌, ◌++◌, filter, refl, sym, ap, ap₂, ◌∙◌, subst, append-nil, arith}
 use Rattle.std.specs.Prelude.{◌==◌}
 use Rattle.std.specs.List.{list_all, range_with_len, flat_map}
@@ -10,7 +11,7 @@ use Rattle.wl_broker.specs.Events.{Event, Comes, Dies}
 use Rattle.wl_broker.specs.Shards.{shard_of, is_of, is_for, events_of, places, deaths_in, AreOfShards, InOneOrder}
 use Rattle.wl_broker.proofs.shards.Runs.{home_in, ComesHome, all_home, stands-once, one-of_these}
 
--- ---- a shard's events up to the first death, and behind it
+-- Events of a shard before and after the first death
 
 abbrev first : List Event → List Event
 first [] = []
@@ -50,14 +51,14 @@ rest-own f [] h = refl
 rest-own f (Comes s ∷ es) h = rest-own f es (and_parts _ _ h).1
 rest-own f (Dies t ∷ es) h = h
 
--- of the messages of its own shard all are kept
+-- A shard keeps all messages of its own partitions.
 kept-first : (f : ℕ → Bool) (es : List Event) → list_all (is_for f) es ≡ true → events_of f (first es) ≡ first es
 kept-first f [] h = refl
 kept-first f (Comes s ∷ es) h =
     let o = and_parts (f s.partition) (list_all (is_for f) es) h in cond-true _ _ _ o.0 ∙ ap (λ zs. Comes s ∷ zs) (kept-first f es o.1)
 kept-first f (Dies t ∷ es) h = refl
 
--- and of those of another none
+-- A shard keeps no messages of another shard's partitions.
 no-first : (shards k s : ℕ) (es : List Event) → (k ≡ s → ⊥) → list_all (is_for (is_of shards s)) es ≡ true → events_of (is_of shards k) (first es) ≡ []
 no-first shards k s [] other h = refl
 no-first shards k s (Comes m ∷ es) other h =
@@ -66,7 +67,7 @@ no-first shards k s (Comes m ∷ es) other h =
     cond-false _ _ _ (ne_eqb (shard_of shards m.partition) k (λ e. other (sym e ∙ at))) ∙ no-first shards k s es other o.1
 no-first shards k s (Dies t ∷ es) other h = refl
 
--- ---- all shards
+-- All shards
 
 abbrev firsts : ℕ → (ℕ → List Event) → List Event
 firsts shards given = flat_map (λ s. first (given s)) (range_with_len 0 shards)
@@ -111,7 +112,7 @@ kept-merged shards (t ∷ ts) given a k lt =
     ∙ ap₂ (λ xs ys. xs ++ Dies t ∷ ys) (kept-firsts shards k given lt a.own) (kept-merged shards ts (λ s. rest (given s)) (rest-shards shards t ts given a) k lt)
     ∙ (first-rest (given k) t ts (a.deaths k lt)).0
 
--- ---- each tab stands under one partition there too
+-- Each tab has only one partition in that list
 
 flat-In : (G H : ℕ → List Event) (e : Event) → ((s : ℕ) → In e (G s) → In e (H s)) → (ns : List ℕ) → In e (flat_map G ns) → In e (flat_map H ns)
 flat-In G H e h [] i = i

@@ -1,4 +1,4 @@
--- Whole lists of events, seen at a shard, and what the shards send together.
+-- Lists of events, restricted to a shard, and the frames that the shards send together.
 use Rattle.std.proofs.Common.{◌≡◌, ⊎_elim, ℕ, zero, suc, ◌+◌, ◌<◌, ◌≤◌, Bool, true, false, cond, not, ◌||◌, List, [], ◌∷◌, ◌++◌, map, filter, Option, Some, None, refl, sym, ap, ap₂, ◌∙◌, subst, append-nil, arith}
 use Rattle.std.specs.Prelude.{◌==◌, IsPermutation}
 use Rattle.std.specs.List.{list_all, range_with_len, flat_map}
@@ -19,9 +19,9 @@ use Rattle.wl_broker.specs.Shards.{shard_of, is_of, is_for, events_of, seen_at, 
 use Rattle.wl_broker.proofs.shards.Homes.{Homes, started-Homes, burial-Homes}
 use Rattle.wl_broker.proofs.shards.Steps.{own-taking, out-taking, taking-Homes, buries-alike}
 
--- ---- where a tab stands
+-- Partition of a tab
 
--- the partition of a tab's first place
+-- The partition of a tab's first entry.
 abbrev pub home_in : List (ℕ × ℕ) → ℕ → ℕ
 home_in xs t = at 0 xs t
 
@@ -33,14 +33,14 @@ first-place (y ∷ ys) x i =
     (λ n _. Later (first-place ys x (⊎_elim (λ e. absurd (eqb-false y.0 x.0 n (sym (ap (λ z. z.0) e)))) (λ j. j) (In-cons_cases i))))
     refl
 
--- where each tab stands under one partition, that is its home
+-- If each tab has only one partition, this is its home.
 pub at_home : (xs : List (ℕ × ℕ)) → stands_once xs ≡ true → (x : ℕ × ℕ) → In x xs → home_in xs x.0 ≡ x.1
 at_home xs once x i =
     let row = list_all-In (λ x. list_all (λ y. not (x.0 == y.0) || x.1 == y.1) xs) xs once (first-place xs x i) in
     let pair = list_all-In (λ y. not (x.0 == y.0) || home_in xs x.0 == y.1) xs row i in
     eqb-true (home_in xs x.0) x.1 (sym (ap (λ z. not z || home_in xs x.0 == x.1) (eq-eqb x.0 x.0 refl)) ∙ pair)
 
--- ---- lists of events
+-- Lists of events
 
 abbrev pub ComesHome : (ℕ → ℕ) → Event → Type 0
 ComesHome home (Comes s) = home s.tab ≡ s.partition
@@ -59,12 +59,12 @@ module _ (home : ℕ → ℕ) where
   left-seen f b (Drops r) = refl
   left-seen f b (Does after outs) = refl
 
-  -- an event of these partitions does the same to what is seen
+  -- An event of these partitions changes the visible state in the same way.
   pub own-happens : (f : ℕ → Bool) (b : BrokerState) (e : Event) → is_for f e ≡ true → ComesHome home e → Homes home b → seen_at f (happens b e) ≡ happens (seen_at f b) e
   own-happens f b (Comes s) own c h = sym (ap (broker_after (seen_at f b)) (own-taking home f b s own c h) ∙ left-seen f b (taking b s))
   own-happens f b (Dies t) own c h = (buries-alike home f b t h).state
 
-  -- one of others leaves it alone
+  -- An event of other partitions does not change the visible state.
   pub out-happens : (f : ℕ → Bool) (b : BrokerState) (e : Event) → is_for f e ≡ false → ComesHome home e → Homes home b → seen_at f (happens b e) ≡ seen_at f b
   out-happens f b (Comes s) out c h = out-taking home f b s out c h
   out-happens f b (Dies t) out c h = apart refl out
@@ -77,7 +77,7 @@ module _ (home : ℕ → ℕ) where
       (λ own. ap (λ z. run z (events_of f es)) (own-happens f b e own (c e Here) h))
       (λ out. ap (λ z. run z (events_of f es)) (out-happens f b e out (c e Here) h))
 
--- ---- from the premise
+-- Consequences of the premise
 
 named-In : (es : List Event) (s : Stamped) → In (Comes s) es → In (s.tab, s.partition) (flat_map named_by es)
 named-In [] s i = absurd (In-nil i)
@@ -91,7 +91,7 @@ events-home : (listed : List (ℕ × ℕ)) (es : List Event) → StandsOnce list
 events-home listed es once (Comes s) i = at_home (places listed es) once (s.tab, s.partition) (In-append_right listed (named-In es s i))
 events-home listed es once (Dies t) i = tt
 
--- a home of all that is listed and of all that comes
+-- All listed tabs and all messages are at home.
 pub record AllHome (home : ℕ → ℕ) (listed : List (ℕ × ℕ)) (es : List Event) : Type 0 where
   pub lists : (x : ℕ × ℕ) → In x listed → home x.0 ≡ x.1
   pub comes : (e : Event) → In e es → ComesHome home e
@@ -102,7 +102,7 @@ all_home listed es once = record { lists = listed-home listed es once; comes = e
 home_before : {home : ℕ → ℕ} {listed : List (ℕ × ℕ)} (es more : List Event) → AllHome home listed (es ++ more) → AllHome home listed es
 home_before es more a = record { lists = a.lists; comes = λ e i. a.comes e (In-append_left more i) }
 
--- the other way: a function that gives each tab its partition is enough for the premise
+-- Conversely, the premise holds if some function gives the partition of each tab.
 named-cases : (home : ℕ → ℕ) (es : List Event) → ((e : Event) → In e es → ComesHome home e) → (x : ℕ × ℕ) → In x (flat_map named_by es) → home x.0 ≡ x.1
 named-cases home [] c x i = absurd (In-nil i)
 named-cases home (e ∷ es) c x i =
@@ -122,7 +122,7 @@ stands-once home listed es a =
     place : (x : ℕ × ℕ) → In x (places listed es) → home x.0 ≡ x.1
     place x i = ⊎_elim (λ j. a.lists x j) (λ j. named-cases home es a.comes x j) (In-append_cases listed (flat_map named_by es) i)
 
--- ---- the laws, for any home
+-- The laws, for any home
 
 module _ (home : ℕ → ℕ) where
   pub one_broker-Homes : (g : ℕ) (listed : List (ℕ × ℕ)) (es : List Event) → AllHome home listed es → Homes home (one_broker g listed es)
@@ -151,7 +151,7 @@ answered-by_its_shard shards g listed before m after once =
     answered-alike (home_in (places listed all)) (is_of shards (shard_of shards m.partition)) g listed before m
     (eq-eqb (shard_of shards m.partition) (shard_of shards m.partition) refl) (a.comes (Comes m) (In-append_right before Here)) (home_before before (Comes m ∷ after) a)
 
--- ---- what a death sends
+-- Frames sent on a death
 
 pub deaths-sent_by_one_shard : DeathsSentByOneShard
 deaths-sent_by_one_shard shards s g listed before t after once =
@@ -194,9 +194,9 @@ deaths-sent_by_shards shards g listed es t after some once =
         one-of_these (shard_of shards p) 0 shards (burial (one_broker g listed es) t).1 (omega arith) (let below : shard_of shards p < shards = shard_of-below shards p some in omega (arith, below))
         ∙ append-nil (burial (one_broker g listed es) t).1
 
--- ---- hellos
+-- Hellos
 
--- the rows of a key
+-- The rows with a given key.
 abbrev keyed : {X : Type 0} → (X → ℕ) → List X → ℕ → List X
 keyed key xs s = filter (λ x. key x == s) xs
 

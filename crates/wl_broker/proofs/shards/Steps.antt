@@ -1,4 +1,5 @@
--- One event, seen at some partitions: one of theirs does the same to what is seen, one of others leaves it alone.
+-- Single event, restricted to some partitions. An event of theirs changes the visible state in the
+-- same way, and any other event does not change it.
 use Rattle.std.proofs.Common.{◌≡◌, ℕ, ◌+◌, Bool, true, false, cond, not, ◌&&◌, ◌||◌, List, [], ◌∷◌, ◌++◌, map, filter, Option, Some, None, refl, sym, ap, ap₂, ◌∙◌, subst}
 use Rattle.std.specs.Prelude.{◌==◌, nat_lt, nat_le}
 use Rattle.std.specs.List.{list_all, range_with_len}
@@ -34,7 +35,7 @@ use Rattle.wl_broker.proofs.shards.Homes.{newly_at-Own, AtHome, Homes, Placed, m
 use Rattle.wl_limits.specs.declared.tabs.TheConstants.{LAST_NUMBER}
 use Rattle.wl_grammar.specs.PartCount.{part_count}
 
--- what is kept
+-- The seats that are visible in these partitions.
 abbrev seat_test : (ℕ → Bool) → ℕ × Seat → Bool
 seat_test f row = is_seen f row.1
 
@@ -42,7 +43,7 @@ abbrev part_test : (ℕ → Bool) → ℕ × Partial → Bool
 part_test f row = f row.1.partition
 
 module _ (home : ℕ → ℕ) (f : ℕ → Bool) where
-  -- ---- what is looked up
+  -- Look-ups
 
   seen-seat : (b : BrokerState) (t : ℕ) → Homes home b → seat_of (seen_at f b) t ≡ sieved (seat_test f) t (seat_of b t)
   seen-seat b t h = find-sieved (seat_test f) t 0 b.seats h.seats_rise
@@ -55,7 +56,7 @@ module _ (home : ℕ → ℕ) (f : ℕ → Bool) where
       go (Some Dead) is = refl
       go (Some (Joined p n l)) is = cond-true _ _ _ (sym (ap f (h.seats (t, Joined p n l) (find-In b.seats t (Joined p n l) is))) ∙ e)
 
-  -- the dead are seen everywhere
+  -- A dead tab is visible in all shards.
   for-dead : (b : BrokerState) (t : ℕ) → Homes home b → is_dead (seat_of (seen_at f b) t) ≡ is_dead (seat_of b t)
   for-dead b t h = ap is_dead (seen-seat b t h) ∙ go (seat_of b t)
     where
@@ -64,7 +65,7 @@ module _ (home : ℕ → ℕ) (f : ℕ → Bool) where
       go (Some Dead) = refl
       go (Some (Joined p n l)) = either (λ z. is_dead z ≡ false) (f p) (Some (Joined p n l)) None (λ _. refl) (λ _. refl)
 
-  -- a tab of other partitions has no seat here in a partition
+  -- A tab of other partitions has not joined in these.
   lost-seat : (b : BrokerState) (t : ℕ) → f (home t) ≡ false → Homes home b → seated_at (seat_of (seen_at f b) t) ≡ None
   lost-seat b t e h = ap seated_at (seen-seat b t h) ∙ go (seat_of b t) refl
     where
@@ -121,7 +122,7 @@ module _ (home : ℕ → ℕ) (f : ℕ → Bool) where
   unfolding is_active
   for-active b p e h = for-all_come b p b.listed e h h.listed
 
-  -- ---- a message of these partitions
+  -- A message of these partitions
 
   own-with_seat : (t : ℕ) (s : Seat) (b : BrokerState) → is_seen f s ≡ true → Homes home b → with_seat t s (seen_at f b) ≡ seen_at f (with_seat t s b)
   own-with_seat t s b e h =
@@ -151,7 +152,7 @@ module _ (home : ℕ → ℕ) (f : ℕ → Bool) where
       map-same (λ r. answer_to (seen_at f b) r.client r.number Granted) (λ r. answer_to b r.client r.number Granted) rows
       (λ r i. own-answer b r.client r.number Granted (ap f (own r i) ∙ e) h)
 
-  -- what stands is settled, and who is granted a lock is told
+  -- The locks are settled, and the broker sends the grants.
   abbrev settles : BrokerState → ℕ → Locks → Taking
   settles b p m = Does (settled_at b p m) (grants_to (settled_at b p m) (newly_at b p m))
 
@@ -188,7 +189,7 @@ module _ (home : ℕ → ℕ) (f : ℕ → Bool) where
   own-later_answer b t p n (Abort k) e i h = own-answer b t n Taken e h
   own-later_answer b t p n Query e i h = own-answer b t n Gone e h
 
-  -- the sender is answered, and the others are told
+  -- The broker answers the sender, and sends the grants to others.
   abbrev done : BrokerState → ℕ → Locks → ℕ → ℕ → Operation → Taking
   done b p m t n o = Does (settled_at b p m) (first_answer (settled_at b p m) t p n o ++ grants_to (settled_at b p m) (without t n (newly_at b p m)))
 
@@ -247,7 +248,7 @@ module _ (home : ℕ → ℕ) (f : ℕ → Bool) where
   unfolding is_misplaced
   for-misplaced b t p i h = ap₂ (λ q s. elsewhere q p || s) (for-listed b t i h) (ap₂ (λ s k. elsewhere (seated_at s) p || elsewhere (kept_at k) p) (for-seat b t i h) (for-partial b t i h))
 
-  -- it is answered the same, and does the same to what is seen
+  -- The visible state takes a message of these partitions as the whole state does.
   pub own-taking : (b : BrokerState) (x : Stamped) → f x.partition ≡ true → home x.tab ≡ x.partition → Homes home b → taking (seen_at f b) x ≡ taking_at f (taking b x)
   unfolding taking
   own-taking b x e m h =
@@ -259,9 +260,9 @@ module _ (home : ℕ → ℕ) (f : ℕ → Bool) where
       (for-misplaced b x.tab x.partition i h) (λ _. refl)
       (λ _. own-inner b x.tab x.partition x.inner i e m h))))
 
-  -- ---- a message of another partition
+  -- A message of another partition
 
-  -- whoever is not dead, and of another partition, has no seat here
+  -- A living tab of another partition has no visible seat.
   none-seen : (b : BrokerState) (t : ℕ) → f (home t) ≡ false → is_dead (seat_of b t) ≡ false → Homes home b → (s : Seat) → find b.seats t ≡ Some s → is_seen f s ≡ false
   none-seen b t e alive h (Joined p n l) is = sym (ap f (h.seats (t, Joined p n l) (find-In b.seats t (Joined p n l) is))) ∙ e
   none-seen b t e alive h Dead is = apart (ap is_dead is) alive
@@ -291,7 +292,7 @@ module _ (home : ℕ → ℕ) (f : ℕ → Bool) where
   out-Takes {b = b} {t = t} {p = p} (performs {c = c} pass served next) e m h =
       out-settled_at (with_seat t (Joined p (c.number + 1) (limit_of b t)) b) p _ e ∙ out-with_seat t (Joined p (c.number + 1) (limit_of b t)) b (ap f m ∙ e) e pass.alive h
 
-  -- it leaves what is seen alone
+  -- The message does not change the visible state.
   pub out-taking : (b : BrokerState) (x : Stamped) → f x.partition ≡ false → home x.tab ≡ x.partition → Homes home b → seen_at f (broker_after b (taking b x)) ≡ seen_at f b
   out-taking b x e m h = go (taking b x) refl
     where
@@ -299,7 +300,7 @@ module _ (home : ℕ → ℕ) (f : ℕ → Bool) where
       go (Drops r) is = refl
       go (Does after outs) is = out-Takes (taking-Takes b x after outs is) e m h
 
-  -- and all stay at home
+  -- A message keeps all state at home.
   pub taking-Homes : (b : BrokerState) (x : Stamped) → home x.tab ≡ x.partition → Homes home b → Homes home (broker_after b (taking b x))
   taking-Homes b x m h = go (taking b x) refl
     where
@@ -307,9 +308,10 @@ module _ (home : ℕ → ℕ) (f : ℕ → Bool) where
       go (Drops r) is = h
       go (Does after outs) is = Takes-Homes home (taking-Takes b x after outs is) m h
 
-  -- ---- a death
+  -- Deaths
 
-  -- it does the same to what is seen, and is told of where the tab had its place
+  -- A death changes the visible state in the same way, and only the shard of the tab's partition
+  -- sends frames.
   pub record BuriesAlike (b : BrokerState) (t : ℕ) (all own : BrokerState × List Addressed) : Type 0 where
     pub state : seen_at f all.0 ≡ own.0
     pub sent : own.1 ≡ cond (stands_in f (place_of b t)) all.1 []
@@ -331,7 +333,7 @@ module _ (home : ℕ → ℕ) (f : ℕ → Bool) where
       (ap₂ grants_to (own-settled_at b p m e h) (own-newly_at b p m e h)
       ∙ own-grants (settled_at b p m) p (newly_at b p m) e (newly_at-Own (λ t. home t ≡ p) b p m s) (settled_at-Homes home b p m s h))
 
-  -- in a shard of which the tab is, by its place in the whole
+  -- A death in the shard of the tab, by the tab's partition.
   in-buried : (b : BrokerState) (t : ℕ) (q : Option ℕ) → f (home t) ≡ true → Placed home t q → Homes home b
       → (seen_at f (buried_at b t q).0 ≡ (buried_at (seen_at f b) t q).0) × ((buried_at (seen_at f b) t q).1 ≡ cond (stands_in f q) (buried_at b t q).1 [])
   in-buried b t None e m h = (refl, refl)

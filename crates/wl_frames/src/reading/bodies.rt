@@ -1,4 +1,4 @@
-//! Reading the fields of each kind of frame: each answers what was read and the bytes after it.
+//! Decoders of the fields of each kind of frame. Each returns the value and the bytes after it.
 
 ghost use Rattle.std.specs.Prelude.{◌≡◌};
 ghost use Rattle.wl_frames.specs.Bodies.{request_at, operation_at, command_at, entry_at, numbers_rise, rising_entries_at, report_at, part_at, few_parts_at, report_part_at, hello_at, outcome_at, answer_at, snapshot_entry_at, snapshot_at, inner_kind_at, upward_fields_at, upward_at, downward_fields_at, downward_at, place_at, tabs_rise, rising_places_at, frame_at};
@@ -99,7 +99,7 @@ impl Item for Entry {
     }
 }
 
-/// Whether the numbers strictly rise.
+/// Returns whether the numbers strictly rise.
 fn numbers_rise(entries: &[Entry]) -> bool
     ensures { result ≡ numbers_rise 0 entries.now }
 {
@@ -142,7 +142,7 @@ fn report_of(alloc: Global, bytes: &[u8]) -> Result<(Report, &[u8]), ReadFault>
     ))
 }
 
-/// A part, and how many there are.
+/// Decodes the index of a part and the number of parts.
 #[tactic(auto, unfolding(crate::specs::Bodies::part_at))]
 fn part_of(bytes: &[u8]) -> Result<((u16, u16), &[u8]), ReadFault>
     ensures { Gives (λ x. (x.0, x.1.now)) result (part_at bytes.now) }
@@ -155,7 +155,7 @@ fn part_of(bytes: &[u8]) -> Result<((u16, u16), &[u8]), ReadFault>
     Ok(((part, parts), rest))
 }
 
-/// A part of a report, and how many there are.
+/// Decodes the index and the number of a report's parts.
 #[tactic(auto, unfolding(crate::specs::Bodies::few_parts_at))]
 fn few_parts_of(bytes: &[u8]) -> Result<((u16, u16), &[u8]), ReadFault>
     ensures { Gives (λ x. (x.0, x.1.now)) result (few_parts_at bytes.now) }
@@ -322,7 +322,7 @@ fn pair_welcome_of(alloc: Global, bytes: &[u8]) -> Result<(Frame, &[u8]), ReadFa
     Ok((Frame::PairWelcome(welcome), rest))
 }
 
-/// The version and the kind of an inner body.
+/// Decodes the version and the kind of an inner body.
 #[tactic(auto, unfolding(crate::specs::Bodies::inner_kind_at))]
 fn inner_kind_of(bytes: &[u8]) -> Result<(Kind, &[u8]), ReadFault>
     ensures { Gives (λ x. (x.0, x.1.now)) result (inner_kind_at bytes.now) }
@@ -355,7 +355,7 @@ fn upward_fields_of(alloc: Global, kind: Kind, bytes: &[u8]) -> Result<(Upward, 
     }
 }
 
-/// The inner body of a stamped frame, which goes to the end.
+/// Decodes the inner body of a stamped frame, which extends to the end.
 #[tactic(auto, unfolding(crate::specs::Bodies::upward_at))]
 fn upward_of(alloc: Global, bytes: &[u8]) -> Result<(Upward, &[u8]), ReadFault>
     ensures { Gives (λ x. (x.0, x.1.now)) result (upward_at bytes.now) }
@@ -394,7 +394,7 @@ impl Item for (u16, u16) {
     }
 }
 
-/// Whether the tabs strictly rise.
+/// Returns whether the tabs strictly rise.
 fn tabs_rise(places: &[(u16, u16)]) -> bool
     ensures { result ≡ tabs_rise 1 places.now }
 {
@@ -454,7 +454,7 @@ fn downward_fields_of(
     }
 }
 
-/// The inner body of an addressed frame, which goes to the end.
+/// Decodes the inner body of an addressed frame, which extends to the end.
 #[tactic(auto, unfolding(crate::specs::Bodies::downward_at))]
 fn downward_of(alloc: Global, bytes: &[u8]) -> Result<(Downward, &[u8]), ReadFault>
     ensures { Gives (λ x. (x.0, x.1.now)) result (downward_at bytes.now) }
@@ -486,7 +486,8 @@ fn dead_of(bytes: &[u8]) -> Result<(Frame, &[u8]), ReadFault>
     Ok((Frame::Dead(dead), rest))
 }
 
-/// The frame of this kind with these fields.
+/// Decodes the fields of a frame of this kind. Returns the frame and the bytes after it. Fails with
+/// `Field` if a field is invalid, and with `Memory` if out of memory.
 pub fn frame_of(alloc: Global, kind: Kind, bytes: &[u8]) -> Result<(Frame, &[u8]), ReadFault>
     ensures { Gives (λ x. (x.0, x.1.now)) result (frame_at kind bytes.now) }
 {

@@ -1,4 +1,4 @@
-//! Why the fields of a frame could not be read.
+//! Faults of a frame's fields.
 
 ghost use Rattle.std.specs.Prelude.{◌≡◌};
 ghost use Rattle.wl_frames.specs.declared.reading.fault.ReadFault.TheVariants as read_fault;
@@ -8,11 +8,12 @@ use crate::fault::FrameFault;
 use std::alloc::{AllocError, AllocFailed};
 use std::str::Utf8Error;
 
+/// Reason why a field could not be decoded.
 #[derive(Drop)]
 pub enum ReadFault {
-    /// Memory was refused.
+    /// Out of memory.
     Memory,
-    /// A field is outside its form, or cut off by the end of the bytes.
+    /// The field has an invalid value, or is cut off by the end of the bytes.
     Field,
 }
 

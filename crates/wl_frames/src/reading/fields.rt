@@ -1,4 +1,5 @@
-//! Reading the fields that several kinds of frames have: each answers the field and the bytes after it.
+//! Decoders of the fields that several kinds of frames share. Each returns the value and the bytes
+//! after it.
 
 ghost use Rattle.std.specs.Prelude.{ℕ, List, Option};
 ghost use Rattle.std.specs.Int.{w16, w32};
@@ -13,6 +14,7 @@ use wl_grammar::origin::Origin;
 use wl_grammar::sequence::Sequence;
 use wl_limits::texts::{DATA_LIMIT, ORIGIN_LIMIT};
 
+/// Decodes one byte.
 pub fn byte_of(bytes: &[u8]) -> Result<(u8, &[u8]), ReadFault>
     ensures { Gives (λ x. (x.0, x.1.now)) result (byte_at bytes.now) }
 {
@@ -22,6 +24,7 @@ pub fn byte_of(bytes: &[u8]) -> Result<(u8, &[u8]), ReadFault>
     }
 }
 
+/// Decodes a big-endian number of two bytes.
 pub fn u16_of(bytes: &[u8]) -> Result<(u16, &[u8]), ReadFault>
     ensures { Gives (λ x. (x.0, x.1.now)) result (number_at w16 bytes.now) }
 {
@@ -31,6 +34,7 @@ pub fn u16_of(bytes: &[u8]) -> Result<(u16, &[u8]), ReadFault>
     }
 }
 
+/// Decodes a big-endian number of four bytes.
 pub fn u32_of(bytes: &[u8]) -> Result<(u32, &[u8]), ReadFault>
     ensures { Gives (λ x. (x.0, x.1.now)) result (number_at w32 bytes.now) }
 {
@@ -43,6 +47,7 @@ pub fn u32_of(bytes: &[u8]) -> Result<(u32, &[u8]), ReadFault>
     }
 }
 
+/// Decodes a generation, which is at least 1.
 #[tactic(auto, unfolding(crate::specs::Reading::generation_at))]
 pub fn generation_of(bytes: &[u8]) -> Result<(u32, &[u8]), ReadFault>
     ensures { Gives (λ x. (x.0, x.1.now)) result (generation_at bytes.now) }
@@ -54,7 +59,7 @@ pub fn generation_of(bytes: &[u8]) -> Result<(u32, &[u8]), ReadFault>
     Ok((generation, rest))
 }
 
-/// A tab or a partition.
+/// Decodes a tab or a partition, which is at least 1.
 #[tactic(auto, unfolding(crate::specs::Reading::tab_at))]
 pub fn tab_of(bytes: &[u8]) -> Result<(u16, &[u8]), ReadFault>
     ensures { Gives (λ x. (x.0, x.1.now)) result (tab_at bytes.now) }
@@ -66,6 +71,7 @@ pub fn tab_of(bytes: &[u8]) -> Result<(u16, &[u8]), ReadFault>
     Ok((tab, rest))
 }
 
+/// Decodes a lock mode.
 #[tactic(auto, unfolding(crate::specs::Reading::mode_at))]
 pub fn mode_of(bytes: &[u8]) -> Result<(Mode, &[u8]), ReadFault>
     ensures { Gives (λ x. (x.0, x.1.now)) result (mode_at bytes.now) }
@@ -78,6 +84,7 @@ pub fn mode_of(bytes: &[u8]) -> Result<(Mode, &[u8]), ReadFault>
     }
 }
 
+/// Decodes a flag.
 #[tactic(auto, unfolding(crate::specs::Reading::flag_at))]
 pub fn flag_of(bytes: &[u8]) -> Result<(bool, &[u8]), ReadFault>
     ensures { Gives (λ x. (x.0, x.1.now)) result (flag_at bytes.now) }
@@ -90,7 +97,7 @@ pub fn flag_of(bytes: &[u8]) -> Result<(bool, &[u8]), ReadFault>
     }
 }
 
-/// Whether a lock is held, or else waited for.
+/// Decodes whether a lock is held. If not, its request is waiting.
 #[tactic(auto, unfolding(crate::specs::Reading::held_at))]
 pub fn held_of(bytes: &[u8]) -> Result<(bool, &[u8]), ReadFault>
     ensures { Gives (λ x. (x.0, x.1.now)) result (held_at bytes.now) }
@@ -140,6 +147,7 @@ fn name_of(alloc: Global, text: &[u8]) -> Result<Name, ReadFault>
     Ok(Name::new(String::from_str(alloc, text)?))
 }
 
+/// Decodes a channel's name, which is UTF-8.
 #[tactic(auto, unfolding(crate::specs::Reading::channel_at))]
 pub fn channel_of(alloc: Global, bytes: &[u8]) -> Result<(Name, &[u8]), ReadFault>
     ensures { Gives (λ x. (x.0, x.1.now)) result (channel_at bytes.now) }
@@ -148,6 +156,7 @@ pub fn channel_of(alloc: Global, bytes: &[u8]) -> Result<(Name, &[u8]), ReadFaul
     Ok((name_of(alloc, channel)?, rest))
 }
 
+/// Decodes a lock's name, which is UTF-8 and does not start with U+002D.
 #[tactic(auto, unfolding(crate::specs::Reading::lock_name_at))]
 pub fn lock_name_of(alloc: Global, bytes: &[u8]) -> Result<(Name, &[u8]), ReadFault>
     ensures { Gives (λ x. (x.0, x.1.now)) result (lock_name_at bytes.now) }
@@ -159,6 +168,7 @@ pub fn lock_name_of(alloc: Global, bytes: &[u8]) -> Result<(Name, &[u8]), ReadFa
     Ok((name_of(alloc, text)?, rest))
 }
 
+/// Decodes the data of a post.
 #[tactic(auto, unfolding(crate::specs::Reading::data_at))]
 pub fn data_of(alloc: Global, bytes: &[u8]) -> Result<(Bytes, &[u8]), ReadFault>
     ensures { Gives (λ x. (x.0, x.1.now)) result (data_at bytes.now) }
@@ -177,6 +187,7 @@ fn origin_text_of(alloc: Global, text: &[u8]) -> Result<Origin, ReadFault>
     Ok(Origin::new(String::from_str(alloc, text)?))
 }
 
+/// Decodes an origin, which is ASCII.
 #[tactic(auto, unfolding(crate::specs::Reading::origin_at))]
 pub fn origin_of(alloc: Global, bytes: &[u8]) -> Result<(Origin, &[u8]), ReadFault>
     ensures { Gives (λ x. (x.0, x.1.now)) result (origin_at bytes.now) }
@@ -185,10 +196,11 @@ pub fn origin_of(alloc: Global, bytes: &[u8]) -> Result<(Origin, &[u8]), ReadFau
     Ok((origin_text_of(alloc, text)?, rest))
 }
 
-/// What stands in a list, one after another.
+/// An item of a list of fields.
 pub trait Item: Sized + Drop {
     ghost item_at: { List ℕ → Option (Self × List ℕ) };
 
+    /// Decodes one item.
     fn read(alloc: Global, bytes: &[u8]) -> Result<(Self, &[u8]), ReadFault>
         ensures { Gives (λ x. (x.0, x.1.now)) result (item_at bytes.now) };
 }
@@ -206,7 +218,8 @@ fn items_of<T: Item>(alloc: Global, count: u16, bytes: &[u8]) -> Result<(Vec<T>,
     Ok((items, rest))
 }
 
-/// A list behind its count.
+/// Decodes a list that follows the number of its items. Fails with `Field` if there are more than
+/// `most` items.
 #[tactic(auto, unfolding(crate::specs::Reading::list_at))]
 pub fn list_of<T: Item>(
     alloc: Global,

@@ -1,4 +1,4 @@
-//! The versions of bodies, and the kinds of frames of each.
+//! Versions of bodies, and the kinds of frames of each version.
 
 ghost use Rattle.std.specs.Prelude.{◌≡◌, ◌↔◌, IsTrue};
 ghost use Rattle.wl_frames.specs.Reading.{kind_at, first_kinds, second_kinds, value_of};
@@ -9,7 +9,7 @@ use wl_grammar::kinds::{
     REPORT_PART, SECOND_VERSION, SNAPSHOT, STAMPED, START, WELCOME,
 };
 
-/// A kind of frame.
+/// Kind of a frame.
 #[derive(Clone, Copy)]
 pub enum Kind {
     Command,
@@ -28,14 +28,14 @@ pub enum Kind {
     PairWelcome,
 }
 
-/// Whether there are bodies of this version.
+/// Returns whether the version is known.
 pub fn is_version(version: u8) -> bool
     ensures { IsTrue result ↔ IsVersion version }
 {
     version == FIRST_VERSION || version == SECOND_VERSION
 }
 
-/// The kind of this code in this version.
+/// Returns the kind with this code in this version.
 #[tactic(auto, unfolding(crate::specs::Reading::kind_at))]
 pub fn kind_of(version: u8, code: u8) -> Option<Kind>
     ensures { result ≡ kind_at version code }

@@ -1,4 +1,4 @@
-//! The broker's keeper and the script, which wait for one another.
+//! Orders from the script to the broker's keeper, and the waits of each for the other.
 
 use crate::hub::Hub;
 use std::sync::CondvarTimeouts;
@@ -6,7 +6,7 @@ use std::time::Duration;
 use wl_kernel_rules::NotStopped;
 use wl_process::{Host, ProcessFault};
 
-/// What came of a stop.
+/// The result of a stop.
 pub(crate) enum Stop {
     Stopped(u32),
     AlreadyDown,
@@ -14,7 +14,8 @@ pub(crate) enum Stop {
 }
 
 impl Hub {
-    /// Orders a broker, and waits for it. None where one is wanted already.
+    /// Orders a broker and waits until it is up. Returns its generation, or `None` if a broker was
+    /// already wanted.
     pub(crate) fn order_start<R: Host>(&self, rt: &R) -> Result<Option<u32>, ProcessFault> {
         let mut orders = self.orders.lock(rt);
         if !orders.start()? {
@@ -30,7 +31,7 @@ impl Hub {
         }
     }
 
-    /// Stops the broker, and waits until its process has ended.
+    /// Stops the broker and waits until its process has ended.
     pub(crate) fn order_stop<R: Host>(&self, rt: &R) -> Result<Stop, ProcessFault> {
         let mut orders = self
             .ordered
@@ -50,17 +51,17 @@ impl Hub {
         Ok(Stop::Stopped(generation))
     }
 
-    /// Stops the broker's generation, and begins the next one on the board.
+    /// Stops the broker's generation and starts the next one on the board.
     fn stop<R: Host>(&self, rt: &R) -> Result<u32, NotStopped> {
         let generation = self.supervisor.lock(rt).stop()?;
         if let Some(seat) = self.seats.first() {
-            // A seat may bump more often than there are generations.
+            // A seat allows more bumps than there are generations.
             let _ = seat.lock(rt).bump();
         }
         Ok(generation)
     }
 
-    /// The kernel ends, and with it the broker.
+    /// Ends the keeper and the broker when the kernel ends.
     pub(crate) fn order_end<R: Host>(&self, rt: &R) {
         let mut orders = self.orders.lock(rt);
         orders.end();
@@ -69,7 +70,7 @@ impl Hub {
         self.hang_up(rt);
     }
 
-    /// Waits until a broker is wanted. False where the kernel ends.
+    /// Waits until a broker is wanted. Returns false if the kernel is ending.
     pub(crate) fn wait_for_order<R: Host>(&self, rt: &R) -> bool {
         let orders = self.ordered.wait_while(rt, self.orders.lock(rt), |orders| {
             !orders.is_ending && !orders.is_starting()
@@ -77,12 +78,12 @@ impl Hub {
         !orders.is_ending
     }
 
-    /// Whether a broker is to be started.
+    /// Returns true if a broker is to be started.
     pub(crate) fn is_starting<R: Host>(&self, rt: &R) -> bool {
         self.orders.lock(rt).is_starting()
     }
 
-    /// Pauses for so long, or until the kernel ends.
+    /// Pauses for this long, or until the kernel ends.
     pub(crate) fn pause<R: Host>(&self, rt: &R, pause: Duration) {
         if pause.is_zero() {
             return;
@@ -95,11 +96,12 @@ impl Hub {
         );
     }
 
+    /// Returns true if the kernel is ending.
     pub(crate) fn is_ending<R: Host>(&self, rt: &R) -> bool {
         self.orders.lock(rt).is_ending
     }
 
-    /// The broker of this generation is up.
+    /// Records that the broker of this generation is up.
     pub(crate) fn note_up<R: Host>(&self, rt: &R, generation: u32) {
         let mut orders = self.orders.lock(rt);
         orders.note_up(generation);
@@ -111,7 +113,8 @@ impl Hub {
         }
     }
 
-    /// The broker's link has ended. If it is still the current one, its generation is stopped, and the next is wanted.
+    /// Records that the broker's link has ended. If the generation is current, stops it and orders
+    /// the next one.
     pub(crate) fn note_end_of_link<R: Host>(&self, rt: &R, generation: u32) {
         let mut orders = self.orders.lock(rt);
         if orders.is_missed(generation) {
@@ -120,19 +123,19 @@ impl Hub {
         }
     }
 
-    /// The broker's process has ended.
+    /// Records that the broker's process has ended.
     pub(crate) fn note_end_of_broker<R: Host>(&self, rt: &R) {
         self.orders.lock(rt).note_end();
         self.ordered.notify_all();
     }
 
-    /// No broker can be started.
+    /// Records that no broker can be started.
     pub(crate) fn note_failure<R: Host>(&self, rt: &R, fault: ProcessFault) {
         self.orders.lock(rt).fail(fault);
         self.ordered.notify_all();
     }
 
-    /// Why no broker can be started, if so.
+    /// Returns the reason why no broker can be started, if there is one.
     pub(crate) fn failure<R: Host>(&self, rt: &R) -> Option<ProcessFault> {
         self.orders.lock(rt).failure()
     }

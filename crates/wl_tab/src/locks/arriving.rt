@@ -1,4 +1,4 @@
-//! Frames that come to a tab.
+//! Frames that arrive at a tab.
 
 ghost use Rattle.std.specs.Prelude.{◌≡◌, ◌≢◌, true, IfOk, OnOk, OnErr};
 ghost use Rattle.wl_agent.specs.Delivery.{delivery};
@@ -15,8 +15,8 @@ use wl_grammar::{Frame, Sequence};
 use wl_said::{Ended, Reason, Said};
 
 impl TabLocks {
-    /// Takes in a frame, tells the tokens what came of it, and says it. Where memory is refused all is as
-    /// before, and the frame may come again.
+    /// Takes a frame, settles the tokens that it concerns, and returns the reply. If memory runs out nothing
+    /// changes, and the frame may be delivered again.
     pub fn deliver(&mut self, frame: &Frame) -> Result<Said, AllocError>
         ensures new { OnOk result (self.new ≡ told (delivery frame.now self.old).0) }
         ensures said { IfOk result (λ said. said ≡ arrival frame.now self.old) }
@@ -30,7 +30,7 @@ impl TabLocks {
     }
 }
 
-/// What a frame was to the tab, unless memory was refused.
+/// Fails if the agent dropped the frame because memory ran out.
 fn taken(delivered: Delivered) -> Result<Delivered, AllocError>
     ensures same { IfOk result (λ d. d ≡ delivered) }
     ensures ok { OnOk result (delivered ≢ Delivered.Dropped Unheard.Memory) }
@@ -42,7 +42,7 @@ fn taken(delivered: Delivered) -> Result<Delivered, AllocError>
     }
 }
 
-/// What of these numbers would end by entering a generation. The first one of a life ends none.
+/// Returns the numbers that entering a generation ends. The first generation of a tab's life ends none.
 fn ended_by_entering(alloc: Global, entered: u32, kept: &[Kept]) -> Result<Vec<Ended>, AllocError>
     ensures { IfOk result (λ ended. ended.items ≡ ended_before entered kept.now) }
 {
@@ -54,7 +54,7 @@ fn ended_by_entering(alloc: Global, entered: u32, kept: &[Kept]) -> Result<Vec<E
         .collect(alloc)
 }
 
-/// What is said of what the agent was told.
+/// Converts the agent's delivery result into the reply.
 fn said_of_told(
     frame: &Frame,
     ended: Vec<Ended>,
@@ -86,7 +86,7 @@ fn said_of_told(
     }
 }
 
-/// The generation that the tab has entered then.
+/// Returns the generation that the tab has entered after this frame.
 fn entered_by(frame: &Frame, delivered: &Delivered, entered: u32) -> u32
     ensures { result ≡ entered_by frame.now delivered.now entered }
 {
@@ -96,7 +96,7 @@ fn entered_by(frame: &Frame, delivered: &Delivered, entered: u32) -> u32
     }
 }
 
-/// The generation of a hello.
+/// Returns the generation of a hello, or 0 for any other frame.
 fn generation_in(frame: &Frame) -> u32
     ensures { result ≡ generation_in frame.now }
 {
@@ -106,7 +106,7 @@ fn generation_in(frame: &Frame) -> u32
     }
 }
 
-/// Which part of a snapshot the frame is.
+/// Returns the index of a snapshot part, or 0 for any other frame.
 fn part_in(frame: &Frame) -> u16
     ensures { result ≡ part_in frame.now }
 {
@@ -116,7 +116,7 @@ fn part_in(frame: &Frame) -> u16
     }
 }
 
-/// Of how many parts of a snapshot the frame is one.
+/// Returns the part count of a snapshot, or 0 for any other frame.
 fn parts_in(frame: &Frame) -> u16
     ensures { result ≡ parts_in frame.now }
 {

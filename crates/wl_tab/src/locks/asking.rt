@@ -1,4 +1,4 @@
-//! Requests, probes and queries, whose tokens are kept.
+//! Requests, probes and queries, whose tokens are stored.
 
 ghost use Rattle.std.specs.Prelude.{◌≡◌, ◌<◌, true, false, length, IfOk, OnOk, OnErr, vec_len, vec_capacity};
 ghost use Rattle.wl_draft.specs.Refusals.{RefusesBy};
@@ -13,7 +13,7 @@ use wl_draft::{Mode, Name};
 use wl_grammar::Operation;
 
 impl TabLocks {
-    /// Asks for a lock, and gives the command's number. The room for its token is made before the agent asks.
+    /// Requests a lock and returns the command's number. Memory for its token is reserved before the agent issues it.
     pub fn request(&mut self, name: &Name, mode: Mode) -> Result<u32, AgentFault>
         ensures ok { OnOk result (self.new ≡ asked mode false name.now self.old) }
         ensures number { IfOk result (λ n. n ≡ length self.old.issued) }
@@ -30,7 +30,7 @@ impl TabLocks {
         Ok(number)
     }
 
-    /// Asks for a lock that is to be had at once or not at all, and gives the command's number.
+    /// Requests a lock with `ifAvailable` and returns the command's number.
     pub fn probe(&mut self, name: &Name, mode: Mode) -> Result<u32, AgentFault>
         ensures ok { OnOk result (self.new ≡ asked mode true name.now self.old) }
         ensures number { IfOk result (λ n. n ≡ length self.old.issued) }
@@ -47,7 +47,7 @@ impl TabLocks {
         Ok(number)
     }
 
-    /// Asks for a snapshot of the partition's locks, and gives the command's number.
+    /// Queries the locks of the tab's partition and returns the command's number.
     pub fn query(&mut self) -> Result<u32, AgentFault>
         ensures ok { OnOk result (self.new ≡ queried self.old) }
         ensures number { IfOk result (λ n. n ≡ length self.old.issued) }
@@ -68,7 +68,7 @@ impl TabLocks {
     }
 }
 
-/// The command of a request or a probe that the agent does not refuse, and room for its token.
+/// Reserves memory for the token of a request or a probe, and returns its operation. Fails if the agent would refuse it.
 fn prepared(
     alloc: Global,
     agent: &Agent,

@@ -1,4 +1,4 @@
-//! Aborts and releases, and what is asked still.
+//! Aborts and releases of requests and locks.
 
 ghost use Rattle.std.specs.Prelude.{◌≡◌, ◌&&◌, ◌==◌, false, length, position, Some, None, IfOk, OnOk, OnErr, if◌then◌else◌};
 ghost use Rattle.wl_agent.specs.Tab.{aborted, released, status_of, is_asked};
@@ -10,7 +10,7 @@ use crate::locks::{Abortion, TabLocks};
 use wl_agent::{AbortFault, Agent, Foreign, Token};
 
 impl TabLocks {
-    /// Takes a request back that is asked. It takes no memory.
+    /// Aborts a request that is asked. Allocates no memory.
     pub fn abort(&mut self, number: u32) -> Abortion
         ensures said { result ≡ abortion number self.old }
         ensures new { self.new ≡ (if is_pending self.old number && is_asked (status_of self.old number)
@@ -29,14 +29,14 @@ impl TabLocks {
         match abort(&mut self.agent, token) {
             Ok(next) => Abortion::Issued(next),
             Err(token) => {
-                // Never: what is kept for a request that is no lock is its pending token.
+                // Unreachable: the stored token of a request that is not held is a pending one.
                 self.kept.push_reserved(Kept { operation, token });
                 Abortion::Nothing
             }
         }
     }
 
-    /// Lets go of a lock that is held, and gives the number of the command. It takes no memory.
+    /// Releases a lock that is held and returns the command's number, or `None` if it is not held. Allocates no memory.
     pub fn release(&mut self, number: u32) -> Option<u32>
         ensures next { result ≡ (if is_holding self.old number then Some (length self.old.issued) else None) }
         ensures new { self.new ≡ (if is_holding self.old number then released number self.old else self.old) }
@@ -49,7 +49,7 @@ impl TabLocks {
         match release(&mut self.agent, token) {
             Ok(next) => Some(next),
             Err(token) => {
-                // Never: a lock that is kept is held.
+                // Unreachable: the stored token of a held lock is a lock token.
                 self.kept.push_reserved(Kept { operation, token });
                 None
             }
@@ -58,7 +58,7 @@ impl TabLocks {
 }
 
 impl TabLocks {
-    /// Whether the number is one of which nothing has come yet: a request, a probe or a query that is asked.
+    /// Returns whether the number is a request, a probe or a query that is asked, so that nothing has come of it.
     pub fn is_open(&self, number: u32) -> bool
         ensures { result ≡ is_open (status_of self.now number) }
     {
@@ -69,14 +69,14 @@ impl TabLocks {
     }
 }
 
-/// Where the number is kept.
+/// Returns the index of the number in `kept`.
 fn place_of(kept: &[Kept], number: u32) -> Option<usize>
     ensures { result ≡ position (λ k. number_of k.token == number) kept.now }
 {
     kept.iter().position(|kept| kept.number() == number)
 }
 
-/// Aborts by a token, or gives it back.
+/// Aborts by a token. Fails with the token if the agent refuses it.
 fn abort(agent: &mut Agent, token: Token) -> Result<u32, Token>
     ensures ok { OnOk result (agent.new ≡ aborted (number_of token) agent.old) }
     ensures next { IfOk result (λ next. next ≡ length agent.old.issued) }
@@ -92,7 +92,7 @@ fn abort(agent: &mut Agent, token: Token) -> Result<u32, Token>
     }
 }
 
-/// Releases by a token, or gives it back.
+/// Releases by a token. Fails with the token if the agent refuses it.
 fn release(agent: &mut Agent, token: Token) -> Result<u32, Token>
     ensures ok { OnOk result (agent.new ≡ released (number_of token) agent.old) }
     ensures next { IfOk result (λ next. next ≡ length agent.old.issued) }

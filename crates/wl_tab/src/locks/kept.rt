@@ -1,4 +1,4 @@
-//! What is kept for a number.
+//! Command and token of a number in use.
 
 ghost use Rattle.std.specs.Prelude.{◌≡◌, IfOk};
 ghost use Rattle.wl_agent.specs.Tab.{is_request};
@@ -10,7 +10,7 @@ use wl_agent::Token;
 use wl_grammar::Operation;
 use wl_said::Ended;
 
-/// A number that is not over: its command, and its token.
+/// A number that is not over: its command and its token.
 pub struct Kept {
     pub(crate) operation: Operation,
     pub(crate) token: Token,
@@ -28,7 +28,7 @@ impl Kept {
         }
     }
 
-    /// Whether it is a request that may wait.
+    /// Returns whether it is a request that may wait.
     pub(crate) fn is_request(&self) -> bool
         ensures { result ≡ is_request self.now.operation }
     {
@@ -38,14 +38,14 @@ impl Kept {
         }
     }
 
-    /// Whether its lock is held.
+    /// Returns whether its lock is held.
     pub(crate) fn is_lock(&self) -> bool
         ensures { result ≡ is_lock self.now.token }
     {
         matches!(&self.token, Token::HeldLock(_))
     }
 
-    /// What ends with it where its tab enters a later generation: a probe or a query that is asked.
+    /// Returns the result that ends a probe or a query when its tab enters a later generation. Others have none.
     pub(crate) fn ended(&self) -> Option<Ended>
         ensures { result ≡ ended_by self.now.token }
     {
@@ -56,7 +56,7 @@ impl Kept {
         }
     }
 
-    /// The holding that it is, where its lock is held.
+    /// Returns the holding for this number if its lock is held.
     pub(crate) fn holding(&self, alloc: Global, tab: u16) -> Result<Option<Holding>, AllocError>
         ensures { IfOk result (λ holding. holding ≡ holding_in tab self.now) }
     {

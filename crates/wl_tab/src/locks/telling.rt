@@ -1,4 +1,4 @@
-//! Tokens that are told what became of their numbers.
+//! Settling of tokens by the results of their numbers.
 
 ghost use Rattle.std.specs.Prelude.{◌≡◌, ◌≤◌, vec_len, vec_capacity};
 ghost use Rattle.wl_tab.specs.Telling.{fate_of, after_telling, told_run};
@@ -6,16 +6,17 @@ ghost use Rattle.wl_tab.specs.Telling.{fate_of, after_telling, told_run};
 use crate::locks::kept::Kept;
 use wl_agent::{Agent, Foreign, ProbeSettled, QuerySettled, Settled, Snapshot, Token};
 
-/// What becomes of a token that is told what became of its number.
+/// Result of settling a token.
 pub enum Fate {
+    /// The token remains in use. It becomes a lock token if its request was granted.
     Stays(Token),
     /// The number is over.
     Over,
-    /// The query's answer is whole.
+    /// The query's snapshot is complete.
     Whole(Snapshot),
 }
 
-/// Tells a token what became of its number. One that the agent does not know stays as it is.
+/// Settles a token by the state of its number. A token that the agent does not know stays as it is.
 pub(crate) fn tell(agent: &mut Agent, token: Token) -> Fate
     ensures fate { result ≡ fate_of agent.old token }
     ensures agent { agent.new ≡ after_telling token agent.old }
@@ -42,7 +43,7 @@ pub(crate) fn tell(agent: &mut Agent, token: Token) -> Fate
     }
 }
 
-/// Tells all tokens, one after another; those that stay keep their order. Gives the answer of a query that is whole.
+/// Settles all tokens in order. Tokens that stay keep their order. Returns the snapshot of a query that is complete.
 pub(crate) fn tell_all(agent: &mut Agent, kept: &mut Vec<Kept>) -> Option<Snapshot>
     ensures agent { agent.new ≡ (told_run agent.old kept.old.items).agent }
     ensures kept { kept.new.items ≡ (told_run agent.old kept.old.items).kept }

@@ -1,4 +1,4 @@
--- What a tab does at each event, as an act by what it sees.
+-- Acts of a tab at each event, as functions of the facts on which they depend (`Seen`).
 use Rattle.std.proofs.Common.{◌≡◌, ⊎_elim, ℕ, Bool, true, cond, not, ◌&&◌, List, [], ◌∷◌, ◌++◌, length, map, is_some, refl, sym, ap, subst}
 use Rattle.std.specs.Prelude.{◌==◌}
 use Rattle.std.proofs.lemmas.Bool.{and_parts}
@@ -31,16 +31,16 @@ first x y e = (and_parts x y e).0
 silent : (t : ℕ) (s : Seen) (m : Message) → In m [] → IsFrom t s m
 silent t s m i = absurd (In-nil i)
 
--- ---- locks
+-- Locks
 
--- with the tab's stamp
+-- The message with the tab's stamp.
 abbrev said : ℕ → ℕ → Upward → Message
 said t q x = Up (record { tab = t; partition = q; inner = x })
 
 abbrev command_said : ℕ → ℕ → TabState → ℕ → Message
 command_said t q a k = said t q (up.Command (record { generation = a.entered; number = k; operation = operation_of a k }))
 
--- the next command is issued
+-- The tab issues its next command.
 abbrev issuing : (t : ℕ) (may : Seen → Bool) (next : TabState → TabState) → ((s : Seen) → may s ≡ true → s.living ≡ true) → TabAct t
 issuing t may next living = record {
   may = may;
@@ -113,7 +113,7 @@ pub resends-does : (w : WorldState) (t : ℕ) → resends w t ≡ does t (resend
 unfolding resending
 resends-does w t = refl
 
--- a living tab is told this
+-- The report that a living tab sends after taking a frame.
 abbrev report_told : ℕ → ℕ → TabState → Delivered → List Message
 report_told t q a (Entered reports) = reports_said t q a
 report_told t q a d = []
@@ -140,7 +140,7 @@ unfolding hearing
 hears-does w t f =
     ap (λ ms. where_allowed (lives w t) w (acts w t (told (delivery f (tab_of w t)).0) ms)) (told-same w t (delivery f (tab_of w t)).0 (delivery f (tab_of w t)).1)
 
--- ---- channels
+-- Channels
 
 pub opening : (t : ℕ) (name : List ℕ) → TabAct t
 opening t name = record {
@@ -194,7 +194,7 @@ pub closes-does : (w : WorldState) (t k : ℕ) → closes w t k ≡ does t (clos
 unfolding closing
 closes-does w t k = refl
 
--- another tab's post comes
+-- Another tab's post arrives.
 pub taking_in : (t : ℕ) → Heard → TabAct t
 taking_in t x = record {
   may = λ s. s.living;
@@ -208,7 +208,7 @@ pub takes_in-does : (w : WorldState) (t : ℕ) (x : Heard) → where_allowed (li
 unfolding taking_in
 takes_in-does w t x = refl
 
--- ---- forging
+-- Forging
 
 abbrev forged_said : ℕ → Seen → Forged → List Message
 forged_said t s (forged.Upward u) = said t s.number u ∷ []

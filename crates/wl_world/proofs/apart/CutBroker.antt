@@ -1,4 +1,4 @@
--- The broker, cut to a partition's tabs: on what is theirs it does the same, and what is others' leaves it alone.
+-- The broker restricted to a partition's tabs: it acts alike on their messages, and other messages leave it unchanged.
 use Rattle.std.proofs.Common.{◌≡◌, ℕ, ◌+◌, Bool, true, false, cond, not, ◌&&◌, ◌||◌, List, [], ◌∷◌, ◌++◌, map, Option, Some, None, refl, sym, ap, ap₂, ◌∙◌, subst}
 use Rattle.std.specs.Prelude.{◌==◌, nat_lt, nat_le}
 use Rattle.std.specs.List.{list_all, range_with_len}
@@ -33,12 +33,12 @@ use Rattle.wl_world.proofs.apart.OnePartition.{Mates, Fits, first-told, later-to
 use Rattle.wl_limits.specs.declared.tabs.TheConstants.{LAST_NUMBER}
 use Rattle.wl_grammar.specs.PartCount.{part_count}
 
--- what is done, as the partition has it
+-- The broker's result as the partition sees it.
 abbrev pub taking_for : (ℕ → Bool) → Taking → Taking
 taking_for f (Drops r) = Drops r
 taking_for f (Does b outs) = Does (broker_for f b) (outs_for f outs)
 
--- the partition's part of the broker stays this, and its tabs are told nothing
+-- The partition's part of the broker is `v`, and its tabs are sent nothing.
 abbrev pub UnseenFrom : (ℕ → Bool) → BrokerState → Taking → Type 0
 UnseenFrom f v (Drops r) = Unit {0}
 UnseenFrom f v (Does c outs) = (broker_for f c ≡ v) × (outs_for f outs ≡ [])
@@ -47,7 +47,7 @@ abbrev pub Unseen : (ℕ → Bool) → BrokerState → Taking → Type 0
 Unseen f b x = UnseenFrom f (broker_for f b) x
 
 module _ (g f : ℕ → Bool) where
-  -- ---- what is looked up
+  -- Lookups
 
   pub for-seat : (b : BrokerState) (t : ℕ) → f t ≡ true → seat_of (broker_for f b) t ≡ seat_of b t
   for-seat b t e = find-only f t b.seats e
@@ -79,7 +79,7 @@ module _ (g f : ℕ → Bool) where
   unfolding is_active
   for-active b p e h = for-all_come b p b.listed e h.listed
 
-  -- ---- the partition's own
+  -- The partition's own messages
 
   own-with_seat : (t : ℕ) (s : Seat) (b : BrokerState) → f t ≡ true → Fits g f b → with_seat t s (broker_for f b) ≡ broker_for f (with_seat t s b)
   own-with_seat t s b e h = ap₂ (λ z ks. record (broker_for f b) { seats = z; partial = ks }) (sym (only-put_in f t s 0 b.seats e h.seats_rise)) (filter-swap (λ (row : ℕ × Partial). not (row.0 == t)) (λ (row : ℕ × Partial). f row.0) b.partial)
@@ -104,7 +104,7 @@ module _ (g f : ℕ → Bool) where
   own-answer b t n o e =
       ap (λ s. record { tab = t; inner = down.Answer (record { generation = b.generation; upto = next_in s; number = n; outcome = o }) }) (for-seat b t e)
 
-  -- all that is told to its tabs
+  -- All frames go to the partition's tabs.
   outs-in : (outs : List Addressed) → ((x : Addressed) → In x outs → f x.tab ≡ true) → outs_for f outs ≡ outs
   outs-in outs h = filter-all (λ x. f x.tab) outs h
 
@@ -148,7 +148,7 @@ module _ (g f : ℕ → Bool) where
   own-later_answer b t p n (Abort k) e i = own-answer b t n Taken e
   own-later_answer b t p n Query e i = own-answer b t n Gone e
 
-  -- the sender is answered, and the others are told
+  -- The broker answers the sender and tells each other tab that is granted a lock.
   abbrev performs : BrokerState → ℕ → Locks → ℕ → ℕ → Operation → Taking
   performs b p m t n o = Does (settled_at b p m) (first_answer (settled_at b p m) t p n o ++ grants_to (settled_at b p m) (without t n (newly_at b p m)))
 
@@ -238,7 +238,7 @@ module _ (g f : ℕ → Bool) where
       (λ _. ap₂ (λ c q. buries g f (buried_at c t q)) (own-with_seat t Dead b e h) (for-place b t e)
       ∙ own-buried_at (with_seat t Dead b) t (place_of b t) e (place_of-Placed g f b t h) (with_seat-Fits g f t Dead b i h))
 
-  -- ---- what is others'
+  -- Messages of other partitions
 
   out-with_seat : (t : ℕ) (s : Seat) (b : BrokerState) → f t ≡ false → broker_for f (with_seat t s b) ≡ broker_for f b
   out-with_seat t s b e = ap₂ (λ z ks. record (broker_for f b) { seats = z; partial = ks }) (only-put_out f t s b.seats e) (filter-spare f t b.partial e)

@@ -1,4 +1,4 @@
--- The broker's and the kernel's events, cut to a partition.
+-- Events of the broker and the kernel, restricted to a partition.
 use Rattle.std.proofs.Common.{◌≡◌, ◌⊎◌, inl, inr, ⊎_elim, ℕ, suc, ◌+◌, ◌≤◌, Bool, true, false, cond, not, ◌&&◌, List, [], ◌∷◌, ◌++◌, append-nil, length, map, filter, Option, Some, None, is_some, refl, sym, ap, ap₂, ◌∙◌, subst, arith}
 use Rattle.std.specs.Prelude.{◌==◌, nat_lt}
 use Rattle.std.proofs.lemmas.Bool.{and_parts, and_from, cond-true, cond-false, eqb-true}
@@ -30,7 +30,7 @@ use Rattle.wl_world.proofs.apart.OnePartition.{Mates, taking-Fits, burial-Fits, 
 use Rattle.wl_world.proofs.apart.CutBroker.{own-taking, out-taking, own-burial, out-burial}
 use Rattle.wl_world.proofs.apart.ToldApart.{opened, Posted, FitsUp, Orderly, living-opened, number-Mates, follows-Orderly, own-follows, out-follows}
 
--- ---- a choice by one test in both worlds
+-- A choice by one test in both worlds
 
 pub allowed-Orderly : (p : Pair) (w : WorldState) (b : Bool) (d : Deed) → Orderly p w → (b ≡ true → Orderly p (after w d)) → Orderly p (after w (where_allowed b w d))
 allowed-Orderly p w b d h f = either (λ x. Orderly p (after w x)) b d (nothing w) f (λ _. h)
@@ -44,7 +44,7 @@ allowed-own p w c b e d s f =
 pub allowed-out : (p : Pair) (w : WorldState) (b : Bool) (d : Deed) → (b ≡ true → part p (after w d) ≡ part p w) → part p (after w (where_allowed b w d)) ≡ part p w
 allowed-out p w b d f = either (λ x. part p (after w x) ≡ part p w) b d (nothing w) f (λ _. refl)
 
--- ---- a message to the broker
+-- A message to the broker
 
 pub up-Orderly : (p : Pair) (w : WorldState) (x : Stamped) (v : Option BrokerState) → Mates (opened w.kernel) (is_in p w.kernel) x.tab x.partition → FitsUp (opened w.kernel) (is_in p w.kernel) v
     → Orderly p w → Orderly p (after w (comes_up w x v))
@@ -61,7 +61,7 @@ pub out-up : (p : Pair) (w : WorldState) (x : Stamped) (v : Option BrokerState) 
 out-up p w x None c e m i = refl
 out-up p w x (Some b) c e m i = out-follows p w b (taking b x) c (out-taking (opened w.kernel) (is_in p w.kernel) b x e m i)
 
--- ---- a death told
+-- A death notice
 
 tells-opened : (w : WorldState) (t : ℕ) → (is_opened w.kernel t && not (lives w t)) ≡ true → opened w.kernel t ≡ true
 unfolding opened
@@ -91,7 +91,7 @@ out-tells p w t (Some b) c e i =
     allowed-out p w (is_opened w.kernel t && not (lives w t)) (buries_tab w t b)
     (λ y. out-follows p w b (buries g f (burial b t)) c (out-burial g f b t e (tells-opened w t y) i))
 
--- ---- the kernel greets
+-- A hello of the kernel
 
 abbrev greeting : WorldState → ℕ → Message
 greeting w t = Down Kernel (hello_to w.kernel.generation t)
@@ -125,7 +125,7 @@ out-greets p w t (Some b) e =
     allowed-out p w (lives w t) (record { world = w; sends = greeting w t ∷ [] })
     (λ _. ap (λ z. record (part p w) { bag = z }) (sends-out f (greeting w t ∷ []) w.bag (λ m i. subst (λ (z : Message). f (tab_at z) ≡ false) (sym (In-one i)) e)))
 
--- ---- a tab is taken over
+-- A tab is taken over
 
 taken-cases : (t : ℕ) (ts : List ℕ) (u : ℕ) → In u (taken_over t ts) → In u ts ⊎ (u ≡ t)
 taken-cases t ts u =
@@ -175,7 +175,7 @@ out-corrupts p w t e =
     allowed-out p w (lives w t) (nothing (record w { corrupt = taken_over t w.corrupt }))
     (λ _. ap (λ z. record (part p w) { corrupt = z }) (taken-out f t w.corrupt e))
 
--- ---- stops
+-- Stops
 
 pub stops-Orderly : (p : Pair) (w : WorldState) (v : Option BrokerState) → Orderly p w → Orderly p (after w (stops w v))
 unfolding opened is_in
@@ -204,7 +204,7 @@ pub out-stops : (w : WorldState) (v : Option BrokerState) → stops_now w v ≡ 
 out-stops w None e = refl
 out-stops w (Some b) e = ap (λ b. after w (where_allowed b w (nothing (record w { kernel = stopped w.kernel; broker = None })))) e
 
--- ---- starts
+-- Starts
 
 none-such : (test : ℕ → Bool) (ts : List ℕ) → first_such test ts ≡ None → (t : ℕ) → In t ts → test t ≡ false
 none-such test [] e t i = absurd (In-nil i)

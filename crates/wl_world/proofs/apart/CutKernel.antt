@@ -1,4 +1,4 @@
--- The kernel, cut to a partition: who is in it stays in it, and is found with the same number, hearers and life.
+-- The kernel restricted to one partition: its tabs keep their number, hearers and life.
 use Rattle.std.proofs.Common.{◌≡◌, ◌≢◌, ◌⊎◌, inl, inr, ⊎_elim, ℕ, Bool, true, false, cond, not, ◌&&◌, List, [], ◌∷◌, map, filter, Option, Some, None, option_map, refl, sym, ap, ap₂, ◌∙◌, subst}
 use Rattle.std.specs.Prelude.{◌==◌, nat_lt}
 use Rattle.std.proofs.Math.Bool.{and-false, and-true, and_self}
@@ -14,9 +14,9 @@ use Rattle.wl_draft.proofs.Membership.{apart, either, In-cons_cases, In-filter_c
 use Rattle.wl_world.specs.Apart.{was_opened_in, is_in, kernel_for}
 use Rattle.wl_world.proofs.apart.Cuts.{map-own}
 
--- ---- tabs by their numbers
+-- Tabs by number
 
--- a tab that is found is one of the opened ones, and of that number
+-- A tab that is found was opened and has the number sought.
 pub found : (os : List OpenedTab) (t : ℕ) (o : OpenedTab) → tab_in os t ≡ Some o → In o os × (o.tab ≡ t)
 found [] t o = λ e. cc
 found (x ∷ os) t o =
@@ -24,7 +24,7 @@ found (x ∷ os) t o =
     (λ s e. let same : x ≡ o = cc in (subst (λ z. In z (x ∷ os)) same Here, subst (λ z. z.tab ≡ t) same (eqb-true x.tab t s)))
     (λ _ e. let r = found os t o e in (Later r.0, r.1))
 
--- each opened tab is found by its number
+-- Each opened tab is found by its number.
 pub finds : (os : List OpenedTab) (o : OpenedTab) → AreTabs os → In o os → tab_in os o.tab ≡ Some o
 finds (x ∷ os) o a i = ⊎_elim
     (λ e. cond-true _ _ _ (eq-eqb x.tab o.tab (ap (λ z. z.tab) (sym e))) ∙ ap Some (sym e))
@@ -53,7 +53,7 @@ none-part test (o ∷ os) t =
     (λ _. cond-false _ _ _ n ∙ none-part test os t e) (λ _. none-part test os t e))
     refl
 
--- ---- numbers of partitions
+-- Numbers of partitions
 
 pub number-part : (n : ℕ) (p : Pair) (os : List OpenedTab) → number_or n (filter (is_of p) os) p ≡ number_or n os p
 number-part n p [] = refl
@@ -63,7 +63,7 @@ number-part n p (o ∷ os) =
     (λ _ _. number-part n p os)
     refl
 
--- ---- living tabs
+-- Living tabs
 
 living-filter : (g test kept : OpenedTab → Bool) → ((o : OpenedTab) → (g o && test o) ≡ kept o) → (os : List OpenedTab) → living_in test (filter g os) ≡ living_in kept os
 living-filter g test kept e [] = refl
@@ -73,14 +73,14 @@ living-filter g test kept e (o ∷ os) =
     (λ _ s. living-filter g test kept e os ∙ sym (cond-false _ _ _ (ap (λ b. o.living && b) (sym s) ∙ and-false o.living)))
     (e o)
 
--- of a partition alone, its living tabs are all
+-- The living tabs of the restricted kernel are the living tabs of the partition.
 pub living-part : (p : Pair) (k : KernelState) → living_tabs (kernel_for p k) ≡ living_of k p
 living-part p k = living-filter (is_of p) any_tab (is_of p) (λ o. and-true (is_of p o)) k.opened
 
 pub living_of-part : (p : Pair) (k : KernelState) → living_of (kernel_for p k) p ≡ living_of k p
 living_of-part p k = living-filter (is_of p) (is_of p) (is_of p) (λ o. and_self (is_of p o)) k.opened
 
--- who is listed is a living tab that passes the test
+-- Inserting a number adds no other number.
 pub In-put_in : (n t : ℕ) (ns : List ℕ) → In t (put_in n ns) → (t ≡ n) ⊎ In t ns
 In-put_in n t [] i = In-cons_cases i
 In-put_in n t (m ∷ ms) i =
@@ -100,7 +100,7 @@ In-living test (o ∷ os) t i =
     (λ _ j. let r = In-living test os t j in (r.0, Later r.1, r.2, r.3))
     i
 
--- ---- the partition's tabs
+-- The partition's tabs
 
 pub in-found : (p : Pair) (k : KernelState) (t : ℕ) → is_in p k t ≡ true → (o : OpenedTab) × (tab_of k t ≡ Some o) × (o.partition ≡ p)
 unfolding is_in
@@ -110,7 +110,7 @@ in-found p k t = go (tab_of k t) refl
     go None s e = apart e refl
     go (Some o) s e = (o, s, (pair_eq-decides o.partition p).0 e)
 
--- by its partition, an opened tab is in it or not
+-- An opened tab is in the partition exactly if its own partition is that one.
 pub side : (p : Pair) (k : KernelState) (o : OpenedTab) → AreTabs k.opened → In o k.opened → is_in p k o.tab ≡ is_of p o
 unfolding is_in
 side p k o a i = ap (was_opened_in p) (finds k.opened o a i)
@@ -154,9 +154,9 @@ own-hearers p k t e =
     ∙ ap (filter (λ n. not (n == t))) (subst (λ q. living_of (kernel_for p k) q ≡ living_of k q) (sym f.2) (living_of-part p k))
     ∙ sym (ap (hearers_beside k t) f.1)
 
--- ---- hearers, and the first of a partition
+-- Hearers, and the first tab of a partition
 
--- who hears a tab is in a partition where that tab is
+-- The hearers of a tab are in its partition.
 pub hearers-side : (p : Pair) (k : KernelState) (t u : ℕ) → AreTabs k.opened → In u (hearers t k) → is_in p k u ≡ is_in p k t
 unfolding is_in
 hearers-side p k t u a = go (tab_of k t) refl
@@ -169,7 +169,7 @@ hearers-side p k t u a = go (tab_of k t) refl
         let e : r.0.partition ≡ o.partition = (pair_eq-decides r.0.partition o.partition).0 r.2 in
         ap (is_in p k) (sym r.3) ∙ side p k r.0 a r.1 ∙ ap (λ q. pair_eq q p) e
 
--- it is another tab
+-- A tab does not hear its own posts.
 pub hearers-others : (k : KernelState) (t u : ℕ) → In u (hearers t k) → u ≢ t
 hearers-others k t u = go (tab_of k t)
   where
@@ -177,7 +177,7 @@ hearers-others k t u = go (tab_of k t)
     go None i e = elim i [ ]
     go (Some o) i e = apart (In-filter_cases (λ n. not (n == t)) (living_of k o.partition) i).1 (ap not (eq-eqb u t e))
 
--- and was opened
+-- Each hearer was opened.
 pub hearers-opened : (k : KernelState) (t u : ℕ) → In u (hearers t k) → (o : OpenedTab) × In o k.opened × (o.tab ≡ u)
 hearers-opened k t u = go (tab_of k t)
   where
@@ -186,7 +186,7 @@ hearers-opened k t u = go (tab_of k t)
     go (Some o) i =
         let r = In-living (is_of o.partition) k.opened u (In-filter_cases (λ n. not (n == t)) (living_of k o.partition) i).0 in (r.0, r.1, r.3)
 
--- the tab whose number a partition has is one of it
+-- The tab whose number a partition has belongs to that partition.
 pub first-of : (n : ℕ) (p : Pair) (os : List OpenedTab) (o : OpenedTab) → In o os → is_of p o ≡ true → (x : OpenedTab) × In x os × (is_of p x ≡ true) × (number_or n os p ≡ x.tab)
 first-of n p [] o i e = elim i [ ]
 first-of n p (y ∷ os) o i e =
@@ -195,7 +195,7 @@ first-of n p (y ∷ os) o i e =
     (λ m _. let r = first-of n p os o (⊎_elim (λ z. apart (ap (is_of p) (sym z) ∙ e) m) (λ l. l) (In-cons_cases i)) e in (r.0, Later r.1, r.2, r.3))
     refl
 
--- ---- a killing
+-- A death
 
 pub killed-part : (p : Pair) (t : ℕ) (os : List OpenedTab) → filter (is_of p) (map (ended t) os) ≡ map (ended t) (filter (is_of p) os)
 killed-part p t [] = refl
@@ -213,7 +213,7 @@ killed-in p t k u = ap (was_opened_in p) (tab_in-ended t k.opened u) ∙ go (tab
     go None = refl
     go (Some o) = ended_of p t o
 
--- the death of another partition's tab changes none of this one
+-- The death of another partition's tab changes none of this partition's tabs.
 pub killed-others : (p : Pair) (t : ℕ) (k : KernelState) → AreTabs k.opened → is_in p k t ≡ false → map (ended t) (filter (is_of p) k.opened) ≡ filter (is_of p) k.opened
 killed-others p t k a n = map-own (ended t) (filter (is_of p) k.opened) (λ o i.
     let c = In-filter_cases (is_of p) k.opened i in

@@ -1,4 +1,4 @@
--- The bag, cut to some tabs.
+-- The bag restricted to the messages of some tabs.
 use Rattle.std.proofs.Common.{◌≡◌, ℕ, Bool, true, false, cond, List, [], ◌∷◌, ◌++◌, map, filter, refl, sym, ap, ◌∙◌, append-nil}
 use Rattle.std.proofs.lemmas.Bool.{or_left, cond-true, cond-false}
 use Rattle.std.proofs.lemmas.List.Elements.{filter-append}
@@ -12,7 +12,7 @@ use Rattle.wl_world.specs.World.{from_broker}
 use Rattle.wl_world.specs.Apart.{tab_at, mail}
 use Rattle.wl_world.proofs.apart.Cuts.{any-filter, filter-all, filter-nothing, filter-map}
 
--- messages that are the same have the same tab
+-- Equal messages concern the same tab.
 same-tab : (m x : Message) → same_message m x ≡ true → tab_at m ≡ tab_at x
 unfolding is_sent
 same-tab m x e = ap tab_at (In-one (is_sent-In m (x ∷ []) (or_left (same_message m x) false e)))
@@ -43,14 +43,14 @@ mail-sent_all f (m ∷ ms) bag =
     (λ e _. ap (sent_all (mail f ms)) (mail-sent_out f m bag e))
     refl
 
--- what is sent to and from these tabs alone, or to and from others alone
+-- Messages that concern only these tabs, or only other tabs.
 pub sends-in : (f : ℕ → Bool) (ms bag : List Message) → ((m : Message) → In m ms → f (tab_at m) ≡ true) → mail f (sent_all ms bag) ≡ sent_all ms (mail f bag)
 sends-in f ms bag h = mail-sent_all f ms bag ∙ ap (λ z. sent_all z (mail f bag)) (filter-all (λ m. f (tab_at m)) ms h)
 
 pub sends-out : (f : ℕ → Bool) (ms bag : List Message) → ((m : Message) → In m ms → f (tab_at m) ≡ false) → mail f (sent_all ms bag) ≡ mail f bag
 sends-out f ms bag h = mail-sent_all f ms bag ∙ ap (λ z. sent_all z (mail f bag)) (filter-nothing (λ m. f (tab_at m)) ms h)
 
--- what the broker sends
+-- The broker's frames to these tabs.
 abbrev pub outs_for : (ℕ → Bool) → List Addressed → List Addressed
 outs_for f outs = filter (λ x. f x.tab) outs
 

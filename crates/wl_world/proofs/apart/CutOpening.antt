@@ -1,4 +1,4 @@
--- Tabs are opened and killed: the events that change who is in a partition.
+-- Openings and deaths of tabs, the events that change the tabs of a partition.
 use Rattle.std.proofs.Common.{◌≡◌, ⊎_elim, ℕ, Bool, true, false, cond, not, ◌&&◌, ◌||◌, eqb, List, [], ◌∷◌, ◌++◌, length, map, filter, Option, Some, None, is_some, refl, sym, ap, ◌∙◌, subst, append-nil, arith}
 use Rattle.std.specs.Prelude.{◌==◌, nat_le}
 use Rattle.wl_draft.proofs.RisingTables.{Rises-put, put-cases}
@@ -35,7 +35,7 @@ use Rattle.wl_world.proofs.apart.CutEvents.{allowed-Orderly, allowed-own, allowe
 abbrev with_tabs : WorldState → List OpenedTab → WorldState
 with_tabs w os = record w { kernel = record w.kernel { opened = os } }
 
--- ---- a tab is killed
+-- A tab dies
 
 killed-opened : (t : ℕ) (k : KernelState) (u : ℕ) → opened (killed t k) u ≡ opened k u
 unfolding opened
@@ -75,9 +75,9 @@ out-kills p w t e h =
     allowed-out p w (lives w t) (with_kernel (killed t w.kernel) w)
     (λ _. killed-world p w t ∙ ap (with_tabs (part p w)) (killed-others p t w.kernel h.kernel e))
 
--- ---- a tab is opened: who was in the partition stays in it
+-- A tab is opened: the partition keeps its tabs
 
--- what is told apart by one pair of tests is by the other
+-- The invariant carries over to a second pair of tests that agrees with the first on every opened tab.
 module _ (g f g' f' : ℕ → Bool) (old : (k : ℕ) → g k ≡ true → g' k ≡ true) (same : (k : ℕ) → g k ≡ true → f' k ≡ f k) where
   old-Mates : (k q : ℕ) → Mates g f k q → Mates g' f' k q
   old-Mates k q m = record { left = old k m.left; right = old q m.right; alike = same k m.left ∙ m.alike ∙ sym (same q m.right) }
@@ -115,7 +115,7 @@ module _ (g f g' f' : ℕ → Bool) (old : (k : ℕ) → g k ≡ true → g' k �
   seated-same t (Joined p n l) m = same t m.left
   seated-same t Dead e = same t e
 
-  -- two tests that agree on all that is opened cut alike
+  -- Two tests that agree on all numbers in a table select the same rows.
   only-same : {X : Type 0} (rows : Table X) → ((x : ℕ × X) → In x rows → f' x.0 ≡ f x.0) → only f' rows ≡ only f rows
   only-same rows h = filter-same (λ row. f' row.0) (λ row. f row.0) rows h
 
@@ -164,7 +164,7 @@ module _ (p : Pair) (w : WorldState) (t : ℕ) (q : Pair) (h : Orderly p w) (all
         bag = λ m i. old-Posted g f (opened k') (is_in p k') old-opened old-in m (h.bag m i);
       }
 
-  -- but for the new tab, the cut is as before
+  -- The opening changes only the kernel's list of tabs in the partition's part.
   opening-part : part p (after w (with_kernel k' w)) ≡ with_tabs (part p w) (filter (is_of p) w.kernel.opened ++ filter (is_of p) (new ∷ []))
   opening-part =
       let g = opened w.kernel in
@@ -184,7 +184,7 @@ module _ (p : Pair) (w : WorldState) (t : ℕ) (q : Pair) (h : Orderly p w) (all
   in-opening : pair_eq q p ≡ true → part p (after w (with_kernel k' w)) ≡ after (part p w) (with_kernel (kernel_opened t q (kernel_for p w.kernel)) (part p w))
   in-opening e = opening-part ∙ ap (λ z. with_tabs (part p w) (filter (is_of p) w.kernel.opened ++ z)) (cond-true (pair_eq q p) (new ∷ []) [] e)
 
--- ---- whether a tab may be opened
+-- Refusals of an opening
 
 record Opening (t : ℕ) (q : Pair) (k : KernelState) : Type 0 where
   unused : (t == 0 || is_opened k t) ≡ false
@@ -205,7 +205,7 @@ opening-parts t q k =
 parts-opening : (t : ℕ) (q : Pair) (k : KernelState) → Opening t q k → open_refusal t q k ≡ None
 parts-opening t q k s = cond-false _ _ _ s.unused ∙ cond-false _ _ _ s.room ∙ cond-false _ _ _ s.own_room
 
--- an Open that the world accepts, its partition alone accepts
+-- An opening that the world accepts is accepted by the world of its partition alone.
 part-opening : (p : Pair) (k : KernelState) (t : ℕ) → open_refusal t p k ≡ None → open_refusal t p (kernel_for p k) ≡ None
 part-opening p k t e =
     let s = opening-parts t p k e in
@@ -217,9 +217,9 @@ part-opening p k t e =
       own_room = ap (λ z. nat_le partition_limit (length z)) (living_of-part p k) ∙ s.own_room;
     })
 
--- ---- its rows
+-- Rows of the new tab
 
--- the new tab is of the partition where that is named
+-- The new tab is found, with the partition that the opening names.
 new-opened : (t : ℕ) (q : Pair) (k : KernelState) → open_refusal t q k ≡ None → opened_tab (kernel_opened t q k) t ≡ Some (new_tab t q k.generation)
 new-opened t q k a =
     tab_in-push k.opened (new_tab t q k.generation) t (open_is_allowed t q k a).1 ∙ cond-true (eqb t t) (Some (new_tab t q k.generation)) None (eq-eqb t t refl)
@@ -232,7 +232,7 @@ new-known : (t : ℕ) (q : Pair) (k : KernelState) → open_refusal t q k ≡ No
 unfolding opened
 new-known t q k a = ap is_some (new-opened t q k a)
 
--- the world in which the tab is opened, and has no rows yet
+-- The world after the kernel's opening, before the tab has its rows.
 abbrev opening_world : WorldState → ℕ → Pair → WorldState
 opening_world w t q = record w { kernel = kernel_opened t q w.kernel }
 
@@ -266,7 +266,7 @@ module _ (p : Pair) (i : Bool) where
       allowed-Orderly p w (not (is_some (open_refusal t q w.kernel))) (with_kernel (kernel_opened t q w.kernel) (with_rows i t w)) h
       (λ e. let a = none-from (open_refusal t q w.kernel) e in rows-Orderly (opening_world w t q) t (new-known t q w.kernel a) (opening-Orderly p w t q h a))
 
-  -- a tab is not opened again
+  -- Opening a tab again changes nothing.
   again : (w : WorldState) (t : ℕ) (q : Pair) → is_opened w.kernel t ≡ true → after w (opens_as i w t q) ≡ w
   again w t q e =
       either (λ z. after w z ≡ w) (not (is_some (open_refusal t q w.kernel))) (with_kernel (kernel_opened t q w.kernel) (with_rows i t w)) (record { world = w; sends = [] })

@@ -1,4 +1,4 @@
--- What a cut of a list or a table keeps.
+-- Properties that a restricted list or table keeps.
 use Rattle.std.proofs.Common.{◌≡◌, ℕ, ◌+◌, ◌<◌, Bool, true, false, cond, not, ◌||◌, List, [], ◌∷◌, map, filter, Some, unwrap_or, refl, sym, ap, ap₂, ◌∙◌, arith}
 use Rattle.std.specs.Prelude.{◌==◌, nat_lt}
 use Rattle.std.specs.List.{list_any}
@@ -10,7 +10,7 @@ use Rattle.wl_draft.proofs.Membership.{apart, either, In-filter_cases, by_test}
 use Rattle.wl_draft.proofs.RisingTables.{Rises-filter, put-below}
 use Rattle.wl_world.specs.Apart.{only}
 
--- ---- lists
+-- Lists
 
 pub filter-same : {X : Type 0} (p q : X → Bool) (xs : List X) → ((x : X) → In x xs → p x ≡ q x) → filter p xs ≡ filter q xs
 filter-same p q [] h = refl
@@ -39,7 +39,7 @@ pub map-own : {X : Type 0} (h : X → X) (xs : List X) → ((x : X) → In x xs 
 map-own h [] e = refl
 map-own h (x ∷ xs) e = ap₂ ◌∷◌ (e x Here) (map-own h xs (λ y i. e y (Later i)))
 
--- a test that only what is kept passes
+-- A filter changes no `any` test that only kept items can pass.
 pub any-filter : {X : Type 0} (p q : X → Bool) → ((x : X) → p x ≡ true → q x ≡ true) → (xs : List X) → list_any p (filter q xs) ≡ list_any p xs
 any-filter p q h [] = refl
 any-filter p q h (x ∷ xs) =
@@ -47,9 +47,9 @@ any-filter p q h (x ∷ xs) =
     (λ _. ap (λ z. p x || z) (any-filter p q h xs))
     (λ n. any-filter p q h xs ∙ by_test (λ v. list_any p xs ≡ (v || list_any p xs)) (p x) (λ s. apart (h x s) n) (λ _. refl))
 
--- ---- tables
+-- Tables
 
--- without the row of a number that is cut away
+-- Removing a row that the filter drops anyway changes nothing.
 pub filter-spare : {X : Type 0} (f : ℕ → Bool) (t : ℕ) (ps : Table X) → f t ≡ false → only f (filter (λ row. not (row.0 == t)) ps) ≡ only f ps
 filter-spare f t [] e = refl
 filter-spare f t (p ∷ ps) e =

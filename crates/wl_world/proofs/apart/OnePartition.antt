@@ -1,4 +1,4 @@
--- What belongs together at the broker: each number that it has beside another is of the same partition.
+-- Consistency of the broker: numbers that it stores together belong to one partition.
 use Rattle.std.proofs.Common.{◌≡◌, ⊎_elim, ℕ, ◌+◌, Bool, true, not, ◌&&◌, ◌||◌, List, [], ◌∷◌, map, Option, Some, None, refl, sym, ap, ◌∙◌, subst, arith}
 use Rattle.std.specs.Prelude.{◌==◌, nat_lt, nat_le}
 use Rattle.std.specs.List.{range_with_len}
@@ -27,9 +27,9 @@ use Rattle.wl_draft.proofs.Membership.{either, In-nil, In-one, In-append_cases, 
 use Rattle.wl_limits.specs.declared.tabs.TheConstants.{LAST_NUMBER}
 use Rattle.wl_grammar.specs.PartCount.{part_count}
 
--- ---- the broker
+-- The broker
 
--- both were opened, and the partition has both or neither
+-- Both numbers were opened, and both or neither are in the partition.
 pub record Mates (g f : ℕ → Bool) (k q : ℕ) : Type 0 where
   pub left : g k ≡ true
   pub right : g q ≡ true
@@ -54,7 +54,7 @@ pub record Fits (g f : ℕ → Bool) (b : BrokerState) : Type 0 where
   pub partial : (x : ℕ × Partial) → In x b.partial → g x.0 ≡ true
   pub partial_rise : Rises 0 b.partial
 
--- all that is said is said to opened tabs
+-- All frames go to opened tabs.
 abbrev pub Told : (ℕ → Bool) → List Addressed → Type 0
 Told g outs = (x : Addressed) → In x outs → g x.tab ≡ true
 
@@ -62,7 +62,7 @@ abbrev pub FitsTaking : (g f : ℕ → Bool) → Taking → Type 0
 FitsTaking g f (Drops r) = Unit {0}
 FitsTaking g f (Does b outs) = Fits g f b × Told g outs
 
--- a tab alone is told
+-- All frames go to one tab.
 abbrev pub IsTold : ℕ → List Addressed → Type 0
 IsTold t outs = (x : Addressed) → In x outs → x.tab ≡ t
 
@@ -87,7 +87,7 @@ later-told b t p n (Release k) = refl
 later-told b t p n (Abort k) = refl
 later-told b t p n Query = refl
 
--- who is granted a lock is told
+-- Grants go to the clients of the granted rows.
 pub grants-told : (Q : ℕ → Type 0) (b : BrokerState) (rows : List Row) → Own Q rows → (x : Addressed) → In x (grants_to b rows) → Q x.tab
 grants-told Q b rows h x i =
     let o = In-map_cases (λ (r : Row). answer_to b r.client r.number Granted) rows i in subst (λ (z : Addressed). Q z.tab) (sym o.2) (h o.0 o.1)
@@ -114,7 +114,7 @@ module _ (g f : ℕ → Bool) where
     partial_rise = Rises-filter (λ (row : ℕ × Partial). not (row.0 == t)) 0 b.partial h.partial_rise;
   }
 
-  -- a part is kept of an opened tab
+  -- The broker stays consistent when it stores a part of an opened tab's report.
   pub keeping-Fits : (t : ℕ) (k : Partial) (b : BrokerState) → g t ≡ true → Fits g f b → Fits g f (keeping t k b)
   keeping-Fits t k b e h = record {
     listed = h.listed;
@@ -153,7 +153,7 @@ module _ (g f : ℕ → Bool) where
   grants-Told : (b : BrokerState) (p : ℕ) (rows : List Row) → Own (λ t. Mates g f t p) rows → Told g (grants_to b rows)
   grants-Told b p rows h x i = (grants-told (λ t. Mates g f t p) b rows h x i).left
 
-  -- what stands is settled, and who is granted a lock is told
+  -- The broker settles a partition and tells each granted tab.
   abbrev pub settles : BrokerState → ℕ → Locks → Taking
   settles b p m = Does (settled_at b p m) (grants_to (settled_at b p m) (newly_at b p m))
 
@@ -214,7 +214,7 @@ module _ (g f : ℕ → Bool) where
       (λ _. either (FitsTaking g f) (is_misplaced b x.tab x.partition) (Drops Misplaced) (take_inner b x.tab x.partition x.inner) (λ _. tt)
       (λ _. inner-Fits b x.tab x.partition x.inner m h))))
 
-  -- where a tab belongs by the broker, it belongs
+  -- A tab's partition at the broker, if it has one, is its own.
   abbrev pub Placed : ℕ → Option ℕ → Type 0
   Placed t None = Unit {0}
   Placed t (Some p) = Mates g f t p

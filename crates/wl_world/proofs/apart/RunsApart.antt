@@ -1,4 +1,4 @@
--- A partition's part of a world goes its own way: event by event, and over whole lists.
+-- Proof that a partition's part of a world depends on the partition's own events alone, for one event and for whole lists.
 use Rattle.std.proofs.Common.{◌≡◌, ℕ, Bool, true, false, List, [], ◌∷◌, filter, Option, Some, None, refl, sym, ap, ◌∙◌, subst}
 use Rattle.wl_origin.specs.Order.{Pair}
 use Rattle.wl_broker.specs.Broker.{BrokerState}
@@ -22,19 +22,19 @@ use Rattle.wl_world.proofs.apart.ActsBySight.{asking, asks-does, querying, queri
 use Rattle.wl_world.proofs.apart.CutEvents.{allowed-Orderly, allowed-own, allowed-out, up-Orderly, own-up, out-up, tells-Orderly, own-tells, out-tells, greets-Orderly, own-greets, out-greets, corrupts-Orderly, own-corrupts, out-corrupts, stops-Orderly, own-stops, out-stops, starts-Orderly, own-starts, out-starts}
 use Rattle.wl_world.proofs.apart.CutOpening.{kills-Orderly, own-kills, out-kills, opens-Orderly, own-opens, out-opens}
 
--- ---- one event
+-- One event
 
--- what an event does to a world and to a partition's part of it
+-- The world after an event keeps the invariant, and its part is that after the projected event.
 record Law (p : Pair) (w : WorldState) (kept : Option Event) (next : WorldState) : Type 0 where
   orderly : Orderly p next
   apart : part p next ≡ happens_if kept (part p w)
 
--- an event that is kept on a test
+-- An event that the projection keeps if a test holds.
 decided : (p : Pair) (w : WorldState) (b : Bool) (e : Event) (z : WorldState) → Orderly p z
     → (b ≡ true → part p z ≡ happens (part p w) e) → (b ≡ false → part p z ≡ part p w) → Law p w (when b e) z
 decided p w b e z h y n = record { orderly = h; apart = by_test (λ c. part p z ≡ happens_if (when c e) (part p w)) b y n }
 
--- a tab's act
+-- An act of a tab.
 acted : (p : Pair) (w : WorldState) (t : ℕ) (d : TabAct t) (F : WorldState → Deed) → ((v : WorldState) → F v ≡ does t d v) → Orderly p w
     → Orderly p (after w (F w)) × (is_in p w.kernel t ≡ true → part p (after w (F w)) ≡ after (part p w) (F (part p w))) × (is_in p w.kernel t ≡ false → part p (after w (F w)) ≡ part p w)
 acted p w t d F s h = (
@@ -99,7 +99,7 @@ law p w (event.Corrupt t) h =
     decided p w (is_in p w.kernel t) (event.Corrupt t) _ (corrupts-Orderly p w t h) (λ y. own-corrupts p w t y) (λ n. out-corrupts p w t n)
 law p w (event.Forge t x) h = tab_event p w t (event.Forge t x) (forging t x) (λ v. forges-does v t x) h
 
--- ---- whole lists
+-- Whole lists
 
 empty-Orderly : (p : Pair) → Orderly p empty_world
 empty-Orderly p = record {
@@ -128,7 +128,7 @@ run-part p (e ∷ es) w h =
     ∙ ap (run (projected p (happens w e) es)) (law p w e h).apart
     ∙ sym (run-followed (kept p w e) (projected p (happens w e) es) (part p w))
 
--- ---- the part of a part
+-- The part of a part
 
 up-twice : (f : ℕ → Bool) (v : Option BrokerState) → up_for f (up_for f v) ≡ up_for f v
 up-twice f None = refl
@@ -153,7 +153,7 @@ part-twice p w h =
       corrupt = filter-twice f w.corrupt i;
     })
 
--- ---- the clauses
+-- The clauses of the law
 
 pub reached : (p : Pair) (events : List Event) → Orderly p (run events empty_world)
 reached p events = run-Orderly p events empty_world (empty-Orderly p)

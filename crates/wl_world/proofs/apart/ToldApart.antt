@@ -1,4 +1,4 @@
--- What holds of every world that a run reaches, as one partition's tabs are told from the others; and what a tab does to it.
+-- Invariant that separates one partition's tabs from the others, and the acts of a tab that keep it.
 use Rattle.std.proofs.Common.{◌≡◌, ⊎_elim, ℕ, Bool, true, false, List, map, Option, Some, None, is_some, refl, sym, ap, ap₂, ◌∙◌, subst, arith}
 use Rattle.std.specs.Prelude.{◌==◌}
 use Rattle.std.proofs.lemmas.Bool.{eqb-true}
@@ -30,12 +30,13 @@ use Rattle.wl_world.proofs.apart.CutKernel.{found, finds, side, own-number, own-
 use Rattle.wl_world.proofs.apart.OnePartition.{Mates, Fits, FitsTaking}
 use Rattle.wl_world.proofs.apart.CutBroker.{taking_for, UnseenFrom}
 
--- ---- the invariant
+-- The invariant
 
 unfoldable pub opened : KernelState → ℕ → Bool
 opened k t = is_some (opened_tab k t)
 
--- a message's tab was opened; its stamp is of its partition, and so is who posts to it
+-- The tab of a message was opened. Its stamp names its partition, and the source of a post is in the
+-- partition of its recipient.
 abbrev pub Posted : (g f : ℕ → Bool) → Message → Type 0
 Posted g f (Up s) = Mates g f s.tab s.partition
 Posted g f (Down v x) = g x.tab ≡ true
@@ -55,11 +56,11 @@ pub record OrderlyFor (g f : ℕ → Bool) (w : WorldState) : Type 0 where
   pub broker : FitsUp g f w.broker
   pub bag : (m : Message) → In m w.bag → Posted g f m
 
--- the world is orderly for this partition
+-- The world keeps the invariant for this partition.
 abbrev pub Orderly : Pair → WorldState → Type 0
 Orderly p w = OrderlyFor (opened w.kernel) (is_in p w.kernel) w
 
--- ---- opened tabs
+-- Opened tabs
 
 pub opened-tab : (k : KernelState) (t : ℕ) → opened k t ≡ true → (o : OpenedTab) × (opened_tab k t ≡ Some o)
 unfolding opened
@@ -85,7 +86,7 @@ pub living-opened : (k : KernelState) (t : ℕ) → is_living k t ≡ true → o
 unfolding opened
 living-opened k t e = living_opened (opened_tab k t) e
 
--- a tab and the first of its partition
+-- A tab and the first tab of its partition belong together.
 pub number-Mates : (p : Pair) (k : KernelState) (t : ℕ) → AreTabs k.opened → opened k t ≡ true → Mates (opened k) (is_in p k) t (partition_number k t)
 unfolding is_in
 number-Mates p k t a e =
@@ -101,9 +102,9 @@ number-Mates p k t a e =
       alike = ap (was_opened_in p) o.1 ∙ ap (λ z. pair_eq z p) (sym q) ∙ sym (side p k x.0 a x.1) ∙ sym (ap (is_in p k) n);
     }
 
--- ---- what a tab does
+-- Acts of a tab
 
--- what a tab's acts depend on
+-- The facts on which a tab's acts depend.
 pub record Seen : Type 0 where
   pub living : Bool
   pub corrupt : Bool
@@ -125,13 +126,13 @@ changes w t (OfLocks a) ms = acts w t a ms
 changes w t (OfChannels c) ms = becomes w t c ms
 changes w t OfNothing ms = record { world = w; sends = ms }
 
--- a message of a tab with its own stamp, or to one that hears it
+-- The message carries the tab's own stamp, or goes to one of its hearers.
 abbrev pub IsFrom : ℕ → Seen → Message → Type 0
 IsFrom t s (Up x) = (x.tab ≡ t) × (x.partition ≡ s.number)
 IsFrom t s (Down v x) = ⊥
 IsFrom t s (Across u x) = In u s.hearers × (x.source ≡ t)
 
--- a tab's act: whether it acts, what it becomes and what it sends
+-- An act of a tab: whether it may act, its change, and the messages that it sends.
 pub record TabAct (t : ℕ) : Type 0 where
   pub may : Seen → Bool
   pub change : Seen → Change
@@ -253,7 +254,7 @@ module _ (p : Pair) (w : WorldState) (t : ℕ) (h : Orderly p w) where
       either (λ x. part p (after w x) ≡ part p w) (d.may s) (changes w t (d.change s) (d.sends s)) (nothing w)
       (λ _. out-changes (d.change s) (d.sends s) e (d.from s)) (λ _. refl)
 
--- ---- what the broker does
+-- Acts of the broker
 
 pub follows-Orderly : (p : Pair) (w : WorldState) (x : Taking) → FitsTaking (opened w.kernel) (is_in p w.kernel) x → Orderly p w → Orderly p (after w (follows w x))
 follows-Orderly p w (Drops r) i h = h

@@ -1,4 +1,4 @@
--- What a call on a tab's channels makes of its row is what it makes of the world.
+-- Calls on a tab's channels change its row as the definition changes the world.
 use Rattle.std.proofs.Common.{◌≡◌, ℕ, zero, suc, arith, is_some, ◌∷◌, Bool, true, false, ◌&&◌, cond, length, ltb, leb, List, [], map, Option, Some, None, option_map, refl, sym, ap, ◌∙◌, subst, ⊎_elim}
 use Rattle.std.proofs.lemmas.Bool.{cases_eq, eq-eqb, ltb-false, le-ltb}
 use Rattle.wl_draft.specs.Tables.{Table, find, put}
@@ -22,7 +22,7 @@ use Rattle.wl_world.specs.Sends.{across}
 use Rattle.wl_world.specs.Replies.{posting, reached}
 use Rattle.wl_world.specs.Parts.{OwnRows, of_posting}
 
--- ---- each tab's channels stay its own
+-- Each tab's channels carry its number
 
 pub OwnRows-put : (t : ℕ) (c : ChannelState) (rows : Table ChannelState) → c.tab ≡ t → OwnRows rows → OwnRows (put t c rows)
 OwnRows-put t c rows e own u =
@@ -34,11 +34,11 @@ OwnRows-put t c rows e own u =
 pub after_hearing-tab : (h : Heard) (c : ChannelState) → (after_hearing (frame.Heard h) c).tab ≡ c.tab
 after_hearing-tab h c = elim (is_old c h.source h.number) as (λ b. (cond b c (heard h c)).tab ≡ c.tab) [ true ↦ refl | false ↦ refl ]
 
--- an open object of a tab is its own
+-- An open object in a tab's channels is its own.
 pub own-open : (c : ChannelState) (t k : ℕ) → c.tab ≡ t → is_own c t k ≡ is_open_at c.objects k
 own-open c t k e = ap (λ b. b && is_open_at c.objects k) (eq-eqb t c.tab (sym e))
 
--- ---- posting: no such number, closed, too long, used up
+-- Posting: no such number, closed, too long, used up
 
 abbrev refusal_by : (l o d p : Bool) → Option ChannelRefusal
 refusal_by l o d p =
@@ -62,7 +62,7 @@ allowed-by true true false false h = (refl, refl, refl, refl)
 allowed-by true false d p h = cc
 allowed-by false o d p h = cc
 
--- a number that was never opened is not open
+-- A number that was never opened is not open.
 pub open_beyond : (os : List Object) (k : ℕ) → ltb k (length os) ≡ false → is_open_at os k ≡ false
 open_beyond [] k e = refl
 open_beyond (o ∷ os) zero e = absurd (omega (arith, ltb-false zero (length (o ∷ os)) e))
@@ -95,7 +95,7 @@ posting-done w t k bytes live own h =
     let may = allowed-by (ltb k (length c.objects)) (is_open_at c.objects k) (ltb 16384 (length bytes)) (leb post_limit c.posts) (sym (posting-by k bytes c) ∙ h) in
     posting-said w t k bytes live own ∙ said-allowed (ltb k (length c.objects)) (is_open_at c.objects k) (ltb 16384 (length bytes)) (leb post_limit c.posts) (said.Posted t c.posts bytes (reached (Some k) (name_at c.objects k) c.objects)) may
 
--- whether the definition refuses the post
+-- If no refusal applies, the definition of the channels accepts the post.
 may_post : (l o d p own : Bool) → own ≡ o → refusal_by l o d p ≡ None → is_some (cond d (Some fault.DataTooLong) (cond p (Some fault.PostsUsedUp) (cond own None (Some fault.ForeignChannel)))) ≡ false
 may_post true true true p own e h = cc
 may_post true true false true own e h = cc
@@ -127,7 +127,7 @@ posts-done w t k bytes live own h =
     let none : is_some (post_refusal t k bytes c) ≡ false = may_post (ltb k (length c.objects)) (is_open_at c.objects k) (ltb 16384 (length bytes)) (leb post_limit c.posts) (is_own c t k) (own-open c t k own) (sym (posting-by k bytes c) ∙ h) in
     rw (live, none) refl
 
--- ---- reading
+-- Reading
 
 number_allowed : (l o : Bool) → cond l (cond o None (Some why.Closed)) (Some why.NoChannel) ≡ None → (l ≡ true) × (o ≡ true)
 number_allowed true true h = (refl, refl)

@@ -1,4 +1,4 @@
--- A call on a tab's channels, over the parts of the world.
+-- Calls on a tab's channels, over the parts of the world.
 use Rattle.std.proofs.Common.{◌≡◌, ℕ, List, [], Bool, cond, false, true, Some, None, Result, Ok, Err, OnOk, OnErr, IfErr, refl, sym, ap, ◌∙◌, subst}
 use Rattle.wl_draft.specs.Tables.{Table, find, put}
 use Rattle.wl_grammar.specs.declared.frame.Frame.{Frame}
@@ -29,7 +29,7 @@ use Rattle.wl_world.proofs.calls.ChannelCalls.{posts-done, posts-refused, postin
 abbrev pub row_of : ℕ → Table ChannelState → ChannelState
 row_of t cs = channels_in t (find cs t)
 
--- ---- reading
+-- Reading
 
 pub reads-world : {X : Type 0} (r : Result X ChannelRefusal) (ts : Table TabState) (cs us : Table ChannelState) (s : Supervisor) (bag : List Message) (corrupt : List ℕ) (w : WorldState) → world_of ts cs s bag corrupt ≡ w → (t k : ℕ) → lives w t ≡ true → OwnRows cs → OnOk r (us ≡ put t (read_at k (row_of t cs)) cs) → OnOk r (number_refusal k (row_of t cs) ≡ None) → IfErr r (λ e. number_refusal k (row_of t cs) ≡ Some e) → OnErr r (us ≡ cs) → world_of ts us s bag corrupt ≡ (reads w t k).world
 unfolding becomes
@@ -42,9 +42,9 @@ reads-world (Err e) ts cs us s bag corrupt w v t k live own ok none refused err 
     (λ alive. ap (λ z. world_of ts z s bag corrupt) err ∙ ap (λ (d : Deed). d.world) (sym (reads-refused (world_of ts cs s bag corrupt) t k e alive (own t) refused)))
     live
 
--- ---- posting
+-- Posting
 
--- what is posted goes to the other objects of the name, and each of them takes it or is full
+-- The post goes to the other open objects of the name. Each of them takes it or is full.
 pub record IsPostOf (k : ℕ) (bytes : List ℕ) (c : ChannelState) (p : Posted) : Type 0 where
   pub frame : p.frame ≡ post_frame c.posts (name_at c.objects k) bytes
   pub took : p.took ≡ taking (Some k) (name_at c.objects k) c.objects
@@ -78,7 +78,7 @@ module _ (ts : Table TabState) (cs : Table ChannelState) (s : Supervisor) (bag :
       (λ alive. said-posted k bytes t (row_of t cs) p is ∙ sym (posting-done (world_of ts cs s bag corrupt) t k bytes alive (own t) none))
       live
 
-  -- what was refused changes nothing
+  -- A refused post changes nothing.
   unposted : (e : ChannelRefusal) → posting_refusal k bytes (row_of t cs) ≡ Some e → posts w t k bytes ≡ nothing w
   unposted e some =
       subst (λ (z : WorldState). lives z t ≡ true → posts z t k bytes ≡ nothing z) v
@@ -98,7 +98,7 @@ module _ (ts : Table TabState) (cs : Table ChannelState) (s : Supervisor) (bag :
       (λ alive. sym (posting-refused (world_of ts cs s bag corrupt) t k bytes e alive (own t) some))
       live
 
--- ---- hearing
+-- Arriving posts
 
 said-heard : (b : Bool) (t : ℕ) (x : Heard) (os : List Object) → hearing_said t x (cond b Old (New (taking None x.channel os) (full None x.channel os))) ≡ cond b (said.Dropped reason.OldPost) (said.Heard t (letter_of x) (reached None x.channel os))
 said-heard true t x os = refl

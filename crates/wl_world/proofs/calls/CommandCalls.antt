@@ -1,4 +1,4 @@
--- What a tab's command makes of its row is what it makes of the world.
+-- Commands of a tab change its row as the definition changes the world.
 use Rattle.std.proofs.Common.{◌≡◌, ℕ, List, length, Bool, true, false, ◌&&◌, cond, Some, None, refl, sym, ap, ◌∙◌, subst}
 use Rattle.wl_draft.specs.declared.mode.Mode.{Mode}
 use Rattle.wl_draft.specs.Tables.{Table, find, put}
@@ -17,7 +17,7 @@ use Rattle.wl_world.specs.Sends.{issued_messages, resent}
 use Rattle.wl_world.specs.Replies.{resending, some_resent}
 use Rattle.wl_world.specs.Parts.{world_of}
 
--- ---- a new command
+-- A new command
 
 pub issue-sends : (ts : Table TabState) (cs : Table ChannelState) (s : Supervisor) (bag : List Message) (corrupt : List ℕ) (t : ℕ) (x : TabState) (us : Table TabState) (n : ℕ) → us ≡ put t x ts → n ≡ length (tab_in t (find ts t)).issued → issued_messages (kernel_of s) t (tab_in t (find us t)) n ≡ (issues (world_of ts cs s bag corrupt) t x).sends
 unfolding acts
@@ -26,19 +26,19 @@ issue-sends ts cs s bag corrupt t x us n e l =
     ∙ ap (λ o. issued_messages (kernel_of s) t (tab_in t o) n) (find-put_same t x ts)
     ∙ ap (λ m. issued_messages (kernel_of s) t x m) l
 
--- ---- requests and probes
+-- Requests and probes
 
 pub asks-done : (w : WorldState) (t : ℕ) (m : Mode) (f : Bool) (name : List ℕ) → lives w t ≡ true → ask_refusal (tab_of w t) name ≡ None → asks w t m f name ≡ issues w t (asked m f name (tab_of w t))
 asks-done w t m f name live r = rw (live, r) refl
 
--- ---- queries
+-- Queries
 
 pub queries-done : (w : WorldState) (t : ℕ) → lives w t ≡ true → query_refusal (tab_of w t) ≡ None → queries w t ≡ issues w t (queried (tab_of w t))
 queries-done w t live r = rw (live, r) refl
 
--- ---- aborts
+-- Aborts
 
--- what an abort's three outcomes say
+-- An abort issues a command only if its number is pending and asked.
 issued_by : (p q : Bool) (l n : ℕ) → cond p (cond q (a.Issued l) a.Held) a.Nothing ≡ a.Issued n → (p ≡ true) × (q ≡ true) × (l ≡ n)
 issued_by true true l n e = (refl, refl, cc)
 issued_by true false l n e = cc
@@ -50,7 +50,7 @@ abort-issued k n x e = issued_by (is_pending x k) (is_asked (status_of x k)) (le
 pub aborts-done : (w : WorldState) (t k : ℕ) → lives w t ≡ true → is_pending (tab_of w t) k ≡ true → is_asked (status_of (tab_of w t) k) ≡ true → aborts w t k ≡ issues w t (aborted k (tab_of w t))
 aborts-done w t k live p q = rw (live, p, q) refl
 
--- ---- releases
+-- Releases
 
 pub releases-done : (w : WorldState) (t k : ℕ) → lives w t ≡ true → is_holding (tab_of w t) k ≡ true → releases w t k ≡ issues w t (released k (tab_of w t))
 releases-done w t k live p = rw (live, p) refl
@@ -62,7 +62,7 @@ release_by false l n e = cc
 pub release-issued : (k n : ℕ) (x : TabState) → Some n ≡ cond (is_holding x k) (Some (length x.issued)) None → (is_holding x k ≡ true) × (length x.issued ≡ n)
 release-issued k n x e = release_by (is_holding x k) (length x.issued) n e
 
--- ---- resending
+-- Resending
 
 pub resends-sends : (w : WorldState) (t : ℕ) → lives w t ≡ true → (resends w t).sends ≡ resent w.kernel t (tab_of w t)
 resends-sends w t live = rw live refl
@@ -73,7 +73,7 @@ resends-same w t = elim (lives w t) as (λ b. (where_allowed b w (record { world
 pub resending-done : (w : WorldState) (t : ℕ) → lives w t ≡ true → resending w t ≡ some_resent (resent w.kernel t (tab_of w t))
 resending-done w t live = rw live refl
 
--- ---- what is sent, over the parts of the world
+-- Messages sent, over the parts of the world
 
 pub asked-sends : (ts : Table TabState) (cs : Table ChannelState) (s : Supervisor) (bag : List Message) (corrupt : List ℕ) (w : WorldState) → world_of ts cs s bag corrupt ≡ w → (t : ℕ) (m : Mode) (f : Bool) (name : List ℕ) (us : Table TabState) (n : ℕ) → lives w t ≡ true → us ≡ put t (asked m f name (tab_in t (find ts t))) ts → ask_refusal (tab_in t (find ts t)) name ≡ None → n ≡ length (tab_in t (find ts t)).issued → issued_messages (kernel_of s) t (tab_in t (find us t)) n ≡ (asks w t m f name).sends
 asked-sends ts cs s bag corrupt w v t m f name us n live e none l =

@@ -1,4 +1,4 @@
--- Each living tab has its rows, whatever happens.
+-- Each living tab has its rows after every event.
 use Rattle.std.proofs.Common.{◌≡◌, ℕ, Bool, true, false, not, cond, List, None, Result, Ok, Err, OnOk, OnErr, is_some, refl, sym, ap, ◌∙◌, subst}
 use Rattle.wl_origin.specs.Order.{Pair}
 use Rattle.wl_draft.specs.Tables.{Table, find, put}
@@ -19,7 +19,7 @@ use Rattle.wl_world.proofs.calls.ChannelCalls.{OwnRows-put}
 use Rattle.wl_world.proofs.exclusion.OpenedTabs.{each_opened, ended-lives}
 use Rattle.wl_world.proofs.exclusion.OpeningAndKilling.{not_opened}
 
--- ---- a row is put, or not
+-- Storing a row
 
 has-put : {X : Type 0} (k : KernelState) (t : ℕ) (x : X) (rows : Table X) → HasRows k rows → HasRows k (put t x rows)
 has-put k t x rows has = each_found (λ u o. is_living k u ≡ true → is_some o ≡ true) t x rows (λ _. refl) (λ u d. has u)
@@ -27,7 +27,7 @@ has-put k t x rows has = each_found (λ u o. is_living k u ≡ true → is_some 
 pub tabs-put : (k : KernelState) (t : ℕ) (a : TabState) (ts us : Table TabState) (cs : Table ChannelState) → us ≡ put t a ts → IsRowed k ts cs → IsRowed k us cs
 tabs-put k t a ts us cs is r = record { tabs = subst (HasRows k) (sym is) (has-put k t a ts r.tabs); channels = r.channels; own = r.own }
 
--- no row comes or goes
+-- The invariant holds for new tab rows at the same numbers.
 pub tabs-kept : (k : KernelState) (ts us : Table TabState) (cs : Table ChannelState) → ((t : ℕ) → is_some (find us t) ≡ is_some (find ts t)) → IsRowed k ts cs → IsRowed k us cs
 tabs-kept k ts us cs is r = record { tabs = λ t l. is t ∙ r.tabs t l; channels = r.channels; own = r.own }
 
@@ -60,9 +60,9 @@ pub channels-after_if : (b : Bool) (k : KernelState) (t : ℕ) (c : ChannelState
 channels-after_if true k t c ts cs ds is e r = channels-put k t c ts cs ds is e r
 channels-after_if false k t c ts cs ds is e r = channels-same k ts cs ds is r
 
--- ---- what the supervisor becomes
+-- Changes of the supervisor
 
--- whoever lives now lived before
+-- The invariant holds if no further tab lives.
 fewer-rowed : (k m : KernelState) (ts : Table TabState) (cs : Table ChannelState) → ((u : ℕ) → is_living m u ≡ true → is_living k u ≡ true) → IsRowed k ts cs → IsRowed m ts cs
 fewer-rowed k m ts cs lived r = record { tabs = λ u l. r.tabs u (lived u l); channels = λ u l. r.channels u (lived u l); own = r.own }
 
@@ -73,7 +73,7 @@ kernel-with k (Up m b) = refl
 pub kernel-rowed : (k m : KernelState) (ts : Table TabState) (cs : Table ChannelState) → m ≡ k → IsRowed k ts cs → IsRowed m ts cs
 kernel-rowed k m ts cs is r = subst (λ z. IsRowed z ts cs) (sym is) r
 
--- a tab is opened, with its rows
+-- An opened tab has its rows.
 opened-rowed : (k : KernelState) (t : ℕ) (p : Pair) (a : TabState) (ts : Table TabState) (cs : Table ChannelState) → open_refusal t p k ≡ None → IsRowed k ts cs → IsRowed (opened t p k) (put t a ts) (put t (no_channels t) cs)
 opened-rowed k t p a ts cs none r =
     let un = not_opened k t p (ap is_some none) in
@@ -97,7 +97,7 @@ kills-rowed s n t ts cs is r =
     kernel-rowed m (kernel_of n) ts cs (ap kernel_of is ∙ kernel-with m s)
     (fewer-rowed k m ts cs (λ u. either (λ z. is_living z u ≡ true → is_living k u ≡ true) (is_living k t) (killed t k) k (λ _ l. ended-lives t k.opened u l) (λ _ l. l)) r)
 
--- a start and a stop kill nobody
+-- Starts and stops leave every living tab alive.
 start-living : (ts : List ℕ) (s : Supervisor) (u : ℕ) → is_living (kernel_of (after_start ts s)) u ≡ is_living (kernel_of s) u
 start-living ts (Up k b) u = refl
 start-living ts (Down k) u = elim (not (is_some (start_refusal ts k))) as (λ b. is_living (kernel_of (cond b (Up k (started k.generation (placed ts k))) (Down k))) u ≡ is_living k u) [ true ↦ refl | false ↦ refl ]
@@ -115,7 +115,7 @@ starts-rowed ts s n tabs cs = kept-rowed s (after_start ts s) n tabs cs (start-l
 pub stops-rowed : (s n : Supervisor) (tabs : Table TabState) (cs : Table ChannelState) → n ≡ after_stop s → IsRowed (kernel_of s) tabs cs → IsRowed (kernel_of n) tabs cs
 stops-rowed s n tabs cs = kept-rowed s (after_stop s) n tabs cs (stop-living s)
 
--- ---- the rows of a tab that lives
+-- Rows of a living tab
 
 module _ (ts : Table TabState) (cs : Table ChannelState) (s : Supervisor) (bag : List Message) (corrupt : List ℕ) (w : WorldState) (v : world_of ts cs s bag corrupt ≡ w) (t : ℕ) (live : lives w t ≡ true) (r : IsRowed (kernel_of s) ts cs) where
   pub tab-there : is_some (find ts t) ≡ true

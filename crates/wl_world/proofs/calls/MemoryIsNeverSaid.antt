@@ -1,4 +1,4 @@
--- No answer gives refused memory as its reason.
+-- No reply gives out of memory as its reason.
 use Rattle.std.proofs.Common.{◌≡◌, ℕ, List, [], ◌∷◌, Bool, false, cond, length, Option, Some, None, refl}
 use Rattle.std.specs.Prelude.{option_map, ◌+◌, ◌==◌, ◌&&◌, ◌||◌, not, nat_lt, nat_le}
 use Rattle.wl_draft.specs.Locks.{live}
@@ -54,7 +54,7 @@ use Rattle.wl_world.specs.Replies.{issued_next, some_resent, read_letter, some_f
 use Rattle.wl_world.specs.Refusals.{says_memory, MemoryIsNeverSaid}
 use Rattle.wl_limits.specs.declared.tabs.TheConstants.{LAST_NUMBER}
 
--- what is said of this does not give refused memory as its reason
+-- The reply `of x` does not say out of memory.
 record Never {X : Type 0} (of : X → Said) (x : X) : Type 0 where
   is : says_memory (of x) ≡ false
 
@@ -64,14 +64,14 @@ itself s = s
 now : {X : Type 0} {of : X → Said} {x : X} → says_memory (of x) ≡ false → Never of x
 now e = record { is = e }
 
--- so it is of the one that a test picks, where it is of both
+-- A choice between two such replies is such a reply.
 by_test : {X : Type 0} (of : X → Said) (b : Bool) {x y : X} → Never of x → Never of y → Never of (cond b x y)
 by_test of b {x} {y} hx hy = either (Never of) b x y (λ _. hx) (λ _. hy)
 
 one_of : (b : Bool) {s u : Said} → Never itself s → Never itself u → Never itself (cond b s u)
 one_of b hs hu = by_test itself b hs hu
 
--- ---- refusals
+-- Refusals
 
 abbrev or_open : Said → Option OpenFault → Said
 or_open s o = refused_or (option_map refusal.Open o) s
@@ -132,7 +132,7 @@ read-never : (l : Option Letter) → Never itself (read_letter l)
 read-never None = now refl
 read-never (Some l) = now refl
 
--- ---- what comes to the broker
+-- Messages and deaths at the broker
 
 taken-never : (b : BrokerState) (t : ℕ) (u : Upward) → Never itself (taken_said b t u)
 taken-never b t (up.Command c) = now refl
@@ -180,7 +180,7 @@ brought-never : (s : Stamped) (b : Option BrokerState) → Never itself (brought
 brought-never s None = now refl
 brought-never s (Some b) = now (taking-never s b).is
 
--- ---- what comes to a tab
+-- Arrivals at a tab
 
 module _ (f : Frame) (a b : TabState) where
   other-never : (g : ℕ) → Never (told_said f a b) (of_other g a)
@@ -237,7 +237,7 @@ module _ (f : Frame) (a b : TabState) where
   part-never : (x : Part) (c : TabState) → Never (told_said f a b) (told_by_part x c)
   part-never x c = let parts = parts_of (status_of c x.number) in now (part_refusal-never x c (told_by_come x parts) (come-never x parts)).is
 
--- what is said of a frame by what it makes of the tab, and what the tab is told
+-- The reply to a frame, from the tab's new state and the delivery result.
 abbrev arrived : Frame → TabState → TabState × Delivered → Said
 arrived f a d = told_said f a d.0 d.1
 
@@ -252,7 +252,7 @@ arrival-never : (f : Frame) (a : TabState) → Never itself (arrival f a)
 unfolding arrival
 arrival-never f a = now (delivery-never f a).is
 
--- ---- events
+-- Events
 
 delivering-never : (w : WorldState) (m : Message) → Never itself (delivering w m)
 delivering-never w (Up s) = brought-never s w.broker

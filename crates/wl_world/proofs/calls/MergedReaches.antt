@@ -1,4 +1,4 @@
--- Put together by rising number, what took a post and what was full is what the post reached.
+-- Merging the destinations that took a post with those that were full gives the post's reach.
 use Rattle.std.proofs.Common.{◌≡◌, ℕ, ◌+◌, ◌≤◌, Bool, true, false, not, ◌&&◌, cond, ltb, List, [], ◌∷◌, Option, refl, ap, ◌∙◌, arith, one-add}
 use Rattle.std.proofs.lemmas.Bool.{lt-ltb, le-ltb}
 use Rattle.wl_broadcast.specs.Channels.{Object, is_destination, has_room, taking_from, full_from}
@@ -7,7 +7,7 @@ use Rattle.wl_said.specs.declared.said.Reached.TheVariants.{Took, Full}
 use Rattle.wl_world.specs.Replies.{reached_from}
 use Rattle.wl_world.specs.Merging.{merged}
 
--- the first number, if there is one, is not below a bound
+-- The first number, if there is one, is at least `least`.
 abbrev pub Head : ℕ → List ℕ → Type 0
 Head least [] = Unit {0}
 Head least (x ∷ xs) = least ≤ x

@@ -1,4 +1,4 @@
--- A tab's post as the kernel passes it on is what the other tabs are sent.
+-- A tab's post, routed by the kernel, is sent to exactly the other tabs of its partition.
 use Rattle.std.proofs.Common.{◌≡◌, ℕ, List, [], ◌∷◌, map, refl, ap, ◌∙◌}
 use Rattle.std.specs.List.{filter_map}
 use Rattle.wl_grammar.specs.declared.frame.Frame.{Frame}

@@ -1,4 +1,4 @@
--- An event that is refused changes nothing.
+-- Refused events change nothing.
 use Rattle.std.proofs.Common.{◌≡◌, ℕ, ◌-◌, is_some, Bool, true, false, not, ◌&&◌, cond, eqb, ltb, leb, length, List, [], ◌∷◌, Option, Some, None, option_map, refl, sym, ap, ◌∙◌, subst, ⊎_elim}
 use Rattle.std.proofs.lemmas.Bool.{and_right, cases_eq}
 use Rattle.wl_draft.specs.Tables.{Table, find, put}
@@ -42,7 +42,7 @@ use Rattle.wl_world.specs.Replies.{delivering, greeting, hearing, letter_of, rea
 use Rattle.wl_world.specs.Refusals.{AreSame, RefusedChangesNothing}
 use Rattle.wl_world.proofs.calls.ChannelCalls.{open_beyond}
 
--- ---- a deed that does nothing
+-- A deed that does nothing
 
 abbrev DoesNothing : WorldState → Deed → Type 0
 DoesNothing w d = AreSame (record d.world { bag = sent_all d.sends w.bag }) w × (sendings d.sends w.bag ≡ [])
@@ -53,7 +53,7 @@ idle w = (record { tabs = λ t. refl; channels = λ t. refl; kernel = refl; brok
 undone : (w : WorldState) (b : Bool) (d : Deed) → b ≡ false → DoesNothing w (where_allowed b w d)
 undone w b d e = subst (λ c. DoesNothing w (where_allowed c w d)) (sym e) (idle w)
 
--- what a tab's row means stays where the row is put again
+-- Storing a tab's row again does not change its state.
 put_again : {X : Type 0} (of : ℕ → Option X → X) (t : ℕ) (x : X) (rows : Table X) → of t (Some x) ≡ of t (find rows t) → (u : ℕ) → of u (find (put t x rows) u) ≡ of u (find rows u)
 put_again of t x rows e u =
     ⊎_elim
@@ -61,7 +61,7 @@ put_again of t x rows e u =
     (λ other. ap (of u) (find-put_other t x rows u other))
     (cases_eq u t)
 
--- ---- what is said tells whether it was done
+-- The reply determines whether the event was done
 
 abbrev IsDone : Said → Type 0
 IsDone s = (r : Refusal) → s ≡ said.Refused r → ⊥
@@ -74,7 +74,7 @@ not_so : (b : Bool) (s : Said) (q r : Refusal) → IsDone s → cond b s (refuse
 not_so true s q r done h = absurd (done r h)
 not_so false s q r done h = refl
 
--- of a tab that lives, or not
+-- A command that is refused was not allowed: its tab was dead, or the command itself was refused.
 of_life : (l a : Bool) (s : Said) (q r : Refusal) → (s ≡ said.Refused r → a ≡ false) → cond l s (refused q) ≡ said.Refused r → (l && a) ≡ false
 of_life true a s q r f h = f h
 of_life false a s q r f h = refl
@@ -84,21 +84,21 @@ not_aborted true true a s r done h = not_so a s refusal.Held r done h
 not_aborted true false a s r done h = refl
 not_aborted false p a s r done h = refl
 
--- ---- sending again, channels
+-- Sending again, channels
 
 resent-same : (w : WorldState) (t : ℕ) (l : Bool) (ms : List Message) (r : Refusal) → cond l (some_resent ms) (refused refusal.NoTab) ≡ said.Refused r → DoesNothing w (where_allowed l w (record { world = w; sends = ms }))
 resent-same w t false ms r h = idle w
 resent-same w t true [] r h = idle w
 resent-same w t true (m ∷ ms) r h = let bad : ⊥ = cc in absurd bad
 
--- a forged post that nobody hears
+-- A forged post without hearers does nothing.
 forged-same : (w : WorldState) (t : ℕ) (l c : Bool) (ms : List Message) (r : Refusal) → cond l (cond c (some_forged ms) (refused refusal.Honest)) (refused refusal.NoTab) ≡ said.Refused r → DoesNothing w (where_allowed (c && l) w (record { world = w; sends = ms }))
 forged-same w t l false ms r h = idle w
 forged-same w t false true ms r h = idle w
 forged-same w t true true [] r h = idle w
 forged-same w t true true (m ∷ ms) r h = let bad : ⊥ = cc in absurd bad
 
--- an inbox without a post has no rest
+-- An empty inbox has an empty rest.
 rest_of_none : (ls : List Letter) → first_of ls ≡ None → rest_of ls ≡ ls
 rest_of_none [] h = refl
 rest_of_none (l ∷ ls) h = let bad : ⊥ = cc in absurd bad
@@ -128,7 +128,7 @@ read_nothing w d true true true None r beyond none h = none refl
 read_nothing w d true true true (Some letter) r beyond none h = let bad : ⊥ = cc in absurd bad
 read_nothing w d true false own o r beyond none h = undone w own d (beyond refl)
 
--- what was never opened is nobody's own
+-- A number that was never opened is not an open channel of any tab.
 not_own : (c : ChannelState) (t k : ℕ) → ltb k (length c.objects) ≡ false → is_own c t k ≡ false
 not_own c t k e = and_right (eqb t c.tab) (is_open_at c.objects k) (open_beyond c.objects k e)
 
@@ -143,7 +143,7 @@ not_posted n false false false s r done beyond h = refl
 not_posted true true false false s r done beyond h = absurd (done r h)
 not_posted false true false false s r done beyond h = let bad : true ≡ false = beyond refl in absurd (let worse : ⊥ = cc in worse)
 
--- ---- deliveries
+-- Deliveries
 
 told-done : (f : Frame) (a b : TabState) (d : Delivered) → IsDone (told_said f a b d)
 told-done f a b (told.Entered report) r h = cc
@@ -197,7 +197,7 @@ delivering-done w (Up s) = brought-done s w.broker
 delivering-done w (Down sender x) = either-done (lives w x.tab) _ _ (arrival-done (frame_of x.inner) (tab_of w x.tab)) (dropped-done reason.DeadTab)
 delivering-done w (Across t x) = either-done (lives w t) _ _ (hearing-done t x (channels_of w t)) (dropped-done reason.DeadTab)
 
--- ---- the kernel and the broker
+-- The kernel and the broker
 
 not_told : (o l : Bool) (s : Said) (r : Refusal) → IsDone s → cond (not o) (refused refusal.NoTab) (cond l (refused refusal.Living) s) ≡ said.Refused r → (o && not l) ≡ false
 not_told true true s r done h = refl
@@ -220,7 +220,7 @@ greets-refused : (w : WorldState) (t : ℕ) (o : Option BrokerState) (r : Refusa
 greets-refused w t None r h = idle w
 greets-refused w t (Some b) r h = undone w (lives w t) _ (not_so (lives w t) said.Greeted refusal.NoTab r (λ q e. cc) h)
 
--- ---- events
+-- Events
 
 asked : (w : WorldState) (t : ℕ) (name : List ℕ) (d : Deed) (r : Refusal) → cond (lives w t) (refused_or (option_map refusal.Ask (ask_refusal (tab_of w t) name)) (said.Issued t (length (tab_of w t).issued))) (refused refusal.NoTab) ≡ said.Refused r → DoesNothing w (where_allowed (lives w t && not (is_some (ask_refusal (tab_of w t) name))) w d)
 asked w t name d r h =

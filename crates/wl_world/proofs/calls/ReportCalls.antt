@@ -1,4 +1,4 @@
--- What a tab sends on hearing a message: its report, where it says that it has entered a generation, and else nothing.
+-- Messages that a tab sends on an arrival: its report if it has entered a generation, else nothing.
 use Rattle.std.proofs.Common.{◌≡◌, ℕ, List, [], Bool, true, false, Option, refl, sym, ap, ◌∙◌}
 use Rattle.wl_draft.specs.Tables.{Table, find, put}
 use Rattle.wl_draft.proofs.TableLemmas.{find-put_same}

@@ -1,4 +1,4 @@
--- What a tab says to the broker, as the kernel passes it on.
+-- A tab's frames to the broker, as the kernel routes them.
 use Rattle.std.proofs.Common.{◌≡◌, ℕ, List, [], ◌∷◌, ◌++◌, map, refl, ap, ◌∙◌}
 use Rattle.std.specs.List.{flat_map}
 use Rattle.wl_grammar.specs.declared.frame.Upward.{Upward}
@@ -14,7 +14,7 @@ upward-stamped k t (up.Command c) = refl
 upward-stamped k t (up.Report r) = refl
 upward-stamped k t (up.ReportPart r) = refl
 
--- a report in its parts
+-- The kernel stamps each part of a report.
 pub upwards-stamped : (k : KernelState) (t : ℕ) (us : List Upward) → flat_map (passed_up k t) (map upward_frame us) ≡ map (stamped k t) us
 upwards-stamped k t [] = refl
 upwards-stamped k t (u ∷ us) =

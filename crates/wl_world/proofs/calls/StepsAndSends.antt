@@ -1,4 +1,4 @@
--- A run with one more event; no event but for its sends touches the bag.
+-- A run with one more event. An event changes the bag only by the messages that it sends.
 use Rattle.std.proofs.Common.{◌≡◌, ℕ, List, [], ◌∷◌, ◌++◌, Bool, true, false, Option, Some, None, refl, ap, ◌∙◌}
 use Rattle.wl_grammar.specs.declared.frame.Stamped.{Stamped}
 use Rattle.wl_broker.specs.Broker.{BrokerState, Taking, Drops, Does, taking}
@@ -16,7 +16,7 @@ pub run-push : (es : List Event) (e : Event) (w : WorldState) → run (es ++ e �
 run-push [] e w = refl
 run-push (x ∷ xs) e w = run-push xs e (happens w x)
 
--- ---- the bag
+-- The bag
 
 kept : (b : Bool) (w : WorldState) (d : Deed) → d.world.bag ≡ w.bag → (where_allowed b w d).world.bag ≡ w.bag
 kept true w d e = e
@@ -75,7 +75,7 @@ deed-bag w (event.Hello t) = greets-bag w t w.broker
 deed-bag w (event.Corrupt t) = kept _ w _ refl
 deed-bag w (event.Forge t x) = kept _ w _ refl
 
--- ---- one event
+-- One event
 
 pub happened : (w p : WorldState) (e : Event) (ms : List Message) → p ≡ (deed w e).world → ms ≡ (deed w e).sends → record p { bag = sent_all ms p.bag } ≡ happens w e
 unfolding happens

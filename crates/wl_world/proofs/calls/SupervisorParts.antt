@@ -1,4 +1,4 @@
--- What the supervisor becomes is what the world's kernel and broker become.
+-- Supervisor: it changes in the same way as the world's kernel and broker.
 use Rattle.std.proofs.Common.{◌≡◌, ℕ, List, [], Bool, not, is_some, true, false, cond, map, Option, Some, None, Result, Ok, Err, OnOk, refl}
 use Rattle.wl_origin.specs.Order.{Pair}
 use Rattle.wl_draft.specs.Tables.{Table}
@@ -16,17 +16,17 @@ use Rattle.wl_world.specs.World.{with_kernel as kernel_deed, WorldState, from_br
 use Rattle.wl_world.proofs.AtBroker.{follows, buries, begins}
 use Rattle.wl_world.specs.Parts.{world_of}
 
--- what holds anyway holds after a success
+-- A fact that always holds also holds after a success.
 pub always : {X E P : Type 0} (r : Result X E) → P → OnOk r P
 always (Ok x) p = p
 always (Err e) p = tt
 
--- ---- opening and killing
+-- Opening and killing
 
 pub opens-silent : (i : Bool) (w : WorldState) (t : ℕ) (p : Pair) → (opens_as i w t p).sends ≡ []
 opens-silent i w t p = elim (open_refusal t p w.kernel) as (λ o. (where_allowed (not (is_some o)) w (kernel_deed (opened t p w.kernel) (with_rows i t w))).sends ≡ []) [ None ↦ refl | Some f ↦ refl ]
 
--- ---- starting and stopping
+-- Starting and stopping
 
 pub stops-after : (ts : Table TabState) (cs : Table ChannelState) (s : Supervisor) (bag : List Message) (corrupt : List ℕ) → world_of ts cs (after_stop s) bag corrupt ≡ (stops (world_of ts cs s bag corrupt) (broker_of s)).world
 stops-after ts cs (Down k) bag corrupt = refl
@@ -49,7 +49,7 @@ starts-sends ts cs (Down k) bag corrupt listed =
     let w = world_of ts cs (Down k) bag corrupt in
     elim (not (is_some (start_refusal listed k))) as (λ m. map from_broker (cond m (hellos k.generation (placed listed k)) []) ≡ (where_allowed m w (begins w listed)).sends) [ true ↦ refl | false ↦ refl ]
 
--- ---- what comes to the broker
+-- Messages and deaths at the broker
 
 pub brings-after : (ts : Table TabState) (cs : Table ChannelState) (s : Supervisor) (bag : List Message) (corrupt : List ℕ) (x : Stamped) → world_of ts cs (after_message x s) bag corrupt ≡ (comes_up (world_of ts cs s bag corrupt) x (broker_of s)).world
 brings-after ts cs (Down k) bag corrupt x = refl

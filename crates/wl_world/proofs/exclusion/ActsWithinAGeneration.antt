@@ -1,4 +1,4 @@
--- The acts of one tab within its generation.
+-- Acts of one tab within its generation keep a world sound.
 use Rattle.std.proofs.Common.{◌≡◌, ◌≢◌, ◌⊎◌, inl, inr, ⊎_elim, ℕ, ◌+◌, ◌<◌, ◌≤◌, Bool, true, false, cond, not, ◌&&◌, List, [], ◌∷◌, ◌++◌, length, length-append, map, filter, get_or, Some, is_some, refl, sym, ap, ◌∙◌, subst, arith, lt_of_lt_of_le, le_refl}
 use Rattle.std.specs.Prelude.{◌==◌}
 use Rattle.std.proofs.lemmas.Bool.{and_parts, eqb-false, not-true}
@@ -35,14 +35,14 @@ use Rattle.wl_world.proofs.exclusion.CoverExcludes.{living_opened, asked_alive, 
 use Rattle.wl_world.proofs.exclusion.GrownTabs.{tab_at, Grows, row-grows, FromTab, said-body, Grown, grown-sound}
 use Rattle.wl_world.proofs.exclusion.HeardNumbers.{Kept, without_row-fewer, Fewer-held, filtered-fewer}
 
--- the world after a deed
+-- The world after a deed, with its messages in the bag.
 abbrev pub after : WorldState → Deed → WorldState
 after w d = record d.world { bag = sent_all d.sends w.bag }
 
 pub allowed-sound : (w : WorldState) (b : Bool) (d : Deed) → Sound w → (b ≡ true → Sound (after w d)) → Sound (after w (where_allowed b w d))
 allowed-sound w b d s f = either (λ x. Sound (after w x)) b d (nothing w) f (λ _. s)
 
--- what holds of the new tab at its number and of the others elsewhere holds everywhere
+-- A property holds of every tab if it holds of the replaced tab and of all others.
 pub each_tab : (P : ℕ → TabState → Type 0) (t : ℕ) (y : TabState) (ts : Table TabState) → P t y → ((u : ℕ) → t ≢ u → P u (tab_at ts u)) → (u : ℕ) → P u (tab_at (put t y ts) u)
 each_tab P t y ts now elsewhere u = each_found (λ j o. P j (tab_in j o)) t y ts now elsewhere u
 
@@ -81,7 +81,7 @@ pub calm-sound : (w : WorldState) (t : ℕ) (y : TabState) (ms : List Message) �
 unfolding acts
 calm-sound w t y ms s c = grown-sound w s (put t y w.tabs) (sent_all ms w.bag) (calm-grown w t y ms s c)
 
--- ---- one more command
+-- One more command
 
 abbrev extended : Operation → Table Status → TabState → TabState
 extended c rows x = record x { issued = x.issued ++ c ∷ []; statuses = rows }
@@ -163,7 +163,7 @@ extended-calm w t s l c rows rises ender live held =
       sends = issued-sends w t (extended c rows x) (length x.issued) (omega (arith, length-append x.issued (c ∷ [])));
     })
 
--- a command that ends no other is issued
+-- A world stays sound when a tab issues a command that ends no other.
 issue-sound : (w : WorldState) (t : ℕ) → Sound w → lives w t ≡ true → (c : Operation) (st : Status) → ((j : ℕ) → EndsBy c j → ⊥) → (Alive (Some st) → is_lock c ≡ true) → is_held (Some st) ≡ false
     → Sound (after w (issues w t (issue c st (tab_of w t))))
 unfolding issue
@@ -192,7 +192,7 @@ queries-sound w t s =
     allowed-sound w (lives w t && not (is_some (query_refusal (tab_of w t)))) (issues w t (queried (tab_of w t))) s
     (λ g. issue-sound w t s (and_parts _ _ g).0 Query (Querying no_parts) query-ends_none (λ a. apart a refl) refl)
 
--- a command that makes a live number over is issued
+-- A world stays sound when a tab issues a command that ends a live number.
 finish-sound : (w : WorldState) (t k : ℕ) → Sound w → lives w t ≡ true → Alive (status_of (tab_of w t) k) → (c : Operation) → ((j : ℕ) → EndsBy c j → j ≡ k)
     → Sound (after w (issues w t (finish c k (tab_of w t))))
 unfolding finish
@@ -221,7 +221,7 @@ releases-sound w t k s =
     allowed-sound w (lives w t && is_holding (tab_of w t) k) (issues w t (released k (tab_of w t))) s
     (λ g. finish-sound w t k s (and_parts _ _ g).0 (held_alive _ (and_parts _ _ g).1) (Release k) (release-ends k))
 
--- ---- sending again
+-- Sending again
 
 pub In-numbers : (x : TabState) (k : ℕ) → In k (numbers_of x) → k < length x.issued
 In-numbers x k i = let lt : k < 0 + length x.issued = In-range 0 (length x.issued) k i in omega arith
@@ -250,7 +250,7 @@ report-said w t x m i =
 pub resent-said : (w : WorldState) (t : ℕ) (x : TabState) (m : Message) → In m (resent w.kernel t x) → FromTab (IsHonest w t) t (partition_of w t) x m
 resent-said w t x m i = ⊎_elim (λ a. report-said w t x m a) (λ a. due-said w t x m a) (In-append_cases _ (map (command_message w.kernel t x) (due x)) i)
 
--- an opened tab sends these, and is what it was
+-- A world stays sound when an opened tab sends messages without changing its state.
 sends-sound : (w : WorldState) (t : ℕ) (ms : List Message) → Sound w → was_opened w t ≡ true → ((m : Message) → In m ms → FromTab (IsHonest w t) t (partition_of w t) (tab_of w t) m) → Sound (record w { bag = sent_all ms w.bag })
 sends-sound w t ms s o from = grown-sound w s w.tabs (sent_all ms w.bag) (record {
   entered = λ u. refl;
@@ -270,7 +270,7 @@ resends-sound w t s =
     allowed-sound w (lives w t) (record { world = w; sends = resent w.kernel t (tab_of w t) }) s
     (λ l. sends-sound w t (resent w.kernel t (tab_of w t)) s (living_opened _ l) (resent-said w t (tab_of w t)))
 
--- ---- hearing
+-- Arrivals
 
 kept-sound : (t : ℕ) (x y : TabState) (G : ℕ → Type 0) → SoundTab t x → Kept x y G → SoundTab t y
 kept-sound t x y G sx c = record {
@@ -286,7 +286,7 @@ kept-sound t x y G sx c = record {
   rises = c.rises;
 }
 
--- a tab hears something of its generation, and sends nothing
+-- A world stays sound when a tab takes a frame of its generation and sends nothing.
 pub heard-sound : (w : WorldState) (t : ℕ) (y : TabState) (G : ℕ → Type 0) → Sound w → lives w t ≡ true → Kept (tab_of w t) y G → ((k : ℕ) → G k → HasGrant w.bag t (tab_of w t).entered k) → Sound (after w (acts w t y []))
 heard-sound w t y G s l c grant =
     calm-sound w t y [] s (record {
@@ -301,9 +301,9 @@ heard-sound w t y G s l c grant =
       sends = λ m i. absurd (In-nil i);
     })
 
--- ---- forging
+-- Forging
 
--- only a tab that was taken over forges
+-- A forged message satisfies `FromTab`, since its tab is not honest.
 pub forgery-said : (w : WorldState) (t : ℕ) (x : Forged) → is_corrupt w t ≡ true → (m : Message) → In m (forgery w.kernel t x) → FromTab (IsHonest w t) t (partition_of w t) (tab_of w t) m
 forgery-said w t (forged.Upward x) c m i = subst (FromTab (IsHonest w t) t (partition_of w t) (tab_of w t)) (sym (In-one i)) (refl, refl, λ h. apart c h)
 forgery-said w t (forged.Post p) c m i = let o = In-map_cases (across t p) (hearers t w.kernel) i in subst (FromTab (IsHonest w t) t (partition_of w t) (tab_of w t)) (sym o.2) tt

@@ -1,4 +1,4 @@
--- What the broker answers is of its generation, and grants what stands.
+-- Answers of the broker: each names its generation, and each grant is for a held lock.
 use Rattle.std.proofs.Common.{◌≡◌, ⊎_elim, ℕ, Bool, true, false, cond, List, [], ◌∷◌, ◌++◌, map, Some, refl, sym, subst}
 use Rattle.std.specs.Prelude.{nat_lt}
 use Rattle.std.specs.List.{range_with_len}
@@ -23,11 +23,11 @@ use Rattle.wl_world.proofs.exclusion.ActsWithinAGeneration.{after}
 use Rattle.wl_world.proofs.exclusion.ManagedLocks.{managed, settled-sound, newly-held}
 use Rattle.wl_world.proofs.exclusion.SayingAndPosting.{SaysDown, Says, said-sound}
 
--- what the broker b says in this world
+-- The broker `b` may say this frame in world `w`.
 abbrev pub SaysTo : WorldState → BrokerState → Addressed → Type 0
 SaysTo w b a = SaysDown (with_broker b w) a.tab a.inner
 
--- a world that is sound after what the broker makes of a message
+-- The world is sound after the broker has taken a message.
 abbrev pub Follows : WorldState → BrokerState → Taking → Type 0
 Follows w b o = Sound (after (with_broker b w) (follows (with_broker b w) o))
 
@@ -66,14 +66,14 @@ module _ (w : WorldState) (b : BrokerState) (current : b.generation ≡ generati
   later-says t p n (Abort k) = λ g. cc
   later-says t p n Query = λ g. cc
 
--- what is said enters the bag
+-- A world stays sound when the broker's permitted frames enter the bag.
 pub outs-sound : (w : WorldState) (b : BrokerState) (outs : List Addressed) → ((a : Addressed) → In a outs → SaysTo w b a) → Sound (with_broker b w)
     → Sound (record w { broker = Some b; bag = sent_all (map from_broker outs) w.bag })
 outs-sound w b outs f s =
     said-sound (with_broker b w) s (map from_broker outs)
     (λ m i. let o = In-map_cases from_broker outs i in subst (Says (with_broker b w)) (sym o.2) (f o.0 o.1))
 
--- the partition is settled, and whoever is granted a lock is told
+-- A world stays sound when a partition settles and every granted tab is told.
 pub settled-told : (w : WorldState) (b : BrokerState) (p : ℕ) (m : Locks) (rows : List Row) (first : List Addressed)
     → ((r : Row) → In r rows → In r (newly_at b p m)) → ((settled_at b p m).generation ≡ generation w → (a : Addressed) → In a first → SaysTo w (settled_at b p m) a) → Sound (with_broker (managed b p m) w)
     → Sound (record w { broker = Some (settled_at b p m); bag = sent_all (map from_broker (first ++ grants_to (settled_at b p m) rows)) w.bag })

@@ -1,4 +1,4 @@
--- A tab's command comes to the broker.
+-- Arrival of a tab's command at the broker.
 use Rattle.std.proofs.Common.{◌≡◌, inl, inr, ⊎_elim, ℕ, ◌+◌, ◌<◌, ◌≤◌, true, false, not, ◌&&◌, ◌||◌, Option, Some, None, [], ◌∷◌, ◌++◌, length, refl, sym, ap, ap₂, ◌∙◌, subst, arith}
 use Rattle.std.specs.Prelude.{nat_lt}
 use Rattle.std.proofs.lemmas.Bool.{not-false, or_left, ltb-false}
@@ -32,7 +32,7 @@ use Rattle.wl_world.proofs.exclusion.BrokerAnswers.{Follows, SaysTo, settled-tol
 use Rattle.wl_world.proofs.exclusion.ReportsTaken.{kept-sound, told-sound}
 use Rattle.wl_world.proofs.exclusion.ToldParts.{find-without}
 
--- the broker counts a joined tab's commands
+-- A world stays sound when the broker updates seats without changing the joined and the dead tabs.
 reseated-sound : (w : WorldState) (b : BrokerState) (seats : Table Seat) → ((u : ℕ) → is_joined (find seats u) ≡ has_joined b u) → ((u : ℕ) → is_dead (find seats u) ≡ is_named_dead b u) → Sound (with_broker b w)
     → Sound (with_broker (record b { seats = seats }) w)
 reseated-sound w b seats same dead s = record {
@@ -65,7 +65,7 @@ reseated-sound w b seats same dead s = record {
     claim q r (reported a j n i) = reported a (sym (come r.client) ∙ j) n i
     claim q r (carried a n k c) = carried a n k (record { living = c.living; alive = c.alive; cause = c.cause })
 
--- the locks are unchanged
+-- A world stays sound when a partition's locks are stored unchanged.
 same-sound : (w : WorldState) (b : BrokerState) (p : ℕ) → Sound (with_broker b w) → Sound (with_broker (managed b p (manager_of b p)) w)
 same-sound w b p s = lower-sound w b s p (manager_of b p) (λ r i. i) (λ r i. s.known p r i) (λ t k y c q i. i)
 
@@ -91,7 +91,7 @@ module _ (w : WorldState) (b : BrokerState) (s : Sound (with_broker b w)) (t p n
       (Compatible-push (λ r. IsHonest w r.client) m.held (lock t n c) (grantable_parts m.held m.waiting (lock t n c) g).1))
       (λ _. same-sound w b p s)
 
-  -- what is taken out by a release or an abort is not covered, where its tab is honest
+  -- A release or an abort by an honest tab removes no covered lock.
   not-ended : (k : ℕ) → (IsHonest w t → Ends (tab_of w t).issued k) → (u j : ℕ) → IsHonest w u → Covered (with_broker b w) u j → (u ≡ t) × (j ≡ k) → ⊥
   not-ended k i u j y cov e = (s.tabs u).unended j cov.alive (subst (λ z. Ends (tab_of w z).issued j) (sym e.0) (subst (λ z. Ends (tab_of w t).issued z) (sym e.1) (i (subst (IsHonest w) e.0 y))))
 

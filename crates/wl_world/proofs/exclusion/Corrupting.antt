@@ -1,4 +1,4 @@
--- A tab is taken over: less is asked of it from then on.
+-- Takeover of a tab: the invariant requires less of it afterwards.
 use Rattle.std.proofs.Common.{◌≡◌, ℕ, Bool, false, List, [], ◌∷◌, ◌++◌, Option, Some, None, refl}
 use Rattle.std.specs.Prelude.{◌==◌}
 use Rattle.std.specs.List.{list_any}
@@ -16,14 +16,14 @@ any-append : (test : ℕ → Bool) (ts us : List ℕ) → list_any test (ts ++ u
 any-append test [] us e = refl
 any-append test (t ∷ ts) us e = let o = or_parts _ _ e in or_from _ _ o.0 (any-append test ts us o.1)
 
--- who is honest afterwards was so before
+-- A tab that is honest after a takeover was honest before.
 pub honest-before : (t u : ℕ) (ts : List ℕ) → list_any (λ v. v == u) (taken_over t ts) ≡ false → list_any (λ v. v == u) ts ≡ false
 honest-before t u ts =
     either (λ zs. list_any (λ v. v == u) zs ≡ false → list_any (λ v. v == u) ts ≡ false) (list_any (λ v. v == t) ts) ts (ts ++ t ∷ [])
     (λ _ e. e)
     (λ _ e. any-append (λ v. v == u) ts (t ∷ []) e)
 
--- whoever else was honest still is
+-- A takeover leaves every other honest tab honest.
 pub honest-after : (t u : ℕ) (ts : List ℕ) → (t ≡ u → ⊥) → list_any (λ v. v == u) ts ≡ false → list_any (λ v. v == u) (taken_over t ts) ≡ false
 honest-after t u ts n h =
     either (λ zs. list_any (λ v. v == u) zs ≡ false) (list_any (λ v. v == t) ts) ts (ts ++ t ∷ [])

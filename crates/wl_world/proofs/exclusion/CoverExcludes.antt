@@ -1,4 +1,4 @@
--- What is covered is claimed, and so a sound world excludes.
+-- Exclusion from soundness: every lock held is covered, so it is claimed, and claims are compatible.
 use Rattle.std.proofs.Common.{◌≡◌, ◌⊎◌, inl, inr, ⊎_elim, ℕ, List, true, false, ◌||◌, Option, Some, None, is_some, refl, sym, ap, subst}
 use Rattle.std.proofs.Math.Bool.{or-true}
 use Rattle.std.proofs.lemmas.Bool.{cases_eq, cases_Bool, or_cases, or_left}
@@ -12,12 +12,12 @@ use Rattle.wl_world.specs.World.{WorldState, tab_of, lives, partition_of}
 use Rattle.wl_world.specs.Holdings.{IsHonest, IsHolding, Exclusion, partition_in}
 use Rattle.wl_world.proofs.exclusion.Invariant.{Sound, Covered, Claim, stands, reported, carried, generation, broker_of, came, row_at, Alive}
 
--- a living tab was opened
+-- A living tab was opened.
 pub living_opened : (o : Option OpenedTab) → lives_in o ≡ true → is_some o ≡ true
 living_opened None e = apart e refl
 living_opened (Some o) e = refl
 
--- an honest tab that has come, and lives, is of the generation
+-- An honest living tab that has come has entered the broker's generation.
 pub came-entered : (w : WorldState) → Sound w → (t : ℕ) → IsHonest w t → came (broker_of w) t ≡ true → ((tab_of w t).entered ≡ generation w) ⊎ (lives w t ≡ false)
 came-entered w s t h c = ⊎_elim (λ j. inl (s.joined t h j)) (λ d. inr (s.named t d).0) (or_cases _ _ c)
 
@@ -41,7 +41,7 @@ holding-covered w s t k h =
     let held : is_held (status_of (tab_of w t) k) ≡ true = ap is_held h.1 in
     record { living = h.0; alive = held_alive _ held; cause = s.held t k held }
 
--- tabs of one partition have one partition number
+-- Tabs of one partition have the same partition number.
 number-same : (os : List OpenedTab) (x y : Option OpenedTab) → partition_in x ≡ partition_in y → number_beside os x ≡ number_beside os y
 number-same os None None e = refl
 number-same os (Some o) None e = cc

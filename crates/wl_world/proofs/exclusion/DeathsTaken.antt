@@ -1,4 +1,4 @@
--- The broker is told of a tab that is dead.
+-- Death notices: the kernel tells the broker that a tab is dead.
 use Rattle.std.proofs.Common.{◌≡◌, ◌≢◌, inl, inr, ⊎_elim, ℕ, true, false, Option, Some, None, List, [], map, refl, ap, ◌∙◌}
 use Rattle.wl_draft.specs.declared.row.Row.{Row}
 use Rattle.wl_draft.specs.Locks.{ended}
@@ -61,7 +61,7 @@ module _ (w : WorldState) (b : BrokerState) (s : Sound (with_broker b w)) (t : �
     agree = λ q. Compatible-fewer (Counts (with_broker dead_broker w) q) (Counts (with_broker b w) q) (λ r c. (c.0, dead-claim q r c.1)) (s.agree q);
   }
 
-  -- what the tab had is taken out where it belongs
+  -- A world stays sound when the dead tab's locks are removed from its partition at the broker.
   buried-sound : (o : Option ℕ) → Sound (record w { broker = Some (buried_at (with_seat t Dead b) t o).0; bag = sent_all (map from_broker (buried_at (with_seat t Dead b) t o).1) w.bag })
   unfolding ended
   buried-sound None = dead-sound

@@ -1,4 +1,4 @@
--- A tab enters a greater generation.
+-- Arrival of a hello that makes a tab enter a later generation.
 use Rattle.std.proofs.Common.{◌≡◌, ◌≢◌, ◌⊎◌, inl, inr, ⊎_elim, ℕ, suc, ◌<◌, ◌≤◌, Bool, true, false, not, List, [], length, map, filter, Option, Some, None, refl, sym, subst, arith, le_refl}
 use Rattle.std.specs.Prelude.{◌==◌, nat_lt}
 use Rattle.std.proofs.lemmas.Bool.{eqb-true, eqb-false, ltb-true}
@@ -79,7 +79,7 @@ module _ (w : WorldState) (s : Sound w) (t : ℕ) (h : Hello) (rows : Table Stat
   old-grant : (u q k : ℕ) → HasGrant bag' u q k → HasGrant w.bag u q k
   old-grant u q k g = (g.0, g.1, old-down u (down.Answer g.1) g.0 g.2, g.3, g.4, g.5)
 
-  -- the world after
+  -- The world after the tab has entered.
   abbrev later_world : WorldState
   later_world = record w { tabs = put t (entered_tab (tab_of w t) h.generation rows a base entries) w.tabs; bag = sent_all (reports_up t (partition_of w t) (tab_of w t).in_parts h.generation base entries) w.bag }
 
@@ -89,7 +89,7 @@ module _ (w : WorldState) (s : Sound w) (t : ℕ) (h : Hello) (rows : Table Stat
       let lim : limit w ≤ suc (generation w) = limit-le (generation w) w.broker in
       let lt : h.generation < limit w = o.1 in omega arith
 
-  -- it has not come, since who lives and came has entered the latest generation
+  -- An honest tab has not come to the broker: if it had, it would already have entered the latest generation.
   not_come : IsHonest w t → came (broker_of w) t ≡ true → ⊥
   not_come y c = ⊎_elim (λ e. not_yet e) (λ d. apart l d) (came-entered w s t y c)
 
@@ -105,7 +105,7 @@ module _ (w : WorldState) (s : Sound w) (t : ℕ) (h : Hello) (rows : Table Stat
     rises = f-rises;
   }
 
-  -- what was covered
+  -- Each lock that is alive and has a cause afterwards was covered before.
   was : (k : ℕ) → IsHonest w t → Alive (find rows k) → In (row_at t (tab_of w t) k) (held_of t entries) ⊎ HasGrant bag' t h.generation k → Covered w t k
   was k y x (inl i) = let hd = (f-told _ i).1 in record { living = l; alive = held_alive _ hd; cause = s.held t k hd }
   was k y x (inr i) = absurd (let le : h.generation ≤ (tab_of w t).entered = ((s.grants t h.generation k (old-grant t h.generation k i)).3 y).0 in let lt : (tab_of w t).entered < h.generation = later in omega arith)
@@ -114,7 +114,7 @@ module _ (w : WorldState) (s : Sound w) (t : ℕ) (h : Hello) (rows : Table Stat
   new-lists None f = tt
   new-lists (Some b) f = each_tab (λ u z. opening w u < generation w → (lives w u ≡ true) ⊎ (z.entered ≡ generation w) → In (u, partition_of w u) b.listed) t new w.tabs (λ lt _. f t lt (inl l)) (λ u n. f u)
 
-  -- a claim on the new world as facts about one tab
+  -- `Old` states the facts about tab `u` that make a claim on the earlier world.
   abbrev Old : ℕ → Row → ℕ → Type 0
   Old p r u = (partition_of w u ≡ p) × ((tab_of w u).entered ≢ generation w) × (r ≡ row_at u (tab_of w u) r.number) × Covered w u r.number
 
@@ -190,7 +190,7 @@ module _ (w : WorldState) (s : Sound w) (t : ℕ) (h : Hello) (rows : Table Stat
     agree = λ p. Compatible-fewer (Counts later_world p) (Counts w p) (λ r c. (c.0, claim-before p r c.0 c.1)) (s.agree p);
   }
 
--- in the first generation of its life a tab holds nothing
+-- A tab that has entered no generation holds nothing.
 none-held : (w : WorldState) → Sound w → (t k : ℕ) → (tab_of w t).entered ≡ 0 → is_held (status_of (tab_of w t) k) ≡ true → ⊥
 none-held w s t k e h = ⊎_elim
     (λ i. In-nil (subst (λ es. In (row_at t (tab_of w t) k) (held_of t es)) ((s.tabs t).first e) i))
@@ -225,7 +225,7 @@ later-sound w s t h v i l lt n =
     (λ k a. report-has t x k ((s.tabs t).issued k (held_alive _ a)) a)
     (λ e. absurd (n e))
 
--- a hello comes
+-- A world stays sound when a hello arrives.
 pub hello-sound : (w : WorldState) → Sound w → (t : ℕ) (h : Hello) (v : Sender) → In (down_message v t (down.Hello h)) w.bag → lives w t ≡ true → Sound (after w (hears w t (frame.Hello h)))
 unfolding delivery
 hello-sound w s t h v i l =

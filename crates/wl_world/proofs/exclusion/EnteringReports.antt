@@ -1,4 +1,4 @@
--- What the report of a tab on entering a generation says.
+-- Contents of the report that a tab makes on entering a generation.
 use Rattle.std.proofs.Common.{◌≡◌, ⊎_elim, ℕ, zero, suc, ◌+◌, ◌<◌, ◌≤◌, true, not, List, length, map, filter, sym, ap, ◌∙◌, subst, arith}
 use Rattle.std.specs.List.{range_with_len}
 use Rattle.std.proofs.lemmas.Bool.{or_left, cases_eq}
@@ -11,14 +11,14 @@ use Rattle.wl_draft.proofs.Membership.{In-map, In-map_cases, In-filter, In-filte
 use Rattle.wl_world.proofs.exclusion.Invariant.{row_at, IsKnown}
 use Rattle.wl_world.proofs.exclusion.ActsWithinAGeneration.{In-numbers}
 
--- the entries of a tab's report
+-- The entries of a tab's report.
 abbrev pub reported_entries : TabState → List Entry
 reported_entries x = map (entry_of x) (filter (is_reported x) (numbers_of x))
 
 abbrev entry_row : ℕ → Entry → Row
 entry_row t e = row_of t e.number e.name e.mode
 
--- a row of an entry is what the issued list says
+-- Each report entry agrees with the tab's issued commands.
 known-entry : (t : ℕ) (x : TabState) (r : Row) (e : Entry) → In e (reported_entries x) → r ≡ entry_row t e → IsKnown t x r × (e.number ≡ r.number) × (e.held ≡ is_held (status_of x r.number))
 known-entry t x r e i same =
     let o = In-map_cases (entry_of x) (filter (is_reported x) (numbers_of x)) i in

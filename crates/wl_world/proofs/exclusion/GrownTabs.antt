@@ -1,4 +1,4 @@
--- A tab that stays in its generation: it may issue commands, hear answers and send again.
+-- A tab that stays in its generation. It may issue commands, take answers and send again.
 use Rattle.std.proofs.Common.{ap₂, ◌≡◌, ◌⊎◌, inl, inr, ⊎_elim, ℕ, ◌<◌, ◌≤◌, true, false, List, length, get_or, Option, Some, None, sym, ap, ◌∙◌, subst, arith, lt_of_lt_of_le}
 use Rattle.wl_draft.specs.declared.row.Row.{Row}
 use Rattle.wl_draft.specs.Tables.{Table, find}
@@ -22,18 +22,18 @@ use Rattle.wl_world.proofs.exclusion.HeldAfterSettling.{Compatible-fewer}
 use Rattle.wl_world.proofs.exclusion.ToldParts.{HasParts, body-told, no-command}
 use Rattle.wl_world.proofs.exclusion.Invariant.{Sound, SoundTab, Covered, Claim, Counts, stands, reported, carried, generation, broker_of, limit, was_opened, IsBorn, IsSaid, KeepsOf, Alive, HasGrant, Cause, IsKnown, lock, row_at, Lists, up_message}
 
--- the tab of a number in a table
+-- The tab with this number in a table.
 abbrev pub tab_at : Table TabState → ℕ → TabState
 tab_at ts t = tab_in t (find ts t)
 
--- the second list begins with the first
+-- The first list is a prefix of the second.
 abbrev pub Grows : List Operation → List Operation → Type 0
 Grows xs ys = (length xs ≤ length ys) × ((k : ℕ) → k < length xs → get_or ys k Query ≡ get_or xs k Query)
 
 pub row-grows : (t k : ℕ) (x y : TabState) → Grows x.issued y.issued → k < length x.issued → row_at t y k ≡ row_at t x k
 row-grows t k x y g lt = ap (lock t k) (g.1 k lt)
 
--- a message to the broker is one of the tab's commands, or its report or a part of that, where it is honest
+-- The body is one of the tab's commands, its report, or a part of its report.
 abbrev pub SaidBy : TabState → Upward → Type 0
 SaidBy y (up.Command c) = (c.number < length y.issued) × (operation_of y c.number ≡ c.operation)
 SaidBy y (up.Report r) = (0 < y.entered) × IsSaid y (up.Report r)
@@ -83,7 +83,7 @@ module _ (w : WorldState) (s : Sound w) (ts : Table TabState) (bag : List Messag
       (subst (λ e. In e (held_of t (tab_of w t).report.entries)) (sym (row-grows t k (tab_of w t) (tab_at ts t) (g.more t) lt)) i))
   cause-after t k (inr h) = inr (h.0, h.1, g.keeps _ h.2, h.3 ∙ sym (g.entered t), h.4, h.5)
 
-  -- a pair that is covered now was covered before
+  -- A lock that is covered afterwards was covered before.
   covered-before : (t k : ℕ) → IsHonest w t → Covered (record w { tabs = ts; bag = bag }) t k → Covered w t k × (k < length (tab_of w t).issued)
   covered-before t k n c = (record { living = c.living; alive = ⊎_elim (λ a. a) (λ le. absurd (past le)) (g.alive t k c.alive); cause = because.0 }, because.1)
     where
@@ -117,7 +117,7 @@ module _ (w : WorldState) (s : Sound w) (ts : Table TabState) (bag : List Messag
   said-same : (t : ℕ) (u : Upward) → was_opened w t ≡ true → IsSaid (tab_of w t) u → IsSaid (tab_at ts t) u
   said-same t u o i = subst (In u) (sym (ap₂ report_bodies (g.in_parts t o) (g.report t))) i
 
-  -- what a tab says now of its report is of the generation that it has entered
+  -- The body is of no later generation than the entered one. If it is of that generation, it is in the tab's report.
   abbrev TrueBody : ℕ → Upward → Type 0
   TrueBody t u = (0 < generation_of u) × (generation_of u ≤ (tab_at ts t).entered) × (generation_of u ≡ (tab_at ts t).entered → IsSaid (tab_at ts t) u)
 

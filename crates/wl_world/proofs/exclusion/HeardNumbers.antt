@@ -1,4 +1,4 @@
--- What hearing makes of a tab's numbers.
+-- Effects of an arriving frame on a tab's numbers.
 use Rattle.std.proofs.Common.{◌≡◌, ◌≢◌, ◌⊎◌, inl, inr, ℕ, Bool, true, false, not, List, filter, Option, Some, None, is_some, refl, sym, ap, ◌∙◌, arith}
 use Rattle.std.specs.Prelude.{◌==◌}
 use Rattle.std.proofs.lemmas.Bool.{eq-eqb, not-true}
@@ -22,16 +22,16 @@ use Rattle.wl_tab.specs.Tabs.{is_told, told}
 use Rattle.wl_world.proofs.Tables.{each_found}
 use Rattle.wl_world.proofs.exclusion.Invariant.{Alive}
 
--- ---- tables by rising number
+-- Tables by rising number
 
 pub find-filter : {X : Type 0} (test : ℕ × X → Bool) (ps : Table X) → Rises 0 ps → (k : ℕ) (x : X) → find (filter test ps) k ≡ Some x → (find ps k ≡ Some x) × (test (k, x) ≡ true)
 find-filter test ps r k x e =
     let o = In-filter_cases test ps (find-In (filter test ps) k x e) in
     (In-find 0 k x ps r o.0, o.1)
 
--- ---- what is alive after was so before
+-- A number that is alive afterwards was alive before
 
--- what is asked or held in the first table is so in the second
+-- Each number that is asked or held in the first table is so in the second.
 abbrev pub Fewer : Table Status → Table Status → Type 0
 Fewer new old = (k : ℕ) (s : Status) → find new k ≡ Some s → keeps_number (Some s) ≡ true → find old k ≡ Some s
 
@@ -84,7 +84,7 @@ told-fewer rows r = filtered-fewer (λ row. not (is_told row.1)) rows r
 pub Fewer-trans : (x y z : Table Status) → Fewer x y → Fewer y z → Fewer x z
 Fewer-trans x y z f g k s e l = g k s (f k s e l) l
 
--- ---- a tab that hears something of its generation
+-- A tab takes a frame of its generation
 
 pub record Kept (a y : TabState) (Granted : ℕ → Type 0) : Type 0 where
   pub entered : y.entered ≡ a.entered
@@ -138,7 +138,7 @@ ended-kept n a G r = record {
   held = λ k h. inl (Fewer-held (without_row n a.statuses) a.statuses (filtered-fewer (λ row. not (row.0 == n)) a.statuses r) k h);
 }
 
--- ---- an answer
+-- An answer
 
 module _ (a : TabState) (r : Rises 0 a.statuses) (k : ℕ) where
   abbrev Granting : Outcome → ℕ → Type 0
@@ -180,7 +180,7 @@ answer-kept x a r =
     (λ _. command-kept a r x.number (operation_of a x.number) (status_of a x.number) x.outcome refl)
     (λ _. same-kept a _ r)
 
--- ---- a part of a snapshot
+-- A part of a snapshot
 
 part-over : (x : Part) (parts : PartsState) → keeps_number (Some (with_part_come x parts)) ≡ false
 part-over x parts =

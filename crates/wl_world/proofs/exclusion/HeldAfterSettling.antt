@@ -1,4 +1,4 @@
--- What settling and the draft's commands do to held locks.
+-- Effects of settling and of the draft's commands on held locks.
 use Rattle.std.proofs.Common.{◌≡◌, ◌≢◌, ◌⊎◌, inl, inr, ⊎_elim, ℕ, true, false, not, ◌&&◌, List, [], ◌∷◌, ◌++◌, refl, sym, ap, ◌∙◌, subst, append_assoc, append-nil}
 use Rattle.std.specs.Prelude.{◌==◌, bytes_eq}
 use Rattle.std.proofs.lemmas.Bool.{and_parts, eqb-true, not-true, not_from_false, and_cases, false_from_ne_true}
@@ -11,18 +11,18 @@ use Rattle.wl_draft.specs.Membership.{In, Later}
 use Rattle.wl_draft.proofs.Settled.{grantable_parts}
 use Rattle.wl_draft.proofs.Membership.{apart, either, In-nil, In-cons_cases, In-head, In-append_left, In-append_right, In-append_cases, In-one, In-filter, In-filter_cases, list_any-In, list_all-In}
 
--- the rows are not of one number of one client
+-- The rows have different clients or different numbers.
 abbrev pub Unlike : Row → Row → Type 0
 Unlike r q = (r.client ≡ q.client) × (r.number ≡ q.number) → ⊥
 
--- of two different rows of one name, each is shared
+-- Any two different rows of one name are shared.
 abbrev pub Compatible : (Row → Type 0) → Type 0
 Compatible S = (r q : Row) → S r → S q → Unlike r q → r.name ≡ q.name → r.mode ≡ Shared
 
 pub Compatible-fewer : (R S : Row → Type 0) → ((r : Row) → R r → S r) → Compatible S → Compatible R
 Compatible-fewer R S f c r q x y u n = c r q (f r x) (f q y) u n
 
--- ---- settling
+-- Settling
 
 conflict-false : (m k : Mode) → conflict m k ≡ false → (m ≡ Shared) × (k ≡ Shared)
 conflict-false Shared Shared e = (refl, refl)
@@ -34,7 +34,7 @@ is_free-at name mode {q = q} rows free i same =
     let clear = not-true (bytes_eq q.name name && conflict q.mode mode) (list_all-In (λ r. not (bytes_eq r.name name && conflict r.mode mode)) rows free i) in
     conflict-false q.mode mode (⊎_elim (λ n. apart ((bytes_eq-Decides q.name name).1 same) n) (λ c. c) (and_cases _ _ clear))
 
--- held rows that pass a test of their own
+-- The held rows with property `H`.
 abbrev pub HeldOf : (Row → Type 0) → List Row → Row → Type 0
 HeldOf H held x = H x × In x held
 
@@ -86,7 +86,7 @@ pub newly-waited : {x : Row} (m : Locks) → In x (newly m) → In x m.waiting
 unfolding newly
 newly-waited m h = granted-waited m.held [] m.waiting h
 
--- a row of the locks, held or waiting
+-- The row is held or waiting.
 abbrev pub Stands : Row → Locks → Type 0
 Stands r m = In r m.held ⊎ In r m.waiting
 
@@ -95,7 +95,7 @@ unfolding settle
 settle-stands m (inl h) = ⊎_elim (λ a. inl a) (λ b. inr (newly-waited m b)) (In-append_cases m.held (newly m) h)
 settle-stands m (inr h) = ⊎_elim (λ a. absurd (In-nil a)) (λ b. inr b) (left_waiting-waited m.held [] m.waiting h)
 
--- ---- taking rows out
+-- Removing rows
 
 pub without-fewer : {x : Row} (t k : ℕ) (rows : List Row) → In x (without t k rows) → In x rows
 without-fewer t k rows h = (In-filter_cases (λ r. not (is_pair t k r)) rows h).0
@@ -114,7 +114,7 @@ pub without_client-keeps : {x : Row} (t : ℕ) (rows : List Row) → In x rows �
 without_client-keeps {x = x} t rows h n =
     In-filter (λ r. not (r.client == t)) rows h (not_from_false _ (false_from_ne_true _ (λ e. n (eqb-true x.client t e))))
 
--- a pair that stands is a row's
+-- If a pair of client and number is in a list, some row of the list has it.
 pub has_pair-true : (t k : ℕ) (rows : List Row) → has_pair t k rows ≡ true → (r : Row) × In r rows × (r.client ≡ t) × (r.number ≡ k)
 has_pair-true t k rows h =
     let o = list_any-In (is_pair t k) rows h in

@@ -1,4 +1,4 @@
--- What the broker does to the locks of one partition.
+-- Changes that the broker makes to the locks of one partition.
 use Rattle.std.proofs.Common.{◌≡◌, ◌≢◌, ◌⊎◌, inl, inr, ⊎_elim, ℕ, ◌<◌, ◌≤◌, Bool, true, false, not, ◌||◌, refl, sym, ◌∙◌, subst, arith}
 use Rattle.std.specs.Prelude.{◌==◌}
 use Rattle.std.proofs.lemmas.Bool.{cases_eq, or_cases, eq-eqb, not-true}
@@ -16,18 +16,18 @@ use Rattle.wl_world.proofs.exclusion.HeldAfterSettling.{Compatible, Compatible-f
 use Rattle.wl_world.proofs.exclusion.Invariant.{Sound, Covered, Claim, Counts, stands, reported, carried, generation, came, opening, row_at, Fits}
 use Rattle.wl_world.proofs.exclusion.CoverExcludes.{came-entered}
 
--- the broker with these locks of partition p
+-- The broker with the locks `m` in partition `p`.
 abbrev pub managed : BrokerState → ℕ → Locks → BrokerState
 managed b p m = record b { managers = put p m b.managers }
 
--- what holds of the locks of p and of those of each other partition holds of each
+-- A property holds of every lock manager if it holds of the one replaced and of all others.
 pub each_manager : (P : ℕ → Locks → Type 0) (p : ℕ) (m : Locks) (ms : Table Locks) → P p m → ((q : ℕ) → p ≢ q → P q (at no_locks ms q)) → (q : ℕ) → P q (at no_locks (put p m ms) q)
 each_manager P p m ms now elsewhere q = ⊎_elim
     (λ e. subst (λ z. P z (at no_locks (put p m ms) z)) e (subst (P p) (sym (at-put_same no_locks p m ms)) now))
     (λ n. subst (P q) (sym (at-put_other no_locks p m ms q (λ e. n (sym e)))) (elsewhere q n))
     (cases_eq p q)
 
--- ---- no lock is granted: no more is held than before
+-- Changes that grant no lock: nothing is held that was not held before
 
 module _ (w : WorldState) (b : BrokerState) (s : Sound (with_broker b w)) (p : ℕ) (m : Locks)
     (fewer : (r : Row) → In r m.held → In r (manager_of b p).held)
@@ -63,9 +63,9 @@ module _ (w : WorldState) (b : BrokerState) (s : Sound (with_broker b w)) (p : �
     agree = λ q. Compatible-fewer (Counts (with_broker (managed b p m) w) q) (Counts (with_broker b w) q) (λ r c. (c.0, lower-claim q r c.1)) (s.agree q);
   }
 
--- ---- an active partition
+-- An active partition
 
--- each tab of the partition that is listed has come
+-- Each listed tab of the partition has come.
 abbrev pub AllCame : BrokerState → ℕ → Type 0
 AllCame b p = (t : ℕ) → In (t, p) b.listed → came b t ≡ true
 
@@ -77,14 +77,14 @@ active-came b p a t i = ⊎_elim
     (or_cases _ _ (list_all-In (λ x. not (x.1 == p) || has_come (seat_of b x.0)) b.listed a i))
 
 module _ (w : WorldState) (b : BrokerState) (s : Sound (with_broker b w)) (p : ℕ) (all : AllCame b p) where
-  -- a tab of the partition that lives or has entered the generation has come, or is new
+  -- A tab of the partition that lives or has entered the generation has come, or is new.
   where-is : (t : ℕ) → partition_of w t ≡ p → (lives w t ≡ true) ⊎ ((tab_of w t).entered ≡ generation w) → (came b t ≡ true) ⊎ (opening w t ≡ generation w)
   where-is t q o = ⊎_elim
       (λ e. inr e)
       (λ n. inl (all t (subst (λ z. In (t, z) b.listed) q (s.lists t (let le : opening w t ≤ generation w = s.since t in let d : opening w t ≢ generation w = n in omega arith) o))))
       (cases_eq (opening w t) (generation w))
 
-  -- of honest tabs only what stands at the broker is claimed
+  -- In an active partition, a claim of an honest tab is a lock that the broker holds.
   active-claim : (r : Row) → IsHonest w r.client → Claim (with_broker b w) p r → In r (manager_of b p).held
   active-claim r y (stands h) = h
   active-claim r y (reported q j n i) = absurd (⊎_elim
@@ -105,7 +105,7 @@ module _ (w : WorldState) (b : BrokerState) (s : Sound (with_broker b w)) (p : �
       (s.newcomer r.client o))
       (where-is r.client q (inl c.living)))
 
--- ---- locks are granted in an active partition
+-- Grants in an active partition
 
 module _ (w : WorldState) (b : BrokerState) (p : ℕ) (m n : Locks) (s : Sound (with_broker (managed b p m) w)) (all : AllCame b p)
     (more : (r : Row) → In r m.held → In r n.held)
@@ -117,7 +117,7 @@ module _ (w : WorldState) (b : BrokerState) (p : ℕ) (m n : Locks) (s : Sound (
   held-old : (r : Row) → In r m.held → In r (at no_locks (put p m b.managers) p).held
   held-old r i = subst (λ z. In r z.held) (sym (at-put_same no_locks p m b.managers)) i
 
-  -- another partition's locks are the same in both
+  -- Other partitions have the same locks in both brokers.
   same-elsewhere : (q : ℕ) → p ≢ q → at no_locks (put p n b.managers) q ≡ at no_locks (put p m b.managers) q
   same-elsewhere q d = at-put_other no_locks p n b.managers q (λ e. d (sym e)) ∙ sym (at-put_other no_locks p m b.managers q (λ e. d (sym e)))
 
@@ -165,7 +165,7 @@ module _ (w : WorldState) (b : BrokerState) (p : ℕ) (m n : Locks) (s : Sound (
         (cases_eq p q);
   }
 
--- the partition is settled, if it is active
+-- A world stays sound when a partition settles if it is active.
 pub settled-sound : (w : WorldState) (b : BrokerState) (p : ℕ) (m : Locks) → Sound (with_broker (managed b p m) w) → Sound (with_broker (settled_at b p m) w)
 unfolding settled_at
 settled-sound w b p m s =
@@ -173,7 +173,7 @@ settled-sound w b p m s =
     (λ a. higher-sound w b p m (settle m) s (active-came b p a) (λ r i. settle-keeps m i) (λ r i. s.known p r (subst (λ z. Stands r z) (sym (at-put_same no_locks p m b.managers)) (settle-stands m i))) (settle-Compatible (λ r. IsHonest w r.client) m))
     (λ _. s)
 
--- whoever is granted a lock by that stands in the held locks
+-- Each lock that settling newly grants is among the held locks.
 chosen-held : (c : Bool) (p : ℕ) (m : Locks) (ms : Table Locks) (r : Row) → In r (newly_if c m) → In r (at no_locks (put p (settle_if c m) ms) p).held
 chosen-held true p m ms r i = subst (λ z. In r z.held) (sym (at-put_same no_locks p (settle m) ms)) (settle-newly m i)
 chosen-held false p m ms r i = absurd (In-nil i)

@@ -1,4 +1,4 @@
--- A message comes to a tab, or a tab acts on its channels.
+-- Arrivals of messages at a tab, and a tab's acts on its channels.
 use Rattle.std.proofs.Common.{◌≡◌, ℕ, Bool, true, not, ◌&&◌, ◌+◌, List, [], map, Option, Some, None, is_some, refl, sym, subst}
 use Rattle.std.specs.Prelude.{nat_lt}
 use Rattle.std.proofs.lemmas.Bool.{eqb-true, and_parts}
@@ -38,7 +38,7 @@ use Rattle.wl_world.proofs.exclusion.ActsWithinAGeneration.{after, allowed-sound
 use Rattle.wl_world.proofs.exclusion.Entering.{hello-sound}
 use Rattle.wl_world.proofs.exclusion.SayingAndPosting.{Says, said-sound}
 
--- ---- only an entering sends a report
+-- A tab sends a report only when it enters a generation
 
 module _ (w : WorldState) (t : ℕ) (y : TabState) where
   abbrev Silent : Delivered → Type 0
@@ -85,15 +85,15 @@ module _ (w : WorldState) (t : ℕ) (y : TabState) where
   other-silent : (g : ℕ) (a : TabState) → Silent (of_other g a)
   other-silent g a = either Silent (nat_lt g a.entered) (heard.Dropped unheard.OldGeneration) (heard.Dropped unheard.LaterGeneration) (λ _. refl) (λ _. refl)
 
--- ---- a message comes to a tab
+-- A message arrives at a tab
 
--- a tab that hears something in its generation sends nothing
+-- A world stays sound when a tab takes a frame without entering a generation.
 quiet-sound : (w : WorldState) (t : ℕ) (y : TabState) (d : Delivered) (G : ℕ → Type 0) → Sound w → lives w t ≡ true → report_if_entered w.kernel t y d ≡ [] → Kept (tab_of w t) y G → ((k : ℕ) → G k → HasGrant w.bag t (tab_of w t).entered k)
     → Sound (after w (acts w t (told y) (report_if_entered w.kernel t y d)))
 quiet-sound w t y d G s l quiet c grant =
     subst (λ ms. Sound (after w (acts w t (told y) ms))) (sym quiet) (heard-sound w t (told y) G s l (told-kept (tab_of w t) y G c) grant)
 
--- what is of another generation changes nothing
+-- A world stays sound when a frame of another generation arrives.
 other-sound : (w : WorldState) (t g : ℕ) → Sound w → lives w t ≡ true → Sound (after w (acts w t (told (tab_of w t)) (report_if_entered w.kernel t (tab_of w t) (of_other g (tab_of w t)))))
 other-sound w t g s l =
     let x = tab_of w t in
@@ -115,7 +115,7 @@ down-sound w v t (down.Snapshot x) s l i =
     (λ _. quiet-sound w t y (told_by_part x a) (λ k. ⊥) s l (unless-silent w t y (part_refusal x a) x (parts_of (status_of a x.number))) (noted-kept (x.number + 1) a _ _ (part-kept x a (λ k. ⊥) (s.tabs t).rises)) (λ k e. absurd e))
     (λ _. other-sound w t x.generation s l)
 
--- ---- channels
+-- Channels
 
 module _ (w : WorldState) (s : Sound w) (cs : Table ChannelState) where
   abbrev channel_world : WorldState

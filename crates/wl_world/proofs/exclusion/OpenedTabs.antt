@@ -1,4 +1,4 @@
--- The kernel's tabs after an opening and after a killing.
+-- The kernel's tabs after an opening and after a death.
 use Rattle.std.proofs.Common.{◌≡◌, ◌≢◌, ⊎_elim, ℕ, true, false, cond, List, [], ◌∷◌, ◌++◌, map, Option, Some, None, option_map, is_some, refl, sym, ap, ◌∙◌, subst}
 use Rattle.std.specs.Prelude.{◌==◌}
 use Rattle.std.proofs.lemmas.Bool.{cases_eq, eq-eqb, ne_eqb, cond-true, cond-false}
@@ -9,7 +9,7 @@ use Rattle.wl_kernel.proofs.OpenedTabs.{ended_tab, ended_partition, ended_genera
 use Rattle.wl_draft.proofs.Membership.{apart, either}
 use Rattle.wl_world.proofs.exclusion.Invariant.{opening_in}
 
--- ---- an opening
+-- An opening
 
 tab_in-other : (os : List OpenedTab) (n : OpenedTab) (u : ℕ) → n.tab ≢ u → tab_in (os ++ n ∷ []) u ≡ tab_in os u
 tab_in-other [] n u d = cond-false _ _ _ (ne_eqb n.tab u d)
@@ -37,7 +37,7 @@ number_beside-more : (u : ℕ) (os ns : List OpenedTab) (x : Option OpenedTab) �
 number_beside-more u os ns None e = refl
 number_beside-more u os ns (Some o) e = number_or-more 0 u os ns o e
 
--- what holds of the new tab and of the others elsewhere holds everywhere
+-- A property holds of every tab if it holds of the new tab and, for the others, held before.
 pub each_opened : (P : ℕ → Option OpenedTab → ℕ → Type 0) (k : KernelState) (t : ℕ) (p : Pair) → is_opened k t ≡ false
     → ((q : ℕ) → P t (Some (new_tab t p k.generation)) q) → ((u : ℕ) → t ≢ u → P u (tab_of k u) (partition_number k u))
     → (u : ℕ) → P u (tab_of (opened t p k) u) (partition_number (opened t p k) u)
@@ -52,7 +52,7 @@ each_opened P k t p unopened now elsewhere u =
     (subst (P u (tab_of k u)) (sym (number_beside-more u k.opened (n ∷ []) (tab_of k u) refl)) (elsewhere u d)))
     (cases_eq t u)
 
--- ---- a killing
+-- A death
 
 ended-lived : (t : ℕ) (o : OpenedTab) → (ended t o).living ≡ true → o.living ≡ true
 ended-lived t o = either (λ x. x.living ≡ true → o.living ≡ true) (o.tab == t) (record o { living = false }) o (λ _ e. apart e refl) (λ _ e. e)

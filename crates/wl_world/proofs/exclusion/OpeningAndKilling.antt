@@ -1,4 +1,4 @@
--- Tabs are opened and killed.
+-- Openings and deaths of tabs.
 use Rattle.std.proofs.Common.{◌≡◌, ◌⊎◌, inl, inr, ⊎_elim, ℕ, ◌<◌, ◌≤◌, Bool, true, false, cond, not, List, [], length, map, Option, Some, None, is_some, refl, sym, ap, ◌∙◌, subst, arith, le_refl}
 use Rattle.std.specs.Prelude.{◌==◌, nat_le, ◌||◌}
 use Rattle.std.proofs.lemmas.Bool.{cases_Bool, or_parts, not-true}
@@ -28,7 +28,7 @@ use Rattle.wl_world.proofs.exclusion.ActsWithinAGeneration.{after, allowed-sound
 use Rattle.wl_world.proofs.exclusion.MessagesHeard.{channel-sound}
 use Rattle.wl_world.proofs.exclusion.OpenedTabs.{each_opened, ended-opening, ended-opened, ended-lives, ended-number}
 
--- ---- a tab dies
+-- A tab dies
 
 module _ (w : WorldState) (s : Sound w) (os : List OpenedTab)
     (opening-same : (u : ℕ) → opening_in (tab_in os u) ≡ opening w u)
@@ -41,7 +41,7 @@ module _ (w : WorldState) (s : Sound w) (os : List OpenedTab)
   fewer-covered : (t k : ℕ) → Covered fewer_world t k → Covered w t k
   fewer-covered t k c = record { living = lived t c.living; alive = c.alive; cause = c.cause }
 
-  -- the broker that would stand for none is the same
+  -- A claim after the death was a claim before.
   fewer-claim : (p : ℕ) (r : Row) → Claim fewer_world p r → Claim w p r
   fewer-claim p r (stands h) = stands h
   fewer-claim p r (reported q j n i) = reported (sym (number-same r.client) ∙ q) j n i
@@ -79,7 +79,7 @@ kills-sound w t s =
     allowed-sound w (lives w t) (with_kernel (killed t w.kernel) w) s
     (λ _. fewer-sound w s (map (ended t) w.kernel.opened) (ended-opening t w.kernel.opened) (ended-opened t w.kernel.opened) (ended-number t w.kernel.opened) (ended-lives t w.kernel.opened))
 
--- ---- a tab is opened
+-- A tab is opened
 
 newborn-dead : (w : WorldState) (t k : ℕ) → IsBorn t (tab_of w t) → Alive (status_of (tab_of w t) k) → ⊥
 newborn-dead w t k e a = apart (ap (λ z. keeps_number (status_of z k)) (sym e.1) ∙ a) refl
@@ -97,7 +97,7 @@ module _ (w : WorldState) (s : Sound w) (t : ℕ) (p : Pair) (unopened : was_ope
   none_issued : length (tab_of w t).issued ≡ 0
   none_issued = ap (λ z. length z.issued) nothing_yet.1
 
-  -- it is of no generation of a broker
+  -- The tab to be opened has not entered the broker's generation.
   not_current : (tab_of w t).entered ≡ generation w → ⊥
   not_current n = let a : 0 < generation w = s.positive in let z : (tab_of w t).entered ≡ 0 = not_entered in let m : (tab_of w t).entered ≡ generation w = n in omega arith
 
@@ -162,7 +162,7 @@ module _ (w : WorldState) (s : Sound w) (t : ℕ) (p : Pair) (unopened : was_ope
     agree = λ q. Compatible-fewer (Counts opened_world q) (Counts w q) (λ r c. (c.0, opened-claim q r c.1)) (s.agree q);
   }
 
--- a number may be opened only once
+-- The kernel refuses a number that was opened before.
 pub not_opened : (k : KernelState) (t : ℕ) (p : Pair) → is_some (open_refusal t p k) ≡ false → is_opened k t ≡ false
 not_opened k t p =
     either (λ z. is_some z ≡ false → is_opened k t ≡ false) (t == 0 || is_opened k t) (Some NumberTaken)
@@ -170,7 +170,7 @@ not_opened k t p =
     (λ _ e. apart refl e)
     (λ n _. (or_parts _ _ n).1)
 
--- ---- its rows
+-- Rows of the new tab
 
 pub born-sound : (t : ℕ) (x : TabState) → IsBorn t x → SoundTab t x
 born-sound t x e = subst (SoundTab t) (sym e.1) (record {
@@ -184,7 +184,7 @@ born-sound t x e = subst (SoundTab t) (sym e.1) (record {
   rises = tt;
 })
 
--- until it is opened nothing tells of which kind it is
+-- Adding the row of a new tab of either kind satisfies `Grown`, since no fact depends on the kind of an unopened tab.
 row-grown : (i : Bool) (w : WorldState) (t : ℕ) → Sound w → was_opened w t ≡ false → Grown w (put t (born i t COMMAND_LIMIT) w.tabs) w.bag
 row-grown i w t s un =
     let y = born i t COMMAND_LIMIT in

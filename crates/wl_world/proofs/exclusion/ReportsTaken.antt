@@ -1,4 +1,4 @@
--- A tab's report comes to the broker.
+-- Arrival of a tab's report at the broker.
 use Rattle.std.proofs.Common.{◌≡◌, ◌≢◌, ◌⊎◌, inl, inr, ⊎_elim, ℕ, suc, ◌<◌, ◌≤◌, true, false, not, ◌&&◌, Option, Some, List, [], filter, refl, sym, ap, ◌∙◌, subst, arith}
 use Rattle.std.proofs.lemmas.Bool.{or_from}
 use Rattle.wl_draft.specs.declared.row.Row.{Row}
@@ -24,7 +24,7 @@ use Rattle.wl_world.proofs.exclusion.Invariant.{Sound, Covered, Claim, Counts, s
 use Rattle.wl_world.proofs.exclusion.ManagedLocks.{managed, each_manager}
 use Rattle.wl_world.proofs.exclusion.BrokerAnswers.{Follows, settled-told}
 
--- ---- a part is kept
+-- The broker stores a part
 
 module _ (w : WorldState) (b : BrokerState) (s : Sound (with_broker b w)) (ks : Table Partial)
     (kept : (u : ℕ) (k : Partial) → find ks u ≡ Some k → (was_opened w u ≡ true) × (IsHonest w u → KeepsOf (generation w) (tab_of w u) k)) where
@@ -59,7 +59,7 @@ module _ (w : WorldState) (b : BrokerState) (s : Sound (with_broker b w)) (ks : 
     agree = λ q. Compatible-fewer (Counts (with_broker keeping_broker w) q) (Counts (with_broker b w) q) (λ x c. (c.0, kept-claim q x c.1)) (s.agree q);
   }
 
--- ---- a tab joins, by what its report says or what its parts say together
+-- A tab joins, by its report or by all parts together
 
 module _ (w : WorldState) (b : BrokerState) (s : Sound (with_broker b w)) (t p : ℕ) (r : Whole)
     (old : was_opened w t ≡ true) (home : p ≡ partition_of w t) (new : came b t ≡ false)
@@ -79,7 +79,7 @@ module _ (w : WorldState) (b : BrokerState) (s : Sound (with_broker b w)) (t p :
   rows-tab : (x : Row) (es : List Entry) → In x (rows_of t es) → t ≡ x.client
   rows-tab x es i = let o = In-map_cases (λ (e : Entry). row_of t e.number e.name e.mode) es i in sym (ap (λ (z : Row). z.client) o.2)
 
-  -- whatever a report says, its rows are its tab's
+  -- All rows of a report belong to its tab, for any contents.
   told-tab : (x : Row) → In x (held_of t r.entries) ⊎ In x (waiting_of t r.entries) → t ≡ x.client
   told-tab x (inl i) = rows-tab x (filter (λ e. e.held) r.entries) i
   told-tab x (inr i) = rows-tab x (filter (λ e. not e.held) r.entries) i
@@ -111,7 +111,7 @@ module _ (w : WorldState) (b : BrokerState) (s : Sound (with_broker b w)) (t p :
   locks : (P : ℕ → Locks → Type 0) → P p (restored t r.entries (manager_of b p)) → ((q : ℕ) → p ≢ q → P q (manager_of b q)) → (q : ℕ) → P q (manager_of joined_broker q)
   locks P h f q = each_manager P p (restored t r.entries (manager_of b p)) b.managers h f q
 
-  -- what the report has as held was claimed as reported
+  -- Each lock that the report has as held was claimed as reported.
   was-reported : (x : Row) → IsHonest w x.client → In x (held_of t r.entries) → Claim (with_broker b w) p x
   was-reported x y i =
       let h = subst (IsHonest w) (sym (told-tab x (inl i))) y in
@@ -163,7 +163,7 @@ module _ (w : WorldState) (b : BrokerState) (s : Sound (with_broker b w)) (t p :
   join-sound = settled-told w (with_seat t (Joined p r.base r.limit) b) p (restored t r.entries (manager_of b p)) (newly_at (with_seat t (Joined p r.base r.limit) b) p (restored t r.entries (manager_of b p))) []
       (λ x i. i) (λ _ a i. absurd (In-nil i)) joined-sound
 
--- ---- a report or a part of one comes
+-- A report or a part of a report arrives
 
 pub told-sound : (w : WorldState) (b : BrokerState) → Sound (with_broker b w) → (t p : ℕ) (u : Upward) (x : Told) → told_of u ≡ Some x → In (up_message t p u) w.bag → generation_of u ≡ b.generation → is_named_dead b t ≡ false
     → Follows w b (take_told b t p x)
@@ -184,7 +184,7 @@ told-sound w b s t p u x is i now alive =
     from : (was_opened w t ≡ true) × (p ≡ partition_of w t) × (IsHonest w t → (0 < generation_of u) × (generation_of u ≤ (tab_of w t).entered) × (generation_of u ≡ (tab_of w t).entered → IsSaid (tab_of w t) u))
     from = s.reports t p u x is i
 
-    -- an honest tab tells of the report that it made on entering
+    -- An honest tab sends only the report that it made on entering, or parts of it.
     said : IsHonest w t → ((tab_of w t).entered ≡ generation w) × IsPartOf (tab_of w t).in_parts (tab_of w t).report x
     said h =
         let o = from.2 h in

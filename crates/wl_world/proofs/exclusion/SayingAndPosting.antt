@@ -1,4 +1,4 @@
--- What the broker says, and the posts of tabs, enter the bag.
+-- Frames of the broker and posts of tabs enter the bag.
 use Rattle.std.proofs.Common.{◌≡◌, ◌⊎◌, inl, inr, ⊎_elim, ℕ, ◌<◌, true, List, length, Option, Some, None, sym, ◌∙◌, subst, arith, suc, le_refl}
 use Rattle.wl_draft.specs.declared.row.Row.{Row}
 use Rattle.wl_grammar.specs.declared.frame.Outcome.TheVariants.{Granted}
@@ -20,7 +20,7 @@ use Rattle.wl_world.specs.Holdings.{IsHonest}
 use Rattle.wl_world.proofs.exclusion.HeldAfterSettling.{Compatible-fewer}
 use Rattle.wl_world.proofs.exclusion.Invariant.{Sound, Claim, Counts, stands, reported, carried, generation, broker_in, broker_of, limit_in, limit, came, HasGrant, row_at, Lists, up_message, down_message}
 
--- a granted answer is of this generation, and about a lock that stands as held
+-- A granted answer is of the current generation and names a lock that the broker holds.
 abbrev pub SaysDown : WorldState → ℕ → Downward → Type 0
 SaysDown w t (down.Hello h) = ⊥
 SaysDown w t (down.Answer x) = x.outcome ≡ Granted → (x.generation ≡ generation w) × (p : ℕ) × (r : Row) × In r (manager_of (broker_of w) p).held × (r.client ≡ t) × (r.number ≡ x.number)
@@ -31,7 +31,7 @@ Says w (Up s) = ⊥
 Says w (Down v a) = SaysDown w a.tab a.inner
 Says w (Across t x) = Unit {0}
 
--- where a lock stands a broker is up
+-- If the broker holds a lock, a broker is up.
 held-now : (g : ℕ) (v : Option BrokerState) (p : ℕ) (r : Row) → In r (manager_of (broker_in g v) p).held → g < limit_in g v
 held-now g None p r i = absurd (In-nil i)
 held-now g (Some b) p r i = le_refl (suc g)
@@ -46,11 +46,11 @@ module _ (w : WorldState) (s : Sound w) (ms : List Message) (says : (m : Message
   old-hello : (v : Sender) (u : ℕ) (h : Hello) → In (down_message v u (down.Hello h)) (sent_all ms w.bag) → In (down_message v u (down.Hello h)) w.bag
   old-hello v u h i = ⊎_elim (λ a. a) (λ b. absurd (says _ b)) (sent_all-cases ms w.bag i)
 
-  -- a lock that the tab has issued stands as held
+  -- The broker holds a lock that the tab has issued.
   abbrev IsTrueLock : ℕ → ℕ → Type 0
   IsTrueLock t k = (k < length (tab_of w t).issued) × ((tab_of w t).entered ≡ generation w) × In (row_at t (tab_of w t) k) (manager_of (broker_of w) (partition_of w t)).held
 
-  -- a lock of the tab that stands as held, of this generation
+  -- The broker holds a lock of the tab, in the current generation.
   abbrev Standing : ℕ → ℕ → ℕ → Type 0
   Standing t g k = (g ≡ generation w) × (came (broker_of w) t ≡ true) × (IsHonest w t → IsTrueLock t k) × (generation w < limit w)
 
@@ -73,7 +73,7 @@ module _ (w : WorldState) (s : Sound w) (ms : List Message) (says : (m : Message
         held-now w.kernel.generation w.broker o.1 r o.3,
       )
 
-  -- a granted answer was sent before, or is about such a lock
+  -- A granted answer was in the bag before, or names such a lock.
   grant-cases : (t g k : ℕ) → HasGrant (sent_all ms w.bag) t g k → HasGrant w.bag t g k ⊎ Standing t g k
   grant-cases t g k h = ⊎_elim (λ a. inl (h.0, h.1, a, h.3, h.4, h.5)) (λ b. inr (standing-of t g k h.1 h.3 h.4 (says (down_message h.0 t (down.Answer h.1)) b h.5))) (sent_all-cases ms w.bag h.2)
 

@@ -1,4 +1,4 @@
--- Each event keeps a world sound, and so does a run.
+-- Soundness of every run: each event keeps a world sound.
 use Rattle.std.proofs.Common.{◌≡◌, inl, ⊎_elim, ℕ, true, false, not, ◌&&◌, List, [], ◌∷◌, Option, Some, None, refl, subst, arith}
 use Rattle.std.proofs.lemmas.Bool.{and_parts, not-true}
 use Rattle.wl_draft.specs.declared.row.Row.{Row}
@@ -29,7 +29,7 @@ use Rattle.wl_world.proofs.exclusion.CommandsTaken.{taking-sound}
 use Rattle.wl_world.proofs.exclusion.DeathsTaken.{burial-sound}
 use Rattle.wl_world.proofs.exclusion.MessagesHeard.{down-sound, opens_channel-sound, posts-sound, reads-sound, closes-sound, across-sound}
 
--- ---- the empty world
+-- The empty world
 
 no-claim : (p : ℕ) (r : Row) → Claim empty_world p r → ⊥
 no-claim p r (stands h) = In-nil h
@@ -59,9 +59,9 @@ empty-sound = record {
   agree = λ p r q a. absurd (no-claim p r a.1);
 }
 
--- ---- deliveries and deaths
+-- Deliveries and deaths
 
--- the world with that broker, if any
+-- The world with another broker, or with none.
 abbrev at_broker : WorldState → Option BrokerState → WorldState
 at_broker w v = record w { broker = v }
 
@@ -86,7 +86,7 @@ tells-sound w (Some b) e s t =
     allowed-sound (at_broker w (Some b)) (is_opened w.kernel t && not (lives w t)) (buries (at_broker w (Some b)) t b) s'
     (λ h. burial-sound w b s' t (not-true _ (and_parts _ _ h).1) (and_parts _ _ h).0)
 
--- ---- events and runs
+-- Events and runs
 
 pub happens-sound : (w : WorldState) (e : Event) → Sound w → Sound (happens w e)
 unfolding happens deed

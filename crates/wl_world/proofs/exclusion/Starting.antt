@@ -1,4 +1,4 @@
--- Tabs are greeted; a broker stops, and the next one starts.
+-- Hellos, stops of the broker, and starts of the next one.
 use Rattle.std.proofs.Common.{◌≡◌, inl, inr, ⊎_elim, ℕ, suc, ◌+◌, ◌<◌, ◌≤◌, Bool, true, false, cond, not, ◌&&◌, List, [], ◌∷◌, length, map, Option, Some, None, is_some, refl, sym, ap, ◌∙◌, subst, arith, le_refl}
 use Rattle.std.specs.Prelude.{◌==◌, nat_lt}
 use Rattle.std.proofs.lemmas.Bool.{eqb-true, lt-ltb, not-true, not-false, and_cases}
@@ -26,9 +26,9 @@ use Rattle.wl_world.proofs.exclusion.CoverExcludes.{claim_of, living_opened}
 use Rattle.wl_world.proofs.exclusion.Entering.{limit-le}
 use Rattle.wl_world.proofs.exclusion.ActsWithinAGeneration.{after, allowed-sound}
 
--- ---- hellos are sent
+-- Hellos are sent
 
--- a hello of this generation to a tab that was opened
+-- The message is a hello of the current generation to an opened tab.
 abbrev pub Greets : WorldState → Message → Type 0
 Greets w m = (v : Sender) × (u : ℕ) × (m ≡ Down v (hello_to (generation w) u)) × (was_opened w u ≡ true)
 
@@ -95,7 +95,7 @@ greets-sound w t (Some b) e s =
     (λ l. greetings-sound w s (subst (λ z. generation w < limit_in (generation w) z) (sym e) (le_refl (suc (generation w)))) (Down Kernel (hello_to w.kernel.generation t) ∷ [])
     (λ m i. (Kernel, t, In-one i, living_opened _ l)))
 
--- ---- a broker stops
+-- A broker stops
 
 module _ (w : WorldState) (s : Sound w) where
   abbrev down_world : WorldState
@@ -143,7 +143,7 @@ stops-sound w None s = s
 stops-sound w (Some b) s =
     allowed-sound w (may_stop w.kernel) (nothing (record w { kernel = stopped w.kernel; broker = None })) s (λ _. stopped-sound w s)
 
--- ---- a broker starts
+-- A broker starts
 
 module _ (w : WorldState) (listed : List (ℕ × ℕ)) (s : Sound (record w { broker = None }))
     (all : (t : ℕ) → opening w t < generation w → lives w t ≡ true → In (t, partition_of w t) listed) where
@@ -181,7 +181,7 @@ module _ (w : WorldState) (listed : List (ℕ × ℕ)) (s : Sound (record w { br
     agree = λ p. Compatible-fewer (Counts started_world p) (Counts idle_world p) (λ r c. (c.0, started-claim p r c.1)) (s.agree p);
   }
 
--- ---- what a start that is not refused says
+-- Facts about a start that is not refused
 
 absence-none : (x y : Option ℕ) → is_some (absence x y) ≡ false → (x ≡ None) × (y ≡ None)
 absence-none (Some t) y e = apart refl e
@@ -228,7 +228,7 @@ older : (g : ℕ) (o : Option OpenedTab) → lives_in o ≡ true → opening_in 
 older g None l lt = apart l refl
 older g (Some o) l lt = lt-ltb o.generation g lt
 
--- each tab that must be listed is
+-- Each living tab opened in an earlier generation is listed.
 listed-all : (w : WorldState) (ts : List ℕ) → missing w.kernel ts ≡ None → (t : ℕ) → opening w t < generation w → lives w t ≡ true → In (t, partition_of w t) (placed ts w.kernel)
 listed-all w ts none t lt l =
     let k = w.kernel in
@@ -239,7 +239,7 @@ listed-all w ts none t lt l =
     In-map (λ u. (u, partition_number k u)) (subst (λ z. In z ts) (eqb-true o.0 t o.2) o.1))
     (and_cases _ _ f)
 
--- each tab that is listed was opened
+-- Each listed tab was opened, so its hello goes to an opened tab.
 pub hellos-greet : (w : WorldState) (ts : List ℕ) → stranger w.kernel ts ≡ None → (m : Message) → In m (map from_broker (hellos w.kernel.generation (placed ts w.kernel))) → Greets w m
 hellos-greet w ts none m i =
     let k = w.kernel in

@@ -1,4 +1,4 @@
--- Reports in parts: what each part of a report says, and that all parts together say the report.
+-- Reports in parts: the contents of each part, and their union.
 use Rattle.std.proofs.Common.{◌≡◌, ◌≢◌, ◌⊎◌, inl, inr, ⊎_elim, ℕ, zero, suc, ◌+◌, ◌*◌, ◌/◌, ◌<◌, ◌≤◌, Bool, true, false, cond, not, Option, Some, None, List, [], ◌∷◌, ◌++◌, length, filter, take, drop, refl, sym, ap, ap₂, ◌∙◌, subst, arith, append-nil}
 use Rattle.std.specs.Prelude.{◌==◌, nat_lt, if◌then◌else◌}
 use Rattle.std.specs.List.{range_with_len, flat_map}
@@ -23,7 +23,7 @@ use Rattle.wl_draft.specs.Membership.{In, Here, Later}
 use Rattle.wl_draft.proofs.Membership.{either, In-nil, In-cons_cases, In-head, In-one, In-map_cases}
 use Rattle.wl_grammar.specs.PartCount.{part_count}
 
--- ---- lists and tables
+-- Lists and tables
 
 pub In-range : (from n k : ℕ) → In k (range_with_len from n) → k < from + n
 In-range from zero k i = absurd (In-nil i)
@@ -41,9 +41,9 @@ In-put_cases k x (p ∷ ps) row =
     (λ _ i. ⊎_elim (λ e. inl e) (λ j. inr j) (In-cons_cases i))
     (λ _ i. ⊎_elim (λ e. inr (In-head e)) (λ j. ⊎_elim (λ e. inl e) (λ h. inr (Later h)) (In-put_cases k x ps row j)) (In-cons_cases i)))
 
--- ---- the parts of a report
+-- The parts of a report
 
--- of how many parts a report is, and the entries of each
+-- The number of parts of a report.
 abbrev pub part_total : Bool → Report → ℕ
 part_total in_parts r = if in_parts then part_count r.entries else 1
 
@@ -76,9 +76,9 @@ unfolding report_bodies
 no-command true r c j = let o = In-map_cases (λ k. up.ReportPart (part_of r k)) (range_with_len 0 (part_count r.entries)) j in let e : up.Command c ≡ up.ReportPart (part_of r o.0) = o.2 in cc
 no-command false r c j = let e : up.Command c ≡ up.Report r = In-one j in cc
 
--- ---- kept parts
+-- Stored parts
 
--- what is kept is of the report
+-- The stored parts belong to the report.
 pub record HasParts (in_parts : Bool) (r : Report) (k : Partial) : Type 0 where
   pub rise : Rises 0 k.came
   pub parts : k.parts ≡ part_total in_parts r
@@ -104,9 +104,9 @@ with_told-HasParts i r p x o is f = record {
       (In-put_cases x.part x.entries (came_in o) (n, es) j);
 }
 
--- ---- numbers below the base
+-- Numbers below the base
 
--- each number of these parts is below the base
+-- Each number in these parts is below the base.
 abbrev pub AllBelow : ℕ → Table (List Entry) → Type 0
 AllBelow base rows = (n : ℕ) (es : List Entry) → In (n, es) rows → all_below base es ≡ true
 
@@ -127,7 +127,7 @@ below-all base (row ∷ rows) f =
     list_all-append (λ (e : Entry). nat_lt e.number base) row.1 (flat_map (λ (r : ℕ × List Entry). r.1) rows)
     ∙ and_from _ _ (f row.0 row.1 Here) (below-all base rows (λ n es i. f n es (Later i)))
 
--- ---- all parts together
+-- All parts together
 
 rises-few : (rows : Table (List Entry)) (a b : ℕ) → Rises a rows → a ≤ b → ((m : ℕ) (es : List Entry) → In (m, es) rows → m < b) → a + length rows ≤ b
 rises-few [] a b r le f = omega arith
@@ -136,7 +136,7 @@ rises-few (row ∷ rows) a b r le f =
     let ih : row.0 + 1 + length rows ≤ b = rises-few rows (row.0 + 1) b r.1 (omega arith) (λ m es i. f m es (Later i)) in
     omega (arith, r.0)
 
--- as many rising numbers as there are below a limit are all of them
+-- `n` rising numbers below a bound of `n` are all numbers below it.
 came-all : (f : ℕ → List Entry) (rows : Table (List Entry)) (from n : ℕ) → Rises from rows → ((m : ℕ) (es : List Entry) → In (m, es) rows → (m < from + n) × (es ≡ f m)) → length rows ≡ n
     → flat_map (λ row. row.1) rows ≡ flat_map f (range_with_len from n)
 came-all f [] from zero r e l = refl
@@ -177,18 +177,18 @@ chunks-all : (in_parts : Bool) (r : Report) → flat_map (chunk in_parts r) (ran
 chunks-all true r = chunks-from r.entries (part_count r.entries) 0 (enough r.entries)
 chunks-all false r = append-nil r.entries
 
--- where no part is missing the entries by part are the report's
+-- If no part is missing, the entries of the parts in order are the report's entries.
 pub whole-entries : (in_parts : Bool) (r : Report) (k : Partial) → HasParts in_parts r k → is_whole k ≡ true → (whole_of k).entries ≡ r.entries
 whole-entries i r k h w =
     came-all (chunk i r) k.came 0 (part_total i r) h.rise (λ m es j. let q = h.each m es j in let lt : m < part_total i r = q.0 in (omega arith, q.1)) (eqb-true _ _ w ∙ h.parts)
     ∙ chunks-all i r
 
--- ---- without the row of a number
+-- A table without the row of one number
 
 abbrev but : {X : Type 0} → ℕ → Table X → Table X
 but t ps = filter (λ row. not (row.0 == t)) ps
 
--- it is not there any more
+-- The removed number is not found.
 pub find-but_gone : {X : Type 0} (t : ℕ) (ps : Table X) → find (filter (λ row. not (row.0 == t)) ps) t ≡ None
 find-but_gone t [] = refl
 find-but_gone t (p ∷ ps) = step (p.0 == t) refl (find-but_gone t ps)
@@ -205,7 +205,7 @@ find-but_other t u (p ∷ ps) n = step (p.0 == t) refl (find-but_other t u ps n)
     step true e ih = ih ∙ sym (cond-false _ (Some p.1) (find ps u) (ne_eqb p.0 u (λ s. n (sym (eqb-true p.0 t e) ∙ s))))
     step false e ih = ap (λ o. cond (p.0 == u) (Some p.1) o) ih
 
--- what is there was there
+-- A value found after the removal was found before.
 pub find-without : {X : Type 0} (t u : ℕ) (x : X) (ps : Table X) → find (filter (λ row. not (row.0 == t)) ps) u ≡ Some x → find ps u ≡ Some x
 find-without {X} t u x ps h = ⊎_elim
     (λ e. absurd (none-some x (sym (subst (λ v. find (filter (λ (row : ℕ × X). not (row.0 == t)) ps) v ≡ None) e (find-but_gone t ps)) ∙ h)))

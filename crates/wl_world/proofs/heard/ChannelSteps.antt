@@ -1,4 +1,4 @@
--- What an event does to a tab's channels: nothing, or one call on them; and who posts.
+-- Effect of an event on a tab's channels: at most one call on them. Also the sources of posts.
 use Rattle.std.proofs.Common.{◌≡◌, ◌≢◌, ⊎_elim, ℕ, Bool, true, false, cond, not, ◌&&◌, List, [], ◌∷◌, length, map, Option, Some, None, is_some, refl, sym, ap, ◌∙◌, subst}
 use Rattle.std.specs.Prelude.{◌==◌}
 use Rattle.std.proofs.lemmas.Bool.{and_parts, cases_Bool, cond-true, cond-false, cases_eq, not-true}
@@ -40,15 +40,15 @@ use Rattle.wl_world.proofs.exclusion.OpenedTabs.{each_opened, ended-opened}
 use Rattle.wl_world.proofs.exclusion.OpeningAndKilling.{not_opened}
 use Rattle.wl_world.proofs.apart.CutKernel.{hearers-others}
 
--- ---- what comes of an event
+-- Outcomes of an event
 
--- it is no post, or one that another tab than its target forged
+-- The message is no post, or a post forged by a tab other than its recipient.
 abbrev pub IsNoPost : WorldState → Message → Type 0
 IsNoPost w (Up s) = Unit {0}
 IsNoPost w (Down v x) = Unit {0}
 IsNoPost w (Across t x) = (is_corrupt w x.source ≡ true) × (x.source ≢ t)
 
--- a post is its event's, and is allowed; a post that comes was sent to this tab; a reading is its event's
+-- A post or a read comes from its event and is allowed. An arriving post was sent to this tab.
 abbrev pub Caused : WorldState → ℕ → Event → Call → Type 0
 Caused w u e (Opens name) = Unit {0}
 Caused w u e (Posts j bytes) = (e ≡ event.Post u j bytes) × (may_post w u j bytes ≡ true)
@@ -56,7 +56,7 @@ Caused w u e (Hears x) = In (Across u x) w.bag
 Caused w u e (Reads k) = e ≡ event.Read u k
 Caused w u e (Closes k) = Unit {0}
 
--- what a call sends
+-- The messages that a call sends.
 abbrev pub IsSentBy : WorldState → ℕ → Call → Message → Type 0
 IsSentBy w u (Posts j bytes) m = (n : ℕ) × In n (hearers u w.kernel) × (m ≡ across u (post_of j bytes (channels_of w u)) n)
 IsSentBy w u call m = ⊥
@@ -68,7 +68,7 @@ pub data Kind (w : WorldState) (e : Event) (d : Deed) : Type 0 where
 allowed-kind : (w : WorldState) (e : Event) (b : Bool) (d : Deed) → (b ≡ true → Kind w e d) → Kind w e (where_allowed b w d)
 allowed-kind w e b d f = either (Kind w e) b d (nothing w) f (λ _. quiet (λ _. refl) (λ m i. absurd (In-nil i)))
 
--- ---- what is no call on channels
+-- Events that call no channel
 
 acts-kind : (w : WorldState) (e : Event) (t : ℕ) (a : TabState) (ms : List Message) → ((m : Message) → In m ms → IsNoPost w m) → Kind w e (acts w t a ms)
 unfolding acts
@@ -125,9 +125,9 @@ greets-kind : (w : WorldState) (e : Event) (t : ℕ) (v : Option BrokerState) �
 greets-kind w e t None = quiet (λ _. refl) (λ m i. absurd (In-nil i))
 greets-kind w e t (Some b) = allowed-kind w e (lives w t) (record { world = w; sends = Down Kernel (hello_to w.kernel.generation t) ∷ [] }) (λ _. quiet (λ _. refl) (λ m i. subst (IsNoPost w) (sym (In-one i)) tt))
 
--- ---- calls on channels
+-- Calls on channels
 
--- each tab's channels are its own, and one that was never opened has none
+-- Each tab's channels carry its number, and a tab that was never opened has none.
 pub record Owned (w : WorldState) : Type 0 where
   pub own : (t : ℕ) → (channels_of w t).tab ≡ t
   pub unopened : (t : ℕ) → is_opened w.kernel t ≡ false → channels_of w t ≡ no_channels t
@@ -137,7 +137,7 @@ becomes-kind : (w : WorldState) (e : Event) (u : ℕ) (call : Call) (c : Channel
 unfolding becomes
 becomes-kind w e u call c ms live s cause h = calls u call live (ap (λ z. put u z w.channels) s) cause h
 
--- a tab that is opened has no channel, as before
+-- Opening a tab leaves it without channels.
 opens-kind : (w : WorldState) (e : Event) (i : Bool) (t : ℕ) (p : Pair) → Owned w → Kind w e (opens_as i w t p)
 opens-kind w e i t p own =
     allowed-kind w e (not (is_some (open_refusal t p w.kernel))) (with_kernel (opened t p w.kernel) (with_rows i t w))
@@ -194,7 +194,7 @@ kind w (event.Corrupt t) own = allowed-kind w (event.Corrupt t) (lives w t) (not
 kind w (event.Forge t x) own =
     allowed-kind w (event.Forge t x) (is_corrupt w t && lives w t) (record { world = w; sends = forgery w.kernel t x }) (λ e. quiet (λ _. refl) (forgery-kind w t x (and_parts _ _ e).0))
 
--- ---- what it means for one tab's channels
+-- Consequences for one tab's channels
 
 pub data Calling (t : ℕ) (w : WorldState) (e : Event) : Type 0 where
   stays : channels_of (happens w e) t ≡ channels_of w t → Calling t w e
@@ -211,7 +211,7 @@ calling t w e own = at_table (kind w e own)
         (λ other. stays (ap (λ z. channels_in t (find z t)) s ∙ ap (channels_in t) (find-put_other u (step call (channels_of w u)) w.channels t (λ z. other (sym z)))))
         (cases_eq u t)
 
--- a call leaves a tab's channels its own
+-- A call does not change which tab owns the channels.
 step-tab : (call : Call) (c : ChannelState) → (step call c).tab ≡ c.tab
 step-tab (Opens name) c = either (λ z. z.tab ≡ c.tab) (is_some (channel_refusal name c)) c (channel_opened name c) (λ _. refl) (λ _. refl)
 step-tab (Posts k bytes) c = either (λ z. z.tab ≡ c.tab) (is_some (post_refusal c.tab k bytes c)) c (posted k bytes c) (λ _. refl) (λ _. refl)
@@ -219,7 +219,7 @@ step-tab (Hears h) c = either (λ z. z.tab ≡ c.tab) (is_old c h.source h.numbe
 step-tab (Reads k) c = either (λ z. z.tab ≡ c.tab) (is_own_channel c c.tab k) (read_at k c) c (λ _. refl) (λ _. refl)
 step-tab (Closes k) c = either (λ z. z.tab ≡ c.tab) (is_own_channel c c.tab k) (closed_at k c) c (λ _. refl) (λ _. refl)
 
--- ---- what was opened stays so
+-- Opened tabs stay opened
 
 abbrev Stays : WorldState → Deed → Type 0
 Stays w d = (u : ℕ) → is_opened w.kernel u ≡ true → is_opened d.world.kernel u ≡ true
@@ -285,7 +285,7 @@ deed-stays w (event.Hello t) = greets-stays w t w.broker
 deed-stays w (event.Corrupt t) = allowed-stays w _ _ (λ _ u e. e)
 deed-stays w (event.Forge t x) = allowed-stays w _ _ (λ _ u e. e)
 
--- a tab that is not opened yet was not before
+-- A tab that is not opened after an event was not opened before.
 unopened-before : (w : WorldState) (e : Event) (u : ℕ) → is_opened (deed w e).world.kernel u ≡ false → is_opened w.kernel u ≡ false
 unopened-before w e u n = ⊎_elim (λ y. apart (deed-stays w e u y) n) (λ y. y) (cases_Bool (is_opened w.kernel u))
 

@@ -1,4 +1,5 @@
--- What an object takes, over every list of events: posts for it, in order, and none after its close.
+-- Posts that an object takes, over every list of events: they were posted to it, numbers rise,
+-- and none come after its close.
 use Rattle.std.proofs.Common.{◌≡◌, ◌≢◌, ⊎_elim, ℕ, zero, suc, ◌<◌, true, false, List, [], ◌∷◌, ◌++◌, length, drop, Some, is_some, refl, sym, ap, ap₂, ◌∙◌, subst, append_assoc, append-nil, arith}
 use Rattle.std.specs.List.{AllByRecursion}
 use Rattle.wl_origin.specs.Order.{Pair, paired}
@@ -29,7 +30,7 @@ use Rattle.wl_world.proofs.apart.RunsApart.{reached}
 use Rattle.wl_world.proofs.honest.StaysHonest.{run-honest}
 use Rattle.wl_world.proofs.heard.ChannelSteps.{Caused, IsSentBy, Kind, quiet, calls, kind, Owned, Calling, stays, called, calling, happens-owned}
 
--- ---- runs
+-- Runs
 
 pub run-append : (es fs : List Event) (w : WorldState) → run (es ++ fs) w ≡ run fs (run es w)
 run-append [] fs w = refl
@@ -50,7 +51,7 @@ unfolding happens
 bag-grows [] w m i = i
 bag-grows (e ∷ es) w m i = bag-grows es (happens w e) m (sent_all-keeps (deed w e).sends w.bag i)
 
--- ---- posts in the bag
+-- Posts in the bag
 
 posted-later : (events more : List Event) (t j n : ℕ) (name bytes : List ℕ) → WasPosted events t j n name bytes → WasPosted (events ++ more) t j n name bytes
 posted-later events more t j n name bytes p = record {
@@ -62,16 +63,16 @@ posted-later events more t j n name bytes p = record {
   numbered = p.numbered;
 }
 
--- its source made it on one of its objects
+-- The source of the post made it on one of its channel objects.
 abbrev IsMade : List Event → Heard → Type 0
 IsMade events x = (object : ℕ) × WasPosted events x.source object x.number x.channel x.bytes
 
--- a post that was sent to a tab is another one's, and was made where that is honest
+-- A post sent to a tab comes from another tab. If that tab is honest, it made the post.
 record Sent (events : List Event) (t : ℕ) (x : Heard) : Type 0 where
   made : IsHonest (run events empty_world) x.source → IsMade events x
   another : x.source ≢ t
 
--- who is honest after more events was so before
+-- A tab that is honest after more events was honest before them.
 honest-till : (events more : List Event) (u : ℕ) → IsHonest (run (events ++ more) empty_world) u → IsHonest (run events empty_world) u
 honest-till events more u h = run-honest more (run events empty_world) u (subst (λ z. IsHonest z u) (run-append events more empty_world) h)
 
@@ -84,7 +85,7 @@ sent-later events more t x s = record {
 abbrev AllSent : List Event → WorldState → Type 0
 AllSent events w = (t : ℕ) (x : Heard) → In (Across t x) w.bag → Sent events t x
 
--- what an event sends across is its post
+-- A post that an event sends was made by that event.
 new-sent : (done : List Event) (e : Event) (t : ℕ) (x : Heard) → (d : WorldState) → d ≡ run done empty_world → (u : ℕ) (call : Call) → Caused d u e call → IsSentBy d u call (Across t x) → Sent (done ++ e ∷ []) t x
 new-sent done e t x d r u (Posts j bytes) cause sent =
     let at : Across t x ≡ across u (post_of j bytes (channels_of d u)) sent.0 = sent.2 in
@@ -141,7 +142,7 @@ run-sent events = all-sent [] events (λ t x i. absurd (In-nil i))
 abbrev nobody : Pair
 nobody = paired ([], Domain [], 0)
 
--- a post that was sent to a tab comes from its partition
+-- A post sent to a tab comes from its partition.
 sent-partition : (events : List Event) (t : ℕ) (x : Heard) → In (Across t x) (run events empty_world).bag → partition_at (run events empty_world) x.source ≡ partition_at (run events empty_world) t
 unfolding is_in
 sent-partition events t x i =
@@ -153,7 +154,7 @@ sent-partition events t x i =
     let f = in-found p w.kernel x.source (sym m.alike ∙ own) in
     ap partition_in f.1 ∙ ap Some f.2 ∙ sym (ap partition_in o.1)
 
--- ---- what an object takes
+-- Posts that an object takes
 
 abbrev TookOpen : ChannelState → ℕ → Letter → ChannelState → Type 0
 TookOpen c k l d = In l (drop (length (inbox_at c.objects k)) (inbox_at d.objects k)) → is_open_at c.objects k ≡ true
@@ -161,7 +162,7 @@ TookOpen c k l d = In l (drop (length (inbox_at c.objects k)) (inbox_at d.object
 never : (c : ChannelState) (k : ℕ) (l : Letter) (d : ChannelState) → drop (length (inbox_at c.objects k)) (inbox_at d.objects k) ≡ [] → TookOpen c k l d
 never c k l d e i = absurd (In-nil (subst (In l) e i))
 
--- only an open object takes
+-- Only an open object takes a post.
 took-open : (c : ChannelState) (k : ℕ) (call : Call) (l : Letter) → In l (takes k call c) → is_open_at c.objects k ≡ true
 took-open c k (Opens name) l = either (TookOpen c k l) (is_some (open_refusal name c)) c (opened name c) (λ _. never c k l c (nothing_itself k c)) (λ _. never c k l (opened name c) (nothing_opened k name c))
 took-open c k (Posts j bytes) l =
@@ -178,7 +179,7 @@ open-there [] k e = apart e refl
 open-there (o ∷ os) zero e = omega arith
 open-there (o ∷ os) (suc k) e = let l = open-there os k (sym (is_open_at-suc o os k) ∙ e) in omega arith
 
--- an object keeps its name
+-- An object keeps its name.
 abbrev Keeps : List Event → WorldState → ℕ → ℕ → Type 0
 Keeps es w t k = k < length (objects_of w t) → name_at (objects_of (run es w) t) k ≡ name_at (objects_of w t) k
 
@@ -256,7 +257,7 @@ took-in done (e ∷ es) t k l h i =
     (took-in (done ++ e ∷ []) es t k l (subst (λ z. IsHonest (run z empty_world) l.source) (sym (append_assoc done (e ∷ []) es)) h) (subst (λ z. In l (taken_in t k es z)) (sym (run-append done (e ∷ []) empty_world)) j)))
     (In-append_cases (takes_at t k w e) (taken_in t k es (happens w e)) i)
 
--- ---- the calls on a tab's channels
+-- Calls on a tab's channels
 
 abbrev CalledIn : ℕ → List Event → WorldState → Type 0
 CalledIn t es w = (calls : List Call) × HearsOthers t calls × ((k : ℕ) → taken_in t k es w ≡ takes_in k calls (channels_of w t))
@@ -288,7 +289,7 @@ called-in done (e ∷ es) t =
     called-next done e es t (calling t (run done empty_world) e (run-owned done))
     (subst (CalledIn t es) (run-append done (e ∷ []) empty_world) (called-in (done ++ e ∷ []) es t))
 
--- ---- the laws
+-- The laws
 
 pub heard-rising : HeardRisingForAll
 heard-rising events t k source =
@@ -298,7 +299,7 @@ heard-rising events t k source =
 pub heard-posts : HeardPostsForAll
 heard-posts events t k l h i = took-in [] events t k l h i
 
--- a closed object takes nothing
+-- A closed object takes no posts.
 pub taken-closed : (before later : List Event) (t k : ℕ) → let w = run before empty_world in k < length (objects_of w t) → is_open_at (objects_of w t) k ≡ false → taken_in t k later w ≡ []
 taken-closed before later t k there closed =
     let a = called-in before later t in

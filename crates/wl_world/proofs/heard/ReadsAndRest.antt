@@ -1,4 +1,4 @@
--- What an object took is what was read of it and then a rest, which waits in its inbox while it is open.
+-- Reads: the posts that an object took are those read from it, followed by a rest that is its inbox while it is open.
 use Rattle.std.proofs.Common.{◌≡◌, ◌≢◌, ◌⊎◌, inl, inr, ⊎_elim, ℕ, zero, suc, ◌+◌, ◌<◌, Bool, true, false, cond, ◌&&◌, List, [], ◌∷◌, ◌++◌, length, drop, Option, Some, None, is_some, refl, sym, ap, ap₂, ◌∙◌, subst, append_assoc, append-nil, arith}
 use Rattle.std.specs.Prelude.{◌==◌, nat_lt}
 use Rattle.std.proofs.lemmas.Bool.{and_parts, and_left, and_right, and_from, cases_eq, cases_lt, cases_Bool, eq-eqb, eqb-true, ne_eqb, lt-ltb, cond-true, cond-false}
@@ -24,9 +24,9 @@ use Rattle.wl_world.specs.Heard.{objects_of, takes_at, taken_in, letters_in, tol
 use Rattle.wl_world.proofs.heard.ChannelSteps.{Caused, Owned, Calling, stays, called, calling, happens-owned}
 use Rattle.wl_world.proofs.heard.PostsRise.{open-there, empty-owned, run-owned, taken-closed}
 
--- ---- inboxes
+-- Inboxes
 
--- the inbox has more behind what it had
+-- The old inbox is a prefix of the new one.
 abbrev Grows : List Letter → List Letter → Type 0
 Grows old new = (more : List Letter) × (new ≡ old ++ more)
 
@@ -65,9 +65,9 @@ closed-closed k [] = refl
 closed-closed zero (o ∷ os) = refl
 closed-closed (suc k) (o ∷ os) = ap (λ z. is_open_at z (suc k)) (changed_at-suc one_closed o os k) ∙ is_open_at-suc o (changed_at k one_closed os) k ∙ closed-closed k os
 
--- ---- one event
+-- One event
 
--- the object is not closed now, since it is open in the end
+-- The object is not closed.
 abbrev NotClosed : ℕ → ChannelState → Type 0
 NotClosed k d = k < length d.objects → is_open_at d.objects k ≡ false → ⊥
 
@@ -105,7 +105,7 @@ called-grows w e t k unread (Closes j) cause still =
         let there : k < length (closed_at j c).objects = closed-there c j k own (open-there c.objects k was) in
         still there (subst (λ z. is_open_at (changed_at z one_closed c.objects) k ≡ false) (sym same) (closed-closed k c.objects))
 
--- the oldest of the posts that wait
+-- The oldest post in the inbox, if there is one.
 abbrev oldest : List Letter → List Letter
 oldest [] = []
 oldest (l ∷ ls) = l ∷ []
@@ -113,7 +113,7 @@ oldest (l ∷ ls) = l ∷ []
 abbrev may_read : WorldState → ℕ → ℕ → Bool
 may_read w t k = lives w t && is_own (channels_of w t) t k
 
--- what is read of the object at an event
+-- The posts read from the object at an event.
 abbrev reads_at : ℕ → ℕ → WorldState → Event → List Letter
 reads_at t k w (event.Read u j) = cond ((u == t && j == k) && may_read w t k) (oldest (inbox_at (objects_of w t) k)) []
 reads_at t k w e = []
@@ -122,7 +122,7 @@ abbrev reads_in : ℕ → ℕ → List Event → WorldState → List Letter
 reads_in t k [] w = []
 reads_in t k (e ∷ es) w = reads_at t k w e ++ reads_in t k es (happens w e)
 
--- what was in the inbox and what it takes is what is read and what is in the inbox
+-- The old inbox with the posts taken equals the posts read with the new inbox.
 abbrev Tells : ℕ → ℕ → WorldState → Event → Type 0
 Tells t k w e = inbox_at (objects_of w t) k ++ takes_at t k w e ≡ reads_at t k w e ++ inbox_at (objects_of (happens w e) t) k
 
@@ -139,7 +139,7 @@ unread-tells w e t k unread none (called call s cause) still =
 same-tells : (w : WorldState) (e : Event) (t k : ℕ) → channels_of (happens w e) t ≡ channels_of w t → reads_at t k w e ≡ [] → Tells t k w e
 same-tells w e t k s none = grown-tells _ _ (same-grows _ _ (ap (λ z. inbox_at z.objects k) s)) ∙ ap (λ z. z ++ inbox_at (objects_of (happens w e) t) k) (sym none)
 
--- ---- a reading
+-- Reads
 
 oldest-rest : (ls : List Letter) → ls ++ drop (length ls) (rest_of ls) ≡ oldest ls ++ rest_of ls
 oldest-rest [] = refl
@@ -181,9 +181,9 @@ tells w (event.Read u j) t k own still = ⊎_elim
     (cases_eq u t)
 tells w e t k own still = unread-tells w e t k (λ j s. cc) refl (calling t w e own) still
 
--- ---- closed objects
+-- Closed objects
 
--- what is closed stays so
+-- A closed object stays closed.
 closed-still : (w : WorldState) (e : Event) (t k : ℕ) → Calling t w e → k < length (objects_of w t) → is_open_at (objects_of w t) k ≡ false
     → (k < length (objects_of (happens w e) t)) × (is_open_at (objects_of (happens w e) t) k ≡ false)
 closed-still w e t k (stays s) there closed = (subst (λ z. k < length z.objects) (sym s) there, ap (λ z. is_open_at z.objects k) s ∙ closed)
@@ -197,7 +197,7 @@ stays-closed (e ∷ es) w t k own there closed =
     let d = closed-still w e t k (calling t w e own) there closed in
     stays-closed es (happens w e) t k (happens-owned w e own) d.0 d.1
 
--- and nothing is read of it
+-- No post is read from a closed object.
 closed-unread : (w : WorldState) (e : Event) (t k : ℕ) → is_open_at (objects_of w t) k ≡ false → reads_at t k w e ≡ []
 closed-unread w (event.Read u j) t k closed =
     let c = channels_of w t in
@@ -210,15 +210,16 @@ reads-closed (e ∷ es) w t k own there closed =
     let d = closed-still w e t k (calling t w e own) there closed in
     ap₂ ◌++◌ (closed-unread w e t k closed) (reads-closed es (happens w e) t k (happens-owned w e own) d.0 d.1)
 
--- ---- whole lists
+-- Whole lists
 
--- what waited and what it takes at these events is what is read and a rest, which waits in its inbox while it is open
+-- The inbox with the posts taken at these events equals the posts read with a rest. The rest is the inbox
+-- while the object is open.
 record IsReadIn (es : List Event) (w : WorldState) (t k : ℕ) : Type 0 where
   rest : List Letter
   took : inbox_at (objects_of w t) k ++ taken_in t k es w ≡ reads_in t k es w ++ rest
   waits : is_open_at (objects_of (run es w) t) k ≡ true → rest ≡ inbox_at (objects_of (run es w) t) k
 
--- what is read at an event is a prefix of what waits
+-- The posts read at an event are a prefix of the inbox.
 abbrev HasFront : List Letter → List Letter → Type 0
 HasFront all front = (rest : List Letter) × (all ≡ front ++ rest)
 
@@ -266,7 +267,7 @@ run-read (e ∷ es) w t k own =
     })
     (closed-or_not (channels_of v t) k)
 
--- ---- what the replies say
+-- Reads as the replies say
 
 first-said : (ls : List Letter) → letters_in (read_letter (first_of ls)) ≡ oldest ls
 first-said [] = refl

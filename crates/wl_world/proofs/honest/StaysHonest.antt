@@ -1,4 +1,4 @@
--- Who is honest: an event leaves it so but for the one by which a tab is taken over.
+-- Honesty: an event makes no tab dishonest except the one that it takes over.
 use Rattle.std.proofs.Common.{◌≡◌, ◌⊎◌, inl, inr, ⊎_elim, ℕ, Bool, false, List, [], ◌∷◌, Option, Some, None, refl, sym, ap, ◌∙◌, subst}
 use Rattle.std.specs.Prelude.{◌==◌}
 use Rattle.std.specs.List.{list_any}
@@ -18,7 +18,7 @@ use Rattle.wl_world.specs.Holdings.{IsHonest}
 use Rattle.wl_world.specs.Hostile.{HonestUnlessNamed, HonestBefore}
 use Rattle.wl_world.proofs.exclusion.Corrupting.{honest-before, honest-after}
 
--- the deed takes no tab over
+-- The deed takes no tab over.
 abbrev Spares : WorldState → Deed → Type 0
 Spares w d = d.world.corrupt ≡ w.corrupt
 
@@ -62,7 +62,7 @@ greets-spares : (w : WorldState) (t : ℕ) (v : Option BrokerState) → Spares w
 greets-spares w t None = refl
 greets-spares w t (Some b) = allowed-spares w _ _ refl
 
--- an event spares all, or takes one over
+-- The event takes no tab over, or it is a `Corrupt` event that takes one over.
 abbrev Takeover : WorldState → Event → Type 0
 Takeover w e = Spares w (deed w e) ⊎ ((t : ℕ) × (e ≡ event.Corrupt t) × (((deed w e).world.corrupt ≡ w.corrupt) ⊎ ((deed w e).world.corrupt ≡ taken_over t w.corrupt)))
 

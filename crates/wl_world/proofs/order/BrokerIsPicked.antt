@@ -1,4 +1,5 @@
--- While a generation is up, its broker is what the list picked so far says; of each generation, the bag is what its list says.
+-- Relation between picked lists and the broker: the state of a broker that is up, and the answers in the bag
+-- for each generation.
 use Rattle.std.proofs.Common.{◌≡◌, ◌≢◌, ⊎_elim, ℕ, ◌<◌, Bool, true, false, cond, not, ◌&&◌, ◌||◌, Option, Some, None, List, [], ◌∷◌, ◌++◌, refl, sym, ap, ap₂, ◌∙◌, subst, append_assoc, append-nil}
 use Rattle.std.specs.Prelude.{◌==◌}
 use Rattle.std.specs.List.{list_all}
@@ -23,7 +24,7 @@ use Rattle.wl_world.proofs.exclusion.Invariant.{HasGrant}
 use Rattle.wl_world.proofs.order.OneMoreItem.{item, of_partition-push_same, of_partition-push_other, of_tab-push_same, of_tab-push_other, of_tab-own, managed-push, split-push}
 use Rattle.wl_world.proofs.order.RunsOfCommands.{Ordered}
 
--- the seat that a tab's items make
+-- The seat that a tab's items determine.
 abbrev pub seat_by : ℕ → List Item → Option Seat
 seat_by p mine = cond (has_death mine) (Some Dead) (cond (has_report mine) (Some (Joined p (next_of mine) (limit_of mine))) None)
 
@@ -33,7 +34,7 @@ seat_by-come true false p n l = refl
 seat_by-come false true p n l = refl
 seat_by-come false false p n l = refl
 
--- tabs have these partitions, and these were opened
+-- Each item's tab was opened and belongs to the item's partition.
 module _ (part : ℕ → ℕ) (opened : ℕ → Bool) where
   abbrev pub Placed : List Item → Type 0
   Placed items = (x : Item) → In x items → (opened x.tab ≡ true) × (x.partition ≡ part x.tab)
@@ -50,14 +51,14 @@ module _ (part : ℕ → ℕ) (opened : ℕ → Bool) where
   abbrev pub Told : List Message → ℕ → ℕ → List (ℕ × ℕ) → List Item → Type 0
   Told bag g p listed items = (before later : List Item) (x : Item) (r : Row) → before ++ x ∷ later ≡ items → In r (grants_of p listed before x) → HasAnswer bag g r
 
-  -- what is kept of a generation, up or past
+  -- Facts about a generation's list, which hold while it is up and afterwards.
   pub record Kept (g : ℕ) (issued : ℕ → List Operation) (honest : ℕ → Type 0) (bag : List Message) (k : Picked) : Type 0 where
     pub placed : Placed k.items
     pub ordered : (t : ℕ) → Ordered (honest t) (issued t) (of_tab t k.items)
     pub held : (t n : ℕ) → HasGrant bag t g n → (opened t ≡ true) × WasHeld k (part t) t n
     pub told : (p : ℕ) → Told bag g p k.listed (of_partition p k.items)
 
-  -- ---- a partition is active where its list is complete
+  -- A partition is active if its list is complete
 
   pub own-tab : (items : List Item) (t p : ℕ) → Placed items → part t ≡ p → of_tab t (of_partition p items) ≡ of_tab t items
   own-tab items t p placed e = of_tab-own t p items (λ x i s. (placed x i).1 ∙ (ap part s ∙ e))
@@ -83,7 +84,7 @@ module _ (part : ℕ → ℕ) (opened : ℕ → Bool) where
   active-complete b k p placed same places seats =
       came-complete b k p placed seats b.listed (λ t q i. (places t q i).1) ∙ ap (λ xs. is_complete p xs (of_partition p k.items)) same
 
-  -- ---- one more item
+  -- One more item
 
   pub seats-more : (b after : BrokerState) (k : Picked) (t p : ℕ) (a : Act)
       → ((u : ℕ) → seat_of b u ≡ seat_by (part u) (of_tab u k.items))
@@ -107,7 +108,7 @@ module _ (part : ℕ → ℕ) (opened : ℕ → Bool) where
     places-more : (u q : ℕ) → In (u, q) after.listed → (opened u ≡ true) × (part u ≡ q)
     places-more u q i = tie.places u q (subst (λ xs. In (u, q) xs) listed i)
 
-    -- the partition is active after the item where the list with it is complete
+    -- The partition is active after the item exactly if its list with the item is complete.
     complete-after : is_active after p ≡ is_complete p k.listed (of_partition p k.items ++ item t p a ∷ [])
     complete-after = active-complete after (adds t p a k) p placed-more (listed ∙ tie.same) places-more seats ∙ ap (is_complete p k.listed) (of_partition-push_same k.items t p a)
 

@@ -1,4 +1,4 @@
--- Each event keeps broker and bag at what the list picked so far says.
+-- Proof that each event keeps broker and bag in agreement with the picked list.
 use Rattle.std.proofs.Common.{◌≡◌, ◌≢◌, ⊎_elim, ℕ, ◌<◌, Bool, true, false, cond, not, ◌&&◌, Option, Some, None, is_some, List, [], ◌∷◌, ◌++◌, map, drop, refl, sym, ap, ◌∙◌, subst, arith}
 use Rattle.std.specs.Prelude.{◌==◌}
 use Rattle.std.proofs.Math.Bool.{and-true}
@@ -36,9 +36,9 @@ use Rattle.wl_world.proofs.order.PickedIsTaken.{death-same, burial-follows, taki
 use Rattle.wl_world.proofs.order.OneGeneration.{AnswerDown, Speaks, taking-speaks, burial-speaks}
 use Rattle.wl_world.proofs.order.WithoutBroker.{Based, Quiet, quiet-allowed, asks-quiet, queries-quiet, aborts-quiet, releases-quiet, resends-quiet, hears-quiet, becomes-quiet, hello-quiet, opens-quiet, kills-quiet, opens_channel-quiet, posts-quiet, reads-quiet, closes-quiet, corrupts-quiet, forges-quiet}
 
--- ---- the invariant
+-- The invariant
 
--- while the generation is up
+-- A broker of generation `g` that is up agrees with the list.
 abbrev TiedIf : ℕ → WorldState → Picked → Option BrokerState → Type 0
 TiedIf g w k None = Unit {0}
 TiedIf g w k (Some b) = b.generation ≡ g → Tied (partition_of w) (was_opened w) b k
@@ -52,7 +52,7 @@ record Ordering (g : ℕ) (w : WorldState) (k : Picked) : Type 0 where
   kept : KeptOf g w k
   tied : TiedIf g w k w.broker
 
--- ---- no broker comes, goes or speaks
+-- No broker starts, stops or sends
 
 seat-nobody : (part : ℕ) (mine : List Item) → mine ≡ [] → seat_by part mine ≡ None
 seat-nobody part mine e = ap (seat_by part) e
@@ -85,9 +85,9 @@ quiet-ordering g w v k y s q = record {
   tied = subst (TiedIf g v k) (sym q.broker) (quiet-tied g w v k y.kept q w.broker y.tied);
 }
 
--- ---- the broker takes something
+-- The broker takes something
 
--- messages without a granted answer of this generation
+-- Messages without a granted answer of this generation keep the facts about its list.
 kept-other : (part : ℕ → ℕ) (opened : ℕ → Bool) (g : ℕ) (issued : ℕ → List Operation) (honest : ℕ → Type 0) (bag outs : List Message) (k : Picked) → ((t n : ℕ) → HasGrant outs t g n → ⊥) → Kept part opened g issued honest bag k → Kept part opened g issued honest (sent_all outs bag) k
 kept-other part opened g issued honest bag outs k none y = record {
   placed = y.placed;
@@ -125,7 +125,7 @@ broker-ordering g w b (Does z outs) k h v y s f same other = ⊎_elim
     based : Based (after w (follows w (Does z outs)))
     based = record { own = y.based.own; said = λ t p u x e i h. ⊎_elim (λ a. y.based.said t p u x e a h) (λ a. absurd (no-ups outs t p u a)) (sent_all-cases (map from_broker outs) w.bag i) }
 
--- ---- events
+-- Events
 
 current-at : (w : WorldState) (b : BrokerState) → Sound w → w.broker ≡ Some b → b.generation ≡ w.kernel.generation
 current-at w b s v = subst (λ z. (broker_in w.kernel.generation z).generation ≡ w.kernel.generation) v s.current
@@ -210,7 +210,7 @@ greets-ordering : (g : ℕ) (w : WorldState) (k : Picked) (t : ℕ) → Ordering
 greets-ordering g w k t y None s = y
 greets-ordering g w k t y (Some b) s = quiet-ordering g w _ k y s (quiet-allowed w (lives w t) _ y.based (λ _. hello-quiet w t w.kernel.generation y.based))
 
--- ---- a generation begins
+-- A generation begins
 
 never : {X : Type 0} (before later : List X) (x : X) → before ++ x ∷ later ≡ [] → ⊥
 never [] later x e = cc
@@ -275,7 +275,7 @@ starts-ordering g w k ts y None v s =
     go false o s = subst (λ c. Ordering g w (cond c (record { listed = placed ts w.kernel; items = []; partial = [] }) k)) (sym (and_right (w.kernel.generation == g) false refl)) y
     go true o s = subst (λ c. Ordering g (after w (begins w ts)) (cond c (record { listed = placed ts w.kernel; items = []; partial = [] }) k)) (sym (and-true (w.kernel.generation == g))) (begins-ordering g w k ts y v (o refl) s)
 
--- ---- a step, and a run
+-- A step, and a run
 
 step : (g : ℕ) (w : WorldState) (k : Picked) (e : Event) → Ordering g w k → Sound (happens w e) → Ordering g (happens w e) (picks g w k e)
 unfolding happens deed picks
@@ -320,7 +320,7 @@ first-ordering g = record {
 ordering : (g : ℕ) (events : List Event) → Ordering g (run events empty_world) (picked g events)
 ordering g events = all g events empty_world (record { listed = []; items = []; partial = [] }) (first-ordering g)
 
--- ---- the laws
+-- The laws
 
 pub commands-in_order : CommandsInOrderForAll
 commands-in_order events g p t h =

@@ -1,4 +1,4 @@
--- Taken lists: what one more item changes.
+-- Taken lists with one more item.
 use Rattle.std.proofs.Common.{◌≡◌, ◌≢◌, ◌⊎◌, inl, inr, ℕ, Bool, true, false, cond, not, ◌&&◌, ◌||◌, List, [], ◌∷◌, ◌++◌, filter, refl, sym, ap, ◌∙◌, append_assoc, append-nil}
 use Rattle.std.specs.Prelude.{◌==◌}
 use Rattle.std.specs.List.{list_any}
@@ -13,7 +13,7 @@ use Rattle.wl_world.specs.Orders.{Act, Reports, Item, of_partition, of_tab, is_d
 abbrev pub item : ℕ → ℕ → Act → Item
 item t p a = record { tab = t; partition = p; act = a }
 
--- ---- one more item at the end
+-- One more item at the end
 
 push_if : {X : Type 0} (b : Bool) (y x : X) (zs : List X) → cond b (y ∷ (zs ++ x ∷ [])) (zs ++ x ∷ []) ≡ cond b (y ∷ zs) zs ++ x ∷ []
 push_if true y x zs = refl
@@ -63,7 +63,7 @@ base_of-push_first (y ∷ xs) x h =
     let o = or_parts _ _ h in
     base_or-none y.act (base_of (xs ++ x ∷ [])) o.0 ∙ base_of-push_first xs x o.1
 
--- ---- a tab of one partition
+-- A tab of one partition
 
 pub of_tab-own : (t p : ℕ) (xs : List Item) → ((x : Item) → In x xs → x.tab ≡ t → x.partition ≡ p) → of_tab t (of_partition p xs) ≡ of_tab t xs
 of_tab-own t p [] h = refl
@@ -81,12 +81,12 @@ of_tab-off t p (x ∷ xs) h =
     (λ e. ap (λ b. cond b (x ∷ of_tab t (of_partition p xs)) (of_tab t (of_partition p xs))) (ne_eqb x.tab t (λ s. h x Here s (eqb-true x.partition p e))) ∙ ih)
     (λ e. ih)
 
--- a tab without items
+-- A tab without items has an empty list.
 pub of_tab-none : (t : ℕ) (xs : List Item) → ((x : Item) → In x xs → x.tab ≢ t) → of_tab t xs ≡ []
 of_tab-none t [] h = refl
 of_tab-none t (x ∷ xs) h = ap (λ b. cond b (x ∷ of_tab t xs) (of_tab t xs)) (ne_eqb x.tab t (h x Here)) ∙ of_tab-none t xs (λ z i. h z (Later i))
 
--- none of the tab's reports stands elsewhere
+-- A tab of one partition has no report under another partition.
 pub no_report_elsewhere : (t p : ℕ) (xs : List Item) → ((x : Item) → In x xs → x.tab ≡ t → x.partition ≡ p) → list_any (λ x. is_report x.act && not (x.partition == p)) (of_tab t xs) ≡ false
 no_report_elsewhere t p [] h = refl
 no_report_elsewhere t p (x ∷ xs) h =
@@ -100,7 +100,7 @@ no_report_elsewhere t p (x ∷ xs) h =
     and_nothing true b = refl
     and_nothing false b = refl
 
--- ---- the fold, by the last item
+-- The fold, by the last item
 
 managed_from-push : (p : ℕ) (listed : List (ℕ × ℕ)) (before : List Item) (m : Locks) (xs : List Item) (x : Item)
     → managed_from p listed before m (xs ++ x ∷ []) ≡ managed_one p listed (before ++ (xs ++ x ∷ [])) (managed_from p listed before m xs) x
@@ -112,7 +112,7 @@ managed_from-push p listed before m (y ∷ xs) x =
 pub managed-push : (p : ℕ) (listed : List (ℕ × ℕ)) (xs : List Item) (x : Item) → managed p listed (xs ++ x ∷ []) ≡ managed_one p listed (xs ++ x ∷ []) (managed p listed xs) x
 managed-push p listed xs x = managed_from-push p listed [] no_locks xs x
 
--- ---- prefixes
+-- Prefixes
 
 snoc : {X : Type 0} (y : X) (ys : List X) → (zs : List X) × (z : X) × (y ∷ ys ≡ zs ++ z ∷ [])
 snoc y [] = ([], y, refl)

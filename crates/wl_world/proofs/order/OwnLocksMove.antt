@@ -1,4 +1,4 @@
--- A message that comes to the broker moves the locks of its own tab.
+-- A message that arrives at the broker moves the locks of its own tab alone.
 use Rattle.std.proofs.Common.{◌≡◌, ◌≢◌, inl, ℕ, List, Option, Some, None, refl, sym, ap, ◌∙◌, subst}
 use Rattle.wl_grammar.specs.declared.frame.Stamped.{Stamped}
 use Rattle.wl_grammar.specs.declared.frame.Upward.{Upward}

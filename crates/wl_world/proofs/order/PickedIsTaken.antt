@@ -1,4 +1,4 @@
--- The broker takes what is picked, and only that.
+-- Proof that the broker takes exactly the picked items.
 use Rattle.std.proofs.Common.{◌≡◌, ◌⊎◌, inl, inr, ⊎_elim, ℕ, ◌<◌, ◌≤◌, Bool, true, false, cond, not, ◌&&◌, ◌||◌, Option, Some, None, List, [], ◌∷◌, ◌++◌, map, length, get_or, refl, sym, ap, ap₂, ◌∙◌, subst, arith, append-nil}
 use Rattle.std.specs.Prelude.{◌==◌, nat_lt}
 use Rattle.std.specs.List.{list_all}
@@ -44,7 +44,7 @@ active-is : (b : BrokerState) (p : ℕ) → is_active b p ≡ list_all (λ x. no
 unfolding is_active
 active-is b p = refl
 
--- ---- the list of the start
+-- The start list
 
 listed_at-some : (t x : ℕ) (xs : List (ℕ × ℕ)) → listed_at t xs ≡ Some x → In (t, x) xs
 listed_at-some t x [] = λ h. cc
@@ -67,7 +67,7 @@ seated-cases (Some Dead) l = inr (refl, refl)
 
 module _ (part : ℕ → ℕ) (opened : ℕ → Bool) (g : ℕ) (b : BrokerState) (issued : ℕ → List Operation) (honest : ℕ → Type 0) (bag : List Message) (k : Picked) (t p : ℕ)
     (kept : Kept part opened g issued honest bag k) (tie : Tied part opened b k) (open_now : opened t ≡ true) (home : p ≡ part t) (gen : b.generation ≡ g) where
-  -- ---- a command that was taken before is answered again
+  -- A command that was taken before is answered again
 
   later-spoken : (n : ℕ) (c : Operation) → Spoken part opened b p (later_answer b t p n c)
   later-spoken n (Request mode if_available name) = λ h. (open_now, sym home, standing-granted (manager_of b p) t n h)
@@ -85,7 +85,7 @@ module _ (part : ℕ → ℕ) (opened : ℕ → Bool) (g : ℕ) (b : BrokerState
           (o.0, subst (λ v. WasHeld k v u h) (sym o.1) (of_partition p k.items, [], append-nil _, subst (λ (m : Locks). has_pair u h m.held ≡ true) (tie.managers p) o.2)))
           (sent_all-cases (map from_broker (later_answer b t p n c ∷ [])) bag i.2)
 
-  -- ---- a death
+  -- A death
 
   bury-some : Tells part opened g b issued honest bag (adds t p Dies k) (Does (buried_at (with_seat t Dead b) t (Some p)).0 (buried_at (with_seat t Dead b) t (Some p)).1)
   bury-some =
@@ -99,7 +99,7 @@ module _ (part : ℕ → ℕ) (opened : ℕ → Bool) (g : ℕ) (b : BrokerState
       (λ x i. absurd (In-nil i))
       (λ x i. In-map (λ (y : Row). answer_to (settled_at (with_seat t Dead b) p m) y.client y.number Granted) (subst (In x) (sym (newly-here (with_seat t Dead b) p m)) i))
 
-  -- the death of a tab that is neither listed nor has joined changes no lock
+  -- The death of a tab that is neither listed nor joined changes no lock.
   bury-none : is_joined (seat_of b t) ≡ false → ((q : ℕ) → In (t, q) b.listed → ⊥) → Tells part opened g b issued honest bag (adds t p Dies k) (Does (with_seat t Dead b) [])
   bury-none nj nl = (
     kept-more part opened b z k t p Dies tie kept.placed open_now home refl seats here_now (λ q n. refl) g issued honest bag [] kept (ordered-dies (honest t) (issued t) (of_tab t k.items) t p (kept.ordered t)) (λ u n h. absurd (In-nil h.2)) said,
@@ -169,7 +169,7 @@ module _ (part : ℕ → ℕ) (opened : ℕ → Bool) (g : ℕ) (b : BrokerState
       go true = (kept, tie)
       go false = buried-follows (place_of b t) place-some place-none
 
-  -- ---- what is taken is what is picked
+  -- The broker takes exactly the picked items
 
   abbrev list : List Item
   list = of_partition p k.items
@@ -180,7 +180,7 @@ module _ (part : ℕ → ℕ) (opened : ℕ → Bool) (g : ℕ) (b : BrokerState
   pub death-same : has_death (of_tab t (of_partition p k.items)) ≡ is_dead (seat_of b t)
   death-same = ap has_death own ∙ (sym (dead-facts (part t) (of_tab t k.items)) ∙ ap is_dead (sym (tie.seats t)))
 
-  -- a tab that is not dead has joined where it has a report
+  -- A tab that is not dead has joined exactly if it has a report in the list.
   report-same : is_dead (seat_of b t) ≡ false → has_report (of_tab t (of_partition p k.items)) ≡ is_joined (seat_of b t)
   report-same nd = ap has_report own ∙ (sym (joined-same_report (has_death (of_tab t k.items)) (has_report (of_tab t k.items)) (part t) (next_of (of_tab t k.items)) (limit_of (of_tab t k.items)) (sym (ap has_death own) ∙ (death-same ∙ nd))) ∙ ap is_joined (sym (tie.seats t)))
     where
@@ -214,7 +214,7 @@ module _ (part : ℕ → ℕ) (opened : ℕ → Bool) (g : ℕ) (b : BrokerState
   told-cases Q false false r false false true true o same drop good = subst (λ v. Q (Drops PartTwice) (not v && false)) (sym (same refl)) (drop PartTwice)
   told-cases Q false false r false false true false o same drop good = subst (λ v. Q o (not v && true)) (sym (same refl)) (good refl refl refl)
 
-  -- a part is kept: the list has no item more
+  -- Storing a part adds no item to the list.
   keeps-follows : (r : Partial) → AllBelow r.base r.came → Tells part opened g b issued honest bag (record k { partial = put t r k.partial }) (Does (keeping t r b) [])
   keeps-follows r low = (
     record { placed = kept.placed; ordered = kept.ordered; held = kept.held; told = kept.told },
@@ -232,7 +232,7 @@ module _ (part : ℕ → ℕ) (opened : ℕ → Bool) (g : ℕ) (b : BrokerState
       same-partial : (x y : Partial) → Some x ≡ Some y → x ≡ y
       same-partial x y e = cc
 
-  -- the report stands where its last missing part is taken
+  -- A report becomes an item when its last missing part is taken.
   whole-follows : (r : Partial) → AllBelow r.base r.came → is_joined (seat_of b t) ≡ false → is_dead (seat_of b t) ≡ false → (honest t → r.base ≤ length (issued t))
       → Tells part opened g b issued honest bag (adds_report t p r k) (join_if b t p r)
   unfolding adds_report join_if
@@ -264,7 +264,7 @@ module _ (part : ℕ → ℕ) (opened : ℕ → Bool) (g : ℕ) (b : BrokerState
       same = ap₂ (λ y z. not y && z) death-same (ap₂ (λ y z. not y && z) off-same
           (ap₂ (λ xs ps. not (has_report (of_tab t (of_partition p k.items))) && (not (not (is_listed (listed_at t xs)) && has_held x.entries) && ((all_below x.base x.entries && fits x (find ps t)) && not (is_there x (find ps t))))) (sym tie.same) (sym tie.partial)))
 
-  -- where n is the next number it is neither above nor below it; where it is neither, it is the next
+  -- A number that is neither below nor above the next number is the next number.
   command-cases : (Q : Taking → Bool → Type 0) (d m r a c x l y f e : Bool) (later o : Taking) → (d ≡ false → r ≡ a) → (d ≡ false → a ≡ true → x ≡ true → e ≡ false) → (d ≡ false → a ≡ true → y ≡ true → e ≡ false) → (d ≡ false → a ≡ true → x ≡ false → y ≡ false → e ≡ true)
       → ((z : Dropped) → Q (Drops z) false) → Q later false → (a ≡ true → x ≡ false → y ≡ false → Q o true)
       → Q (cond d (Drops DeadTab) (cond m (Drops Misplaced) (cond (not a) (Drops NotJoined) (cond (not c) (Drops Recovering) (cond (x || l) (Drops OutOfTurn) (cond y later (cond f (Drops TooMany) o)))))))
@@ -300,7 +300,7 @@ module _ (part : ℕ → ℕ) (opened : ℕ → Bool) (g : ℕ) (b : BrokerState
       next : is_joined (seat_of b t) ≡ true → broker_next b t ≡ next_of (of_tab t (of_partition p k.items))
       next j = ap next_in (tie.seats t ∙ (joined-facts (part t) (of_tab t k.items) (ap is_joined (sym (tie.seats t)) ∙ j)).2) ∙ ap next_of (sym own)
 
-      -- of a tab with a report the limits are the same
+      -- The limit of a tab with a report is the same in the list and at the broker.
       room : has_report (of_tab t (of_partition p k.items)) ≡ true → is_dead (seat_of b t) ≡ false → limit_of (of_tab t (of_partition p k.items)) ≡ broker_limit b t
       room e nd = ap limit_of own ∙ sym (ap limit_in (tie.seats t ∙ (joined-facts (part t) (of_tab t k.items) (ap is_joined (sym (tie.seats t)) ∙ (sym (report-same nd) ∙ e))).2))
 
@@ -317,7 +317,7 @@ module _ (part : ℕ → ℕ) (opened : ℕ → Bool) (g : ℕ) (b : BrokerState
           ∙ where_alive (is_dead (seat_of b t)) (is_misplaced b t p) (has_report (of_tab t (of_partition p k.items))) (λ l. is_active b p && (not (n == LAST_NUMBER) && ((n == next_of (of_tab t (of_partition p k.items))) && not (has_too_many l (manager_of b p) t c))))
           (limit_of (of_tab t (of_partition p k.items))) (broker_limit b t) room
 
-  -- the message is one that the tab may have sent, where it is honest
+  -- If the tab is honest, it may have sent this message.
   abbrev pub SaidBefore : Upward → Type 0
   SaidBefore (up.Report r) = honest t → r.base ≤ length (issued t)
   SaidBefore (up.ReportPart r) = honest t → r.base ≤ length (issued t)
@@ -329,7 +329,7 @@ module _ (part : ℕ → ℕ) (opened : ℕ → Bool) (g : ℕ) (b : BrokerState
   inner-follows (up.ReportPart r) said = told-follows (in_part r) said
   inner-follows (up.Command c) said = command-follows c.number c.operation said
 
-  -- a message of another generation is dropped and not picked
+  -- A message of another generation is dropped and not picked.
   pub taking-follows : (u : Upward) → SaidBefore u → Tells part opened g b issued honest bag (picks_message g k (Up (record { tab = t; partition = p; inner = u }))) (taking b (record { tab = t; partition = p; inner = u }))
   unfolding taking
   taking-follows u said = ⊎_elim

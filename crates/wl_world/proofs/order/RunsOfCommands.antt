@@ -1,4 +1,4 @@
--- The commands of one tab in a taken list are a run of its issued list.
+-- Commands of one tab in a taken list: a contiguous run of the tab's issued commands.
 use Rattle.std.proofs.Common.{◌≡◌, ℕ, zero, suc, ◌+◌, ◌<◌, ◌≤◌, true, false, List, [], ◌∷◌, ◌++◌, length, length-append, drop, get_or, refl, sym, ap, ap₂, ◌∙◌, subst, arith, append-nil}
 use Rattle.std.proofs.lemmas.Bool.{or_parts}
 use Rattle.std.proofs.lemmas.List.{drop_more}
@@ -10,7 +10,7 @@ use Rattle.wl_world.specs.Orders.{Act, Dies, Reports, Commands, Item, is_report,
 use Rattle.wl_world.proofs.exclusion.GrownTabs.{Grows}
 use Rattle.wl_world.proofs.order.OneMoreItem.{item, has_report-push, commands_of-push, base_or-none, base_of-push_first}
 
--- n commands from number k on, with their numbers
+-- `n` issued commands from number `k` on, with their numbers.
 abbrev slice : List Operation → ℕ → ℕ → List (ℕ × Operation)
 slice issued k zero = []
 slice issued k (suc n) = (k, get_or issued k Query) ∷ slice issued (k + 1) n
@@ -29,7 +29,7 @@ slice-rest issued k (suc n) j e le =
     ap (λ zs. (k, get_or issued k Query) ∷ zs) (slice-rest issued (k + 1) n j (omega arith) le)
     ∙ sym (ap (numbered k) (drop_more issued k Query (omega arith)))
 
--- these are the commands from the base on, as many as they are
+-- The commands `cs` are the issued commands from the base on.
 abbrev RunsFrom : List Operation → ℕ → List (ℕ × Operation) → Type 0
 RunsFrom issued base cs = (base + length cs ≤ length issued) × (cs ≡ slice issued base (length cs))
 
@@ -46,7 +46,7 @@ runs-grows xs ys base cs m r =
     let b : length xs ≤ length ys = m.0 in
     (omega arith, r.1 ∙ sym (slice-grows xs ys base (length cs) m a))
 
--- one tab's items, where it is honest in so far as they are told by its issued list
+-- The items of one tab: if it is honest, its commands are a run of its issued list.
 pub record Ordered (H : Type 0) (issued : List Operation) (mine : List Item) : Type 0 where
   pub runs : H → RunsFrom issued (base_of mine) (commands_of mine)
   pub unjoined : has_report mine ≡ false → commands_of mine ≡ []

@@ -1,10 +1,10 @@
--- Settling settled locks changes nothing, and a complete partition's locks are settled.
+-- Settled locks: settling them again changes nothing, and the locks of a complete partition are settled.
 use Rattle.std.proofs.Common.{◌≡◌, ℕ, true, cond, List, [], ◌∷◌, ◌++◌, refl, sym, subst, append_assoc, append-nil}
 use Rattle.wl_draft.specs.Locks.{Locks, no_locks, newly, settle}
 use Rattle.wl_broker.proofs.SettledLocks.{newly-settle, settle_same}
 use Rattle.wl_world.specs.Orders.{Item, is_complete, done, managed_one, managed_from, managed}
 
--- nobody that waits may be granted
+-- No waiting request can be granted.
 pub record Rested (m : Locks) : Type 0 where
   pub nobody : newly m ≡ []
   pub same : settle m ≡ m

@@ -1,4 +1,4 @@
--- What becomes of the rows, and what the broker says of them.
+-- Rows of lock managers after each command, and the broker's answers about them.
 use Rattle.std.proofs.Common.{◌≡◌, ◌≢◌, ◌⊎◌, inl, inr, ⊎_elim, ℕ, ◌+◌, ◌<◌, Bool, true, false, cond, not, ◌&&◌, ◌||◌, Some, None, List, [], ◌∷◌, ◌++◌, filter, refl, sym, ap, ap₂, ◌∙◌, subst}
 use Rattle.std.specs.Prelude.{◌==◌, nat_lt}
 use Rattle.std.proofs.Math.Bool.{or-false, or-true}
@@ -21,7 +21,7 @@ use Rattle.wl_world.proofs.order.OneMoreItem.{item, has_report-push, has_death-p
 use Rattle.wl_world.proofs.order.RunsOfCommands.{next_of-reports, next_of-commands, limit_of-reports, limit_of-commands}
 use Rattle.wl_world.proofs.order.BrokerIsPicked.{seat_by}
 
--- ---- settling, where the partition is active
+-- Settling, if the partition is active
 
 pub newly-held : (m : Locks) (c : Bool) (r : Row) → In r (newly_if c m) → In r (settle_if c m).held
 newly-held m true r i = settle-newly m i
@@ -35,7 +35,7 @@ pub stays-held : (m : Locks) (c : Bool) (r : Row) → In r m.held → In r (sett
 stays-held m true r i = settle-keeps m i
 stays-held m false r i = i
 
--- ---- rows
+-- Rows
 
 row-below : (t base : ℕ) (entries : List Entry) (test : Entry → Bool) (r : Row) → all_below base entries ≡ true → In r (rows_of t (filter test entries)) → (r.client ≡ t) × (r.number < base)
 row-below t base entries test r h i =
@@ -73,13 +73,13 @@ unfolding aborted
 aborted-stands m t k r (inl i) = inl (without-fewer t k m.held i)
 aborted-stands m t k r (inr i) = inr (without-fewer t k m.waiting i)
 
--- what stands after a tab's end is another's
+-- After a tab's end, all rows belong to other tabs.
 pub ended-stands : (m : Locks) (t : ℕ) (r : Row) → Stands r (ended t m) → Stands r m × (r.client ≢ t)
 unfolding ended
 ended-stands m t r (inl i) = let o = In-filter_cases (λ x. not (x.client == t)) m.held i in (inl o.0, eqb-false r.client t (not-true _ o.1))
 ended-stands m t r (inr i) = let o = In-filter_cases (λ x. not (x.client == t)) m.waiting i in (inr o.0, eqb-false r.client t (not-true _ o.1))
 
--- a row is an old one, or the command is a lock's and the row its own
+-- After a command, each row is an old one or the row of the command's own lock.
 pub drafted-stands : (m : Locks) (t n : ℕ) (c : Operation) (r : Row) → Stands r (drafted t n c m) → Stands r m ⊎ ((is_lock c ≡ true) × (r.client ≡ t) × (r.number ≡ n))
 drafted-stands m t n (Request mode if_available name) r i =
     let y = row_of t n name mode in
@@ -90,7 +90,7 @@ drafted-stands m t n (Release k) r i = inl (released-stands m t k r i)
 drafted-stands m t n (Abort k) r i = inl (aborted-stands m t k r i)
 drafted-stands m t n Query r i = inl i
 
--- whom a probe grants is held then
+-- A lock that a probe grants is held afterwards.
 pub probe-held : (m : Locks) (t n : ℕ) (c : Operation) (r : Row) → In r (probe_grants m t (Commands n c)) → (is_lock c ≡ true) × (r.client ≡ t) × (r.number ≡ n) × In r (drafted t n c m).held
 unfolding probed
 probe-held m t n (Request mode if_available name) r i = go if_available (is_grantable m.held m.waiting (row_of t n name mode)) (row_of t n name mode) refl refl i
@@ -103,7 +103,7 @@ probe-held m t n (Release k) r i = absurd (In-nil i)
 probe-held m t n (Abort k) r i = absurd (In-nil i)
 probe-held m t n Query r i = absurd (In-nil i)
 
--- a tab without rows ends without a change
+-- The end of a tab without rows changes nothing.
 filter-none : (t : ℕ) (rows : List Row) → ((r : Row) → In r rows → r.client ≢ t) → without_client t rows ≡ rows
 filter-none t [] h = refl
 filter-none t (r ∷ rs) h = ap₂ (λ b zs. cond (not b) (r ∷ zs) zs) (ne_eqb r.client t (h r Here)) (filter-none t rs (λ x i. h x (Later i)))
@@ -112,7 +112,7 @@ pub ended-none : (m : Locks) (t : ℕ) → ((r : Row) → Stands r m → r.clien
 unfolding ended
 ended-none m t h = λ i. record { held = filter-none t m.held (λ r j. h r (inl j)) i; waiting = filter-none t m.waiting (λ r j. h r (inr j)) i }
 
--- ---- answers
+-- Answers
 
 pub has_pair-from : (t n : ℕ) (rows : List Row) (r : Row) → In r rows → r.client ≡ t → r.number ≡ n → has_pair t n rows ≡ true
 has_pair-from t n [] r i a b = absurd (In-nil i)
@@ -143,14 +143,14 @@ first-lock b t p n (Release k) l h = apart l refl
 first-lock b t p n (Abort k) l h = apart l refl
 first-lock b t p n Query l h = apart l refl
 
--- ---- seats
+-- Seats
 
 seat-joined : (d e : Bool) (q n l : ℕ) → is_joined (cond d (Some Dead) (cond e (Some (Joined q n l)) None)) ≡ true → (d ≡ false) × (e ≡ true)
 seat-joined true e q n l j = apart j refl
 seat-joined false true q n l j = (refl, refl)
 seat-joined false false q n l j = apart j refl
 
--- a joined tab has a report and no death in the list, and its seat is what they say
+-- A joined tab has a report and no death in the list, and these determine its seat.
 pub joined-facts : (q : ℕ) (mine : List Item) → is_joined (seat_by q mine) ≡ true → (has_death mine ≡ false) × (has_report mine ≡ true) × (seat_by q mine ≡ Some (Joined q (next_of mine) (limit_of mine)))
 joined-facts q mine j =
     let o = seat-joined (has_death mine) (has_report mine) q (next_of mine) (limit_of mine) j in

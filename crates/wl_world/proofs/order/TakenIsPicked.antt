@@ -1,4 +1,4 @@
--- What the broker takes is what is picked: one more item, settled and answered.
+-- One more item at the broker: the item is taken, the partition settles, and the tabs are answered.
 use Rattle.std.proofs.Common.{◌≡◌, ◌≢◌, ⊎_elim, ℕ, ◌+◌, ◌<◌, ◌≤◌, Bool, true, false, Some, List, [], ◌∷◌, ◌++◌, map, length, get_or, refl, sym, ap, ap₂, ◌∙◌, subst, arith}
 use Rattle.std.specs.Prelude.{◌==◌, nat_lt}
 use Rattle.std.proofs.lemmas.Bool.{cases_eq, cases_Bool, eqb-true, and_parts, and_from, eq-eqb}
@@ -35,12 +35,12 @@ use Rattle.wl_world.proofs.order.Standings.{newly-held, newly-stood, stays-held,
 use Rattle.std.specs.List.{range_with_len}
 use Rattle.wl_grammar.specs.PartCount.{part_count}
 
--- the broker and the bag after this are what the list says
+-- After the broker's result, the broker and the bag agree with the picked list.
 abbrev pub Tells : (ℕ → ℕ) → (ℕ → Bool) → ℕ → BrokerState → (ℕ → List Operation) → (ℕ → Type 0) → List Message → Picked → Taking → Type 0
 Tells part opened g b issued honest bag k (Drops r) = Kept part opened g issued honest bag k × Tied part opened b k
 Tells part opened g b issued honest bag k (Does z outs) = Kept part opened g issued honest (sent_all (map from_broker outs) bag) k × Tied part opened z k
 
--- ---- the partition's locks become these
+-- A partition's locks are replaced
 
 pub set-here : (b : BrokerState) (p : ℕ) (m : Locks) → manager_of (settled_at b p m) p ≡ settle_if (is_active (settled_at b p m) p) m
 unfolding settled_at is_active
@@ -58,9 +58,9 @@ pub settled-fields : (b : BrokerState) (p : ℕ) (m : Locks) → ((settled_at b 
 unfolding settled_at
 settled-fields b p m = (refl, refl, (λ u. refl), refl)
 
--- ---- what is granted
+-- Grants
 
--- a granted answer is for a pair that is held in the partition
+-- A granted answer names a lock that is held in the partition.
 abbrev pub SpokenDown : (ℕ → ℕ) → (ℕ → Bool) → BrokerState → ℕ → ℕ → Downward → Type 0
 SpokenDown part opened z p u (down.Hello h) = ⊥
 SpokenDown part opened z p u (down.Answer x) = x.outcome ≡ Granted → (opened u ≡ true) × (part u ≡ p) × (has_pair u x.number (manager_of z p).held ≡ true)
@@ -77,7 +77,7 @@ spoken-from part opened z p g outs f u n h =
     let s = subst (λ x. SpokenDown part opened z p u x) (sym e.1) (subst (λ v. SpokenDown part opened z p v o.0.inner) (sym e.0) (f o.0 o.1)) in
     subst (λ v. (opened u ≡ true) × (part u ≡ p) × (has_pair u v (manager_of z p).held ≡ true)) h.4 (s h.5)
 
--- a joined tab was opened, in that partition
+-- A joined tab was opened in the partition of its seat.
 pub seated-facts : (part : ℕ → ℕ) (opened : ℕ → Bool) (k : Picked) (t p n l : ℕ) → Placed part opened k.items → seat_by (part t) (of_tab t k.items) ≡ Some (Joined p n l) → (opened t ≡ true) × (part t ≡ p) × (next_of (of_tab t k.items) ≡ n)
 seated-facts part opened k t p n l placed e =
     let f = joined-facts (part t) (of_tab t k.items) (ap is_joined e) in
@@ -86,7 +86,7 @@ seated-facts part opened k t p n l placed e =
     let i = In-filter_cases (λ x. x.tab == t) k.items o.1 in
     (subst (λ v. opened v ≡ true) (eqb-true o.0.tab t i.1) (placed o.0 i.0).0, j.0, j.1)
 
--- an answer that is granted, with those that follow
+-- A granted answer that is among the broker's frames is in the bag afterwards.
 answered : (z : BrokerState) (g : ℕ) (outs : List Addressed) (bag : List Message) (r : Row) → z.generation ≡ g → In (answer_to z r.client r.number Granted) outs → HasAnswer (sent_all (map from_broker outs) bag) g r
 answered z g outs bag r gen i =
     (broker_next z r.client, subst (λ h. In (Down Broker (record { tab = r.client; inner = down.Answer (record { generation = h; upto = broker_next z r.client; number = r.number; outcome = Granted }) })) (sent_all (map from_broker outs) bag)) gen (sent_all-adds (map from_broker outs) bag (In-map from_broker i)))
@@ -96,7 +96,7 @@ module _ (part : ℕ → ℕ) (opened : ℕ → Bool) (g : ℕ) (b : BrokerState
   abbrev mine : List Item
   mine = of_tab t k.items
 
-  -- ---- one more item, whatever it is
+  -- One more item of any kind
 
   module _ (a : Act) (seat : Seat) (first : List Addressed) (rows : List Row)
       (now : seat_by (part t) (of_tab t k.items ++ item t p a ∷ []) ≡ Some seat)
@@ -124,7 +124,7 @@ module _ (part : ℕ → ℕ) (opened : ℕ → Bool) (g : ℕ) (b : BrokerState
     seats : (u : ℕ) → seat_of later u ≡ seat_by (part u) (of_tab u (adds t p a k).items)
     seats = seats-more part opened b later k t p a tie.seats others (fields.2 t ∙ (find-put_same t seat b.seats ∙ sym now))
 
-    -- what stands in another partition is another tab's
+    -- Locks of another partition belong to other tabs.
     stay : (q : ℕ) (r : Row) → p ≢ q → Stands r (manager_of b q) → (n l : ℕ) × (seat_of later r.client ≡ Some (Joined q n l)) × (r.number < n)
     stay q r d s =
         let o = tie.entries q r s in
@@ -156,7 +156,7 @@ module _ (part : ℕ → ℕ) (opened : ℕ → Bool) (g : ℕ) (b : BrokerState
       tied-more part opened b later k t p a tie kept.placed open_now home fields.0 seats here_now (set-else z p m) fields.3 stay new,
     )
 
-  -- ---- a tab joins
+  -- A tab joins
 
   pub join-follows : (r : Whole) → is_joined (seat_of b t) ≡ false → is_dead (seat_of b t) ≡ false → all_below r.base r.entries ≡ true → (honest t → r.base ≤ length (issued t))
       → Tells part opened g b issued honest bag (adds t p (Reports r) k) (join b t p r)
@@ -179,7 +179,7 @@ module _ (part : ℕ → ℕ) (opened : ℕ → Bool) (g : ℕ) (b : BrokerState
       (λ x i. absurd (In-nil i))
       (λ x i. In-map (λ (y : Row). answer_to (settled_at (with_seat t seat b) p m) y.client y.number Granted) (subst (In x) (sym (newly-here (with_seat t seat b) p m)) i))
 
-  -- ---- the next command is done
+  -- The next command is done
 
   first-spoken : (z : BrokerState) (n : ℕ) (c : Operation) (x : Addressed) → In x (first_answer z t p n c) → Spoken part opened z p x
   first-spoken z n (Request mode if_available name) x i = subst (Spoken part opened z p) (sym (In-one i)) (λ h. (open_now, sym home, standing-granted (manager_of z p) t n h))

@@ -1,4 +1,4 @@
--- What happens where no broker comes, goes or speaks.
+-- Events at which no broker starts, stops or sends.
 use Rattle.std.proofs.Common.{◌≡◌, Some, None, ap, ⊎_elim, ℕ, ◌+◌, ◌<◌, ◌≤◌, Bool, true, not, ◌&&◌, List, [], ◌∷◌, ◌++◌, length, length-append, map, is_some, refl, sym, ◌∙◌, subst, arith, le_refl}
 use Rattle.std.specs.Prelude.{◌==◌, nat_lt}
 use Rattle.std.proofs.lemmas.Bool.{not-true, and_parts}
@@ -43,7 +43,7 @@ use Rattle.wl_world.proofs.exclusion.OpeningAndKilling.{not_opened}
 use Rattle.wl_world.proofs.exclusion.Corrupting.{honest-before}
 use Rattle.wl_world.proofs.own.AskedByEvents.{delivery-issued, told-issued}
 
--- the base of a report of an honest tab is at most as many as the tab has issued
+-- The base of an honest tab's report is at most the number of commands that the tab has issued.
 pub record Based (w : WorldState) : Type 0 where
   pub own : (t : ℕ) → (tab_of w t).report.base ≤ length (tab_of w t).issued
   pub said : (t p : ℕ) (u : Upward) (x : Told) → told_of u ≡ Some x → In (up_message t p u) w.bag → IsHonest w t → x.base ≤ length (tab_of w t).issued
@@ -63,7 +63,7 @@ quiet-none w b = record { broker = refl; stable = λ t o. (o, refl); issued = λ
 pub quiet-allowed : (w : WorldState) (c : Bool) (d : Deed) → Based w → (c ≡ true → Quiet w (after w d)) → Quiet w (after w (where_allowed c w d))
 quiet-allowed w c d b f = either (λ x. Quiet w (after w x)) c d (nothing w) f (λ _. quiet-none w b)
 
--- ---- a tab acts
+-- A tab acts
 
 abbrev FineUp : TabState → Upward → Type 0
 FineUp y (up.Command c) = Unit {0}
@@ -148,7 +148,7 @@ pub releases-quiet : (w : WorldState) (t k : ℕ) → Based w → Quiet w (after
 unfolding finish
 releases-quiet w t k b = quiet-allowed w _ (issues w t (released k (tab_of w t))) b (λ _. issues-quiet w t (released k (tab_of w t)) _ b refl refl)
 
--- a tab sends these, and is what it was
+-- A tab that sends messages without changing its state is quiet.
 sends-quiet : (w : WorldState) (t : ℕ) (ms : List Message) → Based w → ((m : Message) → In m ms → Fine (IsHonest w t) t (tab_of w t) m) → Quiet w (record w { bag = sent_all ms w.bag })
 sends-quiet w t ms b fine = record {
   broker = refl;
@@ -171,7 +171,7 @@ resends-quiet w t b =
     quiet-allowed w (lives w t) (record { world = w; sends = resent w.kernel t (tab_of w t) }) b
     (λ _. sends-quiet w t (resent w.kernel t (tab_of w t)) b (λ m i. fine-from (IsHonest w t) t (partition_of w t) (tab_of w t) m (b.own t) (resent-said w t (tab_of w t) m i)))
 
--- ---- a message comes to a tab
+-- A message arrives at a tab
 
 entered-sends : (w : WorldState) (t : ℕ) (y : TabState) (d : Delivered) (m : Message) → In m (report_if_entered w.kernel t y d) → (u : Upward) × In u (report_bodies y.in_parts y.report) × (m ≡ stamped w.kernel t u)
 entered-sends w t y (heard.Entered reports) m i = In-map_cases (stamped w.kernel t) (report_bodies y.in_parts y.report) i
@@ -204,9 +204,9 @@ hears-quiet w s t m b =
     acts-quiet w t (told a.0) (report_if_entered w.kernel t a.0 a.1) b (Grows-same _ _ is) (subst (λ z. z.base ≤ length (told a.0).issued) (sym (told-report a.0)) base)
     (λ y i. let o = entered-sends w t a.0 a.1 y i in subst (Fine (IsHonest w t) t (told a.0)) (sym o.2) (refl, λ _. fine-body (told a.0) o.0 a.0.in_parts a.0.report o.1 (subst (λ z. z.base ≤ length (told a.0).issued) (told-report a.0) (subst (λ z. z.base ≤ length (told a.0).issued) (sym (told-report a.0)) base))))
 
--- ---- channels, the kernel and hellos
+-- Channels, the kernel and hellos
 
--- neither a tab's message to the broker nor an answer
+-- The frame is not an answer.
 abbrev pub IsOtherDown : Downward → Type 0
 IsOtherDown (down.Hello h) = Unit {0}
 IsOtherDown (down.Answer x) = ⊥
@@ -288,7 +288,7 @@ closes-quiet w t k b =
     let c = channels_of w t in
     quiet-allowed w (lives w t && is_own_channel c t k) (becomes w t (closed_at k c) []) b (λ _. becomes-quiet w t (closed_at k c) [] b (λ m i. absurd (In-nil i)))
 
--- ---- tabs that are taken over
+-- Tabs that are taken over
 
 pub corrupts-quiet : (w : WorldState) (t : ℕ) → Based w → Quiet w (after w (corrupts w t))
 corrupts-quiet w t b =

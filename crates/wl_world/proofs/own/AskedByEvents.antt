@@ -1,4 +1,4 @@
--- Each command that asks for a lock was put in its tab's list by an event that asked for it.
+-- Proof that each command that requests a lock was issued by an event that requested it.
 use Rattle.std.proofs.Common.{◌≡◌, ◌⊎◌, inl, inr, ⊎_elim, ℕ, ◌+◌, ◌<◌, Bool, true, false, List, [], ◌∷◌, ◌++◌, length, length-append, append_assoc, append-nil, get_or, Option, Some, None, refl, sym, ap, ◌∙◌, subst, arith}
 use Rattle.std.specs.Prelude.{◌==◌, nat_lt}
 use Rattle.std.proofs.lemmas.Bool.{cases_lt}
@@ -35,22 +35,22 @@ use Rattle.wl_world.proofs.exclusion.HeardNumbers.{noted-kept, answer-kept, part
 use Rattle.wl_world.proofs.exclusion.ActsWithinAGeneration.{each_tab}
 use Rattle.wl_world.proofs.exclusion.SoundRuns.{empty-sound, happens-sound, run-sound}
 
--- the event asks for what the command asks for
+-- The event makes tab `t` request the lock of this command.
 abbrev Asks : Event → ℕ → Operation → Type 0
 Asks e t (Request mode b name) = e ≡ asking t mode b name
 Asks e t c = ⊥
 
--- and y has issued the command behind those of x
+-- The event requests the command, and `y` has issued it after the commands of `x`.
 record Puts (e : Event) (t : ℕ) (x y : TabState) (k : ℕ) (c : Operation) : Type 0 where
   asks : Asks e t c
   number : length x.issued ≡ k
   put : y.issued ≡ x.issued ++ c ∷ []
 
--- each command of y is one of x, or the event asked for it
+-- Each command of `y` is one of `x`, or the event requested it.
 abbrev Adds : Event → ℕ → TabState → TabState → Type 0
 Adds e t x y = (k : ℕ) → k < length y.issued → ((k < length x.issued) × (operation_of y k ≡ operation_of x k)) ⊎ (is_lock (operation_of y k) ≡ true → Puts e t x y k (operation_of y k))
 
--- so it is for each tab after a deed
+-- After a deed, `Adds` holds for each tab.
 abbrev AddsBy : Event → WorldState → Deed → Type 0
 AddsBy e w d = (t : ℕ) → Adds e t (tab_of w t) (tab_of d.world t)
 
@@ -104,7 +104,7 @@ releases-adds e w t k = allowed-adds e w _ (issues w t (released k (tab_of w t))
 resends-adds : (e : Event) (w : WorldState) (t : ℕ) → AddsBy e w (resends w t)
 resends-adds e w t = allowed-adds e w (lives w t) _ (λ u k lt. inl (lt, refl))
 
--- ---- what comes to a tab adds no command
+-- Arrivals at a tab add no command
 
 enter-issued : (g : ℕ) (x : TabState) → (enter g x).issued ≡ x.issued
 unfolding enter_first enter_later
@@ -187,7 +187,7 @@ happens-adds : (e : Event) (w : WorldState) → Sound w → (t : ℕ) → Adds e
 unfolding happens
 happens-adds e w s = deed-adds e w s
 
--- ---- a run
+-- A run
 
 abbrev Sourced : List Event → WorldState → Type 0
 Sourced past w = (t k : ℕ) → k < length (tab_of w t).issued → is_lock (operation_of (tab_of w t) k) ≡ true → WasAsked past t k (operation_of (tab_of w t) k)

@@ -1,4 +1,4 @@
--- The list of what living tabs hold has each lock that is held, once, and no other.
+-- Proof that the list of holdings contains each lock held by a living tab exactly once, and no other.
 use Rattle.std.proofs.Common.{◌≡◌, inl, inr, ⊎_elim, ℕ, ◌+◌, ◌≤◌, Bool, true, List, [], ◌∷◌, ◌++◌, map, filter, Option, Some, None, refl, sym, ap, ◌∙◌, subst, arith}
 use Rattle.std.specs.Prelude.{◌==◌}
 use Rattle.std.specs.List.{AllByRecursion, flat_map, list_any}
@@ -25,7 +25,7 @@ use Rattle.wl_world.proofs.exclusion.SoundRuns.{run-sound}
 use Rattle.wl_world.proofs.apart.RunsApart.{reached}
 use Rattle.wl_world.proofs.own.TabNumbers.{run-number}
 
--- ---- lists
+-- Lists
 
 In-flat_map : {X Y : Type 0} (f : X → List Y) {y : Y} (x : X) (xs : List X) → In x xs → In y (f x) → In y (flat_map f xs)
 In-flat_map f x [] i j = absurd (In-nil i)
@@ -52,7 +52,7 @@ all-In : {X : Type 0} (P : X → Type 0) (xs : List X) → ((x : X) → In x xs 
 all-In P [] f = tt
 all-In P (x ∷ xs) f = (f x Here, all-In P xs (λ y i. f y (Later i)))
 
--- ---- rows by rising number
+-- Rows by rising number
 
 In-above : {X : Type 0} (least : ℕ) (ps : Table X) (row : ℕ × X) → Rises least ps → In row ps → least ≤ row.0
 In-above least [] row r i = absurd (In-nil i)
@@ -69,7 +69,7 @@ In-found least (p ∷ ps) row r i = ⊎_elim
     ∙ In-found (p.0 + 1) ps row r.1 l)
     (In-cons_cases i)
 
--- ---- what one tab holds
+-- Holdings of one tab
 
 held-is : (s : Status) → is_held (Some s) ≡ true → s ≡ Held
 held-is Held e = refl
@@ -101,7 +101,7 @@ rows-ordered a least (p ∷ ps) r = (
 holdings-ordered : (a : TabState) → Rises 0 a.statuses → AreOrdered (holdings_of a)
 holdings-ordered a r = rows-ordered a 0 (filter (λ row. is_held (Some row.1)) a.statuses) (Rises-filter (λ row. is_held (Some row.1)) 0 a.statuses r)
 
--- ---- what all hold
+-- Holdings of all tabs
 
 append-ordered : (xs ys : List Holding) → AreOrdered xs → AreOrdered ys → ((x y : Holding) → In x xs → In y ys → IsBefore x y) → AreOrdered (xs ++ ys)
 append-ordered [] ys a b before = b
@@ -124,7 +124,7 @@ listed-above least t (u ∷ us) r i =
     (λ l. let above : u + 1 ≤ t = listed-above (u + 1) t us parts.1 l in omega arith)
     (In-cons_cases i)
 
--- each tab's state has its own number, and its rows rise
+-- Each tab's state carries its own number, and its statuses rise by number.
 pub record OwnRows (w : WorldState) : Type 0 where
   pub own : (t : ℕ) → (tab_of w t).tab ≡ t
   pub rise : (t : ℕ) → Rises 0 (tab_of w t).statuses
@@ -169,9 +169,9 @@ all-held w a o = record {
   ordered = tabs-ordered w o 1 (living_tabs w.kernel) (rises-living_in any_tab w.kernel.opened a);
 }
 
--- ---- runs
+-- Runs
 
--- of no partition in particular
+-- The tabs of a run satisfy `AreTabs`, without reference to a partition.
 run-tabs : (events : List Event) → AreTabs (run events empty_world).kernel.opened
 run-tabs events = go (run events empty_world).kernel.opened (λ p. (reached p events).kernel)
   where

@@ -1,4 +1,4 @@
--- What is known of a tab has the tab's own number, over every list of events.
+-- Numbers in tab states: each tab's state carries its own number, after every list of events.
 use Rattle.std.proofs.Common.{◌≡◌, ℕ, ◌+◌, Bool, true, false, List, [], ◌∷◌, Option, Some, None, is_some, refl, sym, ap, ◌∙◌}
 use Rattle.std.specs.Prelude.{◌==◌, nat_lt}
 use Rattle.wl_draft.specs.declared.mode.Mode.{Mode}
@@ -27,7 +27,7 @@ use Rattle.wl_world.specs.Sends.{report_if_entered}
 use Rattle.wl_world.proofs.exclusion.GrownTabs.{tab_at}
 use Rattle.wl_world.proofs.exclusion.ActsWithinAGeneration.{each_tab}
 
--- ---- what comes to a tab
+-- Arrivals at a tab
 
 enter-tab : (g : ℕ) (a : TabState) → (enter g a).tab ≡ a.tab
 unfolding enter_first enter_later
@@ -65,9 +65,9 @@ told-tab : (a : TabState) → (told a).tab ≡ a.tab
 unfolding told
 told-tab a = refl
 
--- ---- events
+-- Events
 
--- what is known of each tab has the tab's number
+-- Each tab's state carries the tab's number.
 abbrev IsNumbered : WorldState → Type 0
 IsNumbered w = (t : ℕ) → (tab_of w t).tab ≡ t
 
@@ -141,7 +141,7 @@ greets-keeps : (w : WorldState) (t : ℕ) (v : Option BrokerState) → Keeps w (
 greets-keeps w t None = same-keeps w (nothing w) refl
 greets-keeps w t (Some b) = allowed-keeps w _ _ (λ u. refl)
 
--- a tab that is opened has its own number, as it had before
+-- The state of an opened tab carries its number.
 rows-keeps : (i : Bool) (w : WorldState) (t : ℕ) → IsNumbered w → (u : ℕ) → (tab_of (with_rows i t w) u).tab ≡ (tab_of w u).tab
 rows-keeps i w t own = each_tab (λ u z. z.tab ≡ (tab_of w u).tab) t (born i t COMMAND_LIMIT) w.tabs (sym (own t)) (λ u n. refl)
 
@@ -168,7 +168,7 @@ deed-keeps w own (event.Hello t) = greets-keeps w t w.broker
 deed-keeps w own (event.Corrupt t) = allowed-keeps w _ _ (λ u. refl)
 deed-keeps w own (event.Forge t x) = allowed-keeps w _ _ (λ u. refl)
 
--- ---- runs
+-- Runs
 
 happens-numbered : (w : WorldState) (e : Event) → IsNumbered w → IsNumbered (happens w e)
 unfolding happens

@@ -1,4 +1,4 @@
-//! One event.
+//! Dispatch of one event to the part of the world that it concerns.
 
 ghost use Rattle.std.specs.Prelude.{◌≡◌, true, IfOk, OnOk};
 ghost use Rattle.wl_bag.specs.Messages.{sent_all};
@@ -14,7 +14,7 @@ use wl_bag::{Bag, Message, Sent};
 use wl_grammar::Sequence;
 
 impl Parts {
-    /// An event happens, and is answered. What it sends is in the bag then.
+    /// Applies an event, puts the messages that it sends into the bag, and returns the reply.
     pub fn happen(self, event: &Event) -> Result<(Parts, Reply), AllocError>
         ensures world { IfOk result (λ r. r.0 ≡ happens self event.now) }
         ensures reply { IfOk result (λ r. r.1 ≡ reply_of self event.now) }
@@ -29,7 +29,7 @@ impl Parts {
         Ok((parts, reply))
     }
 
-    /// An event happens. What it sends is not in the bag yet.
+    /// Applies an event. The messages that it sends are returned and are not yet in the bag.
     #[tactic(auto, unfolding(crate::specs::World::deed, crate::specs::Replies::said_of))]
     fn act(self, event: &Event) -> Result<(Parts, Done), AllocError>
         ensures world { IfOk result (λ r. r.0 ≡ (deed self event.now).world) }
@@ -49,7 +49,7 @@ impl Parts {
         }
     }
 
-    /// An event other than an opening, a start or a stop happens.
+    /// Applies an event other than an opening, a start or a stop.
     #[tactic(auto, unfolding(crate::specs::World::deed, crate::specs::Replies::said_of))]
     fn act_in_place(&mut self, event: &Event) -> Result<Done, AllocError>
         requires { is_in_place event.now ≡ true }
@@ -84,7 +84,7 @@ impl Parts {
         }
     }
 
-    /// These messages are sent.
+    /// Puts these messages into the bag.
     fn send(&mut self, messages: Vec<Message>) -> Result<Vec<Sent>, AllocError>
         ensures bag { OnOk result (self.new
             ≡ record self.old { bag = sent_all messages.items self.old.bag }) }

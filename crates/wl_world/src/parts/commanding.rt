@@ -1,4 +1,4 @@
-//! Tabs ask for locks, give them up, and send again.
+//! Lock commands of tabs: requests, queries, aborts, releases and resends.
 
 ghost use Rattle.std.specs.Prelude.{◌≡◌, ◌≢◌, true, IfOk, OnOk};
 ghost use Rattle.wl_said.specs.declared.said.Said.TheVariants as said;
@@ -16,7 +16,7 @@ use wl_said::{Refusal, Said};
 use wl_tab::{Abortion, tables};
 
 impl Parts {
-    /// A tab asks for a lock.
+    /// Issues a request, or a probe if `if_available` is set.
     #[tactic(auto, unfolding(crate::specs::World::acts))]
     pub fn ask(
         &mut self,
@@ -39,7 +39,7 @@ impl Parts {
         }
     }
 
-    /// A tab asks for a snapshot.
+    /// Issues a query for a snapshot.
     #[tactic(auto, unfolding(crate::specs::World::acts))]
     pub fn query(&mut self, tab: u16) -> Result<Done, AllocError>
         ensures world { OnOk result (self.new ≡ (queries self.old tab).world) }
@@ -55,7 +55,7 @@ impl Parts {
         }
     }
 
-    /// A tab takes a request back.
+    /// Aborts a request.
     #[tactic(auto, unfolding(crate::specs::World::acts))]
     pub fn abort(&mut self, tab: u16, number: u32) -> Result<Done, AllocError>
         ensures world { OnOk result (self.new ≡ (aborts self.old tab number).world) }
@@ -72,7 +72,7 @@ impl Parts {
         }
     }
 
-    /// A tab releases a lock.
+    /// Releases a lock.
     #[tactic(auto, unfolding(crate::specs::World::acts))]
     pub fn release(&mut self, tab: u16, number: u32) -> Result<Done, AllocError>
         ensures world { OnOk result (self.new ≡ (releases self.old tab number).world) }
@@ -88,7 +88,7 @@ impl Parts {
         }
     }
 
-    /// A tab sends again whatever may have been lost.
+    /// Sends again every message of the tab that may have been lost.
     pub fn resend(&self, tab: u16) -> Result<Done, AllocError>
         ensures said { IfOk result (λ done. done.said ≡ resending self.now tab) }
         ensures sends { IfOk result (λ done. done.sends.items ≡ (resends self.now tab).sends) }
@@ -102,7 +102,7 @@ impl Parts {
         Ok(Done { said, sends })
     }
 
-    /// The tab has issued this command.
+    /// Returns the effect of a command that the tab has just issued.
     fn issued(&self, tab: u16, number: u32) -> Result<Done, AllocError>
         requires { lives self.now tab ≡ true }
         ensures said { IfOk result (λ done. done.said ≡ said.Issued tab number) }
@@ -116,7 +116,7 @@ impl Parts {
     }
 }
 
-/// What is said of what is sent again.
+/// Returns the reply to a resend: a refusal if nothing was due.
 fn resent_said(sends: &[Message]) -> Said
     ensures { result ≡ some_resent sends.now }
 {
@@ -127,7 +127,7 @@ fn resent_said(sends: &[Message]) -> Said
     }
 }
 
-/// Why a command was not issued, unless memory was refused.
+/// Converts a fault of the agent into a refusal. Fails if the fault is out of memory.
 fn agent_refusal(fault: AgentFault) -> Result<Refusal, AllocError>
     ensures refusal { IfOk result (λ refusal. refusal ≡ Refusal.Ask fault) }
     ensures fault { OnOk result (fault ≢ AgentFault.Memory) }

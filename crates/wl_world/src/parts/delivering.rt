@@ -1,4 +1,4 @@
-//! Messages come.
+//! Delivery of messages to the broker, to tabs and to their channels.
 
 ghost use Rattle.std.specs.Prelude.{◌≡◌, ℕ, IfOk, OnOk, true, is_some, if◌then◌else◌};
 ghost use Rattle.wl_draft.specs.Tables.{find, put};
@@ -24,7 +24,7 @@ use wl_said::{Reason, Refusal, Said};
 use wl_tab::{TabLocks, tables};
 
 impl Parts {
-    /// A message that was sent once comes.
+    /// Delivers a message. It is refused if it was never sent.
     pub fn deliver(&mut self, message: &Message) -> Result<Done, AllocError>
         ensures world { OnOk result (self.new
             ≡ (where_allowed (is_sent message.now self.old.bag)
@@ -51,7 +51,7 @@ impl Parts {
         self.bag.find(message).is_some()
     }
 
-    /// A command or a report comes to the broker.
+    /// Delivers a command or a report to the broker.
     pub fn bring(&mut self, stamped: &Stamped) -> Result<Done, AllocError>
         ensures world { OnOk result (self.new ≡ (comes_up self.old stamped.now self.old.broker).world) }
         ensures said { IfOk result (λ done. done.said ≡ brought stamped.now self.old.broker) }
@@ -62,7 +62,7 @@ impl Parts {
         of_broker(self.alloc, outcome)
     }
 
-    /// A message from above comes to a tab.
+    /// Delivers a message of the broker or the kernel to a tab.
     #[tactic(auto, unfolding(crate::specs::World::acts, wl_tab::specs::Arrivals::arrival))]
     pub fn hear(&mut self, addressed: &Addressed) -> Result<Done, AllocError>
         ensures world { OnOk result (self.new ≡ (where_allowed (lives self.old addressed.now.tab) self.old
@@ -82,7 +82,7 @@ impl Parts {
         Ok(Done { said, sends })
     }
 
-    /// What a tab that has heard a frame sends, by what was said of it: its report, where it has entered a generation.
+    /// Returns the tab's report if the reply says that the tab has entered a generation, else nothing.
     fn reported(&self, tab: u16, said: &Said) -> Result<Vec<Message>, AllocError>
         requires { lives self.now tab ≡ true }
         ensures { IfOk result (λ ms.
@@ -97,7 +97,7 @@ impl Parts {
     }
 }
 
-/// What the broker or the kernel says comes to a tab.
+/// Delivers a frame of the broker or the kernel to a tab's locks and returns the reply.
 fn delivered(
     alloc: Global,
     tabs: &mut BTreeMap<u16, TabLocks>,
@@ -115,7 +115,7 @@ fn delivered(
     tables::deliver_at(tabs, tab, &frame)
 }
 
-/// What the broker or the kernel says to a tab, as the tab gets it.
+/// Converts a body addressed to a tab into the frame that the tab receives.
 fn frame_of(alloc: Global, inner: &Downward) -> Result<Frame, AllocError>
     ensures { IfOk result (λ f. f ≡ frame_of inner.now) }
 {

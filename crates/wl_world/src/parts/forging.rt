@@ -1,4 +1,4 @@
-//! Tabs are taken over, and forge what they send.
+//! Tabs that are taken over, and the frames that they forge.
 
 ghost use Rattle.std.specs.Prelude.{◌≡◌, IfOk, OnOk};
 ghost use Rattle.wl_world.specs.World.{corrupts, forges, is_corrupt};
@@ -17,7 +17,7 @@ use wl_kernel::Tabs;
 use wl_said::{Refusal, Said};
 
 impl Parts {
-    /// A tab is taken over, for good.
+    /// Marks a tab as taken over, for good.
     pub fn corrupt(&mut self, tab: u16) -> Result<Done, AllocError>
         ensures world { OnOk result (self.new ≡ (corrupts self.old tab).world) }
         ensures said { IfOk result (λ done. done.said ≡ corrupting self.old tab) }
@@ -32,7 +32,7 @@ impl Parts {
         Ok(silent(self.alloc, Said::Corrupted { tab }))
     }
 
-    /// A tab that was taken over sends what it likes.
+    /// Sends an arbitrary body from a tab. Fails with a refusal if the tab is honest.
     pub fn forge(&self, tab: u16, forged: &Forged) -> Result<Done, AllocError>
         ensures said { IfOk result (λ done. done.said ≡ forging self.now tab forged.now) }
         ensures sends { IfOk result (λ done. done.sends.items ≡ (forges self.now tab forged.now).sends) }
@@ -56,7 +56,7 @@ impl Parts {
     }
 }
 
-/// What is said of a forgery: a post that nobody hears is nothing.
+/// Returns the reply to a forgery: a refusal if a post reaches no other tab.
 fn forged_said(sends: &[Message]) -> Said
     ensures { result ≡ some_forged sends.now }
 {
@@ -66,7 +66,7 @@ fn forged_said(sends: &[Message]) -> Said
     Said::Forged
 }
 
-/// What a tab forges, as the kernel passes it on.
+/// Returns the messages of a forged body, as the kernel routes them.
 fn forgery(
     alloc: Global,
     kernel: &Tabs,
@@ -86,7 +86,7 @@ fn forgery(
     }
 }
 
-/// A command, a report or a part of one, as a tab sends it.
+/// Converts a command, a report or a part of a report into the frame that a tab sends.
 fn frame_of(upward: Upward) -> Frame
     ensures { result ≡ upward_frame upward }
 {

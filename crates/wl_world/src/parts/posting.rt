@@ -1,4 +1,4 @@
-//! Tabs open channels, post on them, read and close them.
+//! Channels of tabs: opening, posting, reading, closing, and the arrival of posts.
 
 ghost use Rattle.std.specs.Prelude.{◌≡◌, ◌≢◌, ◌≤◌, [], ◌++◌, length, map, true, is_some, IfOk, OnOk, OnErr, None};
 ghost use Rattle.std.specs.List.{filter_map};
@@ -25,7 +25,7 @@ use wl_said::{Reached, Reason, Refusal, Said};
 use wl_tab::{ChannelRefusal, TabChannels, channel_tables};
 
 impl Parts {
-    /// A tab opens a channel object.
+    /// Opens a channel object.
     #[tactic(auto, unfolding(crate::specs::World::becomes))]
     pub fn open_channel(&mut self, tab: u16, name: &Name) -> Result<Done, AllocError>
         ensures world { OnOk result (self.new ≡ (opens_channel self.old tab name.now).world) }
@@ -41,7 +41,7 @@ impl Parts {
         }
     }
 
-    /// A tab posts: its own other objects get the post at once, and the other tabs are sent it.
+    /// Posts on a channel object. The tab's own other objects get the post at once. Other tabs are sent a message.
     #[tactic(auto, unfolding(crate::specs::World::becomes))]
     pub fn post(&mut self, tab: u16, channel: usize, bytes: &Bytes) -> Result<Done, AllocError>
         ensures world { OnOk result (self.new ≡ (posts self.old tab channel bytes.now).world) }
@@ -58,7 +58,7 @@ impl Parts {
         }
     }
 
-    /// A tab takes the oldest post out of an inbox.
+    /// Takes the oldest post out of an inbox.
     #[tactic(auto, unfolding(crate::specs::World::becomes))]
     pub fn read(&mut self, tab: u16, channel: usize) -> Result<Done, AllocError>
         ensures world { OnOk result (self.new ≡ (reads self.old tab channel).world) }
@@ -75,7 +75,7 @@ impl Parts {
         }
     }
 
-    /// A tab closes a channel object. One that is closed stays so.
+    /// Closes a channel object. A closed object stays closed.
     #[tactic(auto, unfolding(crate::specs::World::becomes))]
     pub fn close(&mut self, tab: u16, channel: usize) -> Done
         ensures world { self.new ≡ (closes self.old tab channel).world }
@@ -91,7 +91,7 @@ impl Parts {
         }
     }
 
-    /// A post comes to another tab.
+    /// Delivers a post to another tab.
     #[tactic(auto, unfolding(crate::specs::World::becomes))]
     pub fn hear_post(&mut self, tab: u16, heard: &Heard) -> Result<Done, AllocError>
         ensures world { OnOk result
@@ -111,7 +111,7 @@ impl Parts {
     }
 }
 
-/// What came of a post.
+/// Returns the effect of a post.
 fn posting(
     alloc: Global,
     kernel: &Tabs,
@@ -134,7 +134,7 @@ fn posting(
     Ok(Done { said, sends })
 }
 
-/// The number of a post.
+/// Returns the number of a post, or 0 for any other frame.
 fn number_in(frame: &Frame) -> u32
     ensures { result ≡ number_in frame.now }
 {
@@ -144,7 +144,7 @@ fn number_in(frame: &Frame) -> u32
     }
 }
 
-/// A post of another tab comes to a tab.
+/// Delivers another tab's post to a tab's channels.
 fn heard_at(
     alloc: Global,
     channels: &mut BTreeMap<u16, TabChannels>,
@@ -163,7 +163,7 @@ fn heard_at(
     channel_tables::hear_at(channels, tab, &frame)
 }
 
-/// What came of a post of another tab.
+/// Returns the reply to the arrival of another tab's post.
 fn hearing_said(
     alloc: Global,
     tab: u16,
@@ -186,7 +186,7 @@ fn hearing_said(
     }
 }
 
-/// Why a channel was not opened, unless memory was refused.
+/// Converts a fault of an opening into a refusal. Fails if the fault is out of memory.
 fn open_refusal(fault: ChannelFault) -> Result<Refusal, AllocError>
     ensures refusal { IfOk result (λ refusal. refusal ≡ Refusal.Channel fault) }
     ensures fault { OnOk result (fault ≢ ChannelFault.Memory) }
@@ -197,7 +197,7 @@ fn open_refusal(fault: ChannelFault) -> Result<Refusal, AllocError>
     }
 }
 
-/// Why nothing was posted or read, unless memory was refused.
+/// Converts the error of a post or a read into a refusal. Fails if the error is out of memory.
 fn post_refusal(refusal: ChannelRefusal) -> Result<Refusal, AllocError>
     ensures refusal { IfOk result (λ r. r ≡ of_posting refusal) }
     ensures fault { OnOk result (refusal ≢ ChannelRefusal.Fault ChannelFault.Memory) }
@@ -210,7 +210,7 @@ fn post_refusal(refusal: ChannelRefusal) -> Result<Refusal, AllocError>
     }
 }
 
-/// What became of a post at each destination, oldest first.
+/// Merges the destinations that took a post with those that were full, by rising number.
 fn reached(alloc: Global, took: &[usize], full: &[usize]) -> Result<Vec<Reached>, AllocError>
     ensures { IfOk result (λ objects. objects.items ≡ merged took.now full.now) }
 {
@@ -226,7 +226,7 @@ fn reached(alloc: Global, took: &[usize], full: &[usize]) -> Result<Vec<Reached>
     Ok(objects)
 }
 
-/// How many of the first numbers are below the bound.
+/// Returns the length of the longest prefix of numbers below the bound.
 fn count_below(numbers: &[usize], bound: usize) -> usize
     ensures count { result ≡ count_below bound numbers.now }
     ensures within { result ≤ length numbers.now }
@@ -243,7 +243,7 @@ fn add_taking(took: &[usize], objects: &mut Vec<Reached>) -> Result<(), AllocErr
     Ok(())
 }
 
-/// The post of a tab, for each other living tab of its partition.
+/// Returns the tab's post as messages to the other living tabs of its partition.
 pub(super) fn to_others(
     alloc: Global,
     kernel: &Tabs,
@@ -254,7 +254,7 @@ pub(super) fn to_others(
 {
     match kernel.route_up(tab, frame) {
         Ok(Routed::Tabs(posts)) => all_across(alloc, posts),
-        // A living tab's post goes to tabs, so memory was refused.
+        // A living tab's post is always routed to tabs, so memory has run out.
         _ => Err(AllocError),
     }
 }
@@ -269,7 +269,7 @@ fn all_across(alloc: Global, posts: Sequence<(u16, Frame)>) -> Result<Vec<Messag
         .collect(alloc)
 }
 
-/// A post on its way to a tab.
+/// Converts a frame that the kernel routes to a tab into a message. Returns `None` unless it is a post.
 fn across(tab: u16, frame: Frame) -> Option<Message>
     ensures { result ≡ across_to tab frame }
 {

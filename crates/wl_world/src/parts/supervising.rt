@@ -1,4 +1,4 @@
-//! Tabs are opened and killed, the broker starts and stops.
+//! Openings and deaths of tabs, starts and stops of the broker.
 
 ghost use Rattle.std.specs.Prelude.{◌≡◌, ◌≢◌, option_map, IfOk, OnOk};
 ghost use Rattle.wl_agent.specs.Tab.{born};
@@ -20,6 +20,7 @@ use wl_tab::tables::put_row;
 use wl_tab::{TabChannels, TabLocks};
 
 impl Parts {
+    /// Opens a tab that reports at once.
     pub fn open(self, tab: u16, partition: &Partition) -> Result<(Parts, Done), AllocError>
         ensures world { IfOk result (λ r. r.0 ≡ (opens self tab partition.now).world) }
         ensures said { IfOk result (λ r. r.1.said ≡ opening self.kernel tab partition.now) }
@@ -34,7 +35,7 @@ impl Parts {
         Ok((parts, silent(alloc, Said::Opened { tab, partition })))
     }
 
-    /// A tab is opened that may have more locks, and tells its reports in parts.
+    /// Opens a tab of the second kind, which may have more locks and reports in parts.
     pub fn open_two(self, tab: u16, partition: &Partition) -> Result<(Parts, Done), AllocError>
         ensures world { IfOk result (λ r. r.0 ≡ (opens_two self tab partition.now).world) }
         ensures said { IfOk result (λ r. r.1.said ≡ opening_two self.kernel tab partition.now) }
@@ -49,7 +50,7 @@ impl Parts {
         Ok((parts, silent(alloc, Said::OpenedTwo { tab, partition })))
     }
 
-    /// A tab is opened with these locks and no channel, unless the kernel refuses.
+    /// Opens a tab with these locks and no channels. Returns a refusal if the kernel rejects the opening.
     fn open_with(
         self,
         tab: u16,
@@ -89,6 +90,7 @@ impl Parts {
         Ok((parts, refusal))
     }
 
+    /// Marks a tab as dead.
     pub fn kill(&mut self, tab: u16) -> Done
         ensures world { self.new ≡ (kills self.old tab).world }
         ensures said { result.said ≡ killing self.old.kernel tab }
@@ -98,6 +100,7 @@ impl Parts {
         silent(self.alloc, said)
     }
 
+    /// Tells the broker that a tab is dead.
     pub fn tell(&mut self, tab: u16) -> Result<Done, AllocError>
         ensures world { OnOk result (self.new ≡ (tells self.old tab self.old.broker).world) }
         ensures said { IfOk result (λ done. done.said ≡ telling self.old.kernel tab self.old.broker) }
@@ -107,6 +110,7 @@ impl Parts {
         of_broker(self.alloc, outcome)
     }
 
+    /// Stops the broker.
     pub fn stop(self) -> (Parts, Done)
         ensures world { result.0 ≡ (stops self self.broker).world }
         ensures said { result.1.said ≡ stopping self.kernel self.broker }
@@ -132,6 +136,7 @@ impl Parts {
         (parts, silent(alloc, said))
     }
 
+    /// Starts the broker of the next generation with this start list.
     pub fn start(self, listed: &[u16]) -> Result<(Parts, Done), AllocError>
         ensures world { IfOk result (λ r. r.0 ≡ (starts self listed.now self.broker).world) }
         ensures said { IfOk result (λ r. r.1.said ≡ starting self.kernel listed.now self.broker) }
@@ -157,7 +162,7 @@ impl Parts {
         Ok((parts, of_broker(alloc, outcome)?))
     }
 
-    /// The kernel greets one tab.
+    /// Sends one tab a hello of the kernel.
     pub fn greet(&self, tab: u16) -> Result<Done, AllocError>
         ensures said { IfOk result (λ done. done.said ≡ greeting self.now.kernel tab self.now.broker) }
         ensures sends { IfOk result (λ done. done.sends.items ≡ (greets self.now tab self.now.broker).sends) }
@@ -186,7 +191,7 @@ impl Parts {
     }
 }
 
-/// Why a tab was not opened, unless memory was refused.
+/// Converts a fault of an opening into a refusal. Fails if the fault is out of memory.
 fn open_refusal(fault: OpenFault) -> Result<Refusal, AllocError>
     ensures refusal { IfOk result (λ refusal. refusal ≡ Refusal.Open fault) }
     ensures fault { OnOk result (fault ≢ OpenFault.Memory) }

@@ -1,7 +1,7 @@
 use Rattle.std.proofs.Common.{arith, All, ◌≡◌, ℕ, suc}
 use Rattle.board_speed.proofs.parcels.threads_at.Goals as goal
 
--- what holds of all items holds of the first, and of those after it
+-- A property of all items holds for the first item.
 pub invariant_of-putter-clause-of_outbox : goal.invariant_of-putter-clause-of_outbox
 invariant_of-putter-clause-of_outbox c =
     let all = rw c.in-Some.ensures.steps.0 at c.loop-pass.invariant.of_outbox in all 0 c.in-Some.pass (omega arith)

@@ -3,7 +3,7 @@ use Rattle.std.specs.Vec.Iter.{into_iter_items}
 use Rattle.wl_outbox.specs.Passes.{IsOf, takes}
 use Rattle.board_speed.proofs.parcels.threads_at.Given as goal
 
--- the passes that are left put into the outbox
+-- The remaining passes put into the outbox.
 abbrev pub invariant-loop-pass : goal.invariant-loop-pass
 invariant-loop-pass l = record {
   of_outbox : All (λ p. IsOf p l.outbox) (into_iter_items l.pass-iterator);

@@ -1,4 +1,5 @@
--- A row is put as a table puts it, and a new source's row is taken out again where the delivery is refused.
+-- Proof that recording a post puts its row. If the delivery of a new source's post fails, its row
+-- is removed again.
 use Rattle.std.proofs.Common.{◌≡◌, false, subst, sym, ap, ◌∙◌}
 use Rattle.std.specs.Ordering.{nat_cmp}
 use Rattle.std.specs.BTreeMap.{is_at}

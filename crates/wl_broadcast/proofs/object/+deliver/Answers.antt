@@ -1,4 +1,5 @@
--- Each return follows from the first open object: it is passed over, or full, or takes the post.
+-- Proof by cases on the first open object: it is no destination, its inbox is full, or it takes the
+-- post.
 use Rattle.std.proofs.Common.{◌≡◌, ◌++◌, [], ◌∷◌, sym, ap, ◌∙◌, append-nil, arith}
 use Rattle.std.proofs.lemmas.Result.{MatchResult-weaker}
 use Rattle.wl_broadcast.proofs.Delivering.{number_bounds, reaches, delivered_on, skips, fills, takes, numbers_on, delivered_to_none}

@@ -7,7 +7,7 @@ use Rattle.wl_broker.specs.declared.seat.Seat.{Seat}
 use Rattle.wl_broker.specs.Broker.{has_come, is_active}
 use Rattle.wl_broker.proofs.laws.law_recovery.Goals as goal
 
--- an element that is left out passes the test
+-- Removing an element that passes the test does not change the result for the list.
 all-left_out : {X : Type 0} (test : X → Bool) (kept : Bool) (x : X) (xs ys : List X) → (kept ≡ false → test x ≡ true) → list_all test xs ≡ list_all test ys → list_all test (x ∷ xs) ≡ list_all test (if kept then x ∷ ys else ys)
 all-left_out test true x xs ys passes e = ap (λ rest. test x && rest) e
 all-left_out test false x xs ys passes e = ap (λ passed. passed && list_all test xs) (passes refl) ∙ e

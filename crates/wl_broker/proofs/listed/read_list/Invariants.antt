@@ -3,7 +3,7 @@ use Rattle.wl_draft.specs.Tables.{at}
 use Rattle.wl_broker.specs.Kept.{missing_in}
 use Rattle.wl_broker.proofs.listed.read_list.Given as goal
 
--- what was read of the list
+-- The list and the counts contain the tabs read so far.
 abbrev pub invariant-loop-tab : goal.invariant-loop-tab
 invariant-loop-tab l =
     (l.listed.entries ≡ take l.tab-index l.list)

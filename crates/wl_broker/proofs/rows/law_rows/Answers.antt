@@ -1,4 +1,4 @@
--- Each row computes.
+-- Proof of the examples by computation.
 use Rattle.std.specs.Prelude.{refl}
 use Rattle.wl_draft.specs.Locks.{is_grantable, newly, settle, queued, probed, released, aborted, ended, restored}
 use Rattle.wl_parts.specs.ReportParts.{with_told}

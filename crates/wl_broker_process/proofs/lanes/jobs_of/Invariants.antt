@@ -2,6 +2,6 @@ use Rattle.std.proofs.Common.{◌≡◌, ◌+◌, length}
 use Rattle.std.specs.Vec.Iter.{into_iter_items}
 use Rattle.wl_broker_process.proofs.lanes.jobs_of.Given as goal
 
--- each lane so far has its job
+-- Each lane so far has its job.
 abbrev pub invariant-loop-lane : goal.invariant-loop-lane
 invariant-loop-lane g l = length l.jobs.items + length (into_iter_items l.lane-iterator) ≡ length l.fn.lanes.items

@@ -1,4 +1,4 @@
--- What clap says of the command line, computed.
+-- Lemmas on clap's result for the command line.
 use Rattle.std.proofs.Common.{◌≢◌, IfErr, IsErrAnd, Result, Ok, Err, ◌≡◌, ◌∙◌, ⊎_elim, refl, sym, subst, ap, true, List, [], map}
 use Rattle.std.specs.String.{string_bytes}
 use Rattle.clap.specs.Words.{App, HasKind, HasMatchesOf, IsAmong, Kinds, Text, fault_of, is_simple, is_simple_and_free, kind_of, subcommand_of, subcommand_rows_of, takes}
@@ -18,11 +18,11 @@ is_plain : is_simple_and_free command_line ≡ true
 unfolding clap_on_literals
 is_plain = refl
 
--- where no other kind is among those that may come, it is out of memory
+-- If no other kind of error is possible, the error is out of memory.
 memory_alone : (kinds : Kinds) (e : Error) → kinds ≡ [] → HasKind kinds e → kind_of e ≡ OutOfMemory
 memory_alone kinds e none has = ⊎_elim (λ m. m) (λ among. absurd (subst (IsAmong (kind_of e)) none among)) has
 
--- a fault that is out of memory is no other
+-- An out-of-memory fault is no other fault.
 memory_only : {T : Type 0} (P : Type 0) (r : Result T LineFault) → IsErrAnd r (λ e. e ≡ Memory) → IfErr r (λ e. e ≢ Memory → P)
 memory_only P (Ok x) is = tt
 memory_only P (Err e) is = λ differs. absurd (differs is)

@@ -3,7 +3,7 @@ use Rattle.std.specs.List.{flat_map, AllByRecursion}
 use Rattle.wl_grammar.specs.Grammar.{IsWellFormed, spelling}
 use Rattle.wl_frames.proofs.feed.read_frames.Given as goal
 
--- the frames so far and what follows them are the bytes
+-- The encodings of the frames so far, followed by the rest, are all the bytes.
 abbrev pub invariant-loop-frame : goal.invariant-loop-frame
 invariant-loop-frame l = record {
   spelled : flat_map spelling l.frames.items ++ l.rest ≡ l.bytes;

@@ -3,7 +3,7 @@ use Rattle.std.specs.List.{AllByRecursion}
 use Rattle.wl_grammar.specs.Grammar.{IsPlace, TabsRiseFrom}
 use Rattle.wl_grammar.proofs.well_formed.are_places.Given as goal
 
--- the places that are left decide on all
+-- All places are valid if and only if the remaining places are valid.
 abbrev pub invariant-loop-tab : goal.invariant-loop-tab
 invariant-loop-tab l =
     (1 ≤ l.least)

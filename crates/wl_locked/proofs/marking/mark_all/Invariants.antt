@@ -2,7 +2,7 @@ use Rattle.std.proofs.Common.{◌≡◌, ℕ, List, Bool, length, map, drop}
 use Rattle.wl_locked.specs.Marks.{AreMarked, AreRefused}
 use Rattle.wl_locked.proofs.marking.mark_all.Given as goal
 
--- what holds of the rest of the lanes holds of all of them
+-- A property of the remaining lanes extends to all lanes.
 abbrev pub invariant-loop-lane : goal.invariant-loop-lane
 invariant-loop-lane g l =
     let of = g.L.Kept.kept l.shard in

@@ -2,7 +2,7 @@ use Rattle.std.proofs.Common.{◌≡◌, ℕ, List, Bool, length, drop}
 use Rattle.wl_locked.specs.Marks.{IsMarked, IsRefused}
 use Rattle.wl_locked.proofs.marking.mark_lane.Given as goal
 
--- what holds of the rest of the receipts holds of all of them
+-- A property of the remaining receipts extends to all receipts.
 abbrev pub invariant-loop-receipt : goal.invariant-loop-receipt
 invariant-loop-receipt l =
     record {

@@ -2,7 +2,7 @@ use Rattle.std.proofs.Common.{◌≡◌, ◌≤◌, ◌+◌, ◌++◌, vec_len, 
 use Rattle.wl_locked.specs.Sharding.{deaths_below}
 use Rattle.wl_locked.proofs.work.deal.Given as goal
 
--- the deaths of the shards so far stand behind the works, and there is room for the others
+-- The deaths of the shards so far follow the earlier works, and there is room for the others.
 abbrev pub invariant-loop-shard : goal.invariant-loop-shard
 invariant-loop-shard l =
     record {

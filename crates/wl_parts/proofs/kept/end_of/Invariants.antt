@@ -2,6 +2,6 @@ use Rattle.std.proofs.Common.{◌≡◌, drop, max}
 use Rattle.wl_parts.specs.Kept.{end_of}
 use Rattle.wl_parts.proofs.kept.end_of.Given as goal
 
--- what is left to try goes on from the end so far
+-- The end of the whole list is the maximum of the end so far and the end of the remaining entries.
 abbrev pub invariant-loop-entry : goal.invariant-loop-entry
 invariant-loop-entry l = max l.end (end_of (drop l.entry-index l.entries)) ≡ end_of l.entries

@@ -2,7 +2,7 @@ use Rattle.std.proofs.Common.{◌≡◌, ◌≤◌, ◌+◌, ◌*◌, false}
 use Rattle.wl_script.proofs.SimLemmas.{Stands}
 use Rattle.wl_script.proofs.sim.sim_run.Given as goal
 
--- nothing has failed, all that was read was played, and each read had so many bytes at most
+-- Nothing has failed, all input so far was played, and each read gave at most 4096 bytes.
 abbrev pub invariant-loop-reads : goal.invariant-loop-reads
 invariant-loop-reads g l = record {
   source : l.source.has_failed ≡ false;

@@ -8,7 +8,7 @@ use Rattle.wl_tab.specs.TabTokens.{holding_in}
 use Rattle.wl_tab.proofs.locks.add_holdings.Goals as goal
 use Rattle.wl_tab.proofs.locks.add_holdings.Goals.{in-Some+in_ok-push, in_default}
 
--- what was appended goes on by what the next number is
+-- The holding of the next number, if any, is appended.
 one_more : (tab : ℕ) (kept : List Kept) (i : ℕ) (x : Kept) (o : Option Holding) (first so_far : List Holding) → i < length kept → x ≡ get_or kept i x → o ≡ holding_in tab x → so_far ≡ first ++ filter_map (holding_in tab) (take i kept) → so_far ++ cons_option o [] ≡ first ++ filter_map (holding_in tab) (take (i + 1) kept)
 one_more tab kept i x o first so_far below here held so_far_is =
     let h : Kept → Option Holding = holding_in tab in

@@ -3,7 +3,7 @@ use Rattle.std.specs.Str.{all_ascii_digits}
 use Rattle.wl_words.specs.Reading.{value_after, most_number}
 use Rattle.wl_words.proofs.reading.decimal_of.Given as goal
 
--- the digits that are left make the same number of what was read
+-- The number so far, continued with the remaining digits, gives the value of the whole word.
 abbrev pub invariant-loop-digit : goal.invariant-loop-digit
 invariant-loop-digit l =
     record {

@@ -5,7 +5,7 @@ use Rattle.wl_grammar.specs.Grammar.{IsAddressed}
 use Rattle.wl_workers.specs.DeskSteps.{spelled}
 use Rattle.wl_workers.proofs.desk.spell_list.Given as goal
 
--- what was appended, and the bytes of the frames that are left, are what is due
+-- The bytes appended and the encodings of the remaining frames are the full encoding.
 abbrev pub invariant-loop-addressed : goal.invariant-loop-addressed
 invariant-loop-addressed l = record {
   spellable : AllByRecursion IsAddressed (into_iter_items l.addressed-iterator);

@@ -2,8 +2,8 @@ use Rattle.std.proofs.Common.{◌≡◌, ◌⊎◌, true}
 use Rattle.wl_workers.specs.Lane.{GoesOn}
 use Rattle.wl_workers.proofs.lanes.lane.Given as goal
 
--- the lane goes on, its desk still borrows what it did, what comes is dealt to as many shards as it has, and the gate lets it pass
--- or has not been asked
+-- The lane goes on, its desk borrows the same lane, and its works are dealt to the desk's shards.
+-- The gate lets the lane pass or has not been asked.
 abbrev pub invariant-loop-event : goal.invariant-loop-event
 invariant-loop-event g l = record {
   on : GoesOn (g.I.Intake.given l.initial.intake) (g.I.Intake.given l.intake) (g.D.Desk.answered l.initial.desk) (g.D.Desk.answered l.desk)

@@ -5,7 +5,7 @@ use Rattle.wl_workers.specs.Told.{Grows}
 use Rattle.wl_workers.specs.Lane.{as_frames, all_put}
 use Rattle.wl_workers.proofs.lanes.put_frames.Given as goal
 
--- these were put out, and the others are left
+-- The frames in `done` were sent, and the others are left.
 abbrev pub invariant-loop-addressed : goal.invariant-loop-addressed
 invariant-loop-addressed g l = record {
   done : List Addressed;

@@ -4,7 +4,7 @@ use Rattle.wl_grammar.specs.declared.frame.Frame.{Frame}
 use Rattle.wl_workers.specs.TabReader.{HandsUp}
 use Rattle.wl_workers.proofs.tab_reader.hand_up.Given as goal
 
--- these frames were handed up, and the others are left
+-- The frames in `done` were forwarded, and the others are left.
 abbrev pub invariant-loop-frame : goal.invariant-loop-frame
 invariant-loop-frame g l = record {
   done : List Frame;

@@ -2,7 +2,7 @@ use Rattle.std.proofs.Common.{◌≡◌, false}
 use Rattle.wl_workers.proofs.ReaderLemmas.{Handing}
 use Rattle.wl_workers.proofs.tab_reader.read_all.Given as goal
 
--- nothing has failed, and all that was read is handed up, but for the feed's rest
+-- Nothing has failed, and all frames read are forwarded, up to the feed's rest.
 abbrev pub invariant-loop-reads : goal.invariant-loop-reads
 invariant-loop-reads g l = record {
   feed : l.feed.has_failed ≡ false;

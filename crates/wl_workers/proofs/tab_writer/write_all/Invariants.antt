@@ -4,7 +4,7 @@ use Rattle.wl_workers.specs.TabWriter.{WritesTab}
 use Rattle.wl_workers.proofs.WriterLemmas.{Looked}
 use Rattle.wl_workers.proofs.tab_writer.write_all.Given as goal
 
--- all that was taken is written
+-- The frames of all parcels taken are written.
 abbrev pub invariant-loop : goal.invariant-loop
 invariant-loop g l = record {
   pass : IsSamePass l.fn.pass l.pass;

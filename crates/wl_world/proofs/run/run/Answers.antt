@@ -17,7 +17,7 @@ use Rattle.wl_world.proofs.heard.ReadsAndRest.{heard-till_closed, heard-is_read}
 use Rattle.wl_world.proofs.apart.RunsApart.{runs-apart}
 use Rattle.wl_world.proofs.run.run.Goals as goal
 
--- all events have happened
+-- The loop has applied all events.
 made : (c : goal.After-loop-event) → run c.args.events.now empty_world ≡ c.loop-event.world.world
 made c =
     sym (c.loop-event.invariant.world ∙ ap (λ (es : List Event). run es empty_world) (take_all c.loop-event.event-index c.args.events.now c.loop-event-test.false))

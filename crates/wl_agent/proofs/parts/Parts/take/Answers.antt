@@ -1,4 +1,5 @@
--- The part is put as a table puts it, and taken out again where the snapshot is refused.
+-- Proof that inserting a part puts its row. If the snapshot cannot be allocated, the row is removed
+-- again.
 use Rattle.std.proofs.Common.{◌≡◌, List, refl, ap, ◌∙◌}
 use Rattle.std.specs.Ordering.{nat_cmp}
 use Rattle.std.specs.BTreeMap.{is_at}
@@ -11,7 +12,7 @@ use Rattle.wl_agent.specs.SnapshotParts.{PartsState, with_part}
 use Rattle.wl_agent.proofs.PartsTogether.{whole_none, whole_some}
 use Rattle.wl_agent.proofs.parts.Parts.take.Goals as goal
 
--- what was inserted, with the entries of a copy
+-- The inserted row has the entries of the part, since they are copied.
 came : (part : Part) (parts : PartsState) (rows new : Table (List SnapshotEntry)) (entries : List SnapshotEntry) (copy : Part) → new ≡ put part.part entries rows → entries ≡ copy.entries → copy ≡ part → rows ≡ parts.came → new ≡ put part.part part.entries parts.came
 came part parts rows new entries copy new_is entries_are copy_is rows_are =
     new_is ∙ ap (λ es. put part.part es rows) (entries_are ∙ ap (λ (p : Part). p.entries) copy_is) ∙ ap (put part.part part.entries) rows_are

@@ -2,7 +2,7 @@ use Rattle.std.proofs.Common.{◌≡◌, ℕ, List, ◌++◌, length}
 use Rattle.std.specs.Io.KnownBytes.{Appends}
 use Rattle.wl_frames.proofs.device.Sink.write.Given as goal
 
--- what was written so far, and then the rest, are the bytes
+-- The bytes written so far, followed by the rest, are all the bytes.
 abbrev pub invariant-loop-rest : goal.invariant-loop-rest
 invariant-loop-rest g l =
     (l.self-inside.has_failed ≡ l.fn.self.has_failed)

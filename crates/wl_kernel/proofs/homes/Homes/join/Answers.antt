@@ -42,7 +42,7 @@ returns-in_ok-join-in-Some-clause-place c =
     let lt = place_within p (length homes) c.self.inside.places.entries c.in-Some.place c.self.invariant.below at in
     (omega (arith, lt, length-set {A = ℕ × List ℕ}), c.self.invariant.own p c.in-Some.place at)
 
--- a first tab's home is behind all others
+-- The home of a first tab is appended to the list.
 abbrev Behind : goal.After-found → Type 0
 Behind c = c.found.new.list.items ≡ c.self.inside.list.items ++ (c.args.tab, c.args.tab ∷ []) ∷ []
 

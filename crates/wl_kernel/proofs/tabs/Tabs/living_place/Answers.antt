@@ -6,7 +6,7 @@ use Rattle.wl_kernel.specs.Kept.{all_seen, place_in}
 use Rattle.wl_kernel.proofs.OpenedTabs.{place_got, row_below, row_read, not_placed}
 use Rattle.wl_kernel.proofs.tabs.Tabs.living_place.Goals as goal
 
--- why a tab is not killed, by what is known of it
+-- The reason for which a tab is not killed, by its row.
 abbrev fault_of : Option OpenedTab → Option KillFault
 fault_of o = if is_some o then (if lives o then None else Some AlreadyDead) else Some NoTab
 

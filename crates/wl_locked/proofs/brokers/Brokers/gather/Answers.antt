@@ -7,7 +7,7 @@ use Rattle.wl_locked.specs.Closing.{IsCompared}
 use Rattle.wl_locked.specs.Sharding.{Run, IsEnding, opening_of, receipts_in}
 use Rattle.wl_locked.proofs.brokers.Brokers.gather.Goals as goal
 
--- a shard's history was compared with what the lanes were seen to have
+-- The comparison with the lanes' receipts, in the form that ends a shard.
 ending : {run : Run} {seen lanes : List (List (List Receipt))} {shard : ℕ} {steps : List Step} {compared : Result Bool ℕ} {counted parts amount : ℕ}
     → seen ≡ lanes → IsCompared (opening_of run shard) run.limit (receipts_in shard seen) steps compared counted
     → parts ≡ length lanes → amount ≡ total (receipts_in shard lanes) → IsEnding run lanes shard steps compared counted parts amount

@@ -3,7 +3,7 @@ use Rattle.std.specs.List.{flat_map}
 use Rattle.wl_draft.specs.Tables.{has_row, put}
 use Rattle.wl_parts.proofs.kept.Kept.gathered.Given as goal
 
--- what is gathered, and what is to come, are the entries of all parts
+-- The entries gathered and those still to come are the entries of all parts.
 abbrev pub invariant-loop-number : goal.invariant-loop-number
 invariant-loop-number l =
     (l.gathered.items ++ flat_map (λ row. row.1) (cond l.is_placed l.number-iterator (put l.part l.entries l.number-iterator)) ≡ flat_map (λ row. row.1) (put l.part l.entries l.self.came))

@@ -4,7 +4,7 @@ use Rattle.wl_parts.specs.ReportParts.{is_in_order}
 use Rattle.wl_parts.specs.Kept.{told}
 use Rattle.wl_parts.proofs.kept.Kept.is_in_order.Given as goal
 
--- what is left to try decides
+-- The result depends only on the parts not yet compared.
 abbrev pub invariant-loop-part : goal.invariant-loop-part
 invariant-loop-part l =
     list_all (is_in_order (told l.heading l.entries)) l.part-iterator ≡ list_all (is_in_order (told l.heading l.entries)) l.self.came

@@ -3,7 +3,7 @@ use Rattle.std.specs.Io.KnownBytes.{Appends}
 use Rattle.wl_script.specs.SimSteps.{Plays}
 use Rattle.wl_script.proofs.sim.Sim.take_piece.Given as goal
 
--- nothing has failed, and the lines that ended so far were played
+-- Nothing has failed, and the lines that ended so far were played.
 abbrev pub invariant-loop-byte : goal.invariant-loop-byte
 invariant-loop-byte g l = record {
   sound : l.sink.has_failed ≡ false;

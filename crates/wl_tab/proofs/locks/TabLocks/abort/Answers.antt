@@ -8,7 +8,7 @@ use Rattle.wl_tab.proofs.Spending.{Aborts, TakenOut, apart, abort-none, abort-ot
 use Rattle.wl_tab.proofs.locks.TabLocks.abort.Goals as goal
 use Rattle.wl_tab.proofs.locks.TabLocks.abort.Goals.{In_default, In-Ok, After-index, After-is_lock, After-abort}
 
--- ---- no token of the number is kept
+-- No token of the number is stored
 
 nothing : (c : In_default) → Aborts c.args.self.now c.args.number became.Nothing c.args.self.now
 nothing c =
@@ -20,7 +20,7 @@ returns-in_default-clause-said c = (nothing (goal.at.returns-in_default-clause-s
 pub returns-in_default-clause-new : goal.returns-in_default-clause-new
 returns-in_default-clause-new c = (nothing (goal.at.returns-in_default-clause-new c).In_default).left_is
 
--- ---- one is kept
+-- A token is stored
 
 place : (c : After-index) → Found c.self.inside.agent c.self.inside.kept.items c.args.number c.in-Some.place
 place c =
@@ -51,7 +51,7 @@ returns-then-is_lock-clause-new c =
     let at = goal.at.returns-then-is_lock-clause-new c in
     (held at.After-is_lock (place at.After-index) (search rules)).left_is
 
--- ---- it is that of a request that is asked
+-- The token belongs to a request that is asked
 
 taken : (c : After-abort) → Found c.self.inside.agent c.self.inside.kept.items c.args.number c.in-Some.place → TakenOut c.self.inside.agent c.args.number c.remove-operation.result.token
 taken c f =

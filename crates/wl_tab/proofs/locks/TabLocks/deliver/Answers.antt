@@ -9,7 +9,7 @@ use Rattle.wl_tab.proofs.Heard.{Comes, comes, ends-before}
 use Rattle.wl_tab.proofs.locks.TabLocks.deliver.Goals as goal
 use Rattle.wl_tab.proofs.locks.TabLocks.deliver.Goals.{After-tell_all-snapshot}
 
--- what the frame leaves and says, once the tokens are told
+-- The effect and reply of the frame, after the tokens are settled.
 came : (c : After-tell_all-snapshot) → Comes c.args.frame.now c.self.inside.agent c.tell_all-snapshot.new.agent c.in_ok-delivered.delivered c.self.inside.tab c.entered_by-self-inside.result c.tell_all-snapshot.new.kept.items c.tell_all-snapshot.result
 came c =
     let told = c.tell_all-snapshot.ensures in

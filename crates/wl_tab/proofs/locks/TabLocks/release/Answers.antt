@@ -7,7 +7,7 @@ use Rattle.wl_tab.proofs.Spending.{Releases, LetGo, apart, release-none, release
 use Rattle.wl_tab.proofs.locks.TabLocks.release.Goals as goal
 use Rattle.wl_tab.proofs.locks.TabLocks.release.Goals.{In_err-place, In-Ok, After-index, After-release}
 
--- ---- no token of the number is kept
+-- No token of the number is stored
 
 nothing : (c : In_err-place) → Releases c.args.self.now c.args.number None c.args.self.now
 nothing c =
@@ -19,7 +19,7 @@ returns-in_err-place-clause-next c = c.from_residual.ensures ∙ (nothing (goal.
 pub returns-in_err-place-clause-new : goal.returns-in_err-place-clause-new
 returns-in_err-place-clause-new c = (nothing (goal.at.returns-in_err-place-clause-new c).In_err-place).left_is
 
--- ---- one is kept
+-- A token is stored
 
 place : (c : After-index) → Found c.self.inside.agent c.self.inside.kept.items c.args.number c.in_ok-place.place
 place c =
@@ -35,7 +35,7 @@ returns-then-not-is_lock-clause-next c = (other (goal.at.returns-then-not-is_loc
 pub returns-then-not-is_lock-clause-new : goal.returns-then-not-is_lock-clause-new
 returns-then-not-is_lock-clause-new c = (other (goal.at.returns-then-not-is_lock-clause-new c).After-index (search rules)).left_is
 
--- ---- it is that of a lock
+-- The token belongs to a held lock
 
 taken : (c : After-release) → Found c.self.inside.agent c.self.inside.kept.items c.args.number c.in_ok-place.place → LetGo c.self.inside.agent c.args.number c.remove-operation.result.token
 taken c f =

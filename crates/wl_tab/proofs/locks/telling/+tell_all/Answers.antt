@@ -22,7 +22,7 @@ returns-in_err-operation-clause-snapshot t c =
     let none : c.args.kept.now.items ≡ [] = search rules in
     c.from_residual.ensures ∙ sym (ap (λ (r : Run). r.snapshot) (run-none c.args.agent.now c.args.kept.now.items none))
 
--- the run of all tokens, once the last one was told
+-- The run of all tokens, after the last one is settled.
 ran : (t : ℕ) (c : After-tell t) (f : Fate) → f ≡ fate_of c.tell_all-before.new.agent c.in_ok-operation.field-0.token → with_fate (run_of c.tell_all-before.new.agent c.tell_all-before.new.kept.items c.tell_all-before.result) c.in_ok-operation.field-0 f ≡ told_run c.args.agent.now c.args.kept.now.items
 ran t c f told =
     let before = c.tell_all-before.ensures in

@@ -3,7 +3,8 @@ use Rattle.std.specs.Io.KnownBytes.{Appends}
 use Rattle.wl_workers.proofs.DeskLemmas.{Leaves}
 use Rattle.wl_workers.proofs.desk.Desk.answer_all.Given as goal
 
--- what was written, what was gathered and the answers to the frames that are left are what is due
+-- The output written, the bytes gathered and the answers to the remaining frames are the full
+-- output.
 abbrev pub invariant-loop-frame : goal.invariant-loop-frame
 invariant-loop-frame g l = record {
   sound : l.sink.has_failed ≡ false;

@@ -2,7 +2,7 @@ use Rattle.std.proofs.Common.{◌≡◌, false}
 use Rattle.wl_workers.proofs.RunLemmas.{Serves}
 use Rattle.wl_workers.proofs.desk.Desk.run.Given as goal
 
--- nothing has failed, and all that was read is answered, but for the feed's rest
+-- Nothing has failed, and all frames read are answered, up to the feed's rest.
 abbrev pub invariant-loop-reads : goal.invariant-loop-reads
 invariant-loop-reads g l = record {
   feed : l.feed.has_failed ≡ false;

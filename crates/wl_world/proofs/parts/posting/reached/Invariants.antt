@@ -2,7 +2,7 @@ use Rattle.std.proofs.Common.{◌≡◌, ◌≤◌, ◌++◌, drop, length}
 use Rattle.wl_world.specs.Merging.{merged}
 use Rattle.wl_world.proofs.parts.posting.reached.Given as goal
 
--- what is added, and what is still to come
+-- The results added so far, followed by the merge of the rest, are the whole merge.
 abbrev pub invariant-loop-number : goal.invariant-loop-number
 invariant-loop-number l = record {
   within : length l.rest ≤ length l.fn.took;
