@@ -1,66 +1,60 @@
-# `make demo` builds the program and shows it at work, `make demo-processes` as processes, and `make try` with nothing proved;
-# `make bench` times it, `make soak` and `make fuzz` run it hard, `make refuse` runs tests with each allocation refused in turn;
-# `make test` is the gate, and `make try-edits` tries all must-fail edits in `edits/`, those that the gate leaves out too.
-.PHONY: bench demo demo-processes fuzz refuse soak test try try-edits
+# Shows, measures and tests `wlb`. `make` alone lists the targets.
+.PHONY: help demo demo-processes try bench soak fuzz refuse mutants test
+
+WLB = crates/wlb/out/wlb
+BENCH = crates/bench_core/out/bench_core
+
+help: ## lists the targets
+	@sed -n 's/^\([a-z-]*\):.* ## \(.*\)/make \1\t\2/p' $(firstword $(MAKEFILE_LIST)) | expand -t 22
 
 EXAMPLE ?= examples/handover.sim
 
-demo: crates/wlb/out/wlb
-	python3 tools/demo.py $(EXAMPLE) crates/wlb/out/wlb
-
-# With nothing proved, and nothing kept: `rt try` says so in its last line.
-try:
-	cd crates/wlb && rt try -- sim < $(abspath $(EXAMPLE))
+demo: $(WLB) ## plays EXAMPLE, a script of the sim or frames of the desk, step by step
+	python3 tools/demo.py $(EXAMPLE) $(WLB)
 
 PROCESSES ?= examples/processes/counter
 
-demo-processes: crates/wlb/out/wlb
-	python3 tools/demo_processes.py $(PROCESSES) crates/wlb/out/wlb
+demo-processes: $(WLB) ## plays PROCESSES, a folder with the scripts of a kernel and its tabs
+	python3 tools/demo_processes.py $(PROCESSES) $(WLB)
 
-SPEEDS = crates/table_speed/out/table_speed crates/board_speed/out/board_speed crates/locked_speed/out/locked_speed
+try: ## plays EXAMPLE, a script of the sim, with nothing proved
+	cd crates/wlb && rt try -- sim < $(abspath $(EXAMPLE))
 
-bench: crates/wlb/out/wlb $(SPEEDS)
-	python3 tools/bench.py crates/wlb/out/wlb $(SPEEDS)
-
-crates/wlb/out/wlb: crates.txt $(wildcard crates/*/src/*.rt crates/*/src/*/*.rt crates/*/specs/*.antt)
-	cd crates/wlb && rt run < stdin > /dev/null
-
-crates/table_speed/out/table_speed: crates.txt $(wildcard crates/table_speed/src/*.rt crates/wl_table/src/*.rt crates/wl_index/src/*.rt crates/wl_ordered/src/*.rt crates/wl_draft/src/*.rt)
-	cd crates/table_speed && rt run > /dev/null
-
-crates/board_speed/out/board_speed: crates.txt $(wildcard crates/wl_*/src/*.rt crates/wl_*/specs/*.antt crates/board_speed/src/*.rt)
-	cd crates/board_speed && rt run > /dev/null
-
-crates/locked_speed/out/locked_speed: crates.txt $(wildcard crates/wl_*/src/*.rt crates/wl_*/specs/*.antt crates/locked_speed/src/*.rt)
-	cd crates/locked_speed && rt run > /dev/null
-
-test:
-	@python3 tools/try_edits.py --fit
-	RT_JOBS=$${RT_JOBS:-$$(python3 tools/lanes.py)} rt ci
-	@python3 tools/try_edits.py --gate
-	@python3 tools/refuse.py --gate
-	@python3 tools/check_program.py crates/wlb/out/wlb
-	@python3 tools/check_processes.py crates/wlb/out/wlb
-	@python3 tools/check_owed_hello.py crates/wlb/out/wlb
-
-try-edits:
-	python3 tools/try_edits.py $(CRATES)
-
-TESTS ?= book_tests
-WORD ?=
-MOST ?= 0
-
-refuse:
-	cd crates/$(TESTS) && rt test
-	python3 tools/refuse.py --most $(MOST) crates/$(TESTS)/out/$(TESTS)_tests $(WORD)
+bench: $(WLB) $(BENCH) ## measures scripts, the broker, lock tables, the board, lanes and processes
+	python3 tools/bench.py $(WLB) $(BENCH)
 
 MINUTES ?= 10
-MEGABYTES ?= 100
 SEED ?= 1
 
-soak: crates/wlb/out/wlb
-	python3 tools/soak.py $(MINUTES) $(SEED) crates/wlb/out/wlb
-	python3 tools/hostile.py $(SEED) crates/wlb/out/wlb
+soak: $(WLB) ## kills brokers and tabs at random moments, for MINUTES, and then plays hostile tabs
+	python3 tools/soak.py $(MINUTES) $(SEED) $(WLB)
+	python3 tools/hostile.py $(SEED) $(WLB)
 
-fuzz: crates/wlb/out/wlb
-	python3 tools/fuzz.py $(MEGABYTES) $(SEED) crates/wlb/out/wlb
+MEGABYTES ?= 100
+
+fuzz: $(WLB) ## gives desk, broker and sim MEGABYTES of random and mutated input
+	python3 tools/fuzz.py $(MEGABYTES) $(SEED) $(WLB)
+
+TESTS ?= test_tables
+WORD ?=
+
+refuse: ## runs the tests of the crate TESTS (with WORD in their names) with each allocation refused in turn
+	cd crates/$(TESTS) && rt test
+	python3 tools/refuse.py crates/$(TESTS)/out/$(TESTS)_tests $(WORD)
+
+mutants: ## kills the mutants of CRATES, or of all crates
+	python3 tools/mutants.py $(CRATES)
+
+test: ## the gate: proves every crate, kills mutants, runs every test and the program itself
+	@python3 tools/mutants.py --fit
+	RT_JOBS=$${RT_JOBS:-$$(nproc)} rt ci
+	@python3 tools/mutants.py --gate
+	@python3 tools/refuse.py --gate
+	@python3 tools/check_program.py $(WLB)
+	@python3 tools/check_processes.py $(WLB)
+
+$(WLB): crates.txt $(wildcard crates/*/src/*.rt crates/*/src/*/*.rt crates/*/specs/*.antt)
+	cd crates/wlb && rt run < stdin > /dev/null
+
+$(BENCH): crates.txt $(wildcard crates/wl_*/src/*.rt crates/wl_*/src/*/*.rt crates/wl_*/specs/*.antt crates/bench_core/src/*.rt)
+	cd crates/bench_core && rt run > /dev/null

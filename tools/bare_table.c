@@ -1,11 +1,11 @@
-// Calls that only touch what any lock table has to touch, to which the growth of the indexed table's calls is compared: a row of
-// the client and the number, a line of the name, and a copy of the name. Nothing is looked up: where a row stands is computed of
-// client and number, and where a line stands of the digits of the name. Nobody waits, and nothing is granted.
+// Calls that touch only the memory that any lock table has to touch, for a comparison with the growth of the indexed table's
+// calls: a row of the client and the number, a line of the name, and a copy of the name. Nothing is looked up. The place of a row
+// is computed from client and number, and the place of a line from the digits of the name. No call waits, and none is granted.
 //
-//     bare_table    plays the calls of `table_speed`'s traces of 64 and of 65,536 restored entries, a few times each, and prints
-//                   the nanoseconds of a call in each, the least of the runs, and their ratio
+//     bare_table    plays the calls of the traces of `bench_core tables` with 64 and with 65,536 restored entries, five times
+//                   each; prints the nanoseconds of a call in each, the least of the runs, and their ratio
 //
-// Statuses: 0 done, 3 no memory.
+// Exit status: 0 done, 3 out of memory.
 #define _GNU_SOURCE
 #include <stdint.h>
 #include <stdio.h>
@@ -15,14 +15,14 @@
 
 enum { CALLS = 400000, RUNS = 5, NAME = 24 };
 
-// An entry of a client: none where there is no name.
+// Entry of a client. An empty row has no name.
 struct row {
     char *name;
     uint32_t line;
     uint8_t is_exclusive;
 };
 
-// How many hold a name.
+// Numbers of the holders of a name.
 struct line {
     uint64_t shared;
     uint64_t exclusive;
@@ -63,7 +63,7 @@ static void leave(struct row *row, struct line *lines) {
     row->name = NULL;
 }
 
-// The nanoseconds of a call.
+// Returns the nanoseconds of a call.
 static double play(uint32_t clients, uint32_t entries) {
     uint32_t count = clients * entries;
     struct row *rows = taken(calloc(count, sizeof *rows));

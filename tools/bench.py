@@ -1,69 +1,65 @@
-"""Times `wlb sim`, `wlb desk`, the lock tables, the board and the outbox that threads share, a broker behind its lock, and the
-processes: `bench.py WLB TABLES BOARD LOCKED`, or `bench.py WLB TABLES BOARD LOCKED OLDER` to time an older `wlb` beside it.
+"""Measures `wlb`: scripts, the broker, the lock tables, the board, the lanes, and processes.
 
-Handover: scripts of growing length, in which two tabs of one origin hand a lock over, again and again. Prints for each length
-the seconds and the time of a line, as a ratio to that of the shortest script. Where a line costs no more for the messages that
-were sent before it, the ratios stay near 1 (the tables are trees, so they may rise a little).
+BENCH is the program of the crate `bench_core`, which measures single parts. If OLDER is given, an older `wlb`, the lines of
+Reports, Waiting and Answers also say how many times as long it takes. The tool builds `relay.c` and `bare_table.c` and leaves
+out their figures if there is no `cc`. It needs `/proc`. It ends with an error if a run fails or has an unexpected number of
+answers.
 
-Recovery: 64 tabs of one partition have many live requests each when the broker is stopped, and tell them to the next one in
-parts. Prints for each count of requests the seconds from the stop on, and the time of a request, as a ratio to that of the
-smallest count.
+Handover: scripts of growing length, in which two tabs of one origin hand a lock over again and again. Prints the seconds of
+each script, and the time of a line as a ratio to the shortest script. If a line costs the same whatever was sent before it, the
+ratios stay near 1. They may rise a little, because the tables are trees.
 
-Lock tables: `table_speed` plays the same random calls on the indexed table and on the plain one, and prints for each trace how
-many calls a second either makes and their ratio. Then it says how much longer calls take than in a table of 64 entries: the same
-calls of the same clients, beside 65,536 entries of others; and calls of any client, for any number and name of 65,536 entries.
-Beside the latter stands `bare_table.c`, a program in C whose calls touch one row, one line and one name, and look nothing up.
-Where there is no `cc` there is none.
+Recovery: 64 tabs of one partition have many live requests each when the broker is stopped. They report them to the next broker
+in parts. Prints the seconds from the stop on for each number of requests, and the time of a request as a ratio to the smallest
+one.
 
-Reports: a broker behind its bytes waits for many tabs of one partition, and each reports nothing. Prints for each count of tabs
-the processor's time of a report and its ratio to that of the smallest count.
+Reports: a broker on its byte stream waits for many tabs of one partition, and each tab reports no locks. Prints the processor
+time of a report for each number of tabs, and its ratio to the smallest one.
 
-Waiting: in one partition one tab holds a lock for which so many requests wait, and another tab asks for a lock that nobody else
-wants and gives it up, again and again. Prints for each count of waiting requests the processor's time of a command, and its ratio
-to that of the smallest count.
+Waiting: one tab holds a lock for which many requests wait. Another tab of the partition requests and releases a lock that no
+other tab wants, again and again. Prints the processor time of a command for each number of waiting requests, and its ratio to
+the smallest one.
 
-Answers: one tab asks for a lock and gives it up, so many commands in all. Prints the processor's time of a command with its
-answer, start and end of the program included.
+Answers: one tab requests and releases a lock, again and again. Prints the processor time of a command with its answer, which
+includes the start and the end of the program.
 
-Shared: several threads draw numbers from a board, look at a tab on it, or put parcels into an outbox that one more takes from.
-The same loops run over a `Mutex` in the same runs. Prints how many a second there were, the best of the runs, and the time as a
-ratio to that of the loop over the mutex, the middle one of the runs: below 1 is faster than the mutex.
+Tables: `bench_core tables` plays the same random calls on the indexed lock table and on the plain one. Prints the calls a
+second of both for each trace, and their ratio. It compares calls with those in a table of 64 entries: the same calls of the
+same clients beside 65,536 entries of other clients, and calls for any of 65,536 entries. `bare_table.c` stands beside the
+latter: its calls touch one row, one line and one name, and look nothing up.
 
-Lanes: 1, 2 and 4 lanes, each on a thread of its own, step a broker of 1, 2 and 4 shards, each behind a lock of its own. Each lane
-has requests and releases of a tab that is alone in its partition. A broker that no other thread has takes the events of one lane
-(`alone`), and a locked broker with one lane takes them by direct calls (`locked`), without intake, gate and outlet. Prints how
-many steps a second there were, of all lanes together, the best of the runs, and that rate as a ratio to the rate of one lane on
-one shard, the middle one of the runs.
-Where the broker alone has a ratio of 2, a step of a lane takes twice as long as one without lock, history and receipts; a
-locked step takes as many times as long as the rate of `alone` is that of `locked`: both make as many steps as a generation may
-have in a shard. Each of the three has a process of its own, so that none finds memory as another left it. Prints that too, of
-the best runs. What a step stores is then memory that is touched for the first time, which costs more or less as the system
-makes it. So `alone` and `locked` run by turns in one process too, with an allocator that keeps what is given back to it: then
-all but the first turn finds memory that was touched before. Prints how many times as long a locked step took as one without
-lock, the middle, the least and the most of the turns after the first two, with that allocator and with the usual one: of the
-events of a tab that is alone, and of sixteen tabs of one partition, of which four want each of four locks, so that each release
-grants a lock to another tab and each request waits.
+Board: in `bench_core board`, threads draw numbers from a board, look up a tab on it, or put parcels into an outbox that one
+more thread empties. The same loops run over a `Mutex` in the same run. Prints the best rate of the runs. The ratio is the time
+divided by the time of the loop over the mutex, the median of the runs: below 1 is faster than the mutex.
 
-Processes: a kernel, its broker with two lanes, and tabs, each of which asks for an exclusive lock, waits for it and gives it up,
-2,000 times: one tab; four tabs of one origin with a name each, and with one name for all; sixteen tabs of four origins with a
-name each. The tabs are opened and ask while no broker is up, so that they begin together: the time is that from the line of the
-broker's start to that of the tabs' ends. What a tab sends in a round is two frames: the request, for whose answer it waits, and
-the release, for whose answer it does not. Prints how many locks a second were granted, to all tabs together, the best of the
-runs. Sixteen tabs of four origins play again with four lanes, on one shard and on four. Beside it in each run stands `relay.c`, a
-program in C with the same hops, whose broker has a reader of its own and whose tabs have one thread, in which as many tabs each
-send a frame and wait for it as often; it is timed in the same way. Prints its round trips a second, the best of the runs, and the
-ratio of the first rate to the second, the middle one of the runs. Where there is no `cc` there is neither.
+Lanes: in `bench_core lanes`, 1, 2 and 4 lanes step a broker of 1, 2 and 4 shards. Each lane has its own thread, each shard its
+own lock. The events of a lane are requests and releases of a tab that is alone in its partition. `alone` is a broker of one
+thread without a lock. `locked` is a locked broker with one lane, called directly, without intake, gate and outlet. The second
+word of the command names the part: `alone`, `locked`, `lanes`, or `turns` for the next paragraph. Prints the best rate of all
+lanes together, and the median ratio to the rate of one lane on one shard.
 
-Idle: 64 tabs of one origin wait for a lock that one of them holds, that one too, by a second request behind the others'. Each
-sends its request again whenever nothing has come for 20 milliseconds that may end its waiting. Prints the processor's time of
-kernel, broker and tabs together over five seconds, as a share of one processor; beside it what the relay's processes take, of
-whose 64 tabs each sends a frame 20 milliseconds after the answer to the one before, and the ratio of the first to the second: of
-each the middle one of the runs; and the same of a kernel and a broker without tabs. It needs `/proc`.
+A locked step: the time of a step of `locked`, as a multiple of a step of `alone`. Both make as many steps as a generation may
+have in a shard. First each kind has its own process, in which a step touches its memory for the first time; the best rates
+count. Then both kinds take turns in one process, with an allocator that keeps freed memory, and with the usual one. Prints the
+median, the least and the greatest ratio of the turns after the first two. There are two traces: a tab that is alone, and
+sixteen tabs of one partition that contend for four locks, so that each request waits and each release grants a lock to another
+tab.
 
-Where an older program is given, reports, waiting and answers also print how many times the time of the newer one the older one
-took.
+Processes: a kernel, its broker with two lanes, and tabs that each request an exclusive lock, wait for it and release it, 2,000
+times. The tabs start while no broker is up, so that all begin at once. The time runs from the line of the broker's start to the
+last line of a tab's end. A round of a tab is two frames: the request, for whose answer it waits, and the release, for whose
+answer it does not wait. Prints the best rate of granted locks, of all tabs together. `relay.c` stands beside it in each run,
+with the same hops and as many tabs, which each send a frame and wait for it; its broker has a reader of its own, and its tabs
+have one thread. Prints its best rate of round trips, and the median ratio of both rates. Sixteen tabs of four origins also play
+with four lanes, on one shard and on four.
+
+Idle: 64 tabs of one origin wait for a lock. One of them holds it, and waits for it behind the others by a second request. A tab
+sends its request again after 20 milliseconds without an answer. Prints the processor time of kernel, broker and tabs over five
+seconds, as a share of one processor: the median of the runs. The 64 tabs of the relay stand beside it, which each send a frame
+20 milliseconds after the last answer, and then a kernel and a broker without tabs.
 """
 
+import argparse
 import contextlib
 import os
 import resource
@@ -72,7 +68,6 @@ import signal
 import statistics
 import struct
 import subprocess
-import sys
 import tempfile
 import time
 
@@ -85,28 +80,27 @@ LISTED = [512, 1_024]
 WAITING = [64, 1_024, 32_768]
 ANSWERED = [200_000]
 COMMANDS = 20_000
-# Of the desk the fastest run counts; of what threads share the best rate and the middle ratio.
 RUNS = 7
 
-# Of the processes: how the tabs are spread, and which ratio to the relay is the goal. A name for all tabs of an origin, or each.
 ROUNDS = 2_000
+# Title, origins, tabs of an origin, whether each tab has a lock name of its own, and the goal for the ratio to the relay.
 TURNOUTS = [("1 tab", 1, 1, True, 0.6), ("4 tabs, a name each", 1, 4, True, 0.6), ("4 tabs, one name", 1, 4, False, 0.3)]
 TURNOUTS += [("16 tabs of 4 origins, a name each", 4, 4, True, None)]
 IDLE_GOAL = 0.25
 IDLE_SECONDS = 5
 IDLE_RUNS = 3
-# In milliseconds: how long a tab waits for what may end its waiting until it asks again.
+# Milliseconds without an answer after which a tab sends its request again.
 QUIET = 20
-# No run of processes takes longer.
+# The most seconds of a run of processes.
 SECONDS = 120
 
 
 def handover(lines):
-    """A script of about so many lines. Each turn of a tab takes eight lines and sends four messages."""
+    """Returns a script of about this many lines. Each turn of a tab takes eight lines and sends four messages."""
     script = ["start -"]
     for tab in (1, 2):
         first = 2 * tab - 1
-        # The hello comes and is answered by a report, which comes too.
+        # The first message is the Hello, the second the tab's report.
         script += [f"open {tab} https://a.test/", f"deliver m{first}", f"deliver m{first + 1}"]
     message, number, tab = 5, {1: 0, 2: 0}, 1
     while len(script) < lines:
@@ -128,7 +122,7 @@ def handover(lines):
 
 
 def asking(requests):
-    """Each of 64 tabs asks so often."""
+    """Returns a script in which each of 64 tabs makes this many requests."""
     script = ["start -"]
     for tab in range(1, TABS + 1):
         script += [f"open2 {tab} https://t.test/ https://a.test/", f"deliver m{2 * tab - 1}", f"deliver m{2 * tab}"]
@@ -138,7 +132,7 @@ def asking(requests):
 
 
 def recovering(requests):
-    """After that the broker is stopped, and the next one is told everything."""
+    """Returns the rest of the script: the broker is stopped, and every tab reports its requests to the next one."""
     parts = -(-requests // 64)
     script, sent = ["stop", "start"], TABS * (2 + requests)
     for tab in range(TABS):
@@ -156,13 +150,13 @@ def run(program, script):
 
 
 def recovery_seconds(program, requests):
-    """From the stop on: the time of the whole script without that of its first half alone."""
+    """Returns the seconds from the stop on: the time of the whole script minus the time of its first half."""
     script = asking(requests)
     before = min(run(program, script)[0] for _ in range(3))
     whole = []
     for _ in range(3):
         taken, output = run(program, script + recovering(requests))
-        # All tabs have joined, and all that they asked for is granted.
+        # All tabs have joined, and every request is granted.
         assert output.count(b" granted upto ") == TABS * requests, output[-500:]
         whole.append(taken)
     return max(min(whole) - before, 0.001)
@@ -172,7 +166,7 @@ def seconds_of(program, script):
     start = time.monotonic()
     done = subprocess.run([program, "sim"], input=script.encode(), stdout=subprocess.PIPE, check=True)
     taken = time.monotonic() - start
-    # Every turn ends with a lock that was granted and given up.
+    # Each turn ends with a lock that was granted and released.
     assert done.stdout.count(b"granted ") == done.stdout.count(b"taken ") > 0, done.stdout[-500:]
     return taken
 
@@ -197,7 +191,7 @@ def recoveries(program):
         print(f"recovery: {TABS} tabs of {requests:5} requests {taken:8.3f} s  ratio of the time of a request {each / base:5.2f}")
 
 
-# ---- the broker behind its bytes
+# ---- The broker on its byte stream
 
 
 def frame(body):
@@ -205,7 +199,7 @@ def frame(body):
 
 
 def start(tabs):
-    """Generation 1 begins, and these tabs of partition 1 are waited for."""
+    """Returns the frame that starts generation 1, which waits for these tabs of partition 1."""
     places = b"".join(struct.pack(">HH", tab, 1) for tab in tabs)
     return frame(b"\x01\x21" + struct.pack(">IH", 1, len(tabs)) + places)
 
@@ -223,7 +217,7 @@ def command(tab, number, operation):
 
 
 def request(name):
-    """Of an exclusive lock, to be waited for."""
+    """Returns the operation that requests an exclusive lock and waits for it."""
     return b"\x01\x02\x00" + bytes([len(name)]) + name
 
 
@@ -232,13 +226,13 @@ def release(number):
 
 
 def processor_seconds():
-    """Of all programs that were run so far."""
+    """Returns the processor time of all programs that have ended."""
     spent = resource.getrusage(resource.RUSAGE_CHILDREN)
     return spent.ru_utime + spent.ru_stime
 
 
 def desk_seconds(program, frames, answers):
-    """The processor's time of the fastest run, in which the desk must answer so many frames."""
+    """Returns the processor time of the desk's fastest run. Fails if a run has another number of answers."""
     taken = []
     for _ in range(RUNS):
         before = processor_seconds()
@@ -257,7 +251,7 @@ def count_frames(output):
 
 
 def report_seconds(program, count):
-    """Of one report, where so many tabs are listed."""
+    """Returns the processor time of one report, if the start lists this many tabs."""
     tabs = range(1, count + 1)
     listed = start(tabs)
     idle = desk_seconds(program, listed, count)
@@ -266,7 +260,7 @@ def report_seconds(program, count):
 
 
 def command_seconds(program, waiting):
-    """Of one command of a tab that nobody disturbs, where so many requests of other tabs wait for a lock."""
+    """Returns the processor time of one command for a lock of its own, if this many requests wait for another lock."""
     waiters = -(-waiting // 63)
     frames = [start([]), report(1), command(1, 0, request(b"a")), report(2)]
     left = waiting
@@ -282,101 +276,100 @@ def command_seconds(program, waiting):
 
 
 def turns_of(tab, commands):
-    """A tab that nobody disturbs asks for a lock and gives it up, again and again."""
-    turns = [command(tab, 2 * turn, request(b"b")) + command(tab, 2 * turn + 1, release(2 * turn)) for turn in range(commands // 2)]
-    return b"".join(turns)
+    """Returns the frames of a tab that requests and releases a lock, again and again."""
+    numbers = range(0, commands, 2)
+    return b"".join(command(tab, it, request(b"b")) + command(tab, it + 1, release(it)) for it in numbers)
 
 
 def answer_seconds(program, commands):
-    """Of one command and its answer, where one tab sends so many."""
+    """Returns the processor time of one command and its answer, if one tab sends this many."""
     return desk_seconds(program, start([]) + report(1) + turns_of(1, commands), commands) / commands
 
 
 def beside(what, counts, seconds, programs):
-    """Times the first program at each count, and the second beside it, if there is one."""
+    """Prints the time of the first program for each count, and the ratio of the second program's time, if there is one."""
     base = None
     for count in counts:
         taken = [seconds(program, count) for program in programs]
         base = base or taken[0]
-        older = "".join(f"  the older program's is {other / taken[0]:7.2f} times that" for other in taken[1:])
+        older = "".join(f"  the older program takes {other / taken[0]:7.2f} times as long" for other in taken[1:])
         print(f"{what}: {count:7} {taken[0] * 1e6:8.2f} us each  ratio {taken[0] / base:5.2f}{older}")
 
 
-# ---- what threads share
+# ---- The board
 
 
-def shared(program):
+def board(bench):
     rates, ratios = {}, {}
     for _ in range(RUNS):
-        done = subprocess.run([program, "time"], stdout=subprocess.PIPE, check=True)
+        done = subprocess.run([bench, "board"], stdout=subprocess.PIPE, check=True)
         for line in done.stdout.decode().splitlines():
             what, threads, count, taken, taken_by_mutex = line.split()
             rates.setdefault((what, threads), []).append(int(count) / int(taken) * 1e9)
             ratios.setdefault((what, threads), []).append(int(taken) / int(taken_by_mutex))
     for (what, threads), some in rates.items():
         ratio = statistics.median(ratios[what, threads])
-        print(f"shared: {what:7} by {threads} {max(some) / 1e6:8.2f} million a second  ratio to a mutex {ratio:5.2f}")
+        print(f"board: {what:7} by {threads} {max(some) / 1e6:8.2f} million a second  ratio to a mutex {ratio:5.2f}")
 
 
-# ---- a broker behind its lock
+# ---- Lanes
 
 
-# An allocator that gives no memory back to the system, and takes none for a single list.
+# The allocator gives no memory back to the system, and asks it for none by single lists.
 KEEPING = {"GLIBC_TUNABLES": "glibc.malloc.trim_threshold=4294967296:glibc.malloc.mmap_threshold=4294967296"}
-# How many turns come before those that count.
+# Turns that do not count.
 FIRST_TURNS = 2
-# Whose events one broker takes, with what the program adds to the names of its runs.
+# The traces of `alone` and `locked`, each with the ending that it adds to their names.
 TRACES = (("of a tab that is alone", ""), ("of tabs that contend", "-contended"))
 
 
-def locked(program):
+def lanes_and_steps(bench):
     rates, ratios = {}, {}
     for _ in range(RUNS):
         run = {}
         for part in ("alone", "locked", "lanes"):
-            run.update(steps_a_second(program, part, {}))
+            run.update(steps_a_second(bench, part, {}))
         for key, (rate,) in run.items():
             rates.setdefault(key, []).append(rate)
             ratios.setdefault(key, []).append(rate / run["lanes", "1", "1"][0])
     for key, some in rates.items():
         what, lanes, shards = key
-        if what.endswith("-contended"):
-            # Another trace than that of the lanes.
-            continue
-        ratio = statistics.median(ratios[key])
-        print(f"locked: {what} {lanes} on {shards} {max(some) / 1e6:8.3f} million a second  ratio to one lane {ratio:5.2f}")
+        # The lanes have no trace that contends.
+        if not what.endswith("-contended"):
+            ratio = statistics.median(ratios[key])
+            print(f"lanes: {what} {lanes} on {shards} {max(some) / 1e6:8.3f} million a second  ratio to one lane {ratio:5.2f}")
     for whose, trace in TRACES:
         alone, behind = (max(rates[what + trace, "1", "1"]) for what in ("alone", "locked"))
-        print(f"a locked step, each kind in a process of its own, {whose}: {alone / behind:4.2f} times")
+        print(f"a locked step, each kind in its own process, {whose}: {alone / behind:4.2f} times as long")
     for title, more in (("memory kept", KEEPING), ("memory given back", {})):
-        run = [steps_a_second(program, "turns", more) for _ in range(RUNS)]
+        run = [steps_a_second(bench, "turns", more) for _ in range(RUNS)]
         for whose, trace in TRACES:
             turns = [zip(one["alone" + trace, "1", "1"], one["locked" + trace, "1", "1"]) for one in run]
             times = [alone / locked for one in turns for alone, locked in list(one)[FIRST_TURNS:]]
-            middle = f"{statistics.median(times):4.2f} times ({min(times):4.2f} to {max(times):4.2f})"
-            print(f"a locked step by turns, {whose}, {title}: {middle}")
+            median = f"{statistics.median(times):4.2f} times as long ({min(times):4.2f} to {max(times):4.2f})"
+            print(f"a locked step by turns, {whose}, {title}: {median}")
 
 
-def steps_a_second(program, part, more):
-    """The rates of a part's runs, in their order, by what ran, in how many lanes, on how many shards."""
+def steps_a_second(bench, part, more):
+    """Returns the rates of a part's runs, in their order, by kind, number of lanes and number of shards."""
     found = {}
-    done = subprocess.run([program, "time", part], stdout=subprocess.PIPE, check=True, env={**os.environ, **more})
+    done = subprocess.run([bench, "lanes", part], stdout=subprocess.PIPE, check=True, env={**os.environ, **more})
     for line in done.stdout.decode().splitlines():
         what, lanes, shards, steps, taken = line.split()
         found.setdefault((what, lanes, shards), []).append(int(steps) / int(taken) * 1e9)
     return found
 
 
-# ---- the processes
+# ---- Processes
 
 
 def rounds_of(name, rounds):
-    """A tab's script. A release takes a number too."""
+    """Returns the script of a tab. Requests have even numbers, because each release takes a number, too."""
     return "".join(f"ask exclusive {name}\nwait {2 * turn}\nrelease {2 * turn}\n" for turn in range(rounds))
 
 
 def nanoseconds_run(process):
-    """How long the threads of a process have run. Its clock ticks would lose what is less than one of them."""
+    """Returns the time that the threads of a process have run. Clock ticks would be too coarse."""
     total = 0
     for thread in os.listdir(f"/proc/{process}/task"):
         with open(f"/proc/{process}/task/{thread}/schedstat", encoding="utf-8") as file:
@@ -385,7 +378,7 @@ def nanoseconds_run(process):
 
 
 def members(session):
-    """The processes of a session, and how long each has run."""
+    """Returns the processes of a session, each with the time that it has run."""
     found = {}
     for name in os.listdir("/proc"):
         if name.isdigit():
@@ -398,7 +391,7 @@ def members(session):
 
 
 def end(process):
-    """Kills a program that leads a session, and what is left of the session, one process after another."""
+    """Kills the leader of a session, and then each process that is left in the session."""
     process.kill()
     for child in members(process.pid):
         with contextlib.suppress(ProcessLookupError):
@@ -407,7 +400,7 @@ def end(process):
 
 @contextlib.contextmanager
 def started(words, place):
-    """A program with its children, in a session of their own. It has to end with status 0, and is ended where its time is up."""
+    """Runs a program in a session of its own. Fails if its status is not 0. Kills the session when its time is up."""
     process = subprocess.Popen(words, cwd=place, stdin=subprocess.DEVNULL, stdout=subprocess.PIPE, start_new_session=True)
     alarm = signal.signal(signal.SIGALRM, lambda *_: end(process))
     signal.alarm(SECONDS)
@@ -424,7 +417,7 @@ def started(words, place):
 
 
 def seconds_between(words, place, first, last, count):
-    """From the first line that begins so to the last of so many that begin otherwise."""
+    """Returns the seconds from the first line that begins with `first` to the last of `count` lines that begin with `last`."""
     begin = end = None
     with started(words, place) as process:
         for line in process.stdout:
@@ -432,7 +425,7 @@ def seconds_between(words, place, first, last, count):
                 begin = time.monotonic()
             if line.startswith(last):
                 end, count = time.monotonic(), count - 1
-    assert begin is not None and count == 0, f"{words[0]} did not say all that it has to"
+    assert begin is not None and count == 0, f"{words[0]} did not print every expected line"
     return end - begin
 
 
@@ -447,14 +440,14 @@ def kernel_words(program, lanes=2, shards=1):
 
 
 def granting_seconds(program, origins, tabs, has_names, rounds, lanes=2, shards=1):
-    """Of all rounds of so many tabs of so many origins."""
+    """Returns the seconds that all rounds take, with this many origins and tabs of each origin."""
     with tempfile.TemporaryDirectory(prefix="wlb-") as place:
         script = ""
         for origin in range(origins):
             for tab in range(tabs):
                 write(place, f"TAB{tab}", rounds_of(f"n{tab}" if has_names else "f", rounds))
                 script += f"open https://o{origin}.test/ TAB{tab}\n"
-        # The pause is for the last tabs, which have to read their scripts.
+        # The last tabs read their scripts in the pause.
         write(place, "KERNEL", script + "pause 500\nstart\njoin\n")
         return seconds_between(kernel_words(program, lanes, shards), place, b"up ", b"ended ", origins * tabs)
 
@@ -465,9 +458,9 @@ def relaying_seconds(relay, tabs, rounds):
 
 
 def build(place, name):
-    """A program in C of this folder, or None where there is no compiler."""
+    """Builds a C program of this folder and returns its path, or None without a compiler."""
     if not shutil.which("cc"):
-        print(f"there is no cc, so {name} and the ratios to it are left out")
+        print(f"no cc: {name} and the ratios to it are left out")
         return None
     program = os.path.join(place, name)
     source = os.path.join(os.path.dirname(os.path.abspath(__file__)), f"{name}.c")
@@ -494,7 +487,7 @@ def granting(program, rounds=ROUNDS, runs=RUNS):
 
 
 def sharding(program, rounds=ROUNDS, runs=RUNS):
-    """Sixteen tabs of four origins, with four lanes on one shard and on four."""
+    """Plays sixteen tabs of four origins with four lanes, on one shard and on four."""
     program = os.path.abspath(program)
     rates, ratios = {1: [], 4: []}, []
     for _ in range(runs):
@@ -508,19 +501,19 @@ def sharding(program, rounds=ROUNDS, runs=RUNS):
 
 
 def share_of(session, seconds):
-    """The share of one processor that a session has used meanwhile."""
+    """Returns the share of one processor that a session uses in the next seconds."""
     before, begin = members(session), time.monotonic()
     time.sleep(seconds)
     after, taken = members(session), time.monotonic() - begin
-    assert before.keys() == after.keys(), "a process began or ended meanwhile"
+    assert before.keys() == after.keys(), "a process began or ended during the measurement"
     return (sum(after.values()) - sum(before.values())) / 1e9 / taken
 
 
 def idle_share(program, tabs, seconds):
-    """Of a kernel, its broker and so many tabs that wait."""
+    """Returns the share of one processor that a kernel, its broker and this many waiting tabs use."""
     with tempfile.TemporaryDirectory(prefix="wlb-") as place:
         write(place, "TAB", "ask exclusive f\nwait 0\nask exclusive f\nwait 1\n")
-        # The kernel ends all when its script ends.
+        # The kernel ends every tab at the end of its script.
         script = "start\n" + "open https://a.test/ TAB\n" * tabs + f"pause {1000 * seconds + 3000}\n"
         write(place, "KERNEL", script)
         with started(kernel_words(program), place) as process:
@@ -533,7 +526,7 @@ def idle_share(program, tabs, seconds):
 
 
 def pacing_share(relay, tabs, seconds):
-    """Of the relay, of whose tabs each sends a frame as often as one that waits."""
+    """Returns the share of the relay, whose tabs send a frame as often as a waiting tab."""
     with tempfile.TemporaryDirectory(prefix="wlb-") as place:
         rounds = (seconds + 3) * 1000 // QUIET
         with started([relay, "kernel", ".", str(tabs), str(rounds), str(QUIET)], place) as process:
@@ -559,8 +552,8 @@ def idle(program, seconds=IDLE_SECONDS, runs=IDLE_RUNS):
     print(f"idle: no tabs           {idle_share(program, 0, seconds):6.3f} of a processor  goal 0")
 
 
-def locking(tables):
-    subprocess.run([tables, "time"], check=True)
+def tables(bench):
+    subprocess.run([bench, "tables"], check=True)
     with tempfile.TemporaryDirectory(prefix="wlb-") as place:
         bare = build(place, "bare_table")
         if bare:
@@ -569,16 +562,21 @@ def locking(tables):
 
 
 def main():
-    program, tables, board, lanes = sys.argv[1:5]
-    programs = [program, *sys.argv[5:6]]
+    parser = argparse.ArgumentParser(description=__doc__, formatter_class=argparse.RawDescriptionHelpFormatter)
+    parser.add_argument("program", metavar="WLB", help="the program `wlb`")
+    parser.add_argument("bench", metavar="BENCH", help="the program `bench_core`")
+    parser.add_argument("older", metavar="OLDER", nargs="?", help="an older `wlb`")
+    given = parser.parse_args()
+    program, bench = given.program, given.bench
+    programs = [program, given.older] if given.older else [program]
     handovers(program)
     recoveries(program)
     beside("reports, tabs listed ", LISTED, report_seconds, programs)
     beside("commands, waiting for another lock", WAITING, command_seconds, programs)
     beside("commands with their answers", ANSWERED, answer_seconds, programs)
-    locking(tables)
-    shared(board)
-    locked(lanes)
+    tables(bench)
+    board(bench)
+    lanes_and_steps(bench)
     granting(program)
     sharding(program)
     idle(program)

@@ -1,14 +1,13 @@
-"""Runs `wlb` as kernels with real children, and compares what they print and how they end with what the rows say.
+"""Runs kernels of `wlb` with real brokers and tabs, and compares output, standard error and status with the expected ones.
 
-usage: check_processes.py PROGRAM
+It plays refused scripts; tabs that end in each way; tabs and brokers that are not the program (`foreign_tab.py`,
+`owed_hello.py`); a kernel that is stopped and continued; kernels that run short of descriptors or whose system calls fail
+(`faults.c`); and the folders of `examples/processes`. No process and no socket may be left.
 
-A part of the gate, behind `check_program.py`. It plays scripts that are refused, tabs that end in each way, tabs and brokers that
-are not the program (`foreign_tab.py`), kernels that are stopped and go on, that are short of descriptors or whose calls fail
-(`faults.c`, by `cc`), and the folders of `examples/processes`. It prints nothing where all is as it has to be, and else each
-difference; the status is then 1. It needs `/proc`.
+It prints each difference, and nothing if there is none. The status is 1 if there is a difference. It needs `/proc` and a C
+compiler `cc`.
 """
 
-import argparse
 import contextlib
 import dataclasses
 import os
@@ -22,12 +21,13 @@ import tempfile
 import threading
 import time
 
-from checks import SECONDS, differences, same
+from checks import SECONDS, differences, main_of, same
 from demo_processes import WORDS, end, left_over, processes_of
+from owed_hello import check_owed
 
 TOOLS = pathlib.Path(__file__).resolve().parent
 FOREIGN = TOOLS / "foreign_tab.py"
-# What must not wait for the twenty seconds that a foreign tab or its child runs on.
+# Seconds. A foreign tab runs on for 20 seconds; a kernel that is soon over has not waited for it.
 SOON = 12
 
 ORIGIN = "https://a.test"
@@ -39,7 +39,7 @@ TAKER = "ask exclusive f\nwait 0\n"
 
 @dataclasses.dataclass
 class Stage:
-    """How a kernel is run: with foreign tabs, with more words in its environment, with so many descriptors at most."""
+    """Setting of a kernel: its program, whether its children are foreign, more environment, and its limit of descriptors."""
 
     program: str
     foreign: bool = False
@@ -47,14 +47,13 @@ class Stage:
     descriptors: int = None
 
     def start(self, folder):
-        """Starts a kernel that leaves the modes of its files to itself."""
+        """Starts a kernel in a folder. The mask of 0 leaves the modes of its files to the kernel."""
         environment = {**os.environ, "WLB": self.program, **self.environment}
         name = str(FOREIGN) if self.foreign else self.program
         pipes = {"stdin": subprocess.DEVNULL, "stdout": subprocess.PIPE, "stderr": subprocess.PIPE, "text": True}
         words = [name, *WORDS]
-        return subprocess.Popen(
-            words, executable=self.program, cwd=folder, env=environment, umask=0, start_new_session=True, preexec_fn=self.limit, **pipes
-        )
+        how = {"cwd": folder, "env": environment, "umask": 0, "start_new_session": True, "preexec_fn": self.limit}
+        return subprocess.Popen(words, executable=self.program, **how, **pipes)
 
     def limit(self):
         if self.descriptors:
@@ -63,7 +62,7 @@ class Stage:
 
 @dataclasses.dataclass
 class Played:
-    """What a kernel printed, how it ended and after how many seconds, and what stood in the counter then."""
+    """Result of a kernel's run: its output and errors, its status, its seconds, and the counter at its end."""
 
     stdout: str
     stderr: list
@@ -73,8 +72,8 @@ class Played:
 
 
 def play(stage, kernel, watch=None, **tabs):
-    """Plays a kernel's script in a folder that has these scripts of tabs and a counter, and kills a kernel that does not end in
-    time. Meanwhile `watch` may do something to it. No socket and no process may be left."""
+    """Plays a kernel's script in a folder with a counter and these scripts of tabs, and kills the kernel when its time is up.
+    `watch` is called with the running kernel and the folder. A socket or a process that is left is a difference."""
     with tempfile.TemporaryDirectory(prefix="wlb-") as folder:
         scripts = {"KERNEL": kernel, "COUNTER": "0\n", **tabs}
         for name, text in scripts.items():
@@ -88,15 +87,15 @@ def play(stage, kernel, watch=None, **tabs):
         stdout, stderr = process.communicate()
         guard.cancel()
         seconds = time.monotonic() - begun
-        same(repr(kernel), "what still runs", left_over(process.pid), {})
+        same(repr(kernel), "the list of processes that are left", left_over(process.pid), {})
         end(process.pid)
-        same(repr(kernel), "the sockets that are left", sorted(it.name for it in pathlib.Path(folder).glob("*.sock")), [])
+        same(repr(kernel), "the list of sockets that are left", sorted(it.name for it in pathlib.Path(folder).glob("*.sock")), [])
         counter = pathlib.Path(folder, "COUNTER").read_text(encoding="utf-8").strip()
         return Played(stdout, sorted(stderr.splitlines()), process.returncode, seconds, counter)
 
 
 def ends(name, played, stdout, stderr=(), status=0):
-    """Compares the whole of what was printed, and the status. Lines of standard error are of several processes."""
+    """Compares the output and the status. Several processes write to standard error, so its lines may come in any order."""
     same(name, "standard output", played.stdout, stdout)
     same(name, "standard error", played.stderr, sorted(stderr))
     same(name, "the status", played.status, status)
@@ -118,11 +117,11 @@ def opens(*files):
     return "".join(f"open {ORIGIN}/ {file}\n" for file in files)
 
 
-# ---- tabs that are the program
+# ---- Tabs that are the program
 
 
 def check_scripts(program):
-    """Scripts of the kernel: what it refuses, and what a line prints where nothing is to be done."""
+    """A kernel refuses wrong lines, and reports lines that change nothing."""
     for kernel, stdout, stderr, status in [
         ("", "", [], 0),
         ("open data:,x TAB\n", "SecurityError\n", [], 0),
@@ -135,8 +134,9 @@ def check_scripts(program):
 
 
 def check_tabs(program):
-    """Tabs that end by themselves, with and without a fault, and one that asks which locks there are."""
-    tabs = {"BAD": "ask  exclusive f\n", "REFUSED": "\nask exclusive -f\n", "LACKING": ROUND.replace("COUNTER", "NOTHING"), "TAB": ROUND}
+    """Tabs end by themselves, with and without a fault. A tab prints the snapshot of a query."""
+    tabs = {"BAD": "ask  exclusive f\n", "REFUSED": "\nask exclusive -f\n", "TAB": ROUND}
+    tabs["LACKING"] = ROUND.replace("COUNTER", "NOTHING")
     played = play(Stage(program), f"start\n{opens('BAD', 'REFUSED', 'NONE', 'LACKING', 'TAB')}join\n", **tabs)
     stderr = ["wlb: line 1", "wlb: line 2", "wlb: line 3", "wlb: Read"]
     ends("tabs that end", played, "up 1\n" + opened(1, 2, 3, 4, 5) + ended(1, 1, 3, 3, 0), stderr)
@@ -147,7 +147,7 @@ def check_tabs(program):
 
 
 def check_stopped(program):
-    """A kernel is stopped and goes on, which interrupts its reads: its tab lives on, and is there to be killed."""
+    """A kernel is stopped and continued, which interrupts its reads. Its tab lives until the script kills it."""
 
     def stop(kernel, _folder):
         for _line in range(2):
@@ -159,7 +159,7 @@ def check_stopped(program):
             kernel.send_signal(signal.SIGCONT)
 
     played = play(Stage(program), f"start\n{opens('TAB')}pause 2000\nkill 1\n", stop, TAB=HOLDER)
-    ends("a kernel that was stopped and goes on", played, "killed 1\n")
+    ends("a kernel that was stopped and continued", played, "killed 1\n")
 
 
 def check_examples(program):
@@ -169,43 +169,43 @@ def check_examples(program):
         same(f"examples/processes/{example}", "the status", (ran.returncode, ran.stdout if ran.returncode else ""), (0, ""))
 
 
-# ---- tabs and brokers that are not
+# ---- Tabs and brokers that are not the program
 
 
 def check_posts(program):
-    """Two hundred posts: each is heard once, in order, with its source and its data."""
+    """A tab hears each of two hundred posts once, in order, with its source and its data."""
     played = play(Stage(program, foreign=True), f"{opens('hearer', 'poster')}join\n")
     ends("posts", played, opened(1, 2) + ended(0, 0))
 
 
 def check_stale(program):
-    """A tab that sends a frame of a generation that has ended is told of the current one."""
+    """A tab that sends a frame of an ended generation gets the Hello of the current one."""
     played = play(Stage(program, foreign=True), f"start\nstop\nstart\n{opens('stale')}join\n")
     ends("a frame of an old generation", played, "up 1\nstopped 1\nup 2\n" + opened(1) + ended(0))
 
 
 def check_grace(program):
-    """A tab that closes its link and runs on is killed, but not at once."""
+    """A kernel kills a tab that closes its link and runs on, a second later."""
     played = play(Stage(program, foreign=True), f"{opens('closer')}join\n")
     ends("a tab that closes its link and runs on", played, opened(1) + ended(137))
-    same("a tab that closes its link and runs on", "whether it had a second", played.seconds >= 1, True)
+    same("a tab that closes its link and runs on", "whether the kernel waited a second", played.seconds >= 1, True)
 
 
 def check_end(program):
-    """A kernel whose script is over ends with all its tabs, also one that looks at nothing."""
+    """A kernel whose script is over ends all its tabs, also a tab that ignores its link."""
     played = play(Stage(program, foreign=True), f"start\n{opens('TAB', 'sleeper')}", TAB=HOLDER)
-    same("a script that is over", "what was printed, and the status", (played.stdout, played.status), ("up 1\n" + opened(1, 2), 0))
+    same("a script that is over", "the output and the status", (played.stdout, played.status), ("up 1\n" + opened(1, 2), 0))
     is_soon("a script that is over", played)
 
 
 def check_deaf(program):
-    """A tab whose link takes no more is hung up, and killed when it runs on."""
+    """A kernel closes the link of a tab that stops reading, and kills the tab when it runs on."""
     played = play(Stage(program, foreign=True), f"{opens('deaf', 'teller')}join\n")
     ends("a tab that does not listen", played, opened(1, 2) + ended(137, 0))
 
 
 def check_leavers(program):
-    """A process ends while its child has its link: the kernel sees that, whether the child sends on the link or not."""
+    """A tab or a broker ends while a child of its own has its link. The kernel notices, whether or not that child sends."""
     for role in ["quiet_leaver", "noisy_leaver"]:
         played = play(Stage(program, foreign=True), f"{opens(role)}join\n")
         ends(role, played, opened(1) + ended(7))
@@ -217,12 +217,12 @@ def check_leavers(program):
 
 
 def check_socket(program):
-    """The file of a socket is its owner's alone before its child has connected."""
+    """The file of a socket has the mode 0600 before the tab connects."""
     ends("the mode of a socket", play(Stage(program, foreign=True), f"{opens('looker')}join\n"), opened(1) + ended(0))
 
 
 def wait_for(what, is_so):
-    """Waits until something is so; that it is not in time is a difference."""
+    """Waits until `is_so` returns true. A wait that takes too long is a difference."""
     until = time.monotonic() + SOON
     while not is_so():
         if time.monotonic() > until:
@@ -232,20 +232,20 @@ def wait_for(what, is_so):
 
 
 def children_of(kernel, word):
-    """The processes of a kernel's session with this word among theirs."""
+    """Returns the processes of a kernel's session whose command lines contain this word."""
     return [process for process, words in processes_of(kernel.pid).items() if process != kernel.pid and word in words.split()]
 
 
 def check_burial(program):
-    """A tab dies while its Dead frame can't be written, since the broker is stopped; then the broker is killed and the next one is
-    started. That one must not wait for the dead tab: another one gets its lock."""
+    """A tab dies while the broker is stopped, so that the kernel cannot write its Dead frame. The next broker does not wait for
+    the dead tab: another tab gets its lock."""
 
     def watch(kernel, folder):
         wait_for("a lock is held", (folder / "HELD").exists)
         for broker in children_of(kernel, "broker"):
             os.kill(broker, signal.SIGSTOP)
         (folder / "FLOOD").touch()
-        wait_for("the kernel's write to the broker waits", (folder / "FULL").exists)
+        wait_for("the kernel's write to the broker is blocked", (folder / "FULL").exists)
         (folder / "DIE").touch()
         wait_for("the tab is dead", lambda: not children_of(kernel, "dier"))
         time.sleep(0.1)
@@ -255,17 +255,17 @@ def check_burial(program):
     kernel += "stop\nstart\nkill 2\nopen https://a.test/ TAKER\njoin\n"
     stdout = "up 1\nopened 1 https://a.test\nopened 2 https://b.test\nopened 3 https://c.test\n"
     stdout += "stopped 1\nup 2\nkilled 2\nopened 4 https://a.test\nended 1 0\nended 3 0\nended 4 0\n"
-    ends("a start beside a burial", play(Stage(program, foreign=True), kernel, watch, TAKER=TAKER), stdout)
+    ends("a death that waits for a stopped broker", play(Stage(program, foreign=True), kernel, watch, TAKER=TAKER), stdout)
 
 
-# ---- a system that is short of something
+# ---- System calls that fail
 
 
 @contextlib.contextmanager
 def fault(name):
-    """The environment by which a call of the kernel's process fails. None without a C compiler, which is a difference."""
+    """Yields the environment in which a system call of the kernel fails, or None without a C compiler, which is a difference."""
     if not shutil.which("cc"):
-        differences.append(f"the fault {name!r} was not played: there is no `cc` to compile faults.c")
+        differences.append(f"the fault {name!r} was not played: no `cc` to compile faults.c")
         yield None
         return
     with tempfile.TemporaryDirectory() as folder:
@@ -275,33 +275,33 @@ def fault(name):
 
 
 def check_lost_death(program):
-    """A death that can't be written to the broker ends its generation: the lock of the dead tab is free in the next one."""
+    """A Dead frame whose write fails ends the broker's generation. In the next one the lock of the dead tab is free."""
     kernel = f"start\n{opens('HOLDER')}pause 300\n{opens('TAKER')}pause 300\nkill 1\njoin\n"
     with fault("death") as environment:
         if environment:
             played = play(Stage(program, environment=environment), kernel, HOLDER=HOLDER, TAKER=TAKER)
             stdout = "up 1\n" + opened(1, 2) + "killed 1\n" + ended(0, first=2)
-            same("a death that is not written", "what was printed, and the status", (played.stdout, played.status), (stdout, 0))
+            same("a death that is not written", "the output and the status", (played.stdout, played.status), (stdout, 0))
             is_soon("a death that is not written", played)
 
 
 def check_mode_fault(program):
-    """No child is started whose socket can't be its owner's alone."""
+    """A kernel starts no child if it cannot set the mode of the child's socket."""
     with fault("mode") as environment:
         if environment:
             played = play(Stage(program, environment=environment), f"{opens('TAB')}join\n", TAB="")
-            ends("a socket whose mode can't be set", played, "", ["wlb: Device"], 3)
+            ends("a socket whose mode cannot be set", played, "", ["wlb: Device"], 3)
 
 
-# How many descriptors a kernel has in the test, how many of them no tab has while no broker runs, and how many tabs are opened.
+# Descriptors of the kernel, descriptors that no tab can take while no broker runs, and tabs that the script opens.
 DESCRIPTORS = 24
 OTHERS = 11
 TABS = 20
 
 
 def check_descriptors(program):
-    """Tabs for which no descriptor is left end with status 3, alone. A broker is still started, twice; the other tabs do their
-    rounds; and all that the failed openings have taken is given back."""
+    """A tab for which no descriptor is left ends with status 3. The kernel still starts two brokers, and the other tabs count.
+    At the end every descriptor and thread of the failed tabs is free again."""
     fit = DESCRIPTORS - OTHERS
     lacking = TABS - fit
     kernel = f"start\nstop\n{opens(*['TAB'] * TABS)}start\nstop\nstart\njoin\n"
@@ -315,8 +315,8 @@ def check_descriptors(program):
         same("few descriptors", "standard output", found, stdout + last)
         time.sleep(0.1)
         running = {process: words for process, words in processes_of(kernel.pid).items() if process != kernel.pid}
-        same("few descriptors", "the kinds of children", [words.split()[1:2] for words in running.values()], [["broker"]])
-        same("few descriptors", "the kernel's threads", len(os.listdir(f"/proc/{kernel.pid}/task")), 2)
+        same("few descriptors", "the list of children by kind", [words.split()[1:2] for words in running.values()], [["broker"]])
+        same("few descriptors", "the number of the kernel's threads", len(os.listdir(f"/proc/{kernel.pid}/task")), 2)
 
     played = play(Stage(program, descriptors=DESCRIPTORS), kernel, watch, TAB=ROUND)
     ends("few descriptors", played, "")
@@ -336,24 +336,11 @@ CHECKS = [
     check_leavers,
     check_socket,
     check_burial,
+    check_owed,
     check_lost_death,
     check_mode_fault,
     check_descriptors,
 ]
 
-
-def main():
-    parser = argparse.ArgumentParser(description=__doc__.partition("\n")[0])
-    parser.add_argument("program", help="the program, as `make` builds it")
-    parser.add_argument("--only", metavar="WORD", default="", help="run the checks that have this word in their names")
-    words = parser.parse_args()
-    for check in CHECKS:
-        if words.only in check.__name__:
-            check(os.path.abspath(words.program))
-    for difference in differences:
-        print(difference)
-    sys.exit(1 if differences else 0)
-
-
 if __name__ == "__main__":
-    main()
+    main_of(__doc__, *CHECKS)

@@ -1,12 +1,9 @@
-"""Runs `wlb` as its users do, and compares what it prints and how it ends with what the rows say.
+"""Runs `wlb` as its users do, and compares output, standard error and status with the expected ones.
 
-usage: check_program.py PROGRAM
-
-The last part of the gate: `main`, the exit statuses and what stands on standard error are what no test of a crate can call. It
-plays the desk with whole, cut and refused input, desk and sim by turns with who waits for each answer, a million fresh names
-through the desk, each example in `examples/` with the output beside it, refused scripts and what `explain.py` finds wrong with
-them, devices that fail, and wrong command lines; `check_processes.py` plays kernels with real children. It prints nothing where
-all is as it has to be, and else each difference; the status is then 1.
+It covers what no test of a crate can call: `main`, the exit statuses and standard error. It plays the desk on whole,
+cut and refused input; desk and sim by turns with a peer that waits for each answer; a million fresh names through the
+desk; each example in `examples/` with the output beside it; refused scripts; devices that fail; and wrong command
+lines. It prints each difference, and nothing if there is none.
 """
 
 import contextlib
@@ -14,11 +11,10 @@ import os
 import pathlib
 import struct
 import subprocess
-import sys
 import threading
 
-from checks import SECONDS, Ended, bytes_of, differences, ends, same
-from explain import FORMS, wrong_line
+from checks import SECONDS, Ended, bytes_of, differences, ends, main_of, same
+from demo import FORMS, forms_of
 
 TOP = pathlib.Path(__file__).resolve().parent.parent
 
@@ -26,7 +22,7 @@ START = "00000008 01 21 00000001 0000"
 REPORT = "00000012 01 20 0001 0001 01 02 00000001 00000000 0000"
 REQUEST = "00000015 01 20 0001 0001 01 01 00000001 00000000 01 02 00 01 61"
 GRANT = "00000013 01 22 0001 01 11 00000001 00000001 00000000 02"
-# A second tab asks for the same lock and has to wait, until the first one gives it up.
+# A second tab requests the same lock and waits until the first one releases it.
 SECOND = [it.replace("0001 0001", "0002 0001", 1) for it in (REPORT, REQUEST)]
 WAITING = "00000013 01 22 0002 01 11 00000001 00000001 00000000 01"
 RELEASE = "00000015 01 20 0001 0001 01 01 00000001 00000001 02 00000000"
@@ -35,7 +31,7 @@ HANDED_OVER = [
     "00000013 01 22 0002 01 11 00000001 00000001 00000000 02",
 ]
 
-# A million requests and releases, and how long an answer to one is.
+# The count of requests and releases, and the length of an answer in bytes.
 TIMES = 1_000_000
 ANSWER = 23
 
@@ -71,7 +67,7 @@ def check_desk(program):
 
 
 def check_at_once(program):
-    """Desk and sim answer what they have read before they read on: who waits for an answer before it sends the next has it."""
+    """Desk and sim answer all that they have read before they read on, so a peer that waits for each answer gets it."""
     frames = [([START, REPORT, REQUEST], [GRANT]), (SECOND, [WAITING]), ([RELEASE], HANDED_OVER)]
     frames = [(bytes_of(*sent), bytes_of(*answer)) for sent, answer in frames]
     lines = [(b"start -\n", b"up 1\n"), (b"stop\n", b"stopped 1\n"), (b"stop\n", b"already down\n")]
@@ -91,7 +87,7 @@ def check_at_once(program):
 
 
 def requests_and_releases(name_of):
-    """A tab that asks for a lock and gives it up, a million times, by the thousand: `name_of` tells each lock's name."""
+    """Yields a million requests and releases of one tab, by the thousand. `name_of` returns the name of each lock."""
     stamp, asked = bytes.fromhex("01 20 0001 0001 01 01 00000001"), bytes.fromhex("01 02 00 07")
     yield bytes_of(START, REPORT)
     for first in range(0, TIMES, 1000):
@@ -104,7 +100,7 @@ def requests_and_releases(name_of):
 
 
 def peak_of(program, name, pieces):
-    """The most memory, in KiB, that the desk takes for requests and releases in these pieces, each of which it answers."""
+    """Returns the peak memory of the desk, in KiB, for requests and releases in these pieces, each of which it answers."""
     ran = subprocess.Popen([program, "desk"], stdin=subprocess.PIPE, stdout=subprocess.PIPE)
     guard = threading.Timer(SECONDS, ran.kill)
     guard.start()
@@ -126,12 +122,13 @@ def peak_of(program, name, pieces):
     guard.cancel()
     last = struct.pack(">II", 2 * TIMES, 2 * TIMES - 1)
     taken = bytes_of("00000013 01 22 0001 01 11 00000001") + last + b"\x04"
-    same(name, "the answers' length, the last answer, and the status", (length, end, ran.returncode), (2 * TIMES * ANSWER, taken, 0))
+    found = (length, end, ran.returncode)
+    same(name, "the answers' length, the last answer, and the status", found, (2 * TIMES * ANSWER, taken, 0))
     return usage.ru_maxrss
 
 
 def check_forgetting(program):
-    """A tab that asks for fresh names without end takes no more memory than one that asks for one name again and again."""
+    """A tab that asks for a million fresh names takes no more memory than one that asks for one name a million times."""
     one = peak_of(program, "one name", requests_and_releases(lambda turn: b"0000000"))
     fresh = peak_of(program, "fresh names", requests_and_releases(lambda turn: b"%07d" % turn))
     if fresh > one + 32 * 1024:
@@ -139,7 +136,7 @@ def check_forgetting(program):
 
 
 def read_nothing(program, word):
-    """A run over a standard input whose reads fail, as those of a directory do."""
+    """Runs the program on a standard input whose reads fail: a directory."""
     directory = os.open("/", os.O_RDONLY)
     try:
         return Ended(program, [word], directory)
@@ -164,19 +161,17 @@ def check_sim(program):
     ends("a script that can't be read", read_nothing(program, "sim"), b"", ["wlb: Read"], 3)
 
 
-def check_explained(program):
-    """`explain.py` finds nothing wrong with the lines of the examples, and something with lines that the program refuses. (Of a
-    frame that is forged it does not read the fields: it is asked for refused lines alone.)"""
-    for script in sorted((TOP / "examples").glob("*.sim")):
-        for line in script.read_bytes().split(b"\n"):
-            if line.startswith(b"forge "):
-                continue
-            same(script.name, f"what is wrong with {line}", wrong_line(line), None)
-    longer = [" ".join([verb, *words, "more"]) for verb, words in FORMS.items()]
+def check_forms(program):
+    """The program refuses each line of a demo's forms with one word more, and further lines that no form allows."""
+    forms = [form.strip() for form in FORMS.replace("\n", "|").split("|") if form.strip()]
+    longer = [f"{form} more" for form in forms]
     digits = "9" * 5_000
     for line in [*longer, "start 0", "start 1 -", "stop ", "Stop", "other", f"hello {digits}", f"abort 1 0{digits}", "deliver 1"]:
         ends(f"the line {line[:40]}", Ended(program, ["sim"], f"{line}\n".encode()), b"", ["wlb: line 1"], 1)
-        same(f"the line {line[:40]}", "whether something is found wrong with it", wrong_line(line.encode()) is not None, True)
+    for script in sorted((TOP / "examples").glob("*.sim")):
+        for line in script.read_text(encoding="utf-8").splitlines():
+            if line and not line.startswith("#"):
+                same(script.name, f"whether a form begins as {line!r}", bool(forms_of(line.split(" ")[0])), True)
 
 
 def check_words(program):
@@ -203,18 +198,5 @@ def check_words(program):
     ends("a tab without a kernel", Ended(program, ["tab", "--socket", "nowhere/x", "TAB"]), b"", ["wlb: Device"], 3)
 
 
-def main():
-    program = sys.argv[1]
-    check_desk(program)
-    check_sim(program)
-    check_at_once(program)
-    check_forgetting(program)
-    check_explained(program)
-    check_words(program)
-    for difference in differences:
-        print(difference)
-    sys.exit(1 if differences else 0)
-
-
 if __name__ == "__main__":
-    main()
+    main_of(__doc__, check_desk, check_sim, check_at_once, check_forgetting, check_forms, check_words)

@@ -1,22 +1,25 @@
 """Shows `wlb` at work on an example file.
 
-usage: demo.py EXAMPLE PROGRAM
-
-A script (NAME.sim) is played line by line: each line behind `>`, and under it what `wlb sim` prints for it. Any other example
-has the frames for `wlb desk` as hexadecimal digits, and what stands behind `#` is a comment: it prints what goes in and what
-comes out, a frame a line, with what each means.
-
-A script is played up to its first line that is refused, and then it says what is expected there, as `explain.py` does.
+A script (NAME.sim) is played line by line: each line behind `>`, and under it what `wlb sim` prints for it, up to the
+first line that is refused. Any other example has the frames for `wlb desk` as hexadecimal digits, with comments
+behind `#`: the tool prints the frames that go in and that come out, a frame a line, with their meanings.
 """
 
+import argparse
+import re
 import subprocess
 import sys
-
-from explain import explanation, number_in
 
 MODES = {1: "shared", 2: "exclusive"}
 STANDINGS = {1: "held", 2: "waiting"}
 OUTCOMES = {1: "waiting", 2: "granted", 3: "gone", 4: "taken"}
+
+# The lines of a sim's script, as `docs/SCRIPTS.md` has them.
+FORMS = """
+open T URL | open2 T TOP URL | start | start - | start T .. | stop | hello T | kill T | tell T | ask T MODE NAME
+probe T MODE NAME | query T | abort T K | release T K | resend T | deliver mN | channel T NAME | post T C DATA | read T C | close T C | corrupt T
+forge T HEX | show
+"""
 
 
 class Body:
@@ -116,12 +119,24 @@ def show(title, stream):
         print(f"    {meaning(Body(frame[4:]))}")
 
 
+def forms_of(verb):
+    """Returns the forms of the lines that begin with this word."""
+    forms = [form.strip() for form in FORMS.replace("\n", "|").split("|")]
+    return [form for form in forms if form.split(" ")[0] == verb]
+
+
+def tell_refused(number, line):
+    """Prints a refused line, and the forms that a line with its first word has."""
+    text = line.decode(errors="replace")
+    forms = forms_of(text.split(" ")[0])
+    print(f"Line {number} is refused. " + (f"Expected: {' or '.join(forms)}" if forms else "No line begins with this word."))
+
+
 def play(example, program):
-    """Each line with what it adds to the output: a script is answered line by line, so a front of it prints a front."""
+    """Prints each line with what it adds to the output. The sim answers line by line, so the front of a script prints a front."""
     with open(example, "rb") as file:
-        script = file.read()
-    lines = script.split(b"\n")
-    # What stands behind the last line feed is a line of its own only where there is something.
+        lines = file.read().split(b"\n")
+    # The text behind the last line feed is a line only if it is not empty.
     lines = lines if lines[-1] else lines[:-1]
     printed, done = b"", None
     for count, line in enumerate(lines or [b""], 1):
@@ -131,9 +146,9 @@ def play(example, program):
         print(f"> {text}" if text and not text.startswith("#") else text)
         print(done.stdout[len(printed) :].decode(), end="")
         printed = done.stdout
-        if number_in(done.stderr):
+        if re.fullmatch(rb"wlb: line \d+\n", done.stderr):
+            tell_refused(count, line)
             break
-    print(explanation(script, done.stderr) or "", end="")
     return done
 
 
@@ -148,8 +163,12 @@ def converse(example, program):
 
 
 def main():
-    example, program = sys.argv[1:]
-    done = play(example, program) if example.endswith(".sim") else converse(example, program)
+    parser = argparse.ArgumentParser(description=__doc__, formatter_class=argparse.RawDescriptionHelpFormatter)
+    parser.add_argument("example", metavar="EXAMPLE", help="a script NAME.sim, or a file of frames")
+    parser.add_argument("program", metavar="PROGRAM", help="the program `wlb`")
+    given = parser.parse_args()
+    show_example = play if given.example.endswith(".sim") else converse
+    done = show_example(given.example, given.program)
     if done.stderr:
         print(done.stderr.decode(), end="")
     print(f"status {done.returncode}")

@@ -1,15 +1,15 @@
 """Shows `wlb` at work as processes: a kernel, its broker and its tabs.
 
-usage: demo_processes.py EXAMPLE PROGRAM
+EXAMPLE is a folder. `KERNEL` is the kernel's script, `COUNTER` a file in which tabs count, and the other files are
+the scripts of tabs. `KERNEL.out` is the expected output of the kernel, and `COUNTER.out` the expected content of the
+counter. The kernel runs for at most a minute, in a copy of the folder in a temporary directory, which has its
+sockets, too.
 
-EXAMPLE is a folder. In it `KERNEL` is the kernel's script, `COUNTER` a file in which tabs count, and the other files are the
-scripts of tabs; `KERNEL.out` has what the kernel prints and `COUNTER.out` what the counter's file has at the end. The kernel runs
-in a copy of the folder, in a temporary directory that has its sockets too, and no longer than a minute.
-
-The status is 0 where the kernel ended with status 0 and said just that, the counter is as it has to be, and no socket and no
-process is left; else 1. Whatever is left is ended. It needs `/proc`.
+The status is 0 if the kernel ended with status 0, output and counter are as expected, and no socket and no process is
+left. The tool kills any process that is left. It needs `/proc`.
 """
 
+import argparse
 import os
 import shutil
 import signal
@@ -20,7 +20,7 @@ import tempfile
 import time
 
 SECONDS = 60
-# What the kernel has started ends before it does, so this is for nothing but the system's own work.
+# Seconds that the system has to remove processes. The kernel's children end before it does.
 GRACE = 2
 WORDS = ["kernel", "--dir", ".", "--lanes", "2", "--shards", "1", "--limit", "65536", "KERNEL"]
 
@@ -31,13 +31,13 @@ def text_of(*path):
 
 
 def processes_of(session):
-    """The numbers of all processes of a session, with their words."""
+    """Returns the processes of a session, each number with its command line."""
     found = {}
     for name in os.listdir("/proc"):
         if not name.isdigit():
             continue
         try:
-            # Behind the program's name in brackets: the state, the parent, the group, the session.
+            # The fields behind the program's name in brackets are state, parent, group and session.
             rest = text_of("/proc", name, "stat").rpartition(")")[2].split()
             if int(rest[3]) == session:
                 found[int(name)] = text_of("/proc", name, "cmdline").replace("\0", " ").strip() or "(ended, not waited for)"
@@ -47,7 +47,7 @@ def processes_of(session):
 
 
 def left_over(session):
-    """What still runs of a session when its first process has ended, and a little later."""
+    """Returns the processes of a session that still run a little after the end of its first one."""
     for _turn in range(GRACE * 50):
         if not processes_of(session):
             return {}
@@ -56,7 +56,7 @@ def left_over(session):
 
 
 def end(session):
-    """Kills what runs of a session, one process after another."""
+    """Kills the processes of a session."""
     for process in processes_of(session):
         try:
             os.kill(process, signal.SIGKILL)
@@ -69,7 +69,7 @@ def sockets_in(stage):
 
 
 def run(program, stage, output):
-    """The kernel's status, None where its time was up, and what it has left running."""
+    """Returns the kernel's status, or None if its time was up, and the processes that it left."""
     kernel = subprocess.Popen([program, *WORDS], cwd=stage, stdin=subprocess.DEVNULL, stdout=output, start_new_session=True)
     try:
         try:
@@ -80,14 +80,13 @@ def run(program, stage, output):
             kernel.wait()
         return status, left_over(kernel.pid)
     finally:
-        # Where all is well nothing of this finds anything.
         kernel.kill()
         kernel.wait()
         end(kernel.pid)
 
 
 def show(example, program, stage, output):
-    """Plays the copy of an example, and gives what is wrong."""
+    """Plays the copy of an example, and returns the differences."""
     wrong = []
     print(f"The kernel's script, {os.path.join(example, 'KERNEL')}:")
     for line in text_of(stage, "KERNEL").splitlines():
@@ -119,9 +118,11 @@ def show(example, program, stage, output):
 
 
 def main():
-    if len(sys.argv) != 3:
-        sys.exit(__doc__)
-    example, program = sys.argv[1], os.path.abspath(sys.argv[2])
+    parser = argparse.ArgumentParser(description=__doc__, formatter_class=argparse.RawDescriptionHelpFormatter)
+    parser.add_argument("example", metavar="EXAMPLE", help="a folder with the scripts and the expected results")
+    parser.add_argument("program", metavar="PROGRAM", help="the program `wlb`")
+    given = parser.parse_args()
+    example, program = given.example, os.path.abspath(given.program)
     with tempfile.TemporaryDirectory(prefix="wlb-") as place, tempfile.TemporaryFile() as output:
         stage = os.path.join(place, "stage")
         shutil.copytree(example, stage)

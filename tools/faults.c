@@ -1,6 +1,6 @@
-/* Makes a call of a kernel's process fail, as a system that is short of something may: a library for LD_PRELOAD. The word FAULT of
- * the environment says which one. `death`: the write of a frame that tells the broker of a death, by ENOBUFS. `mode`: the
- * change of a socket's mode, by EPERM. Brokers and tabs are left alone. */
+// Library for LD_PRELOAD: makes a system call of a kernel's process fail. The environment variable FAULT names the call. `death`:
+// the write of a Dead frame to the broker fails with ENOBUFS. `mode`: the change of a socket's mode fails with EPERM. Calls of
+// brokers and tabs do not fail.
 #define _GNU_SOURCE
 #include <dlfcn.h>
 #include <errno.h>

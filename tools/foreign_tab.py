@@ -1,11 +1,14 @@
 #!/usr/bin/env python3
-"""Stands for `wlb` as the argument 0 of a kernel, and plays tabs and brokers that are not the program.
+"""Plays tabs and brokers that are not the program, for `check_processes.py`.
 
-A kernel runs it as `tab --socket PATH SCRIPT`, `broker --socket PATH ..`. A tab whose SCRIPT is named for one of the roles below
-plays that role; so does the broker of generation 1 if BROKER_ROLE names one. For all other words it becomes the program that WLB
-names. A tab ends with status 0 if it saw what its role wants to see, and else with status 1 and a line on standard error.
+A kernel whose argument 0 is this file starts it as `tab --socket PATH SCRIPT` or `broker --socket PATH ..`. If SCRIPT has the
+name of a role below, the tab plays that role. If the environment variable BROKER_ROLE has one, the broker of generation 1 plays
+it. For any other words the file becomes the program that the environment variable WLB names.
+
+The status is 0 if the role saw the expected frames. Else it is 1, with a line on standard error.
 """
 
+import argparse
 import contextlib
 import os
 import pathlib
@@ -24,11 +27,11 @@ GRANTED = 2
 
 
 class Unexpected(OSError):
-    """A frame that the role does not want to see, or none."""
+    """A frame that the role does not expect, or a frame that is missing."""
 
 
 class Link:
-    """A tab's or a broker's end of its link."""
+    """Tab's or broker's end of its link."""
 
     def __init__(self, path):
         self.socket = socket.socket(socket.AF_UNIX)
@@ -45,13 +48,13 @@ class Link:
         return got
 
     def frame(self):
-        """The kind of the next frame, and its fields."""
+        """Returns the kind of the next frame, and its fields."""
         (length,) = struct.unpack(">I", self.read(4))
         body = self.read(length)
         return body[1], body[2:]
 
     def until(self, kind):
-        """The fields of the next frame of a kind. Those before it are passed over."""
+        """Returns the fields of the next frame of this kind, and ignores the frames before it."""
         while True:
             found, fields = self.frame()
             if found == kind:
@@ -65,15 +68,15 @@ class Link:
         self.send(POST, struct.pack(">I", number) + CHANNEL + struct.pack(">H", len(data)) + data)
 
     def ask(self, generation, number, name, flag=0):
-        """Requests an exclusive lock; with the flag 1 only if it is free."""
+        """Requests an exclusive lock. The flag 1 makes it a probe."""
         self.send(COMMAND, struct.pack(">II", generation, number) + bytes([1, 2, flag, len(name)]) + name)
 
     def join(self, generation):
-        """Enters a generation as a tab that has issued no command."""
+        """Enters a generation with an empty report."""
         self.send(REPORT, struct.pack(">IIH", generation, 0, 0))
 
     def leave(self):
-        """Closes the link. All that came has to be read before that."""
+        """Closes the link once all bytes are read, as a tab has to."""
         self.socket.shutdown(socket.SHUT_WR)
         while self.socket.recv(4096):
             pass
@@ -84,7 +87,7 @@ def wait_for_file(name):
     until = time.monotonic() + SECONDS
     while not os.path.exists(name):
         if time.monotonic() > until:
-            raise Unexpected(f"there is no {name}")
+            raise Unexpected(f"no file {name}")
         time.sleep(0.005)
 
 
@@ -92,11 +95,11 @@ def data_of(number):
     return b"%d of %d" % (number, POSTS)
 
 
-# ---- tabs
+# ---- Tabs
 
 
 def poster(path):
-    """Posts, and leaves."""
+    """Posts, and ends."""
     link = Link(path)
     link.until(WELCOME)
     for number in range(POSTS):
@@ -119,18 +122,18 @@ def hearer(path):
 
 
 def stale(path):
-    """Enters generation 2, and is told of it again when it sends a command of generation 1."""
+    """Enters generation 2, and gets its Hello again for a command of generation 1."""
     link = Link(path)
     generation = int.from_bytes(link.until(HELLO), "big")
     link.join(generation)
     link.ask(generation, 0, b"a")
     answer = link.until(ANSWER)
     if (generation, answer[-1]) != (2, GRANTED):
-        raise Unexpected(f"generation {generation}, and the answer {answer}")
+        raise Unexpected(f"generation {generation} and the answer {answer}")
     link.ask(1, 1, b"b")
     told = link.frame()
     if told != (HELLO, struct.pack(">I", generation)):
-        raise Unexpected(f"told {told} for a command of generation 1")
+        raise Unexpected(f"got {told} for a command of generation 1")
     link.leave()
 
 
@@ -143,14 +146,14 @@ def closer(path):
 
 
 def sleeper(path):
-    """Keeps its link and runs on, whatever becomes of the link."""
+    """Keeps its link, ignores it and runs on."""
     link = Link(path)
     link.until(WELCOME)
     time.sleep(SECONDS)
 
 
 def deaf(path):
-    """Ends the reading half of its link, and runs on."""
+    """Closes the reading half of its link, and runs on."""
     link = Link(path)
     link.until(WELCOME)
     link.socket.shutdown(socket.SHUT_RD)
@@ -159,7 +162,7 @@ def deaf(path):
 
 
 def teller(path):
-    """Posts again and again once another tab is deaf, for a second at most."""
+    """Posts once another tab is deaf, fifty times in a second."""
     link = Link(path)
     link.until(WELCOME)
     wait_for_file("DEAF")
@@ -170,7 +173,7 @@ def teller(path):
 
 
 def dier(path):
-    """Holds a lock until it is told to die."""
+    """Holds a lock until the file DIE is made."""
     link = Link(path)
     generation = int.from_bytes(link.until(HELLO), "big")
     link.join(generation)
@@ -183,7 +186,7 @@ def dier(path):
 
 
 def flooder(path):
-    """Sends commands until nobody takes them for half a second, and runs on."""
+    """Sends commands until the kernel has read none for half a second, and runs on."""
     link = Link(path)
     generation = int.from_bytes(link.until(HELLO), "big")
     wait_for_file("FLOOD")
@@ -196,7 +199,7 @@ def flooder(path):
 
 
 def gate(path):
-    """Connects once it may, so that the kernel's script waits."""
+    """Connects once the file GATE is made. The kernel's script waits until then."""
     wait_for_file("GATE")
     link = Link(path)
     link.until(WELCOME)
@@ -204,7 +207,7 @@ def gate(path):
 
 
 def leave_child(link, work):
-    """Leaves a child behind that has the link and works until the link has ended. The parent ends with status 7."""
+    """Starts a child that keeps the link and repeats `work` until the link fails. The parent ends with status 7."""
     if os.fork() == 0:
         until = time.monotonic() + SECONDS
         with contextlib.suppress(OSError):
@@ -234,7 +237,7 @@ def noisy_leaver(path):
 
 
 def looker(path):
-    """Looks at the file of its socket before it connects: nobody but its owner may use it."""
+    """Checks before it connects that only the owner may use the file of its socket."""
     mode = stat.S_IMODE(os.stat(path).st_mode)
     link = Link(path)
     link.until(WELCOME)
@@ -243,11 +246,11 @@ def looker(path):
     link.leave()
 
 
-# ---- brokers
+# ---- Brokers
 
 
 def leaving_broker(path):
-    """Ends at once, and leaves a child that greets a tab that there is not, again and again."""
+    """Ends at once, and leaves a child that sends Hello frames for a tab that does not exist."""
     link = Link(path)
     link.frame()
 
@@ -263,7 +266,7 @@ BROKERS = [leaving_broker]
 
 
 def role_of(words):
-    """The role that a kernel's words ask for, if they do."""
+    """Returns the role that the kernel's words name, or None."""
     if words[0] == "tab":
         return {role.__name__: role for role in TABS}.get(os.path.basename(words[-1]))
     if words[0] == "broker" and words[2].endswith("broker1.sock"):
@@ -272,7 +275,11 @@ def role_of(words):
 
 
 def main():
-    role = role_of(sys.argv[1:])
+    parser = argparse.ArgumentParser(description=__doc__, formatter_class=argparse.RawDescriptionHelpFormatter)
+    parser.add_argument("kind", metavar="KIND", help="`tab` or `broker`")
+    parser.add_argument("words", metavar="WORD", nargs=argparse.REMAINDER, help="the other words of the kernel")
+    given = parser.parse_args()
+    role = role_of([given.kind, *given.words])
     if role is None:
         os.execv(os.environ["WLB"], sys.argv)
     try:

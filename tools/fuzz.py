@@ -1,29 +1,28 @@
 """Gives `wlb desk`, `wlb broker` and `wlb sim` random and mutated input.
 
-usage: fuzz.py MEGABYTES SEED PROGRAM
-       fuzz.py --wrong SEED PROGRAM
+SEED and a number make each case. Cases follow one another until the programs have accepted MEGABYTES. For the desk and the
+broker a case is a stream of frames: a start, then commands in order and out of order, reports, parts of reports and deaths,
+with fields at and over their limits. Most streams are mutated: flipped bits, inserted or deleted bytes, frames of other kinds,
+random bodies, noise, an end within a frame. For the sim a case is a script, and one of its lines may be mutated. From
+docs/PROTOCOL.md alone the tool works out the good frames of a stream, up to its first fault, and the name of that fault.
 
-Cases are made from the seed and their number, one after another, until so many megabytes were taken in. For the desk and the
-broker a case is a stream of frames: a start, then commands that are in turn and others that are not, reports, parts and deaths,
-with fields at and over their limits; most are mutated: bits, bytes that are put in or taken out, frames of other kinds, random
-bodies, noise, an end within a frame. What the stream is worth is worked out here from docs/PROTOCOL.md alone: the bytes of its
-frames up to the first fault, and that fault's name. For the sim a case is a script, and lines of it are mutated.
+The status is 1 if there is a fault:
 
-It fails, with status 1, where
-- a program ends by a signal, or not within SECONDS, or with another status than the documented one: desk and broker 0 without a
-  fault, else 1 and the fault's name on standard error; a broker 0 where its generation had more events than steps; sim 0, or 1
-  and `wlb: line N`, where N is no line before the first mutated one;
-- the desk answers a stream with a fault otherwise than the frames before it alone;
-- a broker of one lane, which gets the stream over its socket in pieces, answers otherwise than the desk; or a broker of several
-  lanes answers what are no frames to a tab;
-- a script's output up to a bad line is not that of the lines before it alone;
-- a child takes more memory at its peak than ROOM.
+- A program ends by a signal, or does not end in time, or has another status than the documented one. Desk and broker end with 0
+  for a stream without a fault, and else with 1 and the name of the fault on standard error. A broker ends with 0 if its
+  generation has more events than steps. The sim ends with 0, or with 1 and `wlb: line N`, and N is not before the mutated line.
+- The desk answers the frames before the fault otherwise than without the fault.
+- A broker with one lane, which gets the stream over its socket in pieces, answers otherwise than the desk. Or a broker with
+  more lanes writes anything but frames for tabs.
+- The output of a script up to a bad line is not the output of the lines before it alone.
+- The peak memory of a process is above 64 MiB.
 
-Bytes count as taken in up to the first fault, once for each program that got them. `--wrong` gives the same cases to wrong
-programs, to show that the checks see them: one that crashes, one that hangs, one that tells another status, one that loses an
-answer, and one that takes too much memory. The status is 0 where each was seen. It needs Linux.
+Bytes count as accepted up to the first fault, once for each program that gets them. `--wrong` gives the same cases to wrong
+programs, to show that the checks notice: one that crashes, one that hangs, one that ends with another status, one that loses an
+answer, and one that takes too much memory. Then the status is 0 if each of them was noticed. The tool needs Linux.
 """
 
+import argparse
 import contextlib
 import os
 import random
@@ -39,23 +38,23 @@ import tempfile
 import time
 
 SECONDS = 30
-# Bytes of memory at the peak, and the limit of address space, which threads take more of.
+# Bytes: the limit of peak memory, and the limit of address space, which is larger because of threads.
 ROOM = 64 << 20
 SPACE = 8 << 30
-# Bytes of a case, at most.
+# The most bytes of a case.
 STREAM, SCRIPT = 200_000, 40_000
 NAMES = [b"", b"a", b"f", b"lock", "\u00e4\u20ac".encode(), b"x" * 255, b"f-", b"\0", b"\x7f"]
 ORIGINS = ["https://a.test/", "https://b.test/x?y#z", "http://a.test:8080/", "data:,x", "about:blank", "no_url", "https://a.test"]
 
-# ---- what a frame is, by the document
+# ---- Grammar of frames, by docs/PROTOCOL.md
 
 
 class Fault(Exception):
-    """The first fault of a stream; its text is the fault's name."""
+    """First fault of a stream. Its text is the fault's name."""
 
 
 class Fields:
-    """The fields of a body, one after another."""
+    """Fields of a body, from left to right."""
 
     def __init__(self, body, at):
         self.body, self.at = body, at
@@ -167,7 +166,7 @@ def read_start(fields):
 
 
 def read_inner(fields, kinds):
-    """A body of these kinds to the end."""
+    """Reads a body of one of these kinds, up to the end."""
     kind = tuple(fields.bytes(2))
     if kind not in kinds:
         raise Fault("BadField")
@@ -207,7 +206,7 @@ BODIES = {
 
 
 def read_body(body):
-    """The version and kind of a body."""
+    """Returns the version and the kind of a body."""
     kind = tuple(body[:2])
     if kind[0] not in (1, 2):
         raise Fault("BadVersion")
@@ -220,7 +219,7 @@ def read_body(body):
 
 
 def frames_of(stream):
-    """The kinds of the frames of a stream, with the places where they begin and end, up to the first fault."""
+    """Yields the kind, the begin and the end of each frame of a stream, up to the first fault, which it raises."""
     at = 0
     while at < len(stream):
         if len(stream) - at < 4:
@@ -235,7 +234,7 @@ def frames_of(stream):
 
 
 class Worth:
-    """What a stream is worth to a broker: where its good frames end, the first fault, and where each event ends."""
+    """Reading of a stream by a broker: the end of its good frames, its first fault, and the end of each event."""
 
     def __init__(self, stream):
         self.end, self.fault, self.events = 0, None, []
@@ -252,7 +251,7 @@ class Worth:
             self.fault = str(fault)
 
 
-# ---- streams
+# ---- Streams
 
 
 def frame(body):
@@ -281,7 +280,7 @@ def entries(dice, base):
 
 
 class Talk:
-    """The frames of one stream, with the next number of each tab."""
+    """Maker of a stream's frames, with the next command number of each tab."""
 
     def __init__(self, dice):
         self.dice = dice
@@ -319,7 +318,7 @@ class Talk:
         return self.stamped(tab, b"\x01\x01" + struct.pack(">II", generation, number) + operation(self.dice, number))
 
     def frames(self, size):
-        """Frames of about so many bytes."""
+        """Returns frames of about this many bytes."""
         made = [self.start()] + [self.report(tab) for tab in self.tabs if self.dice.random() < 0.98]
         left = size - sum(map(len, made))
         while left > 0:
@@ -336,14 +335,14 @@ class Talk:
 
 
 def odd_frame(dice):
-    """A frame of any kind with a random rest."""
+    """Returns a frame of any kind with random fields."""
     kind = dice.choice(list(BODIES)) if dice.random() < 0.9 else (dice.randrange(256), dice.randrange(256))
     rest = bytes(dice.choice([0, 1, 1, 2, 255, dice.randrange(256)]) for _ in range(dice.choice([0, 2, 6, 10, 15, 40])))
     return frame(bytes(kind) + rest)
 
 
 def mutated(dice, stream):
-    """With a few bytes changed, put in or taken out, mostly far behind."""
+    """Returns the stream with a few bytes changed, inserted or deleted, mostly near its end."""
     stream = bytearray(stream)
     for _turn in range(dice.randrange(1, 4)):
         at = int(len(stream) * (1 - dice.random() ** 2))
@@ -374,7 +373,7 @@ def stream_of(dice):
     return mutated(dice, stream) if 0.4 < what < 0.85 else stream
 
 
-# ---- scripts
+# ---- Scripts
 
 
 def word_of(dice):
@@ -382,7 +381,7 @@ def word_of(dice):
 
 
 def hex_of(dice, talk):
-    """What a tab that was taken over sends."""
+    """Returns a body that a compromised tab sends, in hexadecimal digits."""
     body = [talk.command(1), talk.report(1)][dice.randrange(2)][10:]
     post = b"\x01\x03" + struct.pack(">IBH", dice.randrange(3), 0, 1) + b"x"
     return dice.choice([body, post]).hex().upper()
@@ -399,13 +398,14 @@ def line_of(dice, talk, messages):
         + [f"probe {tab} {mode} {word_of(dice)}", f"abort {tab} {number}", f"release {tab} {number}", f"release {tab} {number}"]
         + [f"open {tab} {url}", f"open2 {tab} {dice.choice(ORIGINS)} {url}", f"query {tab}", f"resend {tab}", f"hello {tab}"]
         + ["start", "start -", f"start {tab}", "stop", f"kill {tab}", f"tell {tab}", "show", "", "# a comment"]
-        + [f"channel {tab} {word_of(dice)}", f"post {tab} {number} {word_of(dice)}", f"read {tab} {number}", f"close {tab} {number}"]
+        + [f"channel {tab} {word_of(dice)}", f"post {tab} {number} {word_of(dice)}"]
+        + [f"read {tab} {number}", f"close {tab} {number}"]
         + [f"corrupt {tab}", f"forge {tab} {hex_of(dice, talk)}"]
     )
 
 
 def script_of(dice):
-    """Lines, and the place of the first one that is mutated, if any is."""
+    """Returns the lines of a script, and the place of the mutated one, or None."""
     talk = Talk(dice)
     talk.tabs, talk.next, talk.generation = [1], {1: 0}, 1
     lines = [b"start -", b"open 1 https://a.test/", b"open 2 https://a.test/", b"deliver m1", b"deliver m2"]
@@ -421,11 +421,11 @@ def script_of(dice):
     return [*lines[:at], line, *lines[at + 1 :]], at
 
 
-# ---- children
+# ---- Processes
 
 
 class Ended:
-    """How a child has ended."""
+    """Result of a process: its status, its output and errors, and its peak of memory."""
 
     def __init__(self, status, out, err, memory):
         self.status, self.out, self.err, self.memory = status, out, err, memory
@@ -441,12 +441,12 @@ def begin(words, source, out, err):
 
 
 def finish(child, seconds):
-    """Waits for a child, no longer than that. Its status, None where it was killed, and its memory."""
+    """Waits for a process at most this long. Returns its status, or None if it had to be killed, and its peak of memory."""
     handle = os.pidfd_open(child.pid)
     has_ended = bool(select.select([handle], [], [], max(0, seconds))[0])
     os.close(handle)
     if not has_ended:
-        # A wrong program may be a script, which has children in its session.
+        # A wrong program may be a script with children in its session.
         os.killpg(child.pid, signal.SIGKILL)
     _process, status, usage = os.wait4(child.pid, 0)
     child.returncode = os.waitstatus_to_exitcode(status)
@@ -454,7 +454,7 @@ def finish(child, seconds):
 
 
 def feed(program, word, text, place):
-    """A program that reads standard input."""
+    """Runs a program that reads standard input."""
     paths = [os.path.join(place, name) for name in ("in", "out", "err")]
     with open(paths[0], "wb") as file:
         file.write(text)
@@ -466,7 +466,7 @@ def feed(program, word, text, place):
 
 
 def converse(link, stream, dice, until):
-    """Writes a stream in pieces and reads what comes, until the other end has ended."""
+    """Writes a stream in pieces and reads the answers until the other end closes the link. Returns the answers."""
     link.setblocking(False)
     heard, at, is_writing = [], 0, True
     while time.monotonic() < until:
@@ -492,7 +492,7 @@ def converse(link, stream, dice, until):
 
 
 def serve(program, stream, lanes, steps, dice, place):
-    """A broker, whose kernel this is."""
+    """Runs a broker, as its kernel."""
     path, errors = os.path.join(place, "broker.sock"), os.path.join(place, "err")
     until = time.monotonic() + SECONDS
     with socket.socket(socket.AF_UNIX) as listener, open(errors, "w+b") as err:
@@ -511,10 +511,12 @@ def serve(program, stream, lanes, steps, dice, place):
         return Ended(status, heard, err.read().decode(errors="replace"), memory)
 
 
-# ---- what is checked
+# ---- Checks
 
 
 class Fuzz:
+    """Cases of one seed for one program, with the faults that were found."""
+
     def __init__(self, seed, program, place):
         self.seed, self.program, self.place = seed, program, place
         self.number = 0
@@ -535,12 +537,14 @@ class Fuzz:
             self.fail(f"{who} took too much memory: {ended.memory >> 20} MiB")
 
     def expect(self, who, ended, fault):
-        """The documented status and text. Whether they are so."""
+        """Checks the documented status and error text, and returns whether they are right."""
         wanted = (1, f"wlb: {fault}\n") if fault else (0, "")
         if (ended.status, ended.err) == wanted:
             return True
-        said = "in time" if ended.status is None else f"with status {ended.status} and {ended.err.strip()[:200]!r}"
-        self.fail(f"{who} did not end {said}" if ended.status is None else f"{who} ended {said} where it should with {wanted}")
+        if ended.status is None:
+            self.fail(f"{who} did not end in time")
+        else:
+            self.fail(f"{who} ended with status {ended.status} and {ended.err.strip()[:200]!r}, not with {wanted}")
         return False
 
     def desk(self, stream, worth):
@@ -550,7 +554,7 @@ class Fuzz:
             alone = feed(self.program, "desk", stream[: worth.end], self.place)
             self.note("desk", alone, worth.end, worth.end)
             if self.expect("desk", alone, None) and alone.out != ended.out:
-                self.fail("desk answers the frames before the fault otherwise than alone")
+                self.fail("desk answers the frames before the fault otherwise than without the fault")
         return ended
 
     def broker(self, stream, worth, desk, dice):
@@ -564,7 +568,7 @@ class Fuzz:
         if lanes == 1:
             wanted = feed(self.program, "desk", stream[:taken], self.place).out if is_spent else desk.out
             if ended.out != wanted:
-                self.fail(f"broker of one lane answers otherwise than the desk, spent: {is_spent}")
+                self.fail(f"broker of one lane answers otherwise than the desk (steps used up: {is_spent})")
         else:
             self.check_answers(ended.out)
 
@@ -573,7 +577,7 @@ class Fuzz:
             if any(kind != ADDRESSED for kind, _begin, _end in frames_of(out)):
                 self.fail("broker writes frames that are not for tabs")
         except Fault as fault:
-            self.fail(f"broker writes what are no frames: {fault}")
+            self.fail(f"broker writes bytes that are no frames: {fault}")
 
     def streams(self, dice):
         stream = stream_of(dice)
@@ -591,7 +595,7 @@ class Fuzz:
         if ended.status == 1 and ended.err.startswith("wlb: line ") and ended.err[10:].strip().isdigit():
             line = int(ended.err[10:])
             if at is None or not at < line <= len(lines):
-                self.fail(f"sim refuses line {line}, where line {'none' if at is None else at + 1} was mutated")
+                self.fail(f"sim refuses line {line}, but the mutated line is {'none' if at is None else at + 1}")
         elif ended.status != 0 or ended.err:
             self.expect("sim", ended, None)
         good = b"".join(one + b"\n" for one in lines[: line - 1])
@@ -601,7 +605,7 @@ class Fuzz:
             alone = feed(self.program, "sim", good, self.place)
             self.note("sim", alone, len(good), len(good))
             if self.expect("sim", alone, None) and alone.out != ended.out:
-                self.fail("sim answers the lines before the bad one otherwise than alone")
+                self.fail("sim answers the lines before the bad one otherwise than without it")
 
     def play(self):
         self.number += 1
@@ -619,19 +623,19 @@ def fuzz(megabytes, seed, program):
         while run.taken < megabytes * 1_000_000 and len(run.wrong) < 20:
             run.play()
     taken = time.monotonic() - begun
-    print(f"seed {seed}: {run.number} cases in {taken:.0f} s, {run.given / 1e6:.1f} MB given, {run.taken / 1e6:.1f} MB taken in")
+    print(f"seed {seed}: {run.number} cases in {taken:.0f} s, {run.given / 1e6:.1f} MB given, {run.taken / 1e6:.1f} MB accepted")
     print("runs: " + ", ".join(f"{who} {count}" for who, count in sorted(run.cases.items())))
     print("cases by fault: " + ", ".join(f"{fault or 'none'} {count}" for fault, count in sorted(run.faults.items(), key=str)))
-    print("memory at most: " + ", ".join(f"{who} {memory >> 10} KiB" for who, memory in sorted(run.memory.items())))
+    print("peak of memory: " + ", ".join(f"{who} {memory >> 10} KiB" for who, memory in sorted(run.memory.items())))
     print(f"{len(run.wrong)} faults")
     return 1 if run.wrong else 0
 
 
-# What a wrong program does, and what has to be said of it.
+# Wrong programs, each with its script and a part of the message that it has to cause.
 WRONG = {
     "a program that crashes": ("kill -SEGV $$", "status -11"),
     "a program that hangs": ("exec sleep 1000", "in time"),
-    "a program that tells another status": ('{program} "$@"; exit 2', "status 2"),
+    "a program that ends with another status": ('{program} "$@"; exit 2', "status 2"),
     "a program that loses an answer": ('[ "$1" = desk ] || exec {program} "$@"; {program} "$@" | head -c -19', "otherwise than"),
     "a program that takes too much memory": ("exec {python} -c 'print(len(str(1) * (300 << 20)))'", "too much memory"),
 }
@@ -653,18 +657,29 @@ def show_wrong(seed, program):
                 run.play()
         is_seen = any(said in line for line in run.wrong)
         missed += not is_seen
-        print(f"{what}: {'seen' if is_seen else 'not seen'}", flush=True)
+        print(f"{what}: {'noticed' if is_seen else 'not noticed'}", flush=True)
     return 1 if missed else 0
 
 
+def arguments():
+    usage = "%(prog)s [-h] MEGABYTES SEED PROGRAM\n       %(prog)s [-h] --wrong SEED PROGRAM"
+    parser = argparse.ArgumentParser(usage=usage, description=__doc__, formatter_class=argparse.RawDescriptionHelpFormatter)
+    parser.add_argument("--wrong", action="store_true", help="give the cases to wrong programs")
+    parser.add_argument("megabytes", metavar="MEGABYTES", nargs="?", type=float, help="the amount of input to be accepted")
+    parser.add_argument("seed", metavar="SEED", help="the text from which the cases are drawn")
+    parser.add_argument("program", metavar="PROGRAM", help="the program `wlb`")
+    given = parser.parse_args()
+    if given.wrong == (given.megabytes is not None):
+        parser.error("give either MEGABYTES or --wrong")
+    return given
+
+
 def main():
+    # A signal that ends the tool also ends the processes that it has started.
     signal.signal(signal.SIGTERM, lambda *_: sys.exit(1))
-    words = sys.argv[1:]
-    if len(words) == 3 and words[0] == "--wrong":
-        return show_wrong(words[1], os.path.abspath(words[2]))
-    if len(words) != 3:
-        sys.exit(__doc__)
-    return fuzz(float(words[0]), words[1], os.path.abspath(words[2]))
+    given = arguments()
+    program = os.path.abspath(given.program)
+    return show_wrong(given.seed, program) if given.wrong else fuzz(given.megabytes, given.seed, program)
 
 
 if __name__ == "__main__":

@@ -1,29 +1,26 @@
-"""Runs `wlb` as processes with a hostile tab, beside two honest tabs of its origin and two of another one.
+"""Runs `wlb` as processes with a hostile tab, beside two honest tabs of its origin and two of another origin.
 
-usage: hostile.py SEED PROGRAM
-       hostile.py --wrong SEED PROGRAM
+An honest tab requests its origin's lock, waits for it, adds one to the number in a file, and releases the lock, 5,000 times.
+The tool plays this three times without a hostile tab, and then once with each of the following. They speak the socket protocol
+in Python and write as fast as they can.
 
-Each honest tab asks for its origin's lock, waits for it, adds one to the number in a file, and gives it up, ROUNDS times, so each
-origin hands its lock over that often at least. First this is timed without a hostile tab, RUNS times, then with each of these,
-which speak the socket protocol in Python and write as fast as they can, until the other origin's tabs have ended:
+    talker    commands in order and out of order, with operations on any number, and reports, of the current generation
+    claimer   reports that claim the honest tabs' lock, and requests, releases and aborts of it
+    poster    posts of 16,384 bytes; it never reads
+    breaker   a hundred short-lived tabs: frames as above, then noise, a wrong length, or half a frame
 
-    talker    commands, in turn and not, with operations on any number, and reports, of the current generation
-    claimer   reports that say that it holds the honest tabs' lock, and requests, releases and aborts of it
-    poster    posts of 16,384 bytes, and it never reads what comes
-    breaker   many short-lived tabs: frames as the others', and then noise, a length that no frame has, or half a frame
+The tool prints the rates of both origins, in locks a second and as a ratio to those without a hostile tab. The goal for the
+other origin is a half. A missed goal is printed and is no fault, since no rate is promised. The hostile tab's own origin may
+wait as long as that tab lives (docs/SCRIPTS.md, "Tabs that are taken over"). So the tool kills the hostile tab two seconds
+after the end of the other origin, and then the tabs of its own origin have to end, too.
 
-Prints the rates of both origins, as locks a second and as a ratio to those without; the goal for the other origin is a half. A
-goal that is missed is printed as that and is no fault: nothing is promised of time. The hostile tab's own origin may wait as long
-as that tab lives (docs/SCRIPTS.md, "Tabs that are taken over"); so that tab is killed MERCY seconds after the other origin's end,
-and then its origin's tabs have to end too.
-
-It fails, with status 1, where an addition is lost, an honest tab ends with another status than 0, the kernel ends with another
-status than 0 or not in time, kernel or broker take more memory than ROOM, or a process is left. `--wrong` plays the program with
-honest tabs that do not ask for their lock, and ends with status 0 where the check sees what is lost.
-
-All is in a temporary directory, which is removed. It needs `/proc`.
+The status is 1 if there is a fault: a lost addition, an honest tab or a kernel with another status than 0, a kernel that does
+not end in time, a line on the kernel's standard error, a kernel or broker with more than 256 MiB of memory, or a process that
+is left. `--wrong` plays honest tabs that do not request their lock; then the status is 0 if the counters show it. SEED
+determines the frames of the hostile tabs. All files lie in a temporary directory. The tool needs `/proc`.
 """
 
+import argparse
 import contextlib
 import os
 import random
@@ -37,7 +34,7 @@ import sys
 import tempfile
 import time
 
-# Beside this file.
+# The wrapper starts this file by `python -I`, which leaves the file's folder out.
 sys.path.insert(0, os.path.dirname(os.path.abspath(__file__)))
 import fuzz
 import soak
@@ -46,7 +43,7 @@ ROUNDS = 5_000
 RUNS = 3
 GOAL = 0.5
 SECONDS = 40
-# How long the hostile tab's own origin has, after the other one, before that tab is killed.
+# Seconds between the end of the other origin and the kill of the hostile tab.
 MERCY = 2
 ROOM = 256 << 20
 BLOB = 60_000
@@ -55,7 +52,7 @@ KINDS = ["talker", "claimer", "poster", "breaker"]
 BREAKERS = 100
 ENDING = ".hostile"
 
-# ---- the hostile tab
+# ---- Hostile tab
 
 
 def talk(dice, generation):
@@ -71,8 +68,9 @@ def talk(dice, generation):
 
 def claim(dice, generation):
     frames = [soak.report(generation, 5, [(number, number < 2, soak.EXCLUSIVE, b"f") for number in range(5)], False)]
+    abort = b"\x03\0\0\0\0"
     for turn in range(BLOB // 20):
-        operation = dice.choice([soak.request(dice.randrange(1, 3), b"f"), soak.release(dice.randrange(5 + turn)), b"\x03\0\0\0\0"])
+        operation = dice.choice([soak.request(dice.randrange(1, 3), b"f"), soak.release(dice.randrange(5 + turn)), abort])
         frames.append(soak.command(generation, 5 + turn, operation))
     return b"".join(frames)
 
@@ -83,14 +81,14 @@ def post(dice, generation):
 
 
 def flood(link, kind, dice, sent):
-    """Writes until it is killed, and notes how many bytes it has written."""
+    """Writes until it is killed, and notes the number of written bytes in a file."""
     make = {"talker": talk, "claimer": claim, "poster": post}[kind]
     generation, seen, count = 0, b"", 0
     blob = make(dice, 1)
     while True:
         if kind != "poster" and select.select([link], [], [], 0)[0]:
             seen = seen[-9:] + link.recv(1 << 20)
-            # A hello of ten bytes, wherever it stands.
+            # A Hello is a frame of ten bytes.
             hellos = re.findall(rb"\0\0\0\x06\x01\x10(....)", seen, re.DOTALL)
             newest = max([int.from_bytes(one, "big") for one in hellos], default=0)
             if newest > generation:
@@ -101,7 +99,7 @@ def flood(link, kind, dice, sent):
 
 
 def break_off(link, dice):
-    """Frames, and then what is none."""
+    """Writes frames and then bytes that are no frame."""
     whole = dice.choice([talk, claim])(dice, 1)[: dice.randrange(2_000)]
     rest = dice.choice([dice.randbytes(3_000), b"\xff" * 4, b"\0\0\0\0", b"\0\0\x10\0\x01\x01", b""])
     with contextlib.suppress(BrokenPipeError, ConnectionResetError):
@@ -123,7 +121,7 @@ def be_hostile(path, script):
                 flood(link, kind, dice, os.open("SENT", os.O_WRONLY))
 
 
-# ---- one kernel
+# ---- Run of a kernel
 
 
 def prepare(stage, kind, seed):
@@ -145,7 +143,7 @@ def prepare(stage, kind, seed):
 
 
 def peak_of(process):
-    """Of memory, in bytes."""
+    """Returns the peak memory of a process in bytes."""
     try:
         return int(re.search(r"VmHWM:\s+(\d+)", soak.text_of("/proc", f"{process}/status"))[1]) << 10
     except (OSError, TypeError):
@@ -153,7 +151,7 @@ def peak_of(process):
 
 
 class Watch:
-    """What is seen of one kernel's run."""
+    """Observations of one kernel's run."""
 
     def __init__(self, stage, kernel):
         self.stage, self.kernel = stage, kernel
@@ -184,7 +182,7 @@ class Watch:
             self.memory["broker"] = max(self.memory["broker"], peak_of(self.broker))
 
     def is_over(self):
-        """Whether the hostile tab has done its work."""
+        """Returns whether it is time to kill the hostile tab."""
         return 1 in self.ended and (0 in self.ended or time.monotonic() > self.ended[1] + MERCY)
 
     def rate(self, origin):
@@ -198,12 +196,13 @@ class Watch:
 
 
 def watch(stage, kernel):
-    """Until the kernel has ended or its time is up."""
+    """Watches until the kernel has ended or its time is up. Returns the observations, whether the own origin was blocked, and
+    whether the kernel has ended."""
     seen, starts, until = Watch(stage, kernel), soak.Starts(stage), time.monotonic() + SECONDS
     blocked = False
     with starts.file:
         while kernel.poll() is None and time.monotonic() < until:
-            for child in starts.come():
+            for child in starts.new():
                 seen.meet(child)
             seen.look()
             if seen.is_over() or time.monotonic() > until - SECONDS / 3:
@@ -217,7 +216,7 @@ def watch(stage, kernel):
 
 
 def play(program, kind, seed, wrong=None):
-    """One kernel: what was seen, whether the own origin was blocked, how much was sent, and what is wrong."""
+    """Runs one kernel. Returns the observations, whether the own origin was blocked, the bytes sent, and the faults."""
     with tempfile.TemporaryDirectory(prefix="wlb-") as stage:
         prepare(stage, kind, seed)
         wrapper = soak.write_wrapper(stage, program, __file__, ENDING, wrong)
@@ -246,14 +245,14 @@ def check(stage, seen, status, left):
     for origin in range(len(ORIGINS)):
         count = soak.text_of(stage, f"COUNTER{origin}").strip()
         if count != str(2 * ROUNDS):
-            wrong.append(f"the counter of origin {origin} has {count} where {2 * ROUNDS} were added")
+            wrong.append(f"the counter of origin {origin} has {count} after {2 * ROUNDS} additions")
     wrong += [f"the {who} took {memory >> 20} MiB" for who, memory in seen.memory.items() if memory > ROOM]
     wrong += [f"a process is left: {what}" for what in left]
     own = soak.text_of(stage, "ERR").splitlines()
     return wrong + [f"on the kernel's standard error: {line}" for line in own[:3] if not line.startswith("test result: ")]
 
 
-# ---- the whole
+# ---- Command
 
 
 def tell(kind, seen, blocked, sent, wrong, base):
@@ -296,15 +295,18 @@ def show_wrong(seed, program):
 
 
 def main():
-    words = soak.words_given()
-    if "tab" in words[:2]:
-        be_hostile(words[-2], words[-1])
+    soak.end_in_order()
+    tab = soak.tab_words(sys.argv[1:])
+    if tab:
+        be_hostile(tab.socket, tab.script)
         return 0
-    if len(words) == 3 and words[0] == "--wrong":
-        return show_wrong(words[1], os.path.abspath(words[2]))
-    if len(words) != 2:
-        sys.exit(__doc__)
-    return compare(words[0], os.path.abspath(words[1]))
+    parser = argparse.ArgumentParser(description=__doc__, formatter_class=argparse.RawDescriptionHelpFormatter)
+    parser.add_argument("--wrong", action="store_true", help="play honest tabs that do not request their lock")
+    parser.add_argument("seed", metavar="SEED", help="the text from which the hostile tabs' frames are drawn")
+    parser.add_argument("program", metavar="PROGRAM", help="the program `wlb`")
+    given = parser.parse_args()
+    program = os.path.abspath(given.program)
+    return show_wrong(given.seed, program) if given.wrong else compare(given.seed, program)
 
 
 if __name__ == "__main__":

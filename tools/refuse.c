@@ -1,6 +1,6 @@
-// Preloaded into a program: refuses the allocation of one number, counted from 1 over `malloc` and `realloc`, which are all that
-// the program has, and each one of so many bytes or more. REFUSE is that number, and REFUSE_FROM these bytes; with 0 none is
-// refused. At the end the program's allocations are written, as a decimal, to the file descriptor REFUSE_TELL. Needs glibc.
+// Library for a preload: refuses the allocation REFUSE, counted from 1 over `malloc` and `realloc`, and each one of at least
+// REFUSE_FROM bytes. 0 refuses none. A Rattle program allocates by these two functions alone. At its end the library writes the
+// number of all allocations, as a decimal, to the file descriptor REFUSE_TELL. Needs glibc.
 #define _GNU_SOURCE
 #include <stdio.h>
 #include <stdlib.h>
@@ -43,7 +43,7 @@ __attribute__((destructor)) static void tell_at_return(void) {
     tell();
 }
 
-// A program with threads ends so, and runs no destructor.
+// A program with threads ends by this call, and runs no destructor.
 __attribute__((noreturn)) void _exit(int status) {
     tell();
     for (;;) {

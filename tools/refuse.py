@@ -1,10 +1,16 @@
 """Runs tests with memory refused: each allocation in its turn, or a sample of them.
 
-The tests of a crate are written so that a call which runs out of memory is checked to have changed nothing, and is then made again and
-gives its answer. So each test has to pass whichever allocation fails. One run refuses one allocation. With --large, one more run of
-each test refuses every allocation of a megabyte or more, however often it is asked for: a history has to do with less.
+A test repeats each call that runs out of memory, and checks that the refused call changed nothing. So a test has to pass
+whichever allocation fails. The tool runs each test by itself, once for each of its allocations. One run refuses one allocation.
 
-A test with threads may allocate in another order each time; there a number names no certain allocation. Needs `cc` and glibc.
+The kit's `rt try --test --fail-alloc N` refuses one allocation of all tests of a crate, in a build with nothing proved. This
+tool takes the tests one by one, refuses every allocation, and runs the proved binary at full speed.
+
+`--gate` refuses a sample: at most 60 allocations of each test in the crates `test_*`, spread evenly. It also runs the tests of
+the book with every allocation of a megabyte or more refused, since a history has to do without them.
+
+A test with threads may allocate in another order in each run, so there a number names no certain allocation. The status is 0
+if every test passed. The tool needs `cc` and glibc.
 """
 
 import argparse
@@ -17,29 +23,29 @@ import subprocess
 import sys
 import tempfile
 
-from lanes import lanes, text_of
-
 HERE = os.path.dirname(os.path.abspath(__file__))
 TOP = os.path.dirname(HERE)
+WORKERS = len(os.sched_getaffinity(0))
 SECONDS = 120
-# An allocation of so many bytes counts as large.
+# Bytes of the smallest allocation that counts as large.
 LARGE = 1_000_000
-# How much of what a failed run printed is shown, in characters.
+# Characters of a failed run's output that are shown.
 SHOWN = 160
-# The gate refuses at most so many allocations of each test.
+# The most allocations that the gate refuses of one test.
 SAMPLE = 60
-# Lanes that wait for one another wait for seconds if memory refused one of them its thread, so the gate refuses fewer there.
+# Lanes wait for each other for seconds if one of them got no memory for its thread. The gate refuses fewer allocations there.
 SLOW_SAMPLE = 4
-SLOW = {"lane_tests": ("tests::process_lanes::", "tests::turnstile::")}
-# In these crates each test has to do without large allocations.
-WITHOUT_LARGE = {"book_tests"}
-# Its children are processes of their own, which would be refused memory too.
-NOT_IN_GATE = {"process_tests"}
+SLOW = {"test_lanes": ("tests::process_lanes::", "tests::turnstile::")}
+# Front of the names of the book's tests, which have to do without large allocations.
+STEPS = "tests::steps::"
+WITHOUT_LARGE = {"test_lanes": (STEPS,)}
+# The first has no tests. The tests of the second start processes, which would be refused memory too.
+NOT_IN_GATE = {"test_support", "test_processes"}
 
 
 @dataclasses.dataclass(frozen=True)
 class Ran:
-    """How one run of a test ended: its status, how many allocations it made, and what it printed as it failed."""
+    """Result of one run of a test: its status, the number of its allocations, and its error output."""
 
     status: int
     count: int
@@ -48,7 +54,7 @@ class Ran:
 
 @dataclasses.dataclass
 class Result:
-    """What came of a test: how many allocations it makes, how many of them were refused, and its failures by what they printed."""
+    """Result of all runs of a test: its allocations, the runs with one refused, and the failures, counted by their output."""
 
     count: int
     tries: int
@@ -56,14 +62,14 @@ class Result:
 
 
 def build(place):
-    """Compiles the library that refuses, to be preloaded."""
+    """Compiles the library that refuses allocations, for a preload, and returns its path."""
     library = os.path.join(place, "refuse.so")
     subprocess.run(["cc", "-O2", "-shared", "-fPIC", "-o", library, os.path.join(HERE, "refuse.c")], check=True)
     return library
 
 
 def run(tests, name, library, number, large=0):
-    """Runs one test with the allocation of this number refused (0: none), and all those of at least `large` bytes (0: none)."""
+    """Runs one test. Allocation `number` is refused, counted from 1, and each one of at least `large` bytes. 0 refuses none."""
     reading, writing = os.pipe()
     refused = {"REFUSE": str(number), "REFUSE_FROM": str(large), "REFUSE_TELL": str(writing)}
     given = {**os.environ, "LD_PRELOAD": library, **refused}
@@ -73,34 +79,34 @@ def run(tests, name, library, number, large=0):
             ran = subprocess.run([tests, name], check=False, **how)
             status, said = ran.returncode, ran.stderr.strip()[:SHOWN]
         except subprocess.TimeoutExpired:
-            status, said = 1, f"no end within {SECONDS} seconds"
+            status, said = 1, f"it did not end within {SECONDS} seconds"
         finally:
             os.close(writing)
             with os.fdopen(reading, "rb") as told:
                 count = told.read()
     if not count and not status:
-        return Ran(1, 0, "it did not tell how many allocations it made")
+        return Ran(1, 0, "it did not report the number of its allocations")
     return Ran(status, int(count or 0), said)
 
 
 def names_of(tests, words):
-    """The names of the tests in a binary, or of those that contain one of the words."""
+    """Returns the names of the tests in a binary, or only the names that contain one of these words."""
     listed = subprocess.run([tests, "--list"], capture_output=True, text=True, check=True).stdout.splitlines()
     names = [line.removesuffix(": test") for line in listed if line.endswith(": test")]
     return [name for name in names if not words or any(word in name for word in words)]
 
 
-def refuse_all(tests, name, library, most, has_large):
-    """Runs a test once for each of its allocations, or for `most` of them, spread evenly, and perhaps without large ones."""
+def refuse_all(tests, name, library, most=0, has_large=False):
+    """Runs a test once for each of its allocations, or for `most` of them, spread evenly, and perhaps once without large ones."""
     whole = run(tests, name, library, 0)
     if whole.status:
         return Result(0, 0, collections.Counter([f"with all memory: {whole.said}"]))
-    tries = min(whole.count, most) if most else whole.count
+    tries = min(whole.count, most or whole.count)
     failures = collections.Counter()
     if has_large:
         large = run(tests, name, library, 0, LARGE)
         if large.status:
-            failures[f"large ones refused: {large.said}"] += 1
+            failures[f"with large allocations refused: {large.said}"] += 1
     for place in range(tries):
         ran = run(tests, name, library, place * whole.count // tries + 1)
         if ran.status:
@@ -114,36 +120,44 @@ def tell(name, result):
         print(f"    {times} times: {said}", flush=True)
 
 
-def refuse_in(tests, words, most, has_large):
-    """Refuses the tests of one binary memory, tells what came of each, and returns whether all passed."""
+def refuse_in(tests, words):
+    """Refuses every allocation of the tests of a binary, prints a line for each test, and returns whether all passed."""
     names = names_of(tests, words)
     passed = bool(names)
+    if not names:
+        print(f"no test of {tests} has one of these words in its name")
     with tempfile.TemporaryDirectory(prefix="refuse-") as place:
         library = build(place)
         for name in names:
-            result = refuse_all(tests, name, library, most, has_large)
+            result = refuse_all(tests, name, library)
             tell(name, result)
             passed = passed and not result.failures
     return passed
 
 
 def crates_of_tests():
-    """The crates whose tests the gate refuses memory."""
-    lines = text_of(os.path.join(TOP, "crates.txt")).splitlines()
-    names = [line.partition(":")[0].split()[0] for line in lines if line.partition("#")[0].strip()]
-    return sorted(it for it in names if it.endswith("_tests") and it not in NOT_IN_GATE)
+    """Returns the crates whose tests the gate runs with memory refused."""
+    with open(os.path.join(TOP, "crates.txt"), encoding="utf-8") as lines:
+        names = [line.partition(":")[0].split()[0] for line in lines if line.partition("#")[0].strip()]
+    return sorted(it for it in names if it.startswith("test_") and it not in NOT_IN_GATE)
 
 
 def refuse_in_gate():
-    """Refuses a sample of the allocations of each test, prints one line and the failures, and returns whether all passed."""
+    """Refuses a sample of each test's allocations, prints the failures and a line of totals, and returns whether all passed."""
     passed = failed = refused = 0
-    with tempfile.TemporaryDirectory(prefix="refuse-") as place, concurrent.futures.ThreadPoolExecutor(lanes()) as pool:
+    with tempfile.TemporaryDirectory(prefix="refuse-") as place, concurrent.futures.ThreadPoolExecutor(WORKERS) as pool:
         library, begun = build(place), {}
         for crate in crates_of_tests():
             tests = os.path.join(TOP, "crates", crate, "out", f"{crate}_tests")
-            for name in names_of(tests, []):
+            names = names_of(tests, [])
+            for front in (*SLOW.get(crate, ()), *WITHOUT_LARGE.get(crate, ())):
+                if not any(name.startswith(front) for name in names):
+                    failed += 1
+                    print(f"{crate}: no test has a name that begins with {front}", flush=True)
+            for name in names:
                 most = SLOW_SAMPLE if name.startswith(SLOW.get(crate, ())) else SAMPLE
-                begun[pool.submit(refuse_all, tests, name, library, most, crate in WITHOUT_LARGE)] = f"{crate} {name}"
+                has_large = name.startswith(WITHOUT_LARGE.get(crate, ()))
+                begun[pool.submit(refuse_all, tests, name, library, most, has_large)] = f"{crate} {name}"
         for done in concurrent.futures.as_completed(begun):
             result = done.result()
             refused += result.tries
@@ -159,16 +173,14 @@ def refuse_in_gate():
 
 
 def main():
-    parser = argparse.ArgumentParser(description=__doc__.partition("\n")[0])
-    parser.add_argument("--gate", action="store_true", help=f"at most {SAMPLE} allocations of each test that `rt ci` has built")
-    parser.add_argument("--most", type=int, default=0, metavar="N", help="N allocations of each test, spread evenly; 0, the default, means all")
-    parser.add_argument("--large", action="store_true", help="one more run without allocations of a megabyte or more")
+    parser = argparse.ArgumentParser(description=__doc__, formatter_class=argparse.RawDescriptionHelpFormatter)
+    parser.add_argument("--gate", action="store_true", help="refuse a sample for every test that `rt ci` has built")
     parser.add_argument("tests", nargs="?", metavar="TESTS", help="a binary that `rt test` has built, crates/NAME/out/NAME_tests")
-    parser.add_argument("words", nargs="*", metavar="WORD", help="only tests whose names contain one of these")
+    parser.add_argument("words", nargs="*", metavar="WORD", help="run only the tests whose names contain one of these words")
     given = parser.parse_args()
     if given.gate == bool(given.tests):
-        parser.error("name a binary, or give --gate")
-    passed = refuse_in_gate() if given.gate else refuse_in(os.path.abspath(given.tests), given.words, given.most, given.large)
+        parser.error("give either a binary or --gate")
+    passed = refuse_in_gate() if given.gate else refuse_in(os.path.abspath(given.tests), given.words)
     return 0 if passed else 1
 
 

@@ -1,18 +1,18 @@
-// A bare relay, to which the processes of `wlb` are compared: the same hops over the same kind of sockets, and nothing else. Its
-// broker has a reader of its own, where the lanes of `wlb` take turns, and its tabs have one thread.
+// Bare relay, for a comparison with the processes of `wlb`: the same hops over the same kind of sockets, and nothing else. Its
+// broker has a reader thread, while the lanes of `wlb` take turns at reading. Its tabs have one thread.
 //
 //     tab -> kernel's reader of the tab -> broker's reader -> lane
 //         -> kernel's reader of the broker -> kernel's writer of the tab -> tab
 //
-//     relay kernel DIR TABS ROUNDS [PAUSE]  starts the others, as many tabs as said; each sends a frame and waits for it, ROUNDS
-//                                           times, and pauses so many milliseconds before each frame, 0 if none are given
-//     relay broker SOCKET                   started by the kernel: two lanes answer what comes
+//     relay kernel DIR TABS ROUNDS [PAUSE]  starts the broker and the tabs; each tab sends a frame and waits for it, ROUNDS
+//                                           times, with PAUSE milliseconds before each frame (0 by default)
+//     relay broker SOCKET                   started by the kernel: two lanes send each frame back
 //     relay tab SOCKET ROUNDS PAUSE         started by the kernel
 //
-// The kernel prints `up` once all tabs are connected, and then lets them begin; and `ended` once all have ended. A frame has 32
-// bytes, of which two say its tab: the kernel sets them, as it stamps the frames of `wlb`. No lock is asked for and no frame is
-// read but for these two bytes. The reader of a tab writes to the broker itself, under the link's lock. What is queued for one
-// link goes into one write. Statuses: 0 done, 2 usage, 3 anything that failed; then the kernel has killed what it started.
+// The kernel prints `up` once all tabs are connected, lets them begin, and prints `ended` once all have ended. A frame has 32
+// bytes. Two of them are the number of its tab, which the kernel sets; no other byte is read. The reader of a tab writes to the
+// broker itself, under the link's lock. All frames queued for one link go into one write. Exit status: 0 done, 2 wrong command
+// line, 3 a failure; then the kernel has killed its children.
 #define _GNU_SOURCE
 #include <errno.h>
 #include <poll.h>
@@ -29,29 +29,29 @@
 
 enum {
     FRAME = 32,        // bytes of a frame
-    TAB_AT = 4,        // where in a frame the number of its tab stands, in two bytes
-    PIECE = 4096,      // bytes that are read at once, at most
-    QUEUE = 256,       // frames that a queue has room for
-    BATCH = 64,        // frames of a queue that go into one write, at most
+    TAB_AT = 4,        // offset of the tab's number in a frame, two bytes
+    PIECE = 4096,      // most bytes of one read
+    QUEUE = 256,       // capacity of a queue in frames
+    BATCH = 64,        // most frames of one write
     LANES = 2,         // lanes of the broker
-    TAB_LIMIT = 64,    // tabs at most
+    TAB_LIMIT = 64,    // most tabs
     ROUND_LIMIT = 1000000,
-    PAUSE_LIMIT = 1000, // milliseconds at most
-    CONNECT_MS = 10000 // how long a child has to connect
+    PAUSE_LIMIT = 1000, // most milliseconds of a pause
+    CONNECT_MS = 10000 // milliseconds for a child to connect
 };
 
 typedef struct {
     unsigned char bytes[FRAME];
 } Frame;
 
-// ---- faults
+// ---- Failures
 
-// The processes that the kernel has started and not waited for yet.
+// Processes that the kernel has started and not waited for.
 static pthread_mutex_t children_lock = PTHREAD_MUTEX_INITIALIZER;
 static pid_t children[TAB_LIMIT + 1];
 static int children_count;
 
-// Says what failed, kills all children, and ends. The thread that comes first keeps the lock, so nobody else does so too.
+// Prints the failure, kills all children, and ends. The first thread keeps the lock, so that no other one does the same.
 static _Noreturn void fail(const char *what, int error) {
     pthread_mutex_lock(&children_lock);
     fprintf(stderr, "relay: %s: %s\n", what, error ? strerror(error) : "it ended too soon");
@@ -62,7 +62,7 @@ static _Noreturn void fail(const char *what, int error) {
     _exit(3);
 }
 
-// A call of pthreads answers its error.
+// Fails if a call of pthreads has returned an error.
 static void need(const char *what, int error) {
     if (error) fail(what, error);
 }
@@ -76,7 +76,7 @@ static void *room(size_t count, size_t size) {
     return bytes;
 }
 
-// ---- queues of frames between threads
+// ---- Queues of frames between threads
 
 typedef struct {
     pthread_mutex_t mutex;
@@ -90,7 +90,7 @@ static void queue_init(Queue *queue) {
     need("condition", pthread_cond_init(&queue->changed, 0));
 }
 
-// Each tab has one frame on its way, so no queue is ever full.
+// Each tab has one frame in transit, so no queue is ever full.
 static void queue_put(Queue *queue, const Frame *frame) {
     lock(&queue->mutex);
     if (queue->count == QUEUE) fail("queue", ENOBUFS);
@@ -107,7 +107,7 @@ static void queue_close(Queue *queue) {
     need("signal", pthread_cond_signal(&queue->changed));
 }
 
-// All that is queued, at most BATCH frames, once there is one. 0 where no more will come.
+// Waits for a frame, and takes all that are queued, at most BATCH. Returns their number, or 0 if the queue is empty and closed.
 static int queue_take(Queue *queue, Frame *out) {
     int count = 0;
     lock(&queue->mutex);
@@ -121,7 +121,7 @@ static int queue_take(Queue *queue, Frame *out) {
     return count;
 }
 
-// ---- links
+// ---- Links
 
 static void send_frames(int link, const Frame *frames, int count) {
     const char *rest = (const char *)frames;
@@ -135,13 +135,13 @@ static void send_frames(int link, const Frame *frames, int count) {
     }
 }
 
-// What has come over a link and was not used yet: whole frames, and then a part of one.
+// Bytes that were read and not yet used: whole frames, and then a part of one.
 typedef struct {
     Frame frames[PIECE / FRAME + 1];
     size_t bytes;
 } Feed;
 
-// Reads once, and answers how many frames are whole now. -1 at the end of the link, which must not come within a frame.
+// Reads once. Returns the number of whole frames, or -1 at the end of the link. Fails if the link ends within a frame.
 static int feed_read(int link, Feed *feed) {
     ssize_t came;
     do came = recv(link, (char *)feed->frames + feed->bytes, PIECE, 0);
@@ -153,7 +153,7 @@ static int feed_read(int link, Feed *feed) {
     return (int)(feed->bytes / FRAME);
 }
 
-// So many frames were used.
+// Drops this many frames from the front.
 static void feed_drop(Feed *feed, int count) {
     feed->bytes -= (size_t)count * FRAME;
     memmove(feed->frames, feed->frames + count, feed->bytes);
@@ -186,7 +186,7 @@ static int connect_to(const char *path) {
     return link;
 }
 
-// Starts this program with these words and a socket at this path, and answers the link over which it has connected.
+// Starts this program with these words, and listens at the path until it connects. Returns the link.
 static int start_child(const char *path, char *const words[]) {
     struct sockaddr_un address = address_of(path);
     int listener = new_socket();
@@ -220,7 +220,7 @@ static pthread_t start_thread(void *(*run)(void *), void *argument) {
 
 static void join(pthread_t thread) { need("join", pthread_join(thread, 0)); }
 
-// ---- the kernel
+// ---- Kernel
 
 typedef struct {
     int number, link;
@@ -311,7 +311,7 @@ static int kernel(const char *directory, int count, char *rounds, char *pause) {
     return 0;
 }
 
-// ---- the broker
+// ---- Broker
 
 static int desk_link;
 static pthread_mutex_t desk_lock = PTHREAD_MUTEX_INITIALIZER, step_lock = PTHREAD_MUTEX_INITIALIZER;
@@ -350,9 +350,9 @@ static int broker(const char *socket) {
     return 0;
 }
 
-// ---- a tab
+// ---- Tab
 
-// One more frame has come.
+// Waits for one frame.
 static void await_frame(int link, Feed *feed) {
     int count = 0;
     while (count == 0) count = feed_read(link, feed);
@@ -379,9 +379,9 @@ static int tab(const char *socket, int rounds, int pause) {
     return 0;
 }
 
-// ---- the command line
+// ---- Command line
 
-// A number from 0 to a limit; -1 for any other text.
+// Returns a number from 0 to the limit, or -1 for any other text.
 static int number_of(const char *text, int limit) {
     char *end;
     long number = strtol(text, &end, 10);

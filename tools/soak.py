@@ -1,38 +1,37 @@
-"""Runs `wlb` as processes, hard: kernels with tabs of several origins, whose brokers and tabs are killed at random moments.
+"""Runs `wlb` as processes under load, and kills brokers and tabs at random moments.
 
-usage: soak.py MINUTES SEED PROGRAM
-       soak.py --wrong hasty|forgetful SEED PROGRAM
+Kernels run one after another until the MINUTES are over, each for some twenty seconds, with lanes, shards and `--limit` drawn
+from SEED. In each, three origins have tabs that count. Each round of such a tab requests a lock of its origin, waits for it,
+adds one to the number in the lock's file, and releases the lock. Other tabs request, probe, hold and wait, and never count.
+SIGKILL ends each of these at a random moment, possibly while it starts. It ends the broker again and again, too, at times while
+tabs still report to it. Now and then the kernel's script stops the broker and starts it.
 
-Kernels are run one after another until the minutes are over, each for some twenty seconds, with lanes, shards and `--limit` drawn
-from the seed. In each, three origins have tabs that count: each round of such a tab asks for a lock of its origin, waits for it,
-adds one to the number in that lock's file, and gives it up. Meanwhile other tabs are opened that ask, probe, hold and wait, and
-never count; each of these is killed by SIGKILL at a random moment, its start included. So is the broker, again and again, some
-also while the tabs still report to it. Now and then the kernel's script stops the broker and starts it.
+Most tabs are the program. The others are witnesses: tabs in Python that speak the socket protocol. A witness writes each entry
+and each exit of a lock's section into a file, and counts or is killed.
 
-Of the tabs some are the program, and some are witnesses: tabs in Python that speak the socket protocol, count too (or are
-killed), and write each entry and each exit of a lock's section into a file.
+The status is 1 if there is a fault:
 
-It fails, with status 1, where
-- a file's number is not the count of the additions of the tabs that count, or such a tab did not end with status 0;
-- by the witnesses' files two tabs were in one exclusive section at once, or one beside a shared one. A tab that was killed is
-  out of its section from the moment of the kill, no earlier;
-- a tab that was killed has another status than 137, or a tab is told twice or never;
-- the kernel's status is not 0, its output has another line than those it should have, anything is said on standard error, or the
-  kernel does not end in time;
-- a socket or a process is left.
+- The number in a file is not the number of additions, or a tab that counts did not end with status 0.
+- By the files of the witnesses, two tabs were in one section at once, and not both in shared mode. A killed tab is in its
+  section until the moment of the kill.
+- A killed tab has another status than 137, or the kernel reports the end of a tab twice or never.
+- The kernel's status is not 0, it prints an unexpected line, anything is written to standard error, or the kernel does not end
+  in time.
+- A socket or a process is left.
 
-Prints for each kernel what was done: brokers and tabs killed, generations, locks granted a second (those that were counted and
-those that witnesses wrote of). What is killed and when depends on the machine's pace too, so a seed repeats scripts and the
-draws, not the interleaving.
+The tool prints a line for each kernel: brokers and tabs killed, generations, and locks granted a second, counted and witnessed.
+SEED determines scripts and draws. The interleaving and the moments of the kills also depend on the machine.
 
-`--wrong` plays one kernel in which tabs do not keep the rules, to show that the checks see it: `hasty` tabs do not ask for their
-locks, `forgetful` witnesses do not report the locks that they hold to the next broker. The status is then 0 where the checks
-failed that should.
+`--wrong` plays one kernel with tabs that break the rules, to show that the checks notice. Tabs that are `hasty` do not request
+their locks. Witnesses that are `forgetful` do not report their locks to the next broker. Then the status is 0 if the expected
+checks failed.
 
-The kernel's argument 0 is a small script, which notes each child's number, becomes a witness for a file `*.witness`, and the
-program otherwise. All is in a temporary directory, which is removed. It needs `/proc` and Linux's process descriptors.
+The kernel starts a small script in place of the program. It notes the number of each child, becomes a witness for a file
+`*.witness`, and the program otherwise. All files lie in a temporary directory. The tool needs `/proc` and Linux's process
+descriptors.
 """
 
+import argparse
 import collections
 import contextlib
 import json
@@ -50,30 +49,31 @@ import sys
 import tempfile
 import time
 
-# Of a run: its seconds, about; for how many more nothing may be counted before it counts as hanging; and the most that it has.
+# Seconds of a run: its usual length, the time without a granted lock after which it counts as hanging, and the limit.
 TARGET = 20
 PATIENCE = 60
 LONGEST = 300
 ORIGINS = 3
-# Of an origin, the program's tabs that count, and the witnesses that do.
+# Tabs of an origin that count: tabs of the program, and witnesses.
 COUNTING, WITNESSES = 2, 2
 LOCKS = ["f", "g"]
 LIMITS = [256, 1_024, 8_192, 65_536]
-# Seconds between kills of brokers, and of a tab's life, on average.
+# Mean seconds between kills of brokers, and of a tab's life.
 BROKER_LIFE = 0.2
 TAB_LIFE = 0.12
 FIRST_ROUNDS = 500
-# Of a tab that comes and goes until it is killed: more than it has time for.
+# Rounds of a tab that is killed: more than it has time for.
 CHURNS = 10_000
 WITNESS = ".witness"
-# As the program's tabs: milliseconds of quiet before what may be lost is sent again, and how often.
+# Like the program's tabs: milliseconds without an answer before a tab resends, and the limit of resends.
 QUIET = 20
 RESENDS = 3_000
 
-# ---- a tab that speaks the protocol
+# ---- Tab that speaks the socket protocol
 
 SHARED, EXCLUSIVE = 1, 2
 MODES = {"shared": SHARED, "exclusive": EXCLUSIVE}
+HELD, WAITING = 1, 2
 HELLO, ANSWER, WELCOME = 16, 17, 20
 GRANTED, GONE = 2, 3
 
@@ -83,7 +83,7 @@ def frame(body):
 
 
 def request(mode, name):
-    """The operation of a command, to be waited for."""
+    """Returns the operation that requests a lock and waits for it."""
     return bytes([1, mode, 0, len(name)]) + name
 
 
@@ -96,22 +96,23 @@ def command(generation, number, operation):
 
 
 def report(generation, base, entries, is_pair):
-    """The whole report of a tab with at most 64 locks. A tab of the second kind tells it as part 0 of 1."""
-    rows = b"".join(struct.pack(">IBBB", number, 1 if held else 2, mode, len(name)) + name for number, held, mode, name in entries)
+    """Returns the report of a tab with at most 64 locks. A tab opened by `open2` sends it as part 0 of 1."""
+    states = {True: HELD, False: WAITING}
+    rows = b"".join(struct.pack(">IBBB", number, states[held], mode, len(name)) + name for number, held, mode, name in entries)
     parts = struct.pack(">HH", 0, 1) if is_pair else b""
     head = b"\x02\x02" if is_pair else b"\x01\x02"
     return frame(head + struct.pack(">II", generation, base) + parts + struct.pack(">H", len(entries)) + rows)
 
 
 class Lock:
-    """A request that was asked, and may be held."""
+    """A lock that a tab has requested, and holds if `is_held`."""
 
     def __init__(self, mode, name):
         self.mode, self.name, self.is_held = mode, name, False
 
 
 class Page:
-    """A tab's link, and what it has asked for and holds."""
+    """Tab's end of its link, with its commands and locks."""
 
     def __init__(self, path, is_forgetful=False):
         self.link = socket.socket(socket.AF_UNIX)
@@ -120,13 +121,13 @@ class Page:
         self.is_forgetful = is_forgetful
         self.number, self.is_pair = None, False
         self.generation, self.has_heard = 0, False
-        # How many commands were issued; which were taken; those that may not have been; and what is asked or held.
+        # Number of commands issued, and of commands that the broker has taken; unacknowledged commands, and locks, by number.
         self.issued, self.upto, self.sent, self.locks = 0, 0, {}, {}
         while self.number is None:
             self.read(1_000)
 
     def read(self, milliseconds):
-        """Takes in what comes within this time. Whether anything has."""
+        """Reads once, within this time, and takes each whole frame. Returns whether any byte came."""
         if not select.select([self.link], [], [], milliseconds / 1_000)[0]:
             return False
         piece = self.link.recv(65_536)
@@ -165,7 +166,7 @@ class Page:
             del self.locks[number]
 
     def enter(self, generation):
-        """A generation begins. In the first one of the tab's life all that was issued follows the report."""
+        """Enters a generation with a report. In the first one of the tab's life, all its commands follow."""
         is_first = self.generation == 0
         self.generation, self.has_heard = generation, False
         if not is_first:
@@ -194,7 +195,7 @@ class Page:
         return number
 
     def resend(self):
-        """All that may have been lost."""
+        """Sends again whatever the broker may lack."""
         if not self.generation:
             return
         asked = {number: request(lock.mode, lock.name) for number, lock in self.locks.items() if not lock.is_held}
@@ -213,7 +214,7 @@ class Page:
         raise TimeoutError("the lock was not granted")
 
     def rest(self, seconds):
-        """Goes on reading, so that a new broker is told meanwhile what is held."""
+        """Keeps reading for this time, so that the tab reports to a new broker."""
         until = time.monotonic() + seconds
         while (left := until - time.monotonic()) > 0:
             self.read(1_000 * left)
@@ -223,7 +224,7 @@ class Page:
         self.issue(release(number))
 
     def close(self):
-        """An end over bytes that were not read would be a fault."""
+        """Closes the link once all bytes are read. The kernel would take unread bytes as a fault."""
         self.link.shutdown(socket.SHUT_RDWR)
         with contextlib.suppress(ConnectionError):
             while self.link.recv(65_536):
@@ -232,7 +233,7 @@ class Page:
 
 
 def add_one(path):
-    """As the program's tabs do it: written over, so that the file has a number at each moment."""
+    """Adds one to the number in a file. It overwrites the number, like the program's tabs, so the file always has one."""
     with open(path, "r+b", buffering=0) as file:
         count = int(file.read(16)) + 1
         file.seek(0)
@@ -259,7 +260,7 @@ def be_witness(path, script, is_hasty, is_forgetful):
         if wish["counters"]:
             add_one(wish["counters"][place])
         if wish["hold"]:
-            # One that is forgetful keeps what it has until it is killed.
+            # A forgetful witness holds its lock until it is killed.
             page.rest(10 if is_forgetful else dice.random() ** 3 * wish["hold"])
         note(logs[place], "out", page.number, wish["mode"])
         if not is_hasty:
@@ -267,11 +268,11 @@ def be_witness(path, script, is_hasty, is_forgetful):
     page.close()
 
 
-# ---- processes
+# ---- Processes
 
 
 def fields_of(process):
-    """The fields of a process behind its name: state, parent, group, session and so on; None where there is none."""
+    """Returns the fields of a process behind its name (state, parent, group, session ..), or None if there is no such process."""
     try:
         with open(f"/proc/{process}/stat", encoding="utf-8", errors="replace") as file:
             return file.read().rpartition(")")[2].split()
@@ -280,7 +281,7 @@ def fields_of(process):
 
 
 def members(session):
-    """The processes of a session."""
+    """Returns the processes of a session."""
     found = []
     for name in os.listdir("/proc"):
         if name.isdigit():
@@ -299,7 +300,7 @@ def words_of(process):
 
 
 def end(kernel):
-    """Kills a program that leads a session, and what is left of the session, one process after another."""
+    """Kills the leader of a session, and then each process that is left in the session."""
     kernel.kill()
     for child in members(kernel.pid):
         with contextlib.suppress(ProcessLookupError):
@@ -308,7 +309,7 @@ def end(kernel):
 
 
 def left_over(session):
-    """What still runs of a session whose first process has ended, and a little later."""
+    """Returns the processes of a session that still run a little after the end of its leader."""
     for _turn in range(100):
         if not members(session):
             return []
@@ -317,7 +318,7 @@ def left_over(session):
 
 
 class Child:
-    """A broker or a tab, as the wrapper noted it. It is held by a descriptor, so that its number can't be another's."""
+    """Broker or tab that the wrapper noted. A process descriptor holds it, so that no other process can take its number."""
 
     def __init__(self, process, kind, path, script):
         self.process, self.kind, self.path, self.script = process, kind, path, script
@@ -327,7 +328,7 @@ class Child:
         with contextlib.suppress(ProcessLookupError):
             self.handle = os.pidfd_open(process)
         words = words_of(process)
-        # While a program becomes another one it has no words.
+        # A process that becomes another program has no command line for a moment.
         while self.runs() and not words:
             time.sleep(0.001)
             words = words_of(process)
@@ -343,7 +344,7 @@ class Child:
         return self.handle is not None and not select.select([self.handle], [], [], 0)[0]
 
     def kill(self):
-        """Kills it, if it runs. When, in nanoseconds, before the signal; None where it had ended."""
+        """Kills it. Returns the time in nanoseconds just before the signal, or None if it had ended."""
         moment = time.monotonic_ns()
         if not self.runs():
             return None
@@ -362,12 +363,12 @@ case "$1 $4" in
 esac
 exec {program} "$@" 2>> "ERR_$1_$$"
 """
-# A tab of the program that does nothing but count.
+# A tab of the program that only counts.
 HASTY = '"tab "*) grep "^add" "$4" > "$4.$$"; exec {program} tab --socket "$3" "$4.$$" ;;'
 
 
 def write_wrapper(stage, program, tool, ending, wrong=None):
-    """The script that stands for the program: it becomes the tool for a tab's file of this ending."""
+    """Writes the script that the kernel starts in place of the program. It becomes `tool` for a tab's file with this ending."""
     path = os.path.join(stage, "wrapper")
     quoted = {"program": shlex.quote(program), "python": shlex.quote(sys.executable), "tool": shlex.quote(os.path.abspath(tool))}
     text = WRAPPER.format(
@@ -384,20 +385,21 @@ def write_wrapper(stage, program, tool, ending, wrong=None):
 
 
 class Starts:
-    """The children that the wrapper has noted, as they come."""
+    """Children that the wrapper has noted."""
 
     def __init__(self, stage):
         self.file = open(os.path.join(stage, "STARTS"), encoding="utf-8")
         self.rest = ""
 
-    def come(self):
+    def new(self):
+        """Yields the children that the wrapper has noted since the last call."""
         *lines, self.rest = (self.rest + self.file.read()).split("\n")
         for line in lines:
             process, kind, path, script = (line.split(" ") + [""])[:4]
             yield Child(int(process), kind, path, script)
 
 
-# ---- what is played
+# ---- Scripts
 
 
 def write(stage, name, text):
@@ -406,7 +408,7 @@ def write(stage, name, text):
 
 
 def counting_script(rounds, counters):
-    """A tab of the program that counts. A release takes a number too."""
+    """Returns the script of a tab that counts. Requests have even numbers, because each release takes a number, too."""
     lines = []
     for turn in range(rounds):
         place = turn % len(LOCKS)
@@ -415,7 +417,7 @@ def counting_script(rounds, counters):
 
 
 def victim_scripts(many):
-    """Tabs of the program that hold, wait, come and go, and never count."""
+    """Returns scripts of tabs that hold, wait, or request and release, and never count."""
     gate = "ask exclusive f\nwait 0\nask exclusive f\nwait 1\n"
     waiter = "ask shared g\nwait 0\nask exclusive f\nask exclusive g\nabort 1\nwait 2\n"
     churn = "".join(f"ask exclusive {LOCKS[turn % 2]}\nwait {2 * turn}\nrelease {2 * turn}\n" for turn in range(CHURNS))
@@ -427,7 +429,7 @@ def victim_scripts(many):
 
 
 class Plan:
-    """The scripts of one kernel."""
+    """Scripts of one kernel."""
 
     def __init__(self, stage, dice, rounds, seconds):
         self.stage, self.dice, self.rounds = stage, dice, rounds
@@ -436,7 +438,7 @@ class Plan:
         self.shards = dice.choice([1, 1, 2, 16])
         self.counters = {}
         self.lines = []
-        # Which tabs are to be killed, by their scripts.
+        # The scripts whose tabs are to be killed.
         self.victims = set()
         self.prepare()
         self.open_counting()
@@ -466,7 +468,7 @@ class Plan:
         return name + WITNESS
 
     def open(self, origin, script):
-        """By either kind of opening; both are one partition."""
+        """Adds a line that opens a tab by `open` or `open2`. Both give the same partition."""
         url = f"https://o{origin}.test/"
         top = f"open2 {url}" if script == "crowd" or self.dice.random() < 0.3 else "open"
         self.lines.append(f"{top} {url} {script}")
@@ -478,7 +480,7 @@ class Plan:
                 self.open(origin, f"COUNT{origin}")
             for _tab in range(WITNESSES):
                 self.open(origin, f"COUNT{origin}{WITNESS}")
-            # Half of the rounds on each lock, and the odd one on the first.
+            # The locks take turns, beginning with the first.
             for place, file in enumerate(self.files("COUNTER", origin)):
                 self.counters[file] = (COUNTING + WITNESSES) * len(range(place, self.rounds, len(LOCKS)))
 
@@ -494,25 +496,25 @@ class Plan:
             self.lines.append(f"pause {pause}")
             if self.dice.random() < 0.03:
                 self.lines += ["stop", f"pause {self.dice.randrange(30)}", "start"]
-            # Opening takes time as well.
+            # Opening a tab takes time, too.
             left -= pause / 1_000 + 0.02
 
 
-# ---- one kernel
+# ---- Run of a kernel
 
 
 class Killing:
-    """What is killed next, and what was."""
+    """Kills of one run, due and done."""
 
     def __init__(self, plan, dice):
         self.plan, self.dice = plan, dice
         self.tabs, self.brokers = {}, []
-        # When tabs were killed, and when others are to be.
+        # The moments at which tabs were killed, and those at which others are due, by the tab's number.
         self.killed, self.due = {}, {}
         self.brokers_killed = 0
         self.generation = 0
         self.next_broker = time.monotonic() + dice.expovariate(1 / BROKER_LIFE)
-        # When the last tab that counts has ended.
+        # The moment at which the last tab that counts ended.
         self.counted = None
 
     def meet(self, child):
@@ -521,7 +523,7 @@ class Killing:
             for old in self.brokers:
                 old.close()
             self.brokers = [child]
-            # One in four is killed at its start, or while tabs report to it.
+            # One broker in four is killed at its start, or while tabs report to it.
             if self.dice.random() < 0.25:
                 self.next_broker = min(self.next_broker, time.monotonic() + self.dice.random() * 0.01)
             return
@@ -542,7 +544,7 @@ class Killing:
             self.brokers_killed += sum(broker.kill() is not None for broker in self.brokers)
 
     def look(self):
-        """Lets go of tabs that have ended, and notes when nothing counts any more."""
+        """Closes the descriptors of tabs that have ended, and notes the moment at which no tab counts any more."""
         counts = False
         for child in self.tabs.values():
             if not child.has_ended and not child.runs():
@@ -561,14 +563,14 @@ Outcome = collections.namedtuple("Outcome", "wrong killing locks seconds rounds_
 
 
 def play(stage, plan, dice, kernel, seconds):
-    """Kills until the kernel has ended, or its time is up: what was killed, and whether the kernel has ended."""
+    """Kills until the kernel has ended or its time is up. Returns the kills, and whether the kernel has ended."""
     killing = Killing(plan, dice)
     starts = Starts(stage)
     begun = looked = time.monotonic()
     until, counted = begun + seconds + PATIENCE, 0
     with starts.file:
         while kernel.poll() is None and time.monotonic() < min(until, begun + LONGEST):
-            for child in starts.come():
+            for child in starts.new():
                 killing.meet(child)
             killing.kill_due()
             killing.look()
@@ -576,14 +578,14 @@ def play(stage, plan, dice, kernel, seconds):
                 looked, before, counted = time.monotonic(), counted, count_locks(stage, plan)
                 until = max(until, looked + PATIENCE) if counted != before else until
             time.sleep(0.002)
-        for child in starts.come():
+        for child in starts.new():
             killing.meet(child)
     killing.close()
     return killing, kernel.poll() is not None
 
 
 def run(stage, dice, program, rounds, seconds, wrong=None):
-    """Plays one kernel."""
+    """Runs one kernel. Returns its plan and its outcome."""
     plan = Plan(stage, dice, rounds, seconds)
     wrapper = write_wrapper(stage, program, __file__, WITNESS, wrong)
     counts = ["--lanes", str(plan.lanes), "--shards", str(plan.shards), "--limit", str(plan.limit)]
@@ -605,7 +607,7 @@ def run(stage, dice, program, rounds, seconds, wrong=None):
     return plan, Outcome(faults, killing, count_locks(stage, plan), taken, rounds / counting)
 
 
-# ---- what is checked
+# ---- Checks
 
 
 def text_of(stage, name):
@@ -618,66 +620,64 @@ def check(stage, plan, killing, status, left):
     if status != 0:
         last = (text_of(stage, "OUT").splitlines() or ["nothing"])[-1]
         what = f"the kernel's status is {status}" if status is not None else "the kernel did not end in time"
-        wrong.append(f"{what}; what it said last: {last}")
+        wrong.append(f"{what}; its last line is: {last}")
     wrong += check_output(text_of(stage, "OUT"), killing)
     wrong += check_counters(stage, plan)
     for origin in range(ORIGINS):
         for file in plan.files("LOG", origin):
             wrong += [f"{file}: {what}" for what in check_log(text_of(stage, file), killing.killed)]
-    wrong += check_said(stage)
-    wrong += [f"a socket is left: {name}" for name in os.listdir(stage) if stat.S_ISSOCK(os.lstat(os.path.join(stage, name)).st_mode)]
+    wrong += check_errors(stage)
+    sockets = [name for name in os.listdir(stage) if stat.S_ISSOCK(os.lstat(os.path.join(stage, name)).st_mode)]
+    wrong += [f"a socket is left: {name}" for name in sockets]
     wrong += [f"a process is left: {what}" for what in left]
     return wrong
 
 
-def check_said(stage):
-    """Whatever is said on standard error, by the kernel or by a child, which has a file of its own."""
-    wrong = []
-    for name in os.listdir(stage):
-        if name.startswith("ERR"):
-            wrong += [f"{name}: {line}" for line in text_of(stage, name).splitlines() if line and not line.startswith("test result: ")]
-    return wrong[:10]
+def check_errors(stage):
+    """Returns the lines on standard error. The kernel and each child have a file of their own for it."""
+    lines = [(name, line) for name in os.listdir(stage) if name.startswith("ERR") for line in text_of(stage, name).splitlines()]
+    return [f"{name}: {line}" for name, line in lines if line and not line.startswith("test result: ")][:10]
 
 
 def check_counters(stage, plan):
     return [
-        f"{file} has {text_of(stage, file).strip()} where {count} were added"
+        f"{file} has {text_of(stage, file).strip()} after {count} additions"
         for file, count in plan.counters.items()
         if text_of(stage, file) != f"{count}\n"
     ]
 
 
-LINES = re.compile(r"up \d+|already up|stopped \d+|already down|opened \d+ https://o\d\.test( https://o\d\.test)?|test result: ok")
+LINES = re.compile(r"up \d+|already up|stopped \d+|already down|opened \d+( https://o\d\.test){1,2}|test result: ok")
 
 
 def check_output(text, killing):
-    """Each tab is told once, those that were killed with 137 and all others with 0."""
+    """Checks the kernel's output: the end of each tab once, with status 137 if it was killed, and else 0."""
     wrong, ends = [], {}
     for line in text.splitlines():
         ended = re.fullmatch(r"ended (\d+) (\d+)", line)
         if ended and int(ended[1]) not in ends:
             ends[int(ended[1])] = int(ended[2])
         elif line and not LINES.fullmatch(line):
-            wrong.append(f"the kernel says: {line}")
+            wrong.append(f"the kernel prints: {line}")
     if ends.keys() != killing.tabs.keys():
-        wrong.append(f"the tabs that ended are not those that were opened: {sorted(ends.keys() ^ killing.tabs.keys())}")
+        wrong.append(f"not both opened and ended: tabs {sorted(ends.keys() ^ killing.tabs.keys())}")
     for tab, status in ends.items():
         wanted = 137 if tab in killing.killed else 0
         if status != wanted:
             script = killing.tabs[tab].script if tab in killing.tabs else "?"
-            wrong.append(f"tab {tab} with {script} ended with {status} where it should with {wanted}")
+            wrong.append(f"tab {tab} with {script} ended with status {status}, not {wanted}")
     return wrong
 
 
 def check_log(text, killed):
-    """Whether the sections excluded each other. `killed` has when tabs were killed."""
+    """Checks that the sections excluded each other. `killed` has the moments at which tabs were killed."""
     wrong, inside = [], {}
     for line in text.splitlines():
         what, tab, mode, moment = line.split(" ")
         tab, moment = int(tab), int(moment)
         if what == "out":
             if inside.pop(tab, None) is None:
-                wrong.append(f"tab {tab} left where it was not")
+                wrong.append(f"tab {tab} left a section that it was not in")
             continue
         for other, theirs in list(inside.items()):
             if "exclusive" in (mode, theirs):
@@ -690,13 +690,13 @@ def check_log(text, killed):
 
 
 def count_locks(stage, plan):
-    """Counted ones, and those of witnesses that do not count."""
+    """Returns the number of granted locks, counted or witnessed."""
     counted = sum(int(re.match(r"\d*", text_of(stage, file))[0] or 0) for file in plan.counters)
     witnessed = sum(text_of(stage, file).count("in ") for origin in range(ORIGINS) for file in plan.files("LOG", origin))
     return counted + witnessed - ORIGINS * WITNESSES * plan.rounds
 
 
-# ---- the whole
+# ---- Command
 
 
 def play_one(seed, number, program, rounds, seconds, wrong=None):
@@ -708,9 +708,9 @@ def play_one(seed, number, program, rounds, seconds, wrong=None):
 def tell(number, plan, outcome):
     killing = outcome.killing
     print(
-        f"run {number}: limit {plan.limit}, lanes {plan.lanes}, shards {plan.shards}: {outcome.seconds:.1f} s, killed {killing.brokers_killed} brokers and "
-        f"{len(killing.killed)} of {len(killing.tabs)} tabs, {killing.generation} generations, "
-        f"{outcome.locks / outcome.seconds:.0f} locks a second",
+        f"run {number}: limit {plan.limit}, lanes {plan.lanes}, shards {plan.shards}: {outcome.seconds:.1f} s, "
+        f"killed {killing.brokers_killed} brokers and {len(killing.killed)} of {len(killing.tabs)} tabs, "
+        f"{killing.generation} generations, {outcome.locks / outcome.seconds:.0f} locks a second",
         flush=True,
     )
     for what in outcome.wrong:
@@ -734,24 +734,36 @@ def soak(minutes, seed, program):
         rounds = max(20, min(100_000, int(outcome.rounds_a_second * TARGET * 0.9)))
     taken = time.monotonic() - begin
     print(f"seed {seed}, {number} kernels in {taken:.0f} s: killed {brokers} brokers and {tabs} tabs, {generations} generations")
-    print(f"{locks} locks were granted, {locks / taken:.0f} a second; {wrong} faults")
+    print(f"{locks} locks granted, {locks / taken:.0f} a second; {wrong} faults")
     return 1 if wrong or not number else 0
 
 
 def verdict(is_seen):
-    """Says whether the checks saw what was made wrong, and gives the status for it."""
-    print("the checks see it" if is_seen else "the checks do not see it")
+    """Prints whether the checks noticed the broken rules, and returns the status for it."""
+    print("the checks notice it" if is_seen else "the checks do not notice it")
     return 0 if is_seen else 1
 
 
-def words_given():
-    """The words of the command line. What was started is ended as well where this program is told to end."""
+def end_in_order():
+    """Turns SIGTERM into an exit, so that the tool also ends the processes that it has started."""
     signal.signal(signal.SIGTERM, lambda *_: sys.exit(1))
-    return sys.argv[1:]
+
+
+def tab_words(words):
+    """Returns the arguments `[--hasty | --forgetful] tab --socket PATH SCRIPT` if the wrapper gave them, and else None."""
+    if "tab" not in words[:2]:
+        return None
+    parser = argparse.ArgumentParser()
+    parser.add_argument("--hasty", action="store_true")
+    parser.add_argument("--forgetful", action="store_true")
+    parser.add_argument("word", choices=["tab"])
+    parser.add_argument("--socket", required=True)
+    parser.add_argument("script")
+    return parser.parse_args(words)
 
 
 def show_wrong(what, seed, program):
-    """The checks that should fail: of counters where all tabs are hasty, of witnesses' files in both."""
+    """Plays wrong tabs. The files of the witnesses have to show it, and the counters, too, if the tabs are hasty."""
     plan, outcome = play_one(seed, what, program, 10_000, 8, what)
     tell(what, plan, outcome)
     has_overlap = any("entered" in line for line in outcome.wrong)
@@ -759,16 +771,28 @@ def show_wrong(what, seed, program):
     return verdict(has_overlap and (has_lost or what != "hasty"))
 
 
+def arguments():
+    usage = "%(prog)s [-h] MINUTES SEED PROGRAM\n       %(prog)s [-h] --wrong {hasty,forgetful} SEED PROGRAM"
+    parser = argparse.ArgumentParser(usage=usage, description=__doc__, formatter_class=argparse.RawDescriptionHelpFormatter)
+    parser.add_argument("--wrong", choices=["hasty", "forgetful"], help="play one kernel with tabs that break the rules")
+    parser.add_argument("minutes", metavar="MINUTES", nargs="?", type=float, help="the minutes of the whole")
+    parser.add_argument("seed", metavar="SEED", help="the text from which scripts and kills are drawn")
+    parser.add_argument("program", metavar="PROGRAM", help="the program `wlb`")
+    given = parser.parse_args()
+    if bool(given.wrong) == (given.minutes is not None):
+        parser.error("give either MINUTES or --wrong")
+    return given
+
+
 def main():
-    words = words_given()
-    if "tab" in words[:2]:
-        be_witness(words[-2], words[-1], words[0] == "--hasty", words[0] == "--forgetful")
+    end_in_order()
+    tab = tab_words(sys.argv[1:])
+    if tab:
+        be_witness(tab.socket, tab.script, tab.hasty, tab.forgetful)
         return 0
-    if len(words) == 4 and words[0] == "--wrong" and words[1] in ("hasty", "forgetful"):
-        return show_wrong(words[1], words[2], os.path.abspath(words[3]))
-    if len(words) != 3:
-        sys.exit(__doc__)
-    return soak(float(words[0]), words[1], os.path.abspath(words[2]))
+    given = arguments()
+    program = os.path.abspath(given.program)
+    return show_wrong(given.wrong, given.seed, program) if given.wrong else soak(given.minutes, given.seed, program)
 
 
 if __name__ == "__main__":

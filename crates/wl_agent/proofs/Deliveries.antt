@@ -10,7 +10,7 @@ use Rattle.wl_grammar.specs.declared.frame.Answer.{Answer}
 use Rattle.wl_grammar.specs.declared.frame.Snapshot.{Snapshot as Part}
 use Rattle.wl_grammar.specs.declared.frame.Frame.{Frame}
 use Rattle.wl_grammar.specs.declared.frame.Frame.TheVariants as frame
-use Rattle.wl_agent.specs.declared.delivered.Unheard.TheVariants as unheard
+use Rattle.wl_agent.specs.declared.drop_reason.DropReason.TheVariants as unheard
 use Rattle.wl_agent.specs.declared.delivered.Delivered.{Delivered}
 use Rattle.wl_agent.specs.declared.delivered.Delivered.TheVariants as told
 use Rattle.wl_agent.specs.declared.status.Status.{Status}

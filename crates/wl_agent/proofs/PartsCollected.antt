@@ -8,7 +8,7 @@ use Rattle.wl_draft.proofs.TableLemmas.{has_row-find, has_row-put}
 use Rattle.wl_draft.proofs.RisingTables.{Rises-put, find_below}
 use Rattle.wl_grammar.specs.declared.frame.Snapshot.{Snapshot as Part}
 use Rattle.wl_agent.specs.SnapshotParts.{PartsState, no_parts, fits, with_part, is_whole}
-use Rattle.wl_agent.specs.Laws.{AreWhole, gathered}
+use Rattle.wl_agent.specs.AgentLaws.{AreWhole, gathered}
 use Rattle.wl_agent.proofs.Rows.{AllRows-put}
 
 -- Tables whose numbers are below a bound

@@ -7,19 +7,19 @@ use Rattle.wl_grammar.specs.declared.frame.Snapshot.{Snapshot as Part}
 use Rattle.wl_agent.specs.declared.status.Status.{Status}
 use Rattle.wl_agent.specs.declared.status.Status.TheVariants.{Asked, Held, Querying, Whole, Lost}
 use Rattle.wl_agent.specs.SnapshotParts.{PartsState, with_part, is_whole}
-use Rattle.wl_agent.specs.Tab.{is_live, keeps_number, is_querying}
+use Rattle.wl_agent.specs.Tab.{is_live, reserves_number, is_querying}
 use Rattle.wl_agent.specs.Delivery.{parts_of, with_part_come}
-use Rattle.wl_agent.specs.Kept.{IsCounted}
+use Rattle.wl_agent.specs.AgentInvariant.{IsCounted}
 use Rattle.wl_agent.proofs.Rows.{weight, passing-without, passing-put}
 
-querying_weighs : (s : Status) → is_querying (Some s) ≡ true → (weight is_live (Some s) ≡ 1) × (weight keeps_number (Some s) ≡ 0)
+querying_weighs : (s : Status) → is_querying (Some s) ≡ true → (weight is_live (Some s) ≡ 1) × (weight reserves_number (Some s) ≡ 0)
 querying_weighs Asked e = cc
 querying_weighs Held e = cc
 querying_weighs (Querying parts) e = (refl, refl)
 querying_weighs (Whole snapshot) e = cc
 querying_weighs Lost e = cc
 
-come_weighs : (x : Part) (parts : PartsState) (b : Bool) → is_whole (with_part x parts) ≡ b → (weight is_live (Some (with_part_come x parts)) + bool_byte b ≡ 1) × (weight keeps_number (Some (with_part_come x parts)) ≡ 0)
+come_weighs : (x : Part) (parts : PartsState) (b : Bool) → is_whole (with_part x parts) ≡ b → (weight is_live (Some (with_part_come x parts)) + bool_byte b ≡ 1) × (weight reserves_number (Some (with_part_come x parts)) ≡ 0)
 come_weighs x parts true e = rw e (refl, refl)
 come_weighs x parts false e = rw e (refl, refl)
 
@@ -38,12 +38,12 @@ pub counts-part : (rows new : Table Status) (live kept k n : ℕ) (x : Part) (s 
 counts-part rows new live kept k n x s b c found asked new_is whole_is n_is =
     let old = querying_weighs s asked in
     let l_at : weight is_live (find rows k) ≡ 1 = ap (weight is_live) found ∙ old.0 in
-    let m_at : weight keeps_number (find rows k) ≡ 0 = ap (weight keeps_number) found ∙ old.1 in
+    let m_at : weight reserves_number (find rows k) ≡ 0 = ap (weight reserves_number) found ∙ old.1 in
     let come = come_weighs x (parts_of (Some s)) b whole_is in
     let t = with_part_come x (parts_of (Some s)) in
     let P : Table Status → Type 0 = λ rs. IsCounted rs (live - n) kept in
     subst P (sym new_is) (record {
       rise = Rises-put 0 k t rows (omega arith) c.rise;
       live_is = omega (arith, passing-put is_live refl k 0 t rows c.rise, l_at, come.0, n_is, c.live_is);
-      kept_is = omega (arith, passing-put keeps_number refl k 0 t rows c.rise, m_at, come.1, c.kept_is);
+      kept_is = omega (arith, passing-put reserves_number refl k 0 t rows c.rise, m_at, come.1, c.kept_is);
     })

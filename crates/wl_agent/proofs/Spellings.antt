@@ -5,6 +5,7 @@ use Rattle.std.proofs.lemmas.List.{length-take}
 use Rattle.std.proofs.lemmas.List.Elements.{All-from_recursion, recursion_from_All, All-append, All-take, All-drop}
 use Rattle.std.specs.Str.{IsUtf8}
 use Rattle.std.specs.List.{AllByRecursion, range_with_len}
+use Rattle.wl_limits.specs.declared.frames.TheConstants.{ENTRY_LIMIT}
 use Rattle.wl_limits.specs.declared.texts.TheConstants.{NAME_LIMIT}
 use Rattle.wl_draft.specs.declared.row.Entry.{Entry}
 use Rattle.wl_draft.specs.Tables.{Table, Rises}
@@ -18,14 +19,14 @@ use Rattle.wl_agent.specs.declared.fault.AgentFault.TheVariants.{NotSupported, N
 use Rattle.wl_agent.specs.declared.status.Status.{Status}
 use Rattle.wl_agent.specs.declared.status.Status.TheVariants.{Asked, Held, Querying, Whole, Lost}
 use Rattle.wl_agent.specs.Tab.{TabState, enter, enter_first, enter_later, report_of, upward_frame, report_bodies, ask_refusal, live_refusal, is_supported}
-use Rattle.wl_agent.specs.Kept.{IsTidy, IsTellable, IsSpoken, RowsFit, can_become, reports, entry_at, entries_of}
+use Rattle.wl_agent.specs.AgentInvariant.{IsAgentInvariant, IsValidReport, HasValidFrames, RowsFit, can_become, reports, entry_at, entries_of}
 use Rattle.wl_agent.proofs.Outcomes.{passed}
 use Rattle.wl_agent.proofs.ToldReports.{part_frame, told_in_parts, length-entries_of}
 
 -- Commands
 
 -- Issuing one more valid command keeps all commands well-formed.
-pub spoken-more : {in_parts : Bool} {entered : ℕ} {report : Report} {issued : List Operation} (o : Operation) (more : List Operation) → IsSpoken in_parts entered report issued → IsOperation o → more ≡ issued ++ o ∷ [] → IsSpoken in_parts entered report more
+pub spoken-more : {in_parts : Bool} {entered : ℕ} {report : Report} {issued : List Operation} (o : Operation) (more : List Operation) → HasValidFrames in_parts entered report issued → IsOperation o → more ≡ issued ++ o ∷ [] → HasValidFrames in_parts entered report more
 spoken-more {issued = issued} o more s new e =
     let all = recursion_from_All IsOperation (issued ++ o ∷ []) (All-append IsOperation issued (o ∷ []) (All-from_recursion IsOperation issued s.commands) (All-from_recursion IsOperation (o ∷ []) (new, tt))) in
     record { tellable = s.tellable; generation = s.generation; commands = subst (λ os. AllByRecursion IsOperation os) (sym e) all }
@@ -95,9 +96,9 @@ entries-rise issued least (row ∷ rows) r =
     rise_as least (entry_at row.0 o row.1) (entries_of issued rows) (reports o row.1) r.0 (entries-rise issued (row.0 + 1) rows r.1)
 
 -- The report of a later generation is well-formed, except for its generation.
-pub tells : (a : TabState) (room g base : ℕ) (entries : List Entry) → IsTidy a room → AllByRecursion IsOperation a.issued → base ≡ length a.issued → entries ≡ entries_of a.issued a.statuses → IsTellable a.in_parts (record { generation = g; base = base; entries = entries })
+pub tells : (a : TabState) (room g base : ℕ) (entries : List Entry) → IsAgentInvariant a room → AllByRecursion IsOperation a.issued → base ≡ length a.issued → entries ≡ entries_of a.issued a.statuses → IsValidReport a.in_parts (record { generation = g; base = base; entries = entries })
 tells a room g base entries t spoken base_is e =
-    let R : List Entry → Type 0 = λ es. IsTellable a.in_parts (record { generation = g; base = base; entries = es }) in
+    let R : List Entry → Type 0 = λ es. IsValidReport a.in_parts (record { generation = g; base = base; entries = es }) in
     subst R (sym e) (record {
       few = omega (arith, length-entries_of a.issued a.statuses, t.few);
       base = omega (arith, base_is, t.limit, t.numbers);
@@ -106,9 +107,9 @@ tells a room g base entries t spoken base_is e =
     })
 
 -- The first report of a life is well-formed, except for its generation.
-pub tells-none : (in_parts : Bool) (g : ℕ) (entries : List Entry) → entries ≡ [] → IsTellable in_parts (record { generation = g; base = 0; entries = entries })
+pub tells-none : (in_parts : Bool) (g : ℕ) (entries : List Entry) → entries ≡ [] → IsValidReport in_parts (record { generation = g; base = 0; entries = entries })
 tells-none in_parts g entries e =
-    let R : List Entry → Type 0 = λ es. IsTellable in_parts (record { generation = g; base = 0; entries = es }) in
+    let R : List Entry → Type 0 = λ es. IsValidReport in_parts (record { generation = g; base = 0; entries = es }) in
     subst R (sym e) (record { few = omega arith; base = omega arith; entries = tt; rise = tt })
 
 -- Frames of a report
@@ -128,25 +129,25 @@ few_parts : (n : ℕ) (b : Bool) → n ≤ 1024 → cond b 1 ((n + 63) / 64) ≤
 few_parts n true le = omega arith
 few_parts n false le = omega arith
 
-part-spoken : (r : Report) (k : ℕ) → IsGeneration r.generation → IsTellable true r → k < part_count r.entries → IsWellFormed (part_frame r k)
+part-spoken : (r : Report) (k : ℕ) → IsGeneration r.generation → IsValidReport true r → k < part_count r.entries → IsWellFormed (part_frame r k)
 part-spoken r k generation t lt =
-    let rest = drop (64 * k) r.entries in
-    let spoken = All-take IsEntry 64 rest (All-drop IsEntry (64 * k) r.entries (All-from_recursion IsEntry r.entries t.entries)) in
+    let rest = drop (ENTRY_LIMIT * k) r.entries in
+    let spoken = All-take IsEntry ENTRY_LIMIT rest (All-drop IsEntry (ENTRY_LIMIT * k) r.entries (All-from_recursion IsEntry r.entries t.entries)) in
     record {
       generation = generation;
       base = t.base;
       part = lt;
       parts = few_parts (length r.entries) (eqb (length r.entries) 0) t.few;
-      count = omega (arith, length-take 64 rest);
-      entries = recursion_from_All IsEntry (take 64 rest) spoken;
-      rise = RiseFrom-take 64 0 rest (RiseFrom-drop (64 * k) 0 r.entries t.rise);
+      count = omega (arith, length-take ENTRY_LIMIT rest);
+      entries = recursion_from_All IsEntry (take ENTRY_LIMIT rest) spoken;
+      rise = RiseFrom-take ENTRY_LIMIT 0 rest (RiseFrom-drop (ENTRY_LIMIT * k) 0 r.entries t.rise);
     }
 
 all-range : {Y : Type 0} (Q : Y → Type 0) (f : ℕ → Y) (from n : ℕ) → ((k : ℕ) → k < from + n → Q (f k)) → AllByRecursion Q (map f (range_with_len from n))
 all-range Q f from zero each = tt
 all-range Q f from (suc n) each = (each from (omega arith), all-range Q f (from + 1) n (λ k below. each k (omega arith)))
 
-pub frames-spoken : (in_parts : Bool) (r : Report) → IsGeneration r.generation → IsTellable in_parts r → AllByRecursion IsWellFormed (map upward_frame (report_bodies in_parts r))
+pub frames-spoken : (in_parts : Bool) (r : Report) → IsGeneration r.generation → IsValidReport in_parts r → AllByRecursion IsWellFormed (map upward_frame (report_bodies in_parts r))
 unfolding report_bodies
 frames-spoken false r generation t =
     (record { generation = generation; base = t.base; count = t.few; entries = t.entries; rise = t.rise }, tt)
@@ -161,12 +162,12 @@ generation_as g a true = refl
 generation_as g a false = refl
 
 -- The frames of the report with which the tab enters a generation are well-formed.
-pub enters-spoken : (g : ℕ) (a : TabState) (in_parts : Bool) (r : Report) (frames : List Frame) → r ≡ (enter g a).report → IsGeneration g → IsTellable in_parts r → frames ≡ map upward_frame (report_bodies in_parts r) → AllByRecursion IsWellFormed frames
+pub enters-spoken : (g : ℕ) (a : TabState) (in_parts : Bool) (r : Report) (frames : List Frame) → r ≡ (enter g a).report → IsGeneration g → IsValidReport in_parts r → frames ≡ map upward_frame (report_bodies in_parts r) → AllByRecursion IsWellFormed frames
 enters-spoken g a in_parts r frames r_is generation t frames_are =
     let at : r.generation ≡ g = ap (λ (x : Report). x.generation) r_is ∙ generation_as g a (eqb a.entered 0) in
     subst (λ fs. AllByRecursion IsWellFormed fs) (sym frames_are) (frames-spoken in_parts r (subst IsGeneration (sym at) generation) t)
 
 -- The frames of the report are well-formed when they are made again.
-pub again-spoken : {in_parts : Bool} {entered : ℕ} {report : Report} {issued : List Operation} (frames : List Frame) → IsSpoken in_parts entered report issued → IsGeneration entered → frames ≡ map upward_frame (report_bodies in_parts report) → AllByRecursion IsWellFormed frames
+pub again-spoken : {in_parts : Bool} {entered : ℕ} {report : Report} {issued : List Operation} (frames : List Frame) → HasValidFrames in_parts entered report issued → IsGeneration entered → frames ≡ map upward_frame (report_bodies in_parts report) → AllByRecursion IsWellFormed frames
 again-spoken {in_parts} {entered} {report} frames s generation frames_are =
     subst (λ fs. AllByRecursion IsWellFormed fs) (sym frames_are) (frames-spoken in_parts report (subst IsGeneration (sym s.generation) generation) s.tellable)

@@ -1,9 +1,9 @@
 -- Frames of a report, and the maximum number of its entries.
 use Rattle.std.proofs.Common.{◌≡◌, ℕ, ◌+◌, ◌*◌, ◌≤◌, Bool, true, false, cond, eqb, List, [], ◌∷◌, ◌++◌, length, map, take, drop, get_or, Some, refl, sym, ap, ◌∙◌, arith}
-use Rattle.std.proofs.lemmas.List.{drop-drop}
 use Rattle.std.proofs.lemmas.Simd.{map-map}
 use Rattle.std.proofs.lemmas.List.FromFn.{map-range_with_len_more}
 use Rattle.std.specs.List.{range_with_len}
+use Rattle.wl_limits.specs.declared.frames.TheConstants.{ENTRY_LIMIT}
 use Rattle.wl_draft.specs.declared.row.Entry.{Entry}
 use Rattle.wl_draft.specs.Tables.{Table}
 use Rattle.wl_grammar.specs.declared.frame.Operation.{Operation}
@@ -16,7 +16,7 @@ use Rattle.wl_grammar.specs.PartCount.{part_count}
 use Rattle.wl_agent.specs.declared.status.Status.{Status}
 use Rattle.wl_agent.specs.declared.status.Status.TheVariants.{Asked, Held, Querying, Whole, Lost}
 use Rattle.wl_agent.specs.Tab.{TabState, enter, enter_first, enter_later, report_frames, report_bodies, upward_frame, part_of, count_of, is_live}
-use Rattle.wl_agent.specs.Kept.{reports, entry_at, entries_of}
+use Rattle.wl_agent.specs.AgentInvariant.{reports, entry_at, entries_of}
 use Rattle.wl_agent.proofs.Rows.{weight, passing-cons}
 
 -- Frames
@@ -34,15 +34,9 @@ unfolding report_bodies
 told_in_parts r = sym (map-map upward_frame (λ k. up.ReportPart (part_of r k)) (range_with_len 0 (part_count r.entries)))
 
 -- One more part appends its frame.
-pub part_more : (r : Report) (k parts : ℕ) (frames : List Frame) (entries rest : List Entry) → frames ≡ map (part_frame r) (range_with_len 0 k) → entries ≡ take 64 rest → rest ≡ drop (64 * k) r.entries → parts ≡ part_count r.entries → frames ++ frame.ReportPart (record { generation = r.generation; base = r.base; part = k; parts = parts; entries = entries }) ∷ [] ≡ map (part_frame r) (range_with_len 0 (k + 1))
+pub part_more : (r : Report) (k parts : ℕ) (frames : List Frame) (entries rest : List Entry) → frames ≡ map (part_frame r) (range_with_len 0 k) → entries ≡ take ENTRY_LIMIT rest → rest ≡ drop (ENTRY_LIMIT * k) r.entries → parts ≡ part_count r.entries → frames ++ frame.ReportPart (record { generation = r.generation; base = r.base; part = k; parts = parts; entries = entries }) ∷ [] ≡ map (part_frame r) (range_with_len 0 (k + 1))
 part_more r k parts frames entries rest made taken left count =
     rw (made, taken, left, count) (sym (map-range_with_len_more (part_frame r) 0 k k (omega arith)))
-
--- The entries left after one more part.
-pub drop_part : {X : Type 0} (k : ℕ) (xs ys zs : List X) → ys ≡ drop (64 * k) xs → zs ≡ drop 64 ys → zs ≡ drop (64 * (k + 1)) xs
-drop_part k xs ys zs e f =
-    let more : 64 * k + 64 ≡ 64 * (k + 1) = omega arith in
-    f ∙ ap (drop 64) e ∙ drop-drop 64 (64 * k) xs ∙ ap (λ i. drop i xs) more
 
 -- Number of entries
 

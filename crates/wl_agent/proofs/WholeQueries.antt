@@ -12,15 +12,15 @@ use Rattle.wl_grammar.specs.declared.frame.Frame.{Frame}
 use Rattle.wl_grammar.specs.declared.frame.Frame.TheVariants as frame
 use Rattle.wl_agent.specs.declared.delivered.Delivered.{Delivered}
 use Rattle.wl_agent.specs.declared.delivered.Delivered.TheVariants as told
-use Rattle.wl_agent.specs.declared.delivered.Unheard.{Unheard}
-use Rattle.wl_agent.specs.declared.delivered.Unheard.TheVariants as unheard
+use Rattle.wl_agent.specs.declared.drop_reason.DropReason.{DropReason}
+use Rattle.wl_agent.specs.declared.drop_reason.DropReason.TheVariants as unheard
 use Rattle.wl_agent.specs.declared.status.Status.{Status}
 use Rattle.wl_agent.specs.declared.status.Status.TheVariants.{Asked, Held, Querying, Whole, Lost}
 use Rattle.wl_agent.specs.SnapshotParts.{PartsState, no_parts, fits, with_part, is_whole, snapshot_of}
 use Rattle.wl_agent.specs.Tab.{TabState, born, status_of, operation_of, is_issued, is_query, is_querying, is_asked, enter, enter_first, enter_later, report_frames, carried, is_asked_probe, unless_asked, issue, ended, finish, asked, queried, aborted, released, ask_refusal, query_refusal}
 use Rattle.wl_agent.specs.Tokens.{is_pending, is_holding, is_asking, after_query}
 use Rattle.wl_agent.specs.Delivery.{delivery, noted, becomes, has_entered, of_other, told_by_answer, told_by_part, after_answer, after_part, asking_refusal, part_refusal, parts_of, with_part_come}
-use Rattle.wl_agent.specs.Laws.{Call, Asks, Queries, Tells, Aborts, Releases, Hears, step, steps, AreWhole, gathered, part_taken, parts_taken, AnsweredBy, WholeOnceAllCame}
+use Rattle.wl_agent.specs.AgentLaws.{Call, Asks, Queries, Tells, Aborts, Releases, Hears, step, steps, AreWhole, gathered, part_taken, parts_taken, AnsweredBy, WholeOnceAllCame}
 use Rattle.wl_agent.proofs.Cases.{told_fits, answered_as, find-issue, find-finish, find-ended, find-becomes}
 use Rattle.wl_agent.proofs.Carrying.{carried_cons}
 use Rattle.wl_agent.proofs.Deliveries.{not-refused}
@@ -161,7 +161,7 @@ follows-enter g a k xs rise up f = either (λ b. Follows k b xs) (eqb a.entered 
 
 -- A part that is taken
 
-asked-of : (b : Bool) (o : Option Unheard) → cond b o (Some unheard.Odd) ≡ None → (b ≡ true) × (o ≡ None)
+asked-of : (b : Bool) (o : Option DropReason) → cond b o (Some unheard.Odd) ≡ None → (b ≡ true) × (o ≡ None)
 asked-of true o e = (refl, e)
 asked-of false o e = cc
 
@@ -205,7 +205,7 @@ nil : (k : ℕ) (a : TabState) (xs : List Part) → Follows k a xs → Follows k
 nil k a xs f = subst (Follows k a) (sym (append-nil xs)) f
 
 -- The result depends on whether the part is refused, and on whether it is for this number.
-entered-part : (x : Part) (a : TabState) (k : ℕ) (xs : List Part) (r : Option Unheard) (b : Bool) → part_refusal x a ≡ r → eqb x.number k ≡ b → has_entered x.generation a ≡ true → Follows k a xs
+entered-part : (x : Part) (a : TabState) (k : ℕ) (xs : List Part) (r : Option DropReason) (b : Bool) → part_refusal x a ≡ r → eqb x.number k ≡ b → has_entered x.generation a ≡ true → Follows k a xs
     → Follows k (cond (is_some r) a (becomes x.number (with_part_come x (parts_of (status_of a x.number))) a)) (xs ++ cond (b && has_entered x.generation a && is_none r) (x ∷ []) [])
 entered-part x a k xs (Some reason) b r_is b_is entered f =
     subst (λ c. Follows k a (xs ++ cond c (x ∷ []) [])) (sym (and_right (b && has_entered x.generation a) false refl)) (nil k a xs f)

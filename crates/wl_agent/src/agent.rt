@@ -4,10 +4,10 @@ ghost use Rattle.std.specs.Prelude.{◌≡◌, ◌≤◌, length};
 ghost use Rattle.wl_agent.specs.Tab.{born, newborn, newborn_two, live_limit};
 ghost use Rattle.wl_limits.specs.declared.tabs.TheConstants.{COMMAND_LIMIT};
 
-pub mod delivering;
 pub mod ending;
 mod entering;
 pub mod issuing;
+pub mod receiving;
 pub mod sending;
 pub mod tokens;
 
@@ -39,13 +39,13 @@ pub struct Agent {
 impl Model for Agent {
     ghost use Rattle.std.specs.Prelude.{vec_capacity};
     ghost use Rattle.wl_agent.specs.Tab.{TabState};
-    ghost use Rattle.wl_agent.specs.Kept.{IsTidy, IsSpoken};
+    ghost use Rattle.wl_agent.specs.AgentInvariant.{IsAgentInvariant, HasValidFrames};
 
     ghost Value = { TabState };
 
     ghost view = { λ a. record { tab = a.tab; numbers = a.numbers; issued = a.issued.items; statuses = a.statuses; entered = a.entered; acknowledged = a.acknowledged; answered = a.answered; report = a.report; in_parts = a.in_parts } };
 
-    ghost invariant = { λ a. IsTidy (record { tab = a.tab; numbers = a.numbers; issued = a.issued.items; statuses = a.statuses; entered = a.entered; acknowledged = a.acknowledged; answered = a.answered; report = a.report; in_parts = a.in_parts }) (vec_capacity a.issued) × IsSpoken a.in_parts a.entered a.report a.issued.items };
+    ghost invariant = { λ a. IsAgentInvariant (record { tab = a.tab; numbers = a.numbers; issued = a.issued.items; statuses = a.statuses; entered = a.entered; acknowledged = a.acknowledged; answered = a.answered; report = a.report; in_parts = a.in_parts }) (vec_capacity a.issued) × HasValidFrames a.in_parts a.entered a.report a.issued.items };
 }
 
 impl Agent {

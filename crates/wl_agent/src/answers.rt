@@ -1,10 +1,12 @@
-//! Results of answers, by the command that is answered and its outcome.
+//! Results of answers, by the command that is answered and its outcome. A late answer is dropped, such as
+//! a grant that arrives after the abort.
 
 ghost use Rattle.std.specs.Prelude.{◌≡◌};
 ghost use Rattle.std.specs.Option.{option_copied};
 ghost use Rattle.wl_agent.specs.Delivery.{told_command, told_lock, told_asked, told_end, told_query, told_asked_query};
 
-use crate::delivered::{Delivered, Unheard};
+use crate::delivered::Delivered;
+use crate::drop_reason::DropReason;
 use crate::status::Status;
 use wl_grammar::{Operation, Outcome};
 
@@ -35,8 +37,8 @@ fn told_lock(
 {
     match status {
         Some(Status::Asked) => told_asked(number, if_available, outcome),
-        Some(Status::Held) => Delivered::Dropped(Unheard::Held),
-        _ => Delivered::Dropped(Unheard::Over),
+        Some(Status::Held) => Delivered::Dropped(DropReason::Held),
+        _ => Delivered::Dropped(DropReason::Over),
     }
 }
 
@@ -47,7 +49,7 @@ fn told_asked(number: u32, if_available: bool, outcome: Outcome) -> Delivered
         Outcome::Granted => Delivered::Granted(number),
         Outcome::Waiting if !if_available => Delivered::Waiting(number),
         Outcome::Gone if if_available => Delivered::Null(number),
-        _ => Delivered::Dropped(Unheard::Odd),
+        _ => Delivered::Dropped(DropReason::Odd),
     }
 }
 
@@ -56,7 +58,7 @@ fn told_end(number: u32, outcome: Outcome) -> Delivered
 {
     match outcome {
         Outcome::Taken => Delivered::Taken(number),
-        _ => Delivered::Dropped(Unheard::Odd),
+        _ => Delivered::Dropped(DropReason::Odd),
     }
 }
 
@@ -65,7 +67,7 @@ fn told_query(number: u32, status: Option<&Status>, outcome: Outcome) -> Deliver
 {
     match status {
         Some(Status::Querying(_)) => told_asked_query(number, outcome),
-        _ => Delivered::Dropped(Unheard::Over),
+        _ => Delivered::Dropped(DropReason::Over),
     }
 }
 
@@ -74,6 +76,6 @@ fn told_asked_query(number: u32, outcome: Outcome) -> Delivered
 {
     match outcome {
         Outcome::Gone => Delivered::Lost(number),
-        _ => Delivered::Dropped(Unheard::Odd),
+        _ => Delivered::Dropped(DropReason::Odd),
     }
 }

@@ -1,5 +1,6 @@
 //! Results of received frames.
 
+use crate::drop_reason::DropReason;
 use wl_grammar::{Frame, Sequence};
 
 /// Result of a frame that the tab received.
@@ -22,27 +23,5 @@ pub enum Delivered {
     /// The frame is the last missing part of that answer.
     Whole(u32),
     /// The frame was dropped.
-    Dropped(Unheard),
-}
-
-/// Reason why a frame was dropped.
-#[derive(Clone, Copy, Debug, PartialEq, Eq)]
-pub enum Unheard {
-    /// The generation is before the entered one. A hello is also dropped if its generation is the
-    /// entered one.
-    OldGeneration,
-    /// The tab has not entered the generation yet.
-    LaterGeneration,
-    /// The lock is already held.
-    Held,
-    /// The number is over, because of an abort, a release, an earlier answer or a later generation.
-    Over,
-    /// A broker never sends this answer to this command.
-    Odd,
-    /// The part was received before.
-    Twice,
-    /// A broker never sends a frame of this kind to a tab.
-    WrongKind,
-    /// Out of memory. Nothing changed.
-    Memory,
+    Dropped(DropReason),
 }

@@ -1,4 +1,5 @@
 //! Faults of issuing commands and of making frames.
+
 ghost use Rattle.std.specs.Prelude.{◌≡◌};
 ghost use Rattle.wl_agent.specs.declared.fault.AgentFault.TheVariants.{Memory as agent_memory};
 ghost use Rattle.wl_agent.specs.declared.fault.MessageFault.TheVariants.{Memory as message_memory};

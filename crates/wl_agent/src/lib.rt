@@ -5,12 +5,13 @@
 pub mod agent;
 mod answers;
 pub mod delivered;
+pub mod drop_reason;
 pub mod fault;
 pub mod laws;
 mod operations;
-pub mod parts;
 mod reporting;
 pub mod snapshot;
+pub mod snapshot_parts;
 pub mod status;
 mod statuses;
 pub mod token;
@@ -18,7 +19,8 @@ pub mod token;
 pub use agent::Agent;
 pub use agent::ending::DeadAgent;
 pub use agent::sending::Resend;
-pub use delivered::{Delivered, Unheard};
+pub use delivered::Delivered;
+pub use drop_reason::DropReason;
 pub use fault::{AgentFault, MessageFault};
 pub use snapshot::{LockInfo, Snapshot};
 pub use token::{

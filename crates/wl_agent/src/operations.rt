@@ -3,7 +3,7 @@
 ghost use Rattle.std.specs.Prelude.{◌≡◌, ◌&&◌, true, get_or, length, nat_lt, Some, None, IfOk, if◌then◌else◌};
 ghost use Rattle.wl_grammar.specs.declared.frame.Operation.TheVariants.{Query};
 ghost use Rattle.wl_agent.specs.Tab.{is_request, is_probe, is_query};
-ghost use Rattle.wl_agent.specs.Kept.{can_become, reports, entry_at};
+ghost use Rattle.wl_agent.specs.AgentInvariant.{can_become, reports, entry_at};
 
 use crate::status::Status;
 use std::alloc::{AllocError, Global};
@@ -36,7 +36,6 @@ pub(crate) fn is_query_at(issued: &[Operation], number: u32) -> bool
 
 /// Returns the report entry of a number if its lock is held or its request is asked.
 pub(crate) fn reported(
-    alloc: Global,
     issued: &[Operation],
     number: u32,
     status: &Status,
@@ -63,6 +62,6 @@ pub(crate) fn reported(
         number,
         held,
         mode: *mode,
-        name: name.copy(alloc)?,
+        name: name.clone()?,
     }))
 }

@@ -2,7 +2,7 @@
 
 ghost use Rattle.std.specs.Prelude.{◌≡◌, ◌≤◌, IfOk, length, map};
 ghost use Rattle.wl_agent.specs.Tab.{upward_frame, report_bodies};
-ghost use Rattle.wl_agent.specs.Kept.{IsTellable};
+ghost use Rattle.wl_agent.specs.AgentInvariant.{IsValidReport};
 ghost use Rattle.wl_limits.specs.declared.tabs.TheConstants.{LIVE_LIMIT_IN_PARTS};
 ghost use Rattle.wl_grammar.specs.PartCount.{part_count};
 
@@ -16,12 +16,12 @@ pub(crate) fn report_frames(
     in_parts: bool,
     report: &Report,
 ) -> Result<Sequence<Frame>, AllocError>
-    requires { IsTellable in_parts report.now }
+    requires { IsValidReport in_parts report.now }
     ensures { IfOk result (λ frames. frames ≡ map upward_frame (report_bodies in_parts report.now)) }
 {
     let mut frames = Vec::new(alloc);
     if !in_parts {
-        frames.push(Frame::Report(report.copy(alloc)?))?;
+        frames.push(Frame::Report(copy_of(report)?))?;
         return Ok(Sequence::new(frames));
     }
     let mut rest = report.entries.as_slice();
@@ -50,6 +50,12 @@ fn part_count(entries: &[Entry]) -> u16
     } else {
         entries.len().div_ceil(ENTRY_LIMIT) as u16
     }
+}
+
+fn copy_of(report: &Report) -> Result<Report, AllocError>
+    ensures { IfOk result (λ copy. copy ≡ report.now) }
+{
+    report.clone()
 }
 
 fn copies(alloc: Global, entries: &[Entry]) -> Result<Sequence<Entry>, AllocError>

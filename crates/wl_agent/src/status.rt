@@ -1,12 +1,13 @@
 //! Status of a command's number.
+
 ghost use Rattle.std.specs.Prelude.{◌≡◌, true, false, Some, IfOk, OnOk, OnErr};
 ghost use Rattle.wl_draft.specs.Tables.{has_row};
 ghost use Rattle.wl_agent.specs.SnapshotParts.{with_part, is_whole};
-ghost use Rattle.wl_agent.specs.Tab.{keeps_number, is_live, is_querying, unless_asked};
+ghost use Rattle.wl_agent.specs.Tab.{reserves_number, is_live, is_querying, unless_asked};
 ghost use Rattle.wl_agent.specs.Delivery.{parts_of, with_part_come};
 
-use crate::parts::Parts;
 use crate::snapshot::Snapshot;
+use crate::snapshot_parts::SnapshotParts;
 use std::alloc::{AllocError, Global};
 
 /// Status of a number that is not over. It is public only for contracts.
@@ -17,7 +18,7 @@ pub enum Status {
     /// The tab holds the lock.
     Held,
     /// A query without its whole answer, and the parts received so far.
-    Querying(Parts),
+    Querying(SnapshotParts),
     /// A query's whole answer, which its token has not taken yet.
     Whole(Snapshot),
     /// A query that gets no answer, and whose token has not been told yet.
@@ -26,8 +27,8 @@ pub enum Status {
 
 impl Status {
     /// Returns whether the number reserves another one, for its release or abort.
-    pub(crate) fn keeps_number(&self) -> bool
-        ensures { result ≡ keeps_number (Some self.now) }
+    pub(crate) fn reserves_number(&self) -> bool
+        ensures { result ≡ reserves_number (Some self.now) }
     {
         matches!(self, Status::Asked | Status::Held)
     }

@@ -4,9 +4,9 @@ ghost use Rattle.std.specs.Prelude.{◌≡◌, ◌≢◌, ◌<◌, ◌≤◌, []
 ghost use Rattle.std.specs.Option.{option_copied};
 ghost use Rattle.wl_draft.specs.Tables.{find, put, has_row, without_row};
 ghost use Rattle.wl_agent.specs.SnapshotParts.{with_part, is_whole};
-ghost use Rattle.wl_agent.specs.Tab.{is_live, keeps_number, is_asked, is_held, is_querying, count_of, carried};
+ghost use Rattle.wl_agent.specs.Tab.{is_live, reserves_number, is_asked, is_held, is_querying, count_of, carried};
 ghost use Rattle.wl_agent.specs.Delivery.{parts_of, with_part_come};
-ghost use Rattle.wl_agent.specs.Kept.{RowsFit, entries_of, due_below};
+ghost use Rattle.wl_agent.specs.AgentInvariant.{RowsFit, entries_of, due_below};
 ghost use Rattle.wl_limits.specs.declared.tabs.TheConstants.{LIVE_LIMIT_IN_PARTS};
 
 use crate::operations::{is_probe_at, reported};
@@ -29,7 +29,7 @@ pub(crate) struct Statuses {
 impl Model for Statuses {
     ghost use Rattle.std.specs.Prelude.{ℕ, List};
     ghost use Rattle.wl_agent.specs.declared.status.Status.{Status};
-    ghost use Rattle.wl_agent.specs.Kept.{IsCounted};
+    ghost use Rattle.wl_agent.specs.AgentInvariant.{IsCounted};
 
     ghost Value = { List (ℕ × Status) };
 
@@ -73,10 +73,10 @@ impl Statuses {
         matches!(self.get(number), Some(Status::Querying(_)))
     }
 
-    pub(crate) fn keeps_number(&self, number: u32) -> bool
-        ensures { result ≡ keeps_number (find self.now number) }
+    pub(crate) fn reserves_number(&self, number: u32) -> bool
+        ensures { result ≡ reserves_number (find self.now number) }
     {
-        self.get(number).is_some_and(Status::keeps_number)
+        self.get(number).is_some_and(Status::reserves_number)
     }
 
     pub(crate) fn live(&self) -> usize
@@ -86,7 +86,7 @@ impl Statuses {
     }
 
     pub(crate) fn kept(&self) -> usize
-        ensures { result ≡ count_of keeps_number self.now }
+        ensures { result ≡ count_of reserves_number self.now }
     {
         self.kept
     }
@@ -99,7 +99,7 @@ impl Statuses {
         ensures err { OnErr result (self.new ≡ self.old) }
     {
         let live = usize::from(status.is_live());
-        let kept = usize::from(status.keeps_number());
+        let kept = usize::from(status.reserves_number());
         self.rows.insert(number, status)?;
         self.live += live;
         self.kept += kept;
@@ -115,8 +115,8 @@ impl Statuses {
         match self.rows.get_mut(&number) {
             Some(row) => {
                 self.live = self.live - usize::from(row.is_live()) + usize::from(status.is_live());
-                self.kept = self.kept - usize::from(row.keeps_number())
-                    + usize::from(status.keeps_number());
+                self.kept = self.kept - usize::from(row.reserves_number())
+                    + usize::from(status.reserves_number());
                 row.set(status);
             }
             None => unreachable!(),
@@ -130,7 +130,7 @@ impl Statuses {
     {
         let before = self.rows.remove(&number)?;
         self.live -= usize::from(before.is_live());
-        self.kept -= usize::from(before.keeps_number());
+        self.kept -= usize::from(before.reserves_number());
         Some(before)
     }
 
@@ -188,7 +188,7 @@ impl Statuses {
     {
         let mut entries = Vec::new(alloc);
         for (number, status) in &self.rows {
-            if let Some(entry) = reported(alloc, issued, *number, status)? {
+            if let Some(entry) = reported(issued, *number, status)? {
                 entries.push(entry)?;
             }
         }
@@ -214,13 +214,13 @@ impl Statuses {
 /// Returns the number of live rows, and the number of rows that reserve another number.
 fn counts(rows: &BTreeMap<u32, Status>) -> (usize, usize)
     ensures live { result.0 ≡ count_of is_live rows.now.entries }
-    ensures kept { result.1 ≡ count_of keeps_number rows.now.entries }
+    ensures kept { result.1 ≡ count_of reserves_number rows.now.entries }
 {
     let mut live = 0usize;
     let mut kept = 0usize;
     for status in rows.values() {
         live += usize::from(status.is_live());
-        kept += usize::from(status.keeps_number());
+        kept += usize::from(status.reserves_number());
     }
     (live, kept)
 }

@@ -3,37 +3,41 @@
 ghost use Rattle.std.specs.Prelude.{◌≡◌};
 
 use crate::snapshot::Snapshot;
-use std::marker::Model;
+use std::marker::{Model, PhantomData};
+
+/// Token of a command, for the owner of the command. It has to be consumed.
+#[derive_where(Debug)]
+pub struct CommandToken<K> {
+    pub(crate) tab: u16,
+    pub(crate) number: u32,
+    #[derive_where(skip)]
+    kind: PhantomData<K>,
+}
 
 /// Token of a request. `Agent::settle` or `Agent::abort` consumes it.
-#[derive(Debug)]
-pub struct Pending {
-    pub(crate) tab: u16,
-    pub(crate) number: u32,
-}
+pub type Pending = CommandToken<kind::Pending>;
 
 /// Token of a probe. `Agent::settle_probe` consumes it. A probe cannot be aborted.
-#[derive(Debug)]
-pub struct Probe {
-    pub(crate) tab: u16,
-    pub(crate) number: u32,
-}
+pub type Probe = CommandToken<kind::Probe>;
 
 /// Token of a lock that the tab holds. `Agent::release` consumes it.
-#[derive(Debug)]
-pub struct HeldLock {
-    pub(crate) tab: u16,
-    pub(crate) number: u32,
-}
+pub type HeldLock = CommandToken<kind::HeldLock>;
 
 /// Token of a query. `Agent::settle_query` consumes it.
-#[derive(Debug)]
-pub struct Asking {
-    pub(crate) tab: u16,
-    pub(crate) number: u32,
+pub type Asking = CommandToken<kind::Asking>;
+
+/// Kinds of tokens. They have no values, and only tell the types of tokens apart.
+pub mod kind {
+    pub enum Pending {}
+
+    pub enum Probe {}
+
+    pub enum HeldLock {}
+
+    pub enum Asking {}
 }
 
-impl Model for Pending {
+impl<K> Model for CommandToken<K> {
     ghost use Rattle.wl_agent.specs.Issued.{Issued};
 
     ghost Value = { Issued };
@@ -41,63 +45,44 @@ impl Model for Pending {
     ghost view = { λ token. record { tab = token.tab; number = token.number } };
 }
 
-impl Pending {
+impl<K> CommandToken<K> {
+    /// Creates the token of a command.
+    pub(crate) fn new(tab: u16, number: u32) -> CommandToken<K>
+        ensures { result ≡ record { tab = tab; number = number } }
+    {
+        CommandToken {
+            tab,
+            number,
+            kind: PhantomData,
+        }
+    }
+
     /// Returns the number of the command, counted from 0 over the tab's life.
     pub fn number(&self) -> u32
         ensures { result ≡ self.now.number }
     {
         self.number
     }
-}
 
-impl Model for Probe {
-    ghost use Rattle.wl_agent.specs.Issued.{Issued};
-
-    ghost Value = { Issued };
-
-    ghost view = { λ token. record { tab = token.tab; number = token.number } };
-}
-
-impl Probe {
-    /// Returns the number of the command, counted from 0 over the tab's life.
-    pub fn number(&self) -> u32
-        ensures { result ≡ self.now.number }
+    /// Turns the token of a granted command into the token of its lock.
+    pub(crate) fn into_lock(self) -> HeldLock
+        ensures { result ≡ self }
     {
-        self.number
+        let CommandToken {
+            tab,
+            number,
+            kind: _,
+        } = self;
+        CommandToken::new(tab, number)
     }
-}
 
-impl Model for HeldLock {
-    ghost use Rattle.wl_agent.specs.Issued.{Issued};
-
-    ghost Value = { Issued };
-
-    ghost view = { λ token. record { tab = token.tab; number = token.number } };
-}
-
-impl HeldLock {
-    /// Returns the number of the command, counted from 0 over the tab's life.
-    pub fn number(&self) -> u32
-        ensures { result ≡ self.now.number }
-    {
-        self.number
-    }
-}
-
-impl Model for Asking {
-    ghost use Rattle.wl_agent.specs.Issued.{Issued};
-
-    ghost Value = { Issued };
-
-    ghost view = { λ token. record { tab = token.tab; number = token.number } };
-}
-
-impl Asking {
-    /// Returns the number of the command, counted from 0 over the tab's life.
-    pub fn number(&self) -> u32
-        ensures { result ≡ self.now.number }
-    {
-        self.number
+    /// Consumes the token.
+    pub(crate) fn consume(self) {
+        let CommandToken {
+            tab: _,
+            number: _,
+            kind: _,
+        } = self;
     }
 }
 

@@ -8,8 +8,8 @@ use native.Mathlib.Decide.{ℕ_discrete}
 use prog.Atomic.{either}
 use Rattle.atomic_table.specs.Table.{Me, step, keeps, stepped, Allows, Splits}
 use Rattle.wl_board.specs.declared.rule.View.{View}
-use Rattle.wl_board.specs.Rule.{times, Has, IsOrderly}
-use Rattle.wl_board.specs.Steps.{sees, marks as marks_tab, draws_number, draws_none, bears, bumps_to, looked, read, marked, born_or_dead, drew, bumped, stays, splits_off}
+use Rattle.wl_board.specs.BoardRule.{times, Has, IsOrderly}
+use Rattle.wl_board.specs.BoardSteps.{sees, marks as marks_tab, draws_number, draws_none, bears, bumps_to, looked, read, marked, born_or_dead, drew, bumped, stays, splits_off}
 use Rattle.wl_board.proofs.Views.{total_one, times-push, times-push_same}
 use Rattle.wl_board.proofs.Keeps.{sees_kept, counter_small, generation_small, not_drawn, draw_kept, miss_kept, bump_kept, not_living, birth_kept, split_kept}
 

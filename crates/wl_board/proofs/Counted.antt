@@ -5,8 +5,8 @@ use Rattle.std.proofs.lemmas.Bool.{cases_eq}
 use mathlib.Core.Bool.{false≢true}
 use Rattle.atomic_table.specs.declared.shared.Seat.{Seat}
 use Rattle.wl_board.specs.declared.rule.View.{View}
-use Rattle.wl_board.specs.Rule.{Has}
-use Rattle.wl_board.specs.Steps.{draws_number}
+use Rattle.wl_board.specs.BoardRule.{Has}
+use Rattle.wl_board.specs.BoardSteps.{draws_number}
 use Rattle.wl_board.specs.Seats.{SharedBoard, Sitting, IsCounted}
 use Rattle.wl_board.proofs.Views.{at_word, times-push_other}
 

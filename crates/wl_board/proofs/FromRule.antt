@@ -1,8 +1,8 @@
 -- The laws follow from the rule.
 use Rattle.std.proofs.Common.{◌≡◌, ◌+◌, ⊎_elim, arith}
 use Rattle.std.proofs.lemmas.Bool.{cases_eq}
-use Rattle.wl_board.specs.Rule.{times, Has}
-use Rattle.wl_board.specs.Laws.{DrawnOnce, DeadForAll, LivingIsDrawn, GenerationIsCount}
+use Rattle.wl_board.specs.BoardRule.{times, Has}
+use Rattle.wl_board.specs.BoardLaws.{DrawnOnce, DeadForAll, LivingIsDrawn, GenerationIsCount}
 use Rattle.wl_board.proofs.Views.{total_one, total_two}
 
 pub drawn_once : DrawnOnce

@@ -6,8 +6,8 @@ use mathlib.Core.Option.{some, some-injective}
 use lib.ListN.{get_elem?}
 use Rattle.atomic_table.specs.Table.{keeps, stepped}
 use Rattle.wl_board.specs.declared.rule.View.{View}
-use Rattle.wl_board.specs.Rule.{times, Has, EachSeat, SomeSeat, Board, IsOrderly}
-use Rattle.wl_board.specs.Steps.{draws_number, draws_none, bears, bumps_to, stays, splits_off}
+use Rattle.wl_board.specs.BoardRule.{times, Has, EachSeat, SomeSeat, Board, IsOrderly}
+use Rattle.wl_board.specs.BoardSteps.{draws_number, draws_none, bears, bumps_to, stays, splits_off}
 use Rattle.wl_board.proofs.Views.{times-push, times-push_same, times-push_other, total_set, total-push, total_one, total_two, total_most, each_set, each_push, some_here, some_set, some_push, at_word, at_other, word_up, seen_below}
 
 abbrev Taken : Type 0

@@ -7,7 +7,7 @@ use mathlib.Core.Option.{some, some-injective, some-ne-none}
 use lib.ListN.{get_elem?}
 use Rattle.atomic_table.proofs.Lists.{at_set, at_snoc, set_else, at_longer}
 use Rattle.wl_board.specs.declared.rule.View.{View}
-use Rattle.wl_board.specs.Rule.{times, total, EachSeat, SomeSeat}
+use Rattle.wl_board.specs.BoardRule.{times, total, EachSeat, SomeSeat}
 
 pub times-push : (n : ℕ) (xs : List ℕ) (x : ℕ) → times n (xs ++ x ∷ []) ≡ times n xs + cond (n == x) 1 0
 times-push n [] x = omega arith

@@ -4,7 +4,7 @@ use Rattle.std.specs.Prelude.{◌≡◌, ℕ, ◌+◌, ◌<◌, ◌≤◌, Bool,
 use Rattle.atomic_table.specs.Seated.{TableId}
 use Rattle.atomic_table.specs.declared.shared.Seat.{Seat}
 use Rattle.wl_board.specs.declared.rule.View.{View}
-use Rattle.wl_board.specs.Rule.{Has}
+use Rattle.wl_board.specs.BoardRule.{Has}
 
 -- A board: its table of words and its largest tab number.
 pub record SharedBoard : Type 0 where

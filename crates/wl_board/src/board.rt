@@ -2,9 +2,9 @@
 
 ghost use Rattle.std.specs.Prelude.{◌≡◌, ◌+◌, ◌<◌, ◌≤◌, Err, IfOk, OnOk, OnErr, All, vec_len};
 ghost use Rattle.wl_board.specs.declared.board.TheConstants.{SEAT_LIMIT, SEAT_STEP_LIMIT};
-ghost use Rattle.wl_board.specs.Rule.{Has, first_seat};
-ghost use Rattle.wl_board.specs.Steps.{sees, marks, draws_number, bears, bumps_to};
-ghost use Rattle.wl_board.specs.Calls.{IsOf, IsSameSeat, IsNew, HasMetEnd, MeetsEnd, counter_seen, generation_seen, tab_seen, word_of};
+ghost use Rattle.wl_board.specs.BoardRule.{Has, first_seat};
+ghost use Rattle.wl_board.specs.BoardSteps.{sees, marks, draws_number, bears, bumps_to};
+ghost use Rattle.wl_board.specs.BoardCalls.{IsOf, IsSameSeat, IsNew, HasMetEnd, MeetsEnd, counter_seen, generation_seen, tab_seen, word_of};
 
 use crate::fault::{DrawFault, Memory, SeatSpent};
 use crate::rule::{Bear, BoardRule, Bump, Deal, Draw, Look, MarkDead, ReadGeneration, View};

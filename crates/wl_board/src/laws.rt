@@ -1,7 +1,7 @@
 //! Laws of a board's rule, which hold between any two steps.
 
 ghost use Rattle.std.specs.Prelude.{◌≡◌};
-ghost use Rattle.wl_board.specs.Laws.{DrawnOnce, DeadForAll, LivingIsDrawn, GenerationIsCount};
+ghost use Rattle.wl_board.specs.BoardLaws.{DrawnOnce, DeadForAll, LivingIsDrawn, GenerationIsCount};
 ghost use Rattle.wl_board.specs.declared.board.TheConstants.{SEAT_LIMIT, SEAT_STEP_LIMIT};
 
 /// States the laws of a board. They hold for every interleaving of its threads.

@@ -28,7 +28,7 @@ pub struct View {
 pub struct BoardRule;
 
 impl TableRule<(), View, u16> for BoardRule {
-    ghost use Rattle.wl_board.specs.Rule.{IsOrderly, first_seat};
+    ghost use Rattle.wl_board.specs.BoardRule.{IsOrderly, first_seat};
 
     ghost holds = { IsOrderly };
 
@@ -38,7 +38,7 @@ impl TableRule<(), View, u16> for BoardRule {
 pub(crate) struct Draw;
 
 impl Play<(), View> for Draw {
-    ghost use Rattle.wl_board.specs.Steps.{drew};
+    ghost use Rattle.wl_board.specs.BoardSteps.{drew};
 
     ghost then = { drew };
 }
@@ -46,7 +46,7 @@ impl Play<(), View> for Draw {
 pub(crate) struct Bear;
 
 impl Play<(), View> for Bear {
-    ghost use Rattle.wl_board.specs.Steps.{born_or_dead};
+    ghost use Rattle.wl_board.specs.BoardSteps.{born_or_dead};
 
     ghost then = { born_or_dead };
 }
@@ -54,7 +54,7 @@ impl Play<(), View> for Bear {
 pub(crate) struct MarkDead;
 
 impl Play<(), View> for MarkDead {
-    ghost use Rattle.wl_board.specs.Steps.{marked};
+    ghost use Rattle.wl_board.specs.BoardSteps.{marked};
 
     ghost then = { marked };
 }
@@ -62,7 +62,7 @@ impl Play<(), View> for MarkDead {
 pub(crate) struct Look;
 
 impl Play<(), View> for Look {
-    ghost use Rattle.wl_board.specs.Steps.{looked};
+    ghost use Rattle.wl_board.specs.BoardSteps.{looked};
 
     ghost then = { looked };
 }
@@ -70,7 +70,7 @@ impl Play<(), View> for Look {
 pub(crate) struct Bump;
 
 impl Play<(), View> for Bump {
-    ghost use Rattle.wl_board.specs.Steps.{bumped};
+    ghost use Rattle.wl_board.specs.BoardSteps.{bumped};
 
     ghost then = { bumped };
 }
@@ -78,7 +78,7 @@ impl Play<(), View> for Bump {
 pub(crate) struct ReadGeneration;
 
 impl Play<(), View> for ReadGeneration {
-    ghost use Rattle.wl_board.specs.Steps.{read};
+    ghost use Rattle.wl_board.specs.BoardSteps.{read};
 
     ghost then = { read };
 }
@@ -86,7 +86,7 @@ impl Play<(), View> for ReadGeneration {
 pub(crate) struct Deal;
 
 impl Split<View> for Deal {
-    ghost use Rattle.wl_board.specs.Steps.{stays, splits_off};
+    ghost use Rattle.wl_board.specs.BoardSteps.{stays, splits_off};
 
     ghost left = { stays };
 

@@ -1,7 +1,7 @@
 //! A thread's capability to call a board.
 
 ghost use Rattle.std.specs.Prelude.{◌≡◌, ◌-◌, ◌≤◌, length};
-ghost use Rattle.wl_board.specs.Rule.{newcomer};
+ghost use Rattle.wl_board.specs.BoardRule.{newcomer};
 ghost use Rattle.wl_board.specs.Seats.{Sitting};
 
 use crate::rule::View;

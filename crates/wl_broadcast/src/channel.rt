@@ -1,4 +1,5 @@
 //! Handles of channel objects.
+
 ghost use Rattle.std.specs.Prelude.{◌≡◌};
 
 use std::marker::Model;

@@ -10,7 +10,7 @@ ghost use Rattle.wl_broadcast.specs.Channels.{no_channels, opened, delivered, po
 use crate::channel::{Channel, Foreign};
 use crate::fault::ChannelFault;
 use crate::letter::{Hearing, Letter, Posted};
-use crate::object::{self, ChannelObject, Delivery, Takers};
+use crate::object::{self, ChannelObject, Delivery, PostDelivery};
 use bytes::Bytes;
 use std::alloc::{AllocError, Global};
 use std::collections::BTreeMap;
@@ -128,7 +128,7 @@ impl Channels {
         if !self.is_own(channel) {
             return Err(ChannelFault::ForeignChannel);
         }
-        let name = object::name_at(&self.objects, channel.number).copy(self.alloc)?;
+        let name = copy_of(object::name_at(&self.objects, channel.number))?;
         let content = Bytes::copy_from_slice(self.alloc, bytes)?;
         let letter = Letter {
             source: self.tab,
@@ -140,7 +140,7 @@ impl Channels {
             name: &name,
             letter: &letter,
         };
-        let Takers { took, full } = self.deliver(&delivery)?;
+        let PostDelivery { took, full } = self.deliver(&delivery)?;
         let number = self.posts;
         self.posts += 1;
         Ok(Posted {
@@ -179,7 +179,7 @@ impl Channels {
             name: &heard.channel,
             letter: &letter,
         };
-        let mut takers = Takers::new(self.alloc);
+        let mut takers = PostDelivery::new(self.alloc);
         hear(
             &mut self.objects,
             &self.open_numbers,
@@ -187,7 +187,7 @@ impl Channels {
             &delivery,
             &mut takers,
         )?;
-        let Takers { took, full } = takers;
+        let PostDelivery { took, full } = takers;
         Ok(Hearing::New {
             took: Sequence::new(took),
             full: Sequence::new(full),
@@ -247,7 +247,7 @@ impl Channels {
     }
 
     /// Delivers a post to all its destinations. If out of memory, it delivers to none of them.
-    fn deliver(&mut self, delivery: &Delivery) -> Result<Takers, AllocError>
+    fn deliver(&mut self, delivery: &Delivery) -> Result<PostDelivery, AllocError>
         ensures ok { OnOk result (self.new
             ≡ record self.old {
               objects = delivered delivery.now.sender delivery.now.name.now
@@ -259,7 +259,7 @@ impl Channels {
             takers.full.items ≡ full delivery.now.sender delivery.now.name.now self.old.objects) }
         ensures err { OnErr result (self.new ≡ self.old) }
     {
-        let mut takers = Takers::new(self.alloc);
+        let mut takers = PostDelivery::new(self.alloc);
         object::deliver(
             &mut self.objects,
             0,
@@ -303,7 +303,7 @@ fn hear(
     open_numbers: &[usize],
     last: &mut BTreeMap<u16, u32>,
     delivery: &Delivery,
-    takers: &mut Takers,
+    takers: &mut PostDelivery,
 ) -> Result<(), AllocError>
     requires numbers { length objects.old < 2 ^ 64 }
     requires open { open_numbers.now ≡ open_from 0 (all_seen objects.old) }
@@ -337,4 +337,10 @@ fn hear(
         return Err(refused);
     }
     Ok(())
+}
+
+fn copy_of(name: &Name) -> Result<Name, AllocError>
+    ensures { IfOk result (λ copy. copy ≡ name.now) }
+{
+    name.clone()
 }

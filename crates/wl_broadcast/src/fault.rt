@@ -1,4 +1,5 @@
 //! Faults of calls on a tab's channels.
+
 ghost use Rattle.std.specs.Prelude.{◌≡◌};
 ghost use Rattle.wl_broadcast.specs.declared.fault.ChannelFault.TheVariants.{Memory as memory};
 

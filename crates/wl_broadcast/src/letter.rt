@@ -1,4 +1,5 @@
 //! Posts in the inboxes of channel objects, and results of posting and receiving.
+
 ghost use Rattle.std.specs.Prelude.{◌≡◌, IfOk};
 
 use bytes::Bytes;

@@ -126,17 +126,17 @@ impl Delivery<'_> {
 
 /// Numbers of the objects that took a post, and of those whose inbox was full.
 #[derive(Drop)]
-pub(crate) struct Takers {
+pub(crate) struct PostDelivery {
     pub(crate) took: Vec<usize>,
     pub(crate) full: Vec<usize>,
 }
 
-impl Takers {
-    pub(crate) fn new(alloc: Global) -> Takers
+impl PostDelivery {
+    pub(crate) fn new(alloc: Global) -> PostDelivery
         ensures took { result.took.items ≡ [] }
         ensures full { result.full.items ≡ [] }
     {
-        Takers {
+        PostDelivery {
             took: Vec::new(alloc),
             full: Vec::new(alloc),
         }
@@ -151,7 +151,7 @@ pub(crate) fn deliver(
     first: usize,
     open_numbers: &[usize],
     delivery: &Delivery,
-    takers: &mut Takers,
+    takers: &mut PostDelivery,
 ) -> Result<(), AllocError>
     requires numbers { first + length objects.old < 2 ^ 64 }
     requires open { open_numbers.now ≡ open_from first (all_seen objects.old) }

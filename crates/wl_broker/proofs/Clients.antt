@@ -2,7 +2,7 @@
 use Rattle.std.proofs.Common.{⊎_elim, ℕ, Bool, true, false, List, [], ◌∷◌, ◌++◌, filter, sym, subst}
 use Rattle.wl_draft.specs.declared.row.Row.{Row}
 use Rattle.wl_draft.specs.declared.row.Entry.{Entry}
-use Rattle.wl_draft.specs.Locks.{Locks, is_grantable, granted, left_waiting, newly, settle, row_of, rows_of, held_of, waiting_of, queued, probed, released, aborted, ended, restored}
+use Rattle.wl_draft.specs.Locks.{Locks, is_grantable, granted, left_waiting, newly_granted, settle, row_of, rows_of, held_of, waiting_of, queued, probed, released, aborted, ended, restored}
 use Rattle.wl_draft.proofs.Membership.{either, In-nil, In-one, In-cons_cases, In-append_cases, In-map_cases, In-filter_cases}
 use Rattle.wl_draft.specs.Membership.{In, Here, Later}
 use Rattle.wl_grammar.specs.declared.frame.Operation.{Operation}
@@ -39,13 +39,13 @@ left-Own Q held ahead (x ∷ rows) a h =
     (λ _. left-Own Q (held ++ x ∷ []) ahead rows a (λ y j. h y (Later j)))
     (λ _. left-Own Q held (ahead ++ x ∷ []) rows (Own-push Q ahead x a (h x Here)) (λ y j. h y (Later j)))
 
-pub newly-Own : (Q : ℕ → Type 0) (m : Locks) → Stands Q m → Own Q (newly m)
-unfolding newly
+pub newly-Own : (Q : ℕ → Type 0) (m : Locks) → Stands Q m → Own Q (newly_granted m)
+unfolding newly_granted
 newly-Own Q m s = granted-Own Q m.held [] m.waiting s.1
 
 pub settle-Stands : (Q : ℕ → Type 0) (m : Locks) → Stands Q m → Stands Q (settle m)
 unfolding settle
-settle-Stands Q m s = (Own-append Q m.held (newly m) s.0 (newly-Own Q m s), left-Own Q m.held [] m.waiting (λ r i. absurd (In-nil i)) s.1)
+settle-Stands Q m s = (Own-append Q m.held (newly_granted m) s.0 (newly-Own Q m s), left-Own Q m.held [] m.waiting (λ r i. absurd (In-nil i)) s.1)
 
 pub rows_of-Own : (Q : ℕ → Type 0) (t : ℕ) (entries : List Entry) → Q t → Own Q (rows_of t entries)
 rows_of-Own Q t entries q r i =

@@ -4,17 +4,17 @@ use Rattle.std.proofs.lemmas.Bool.{cases_eq, eqb-true, eq-eqb, ne_eqb, lt-ltb, c
 use Rattle.wl_draft.specs.declared.row.Entry.{Entry}
 use Rattle.wl_draft.specs.declared.row.Standing.TheVariants.{Absent}
 use Rattle.wl_draft.specs.Tables.{Table, at, find, put}
-use Rattle.wl_draft.specs.Locks.{newly, settle, settle_if, standing, ended, restored}
+use Rattle.wl_draft.specs.Locks.{newly_granted, settle, settle_if, standing, ended, restored}
 use Rattle.wl_draft.proofs.TableLemmas.{find-put, find-put_same, find-put_other}
 use Rattle.wl_draft.proofs.RisingTables.{Rises-put}
 use Rattle.wl_grammar.specs.Grammar.{TabsRiseFrom}
 use Rattle.wl_grammar.specs.declared.frame.Operation.{Operation}
 use Rattle.wl_grammar.specs.declared.frame.Operation.TheVariants.{Query}
-use Rattle.wl_parts.specs.ReportParts.{Partial, all_below}
+use Rattle.wl_broker_reports.specs.ReportParts.{Partial, all_below}
 use Rattle.wl_broker.specs.declared.seat.Seat.{Seat}
 use Rattle.wl_broker.specs.declared.seat.Seat.TheVariants.{Joined, Dead}
-use Rattle.wl_broker.specs.Broker.{has_come, listed_at, elsewhere, drafted}
-use Rattle.wl_broker.specs.Kept.{PartitionState, state_of, no_partition, all_come, taken_in, was_taken, AllRows, IsPartition, IsConsistent, Had, broker_of}
+use Rattle.wl_broker.specs.Broker.{has_arrived, listed_at, elsewhere, drafted}
+use Rattle.wl_broker.specs.BrokerInvariant.{PartitionState, state_of, no_partition, all_arrived, taken_in, was_taken, AllRows, IsPartition, IsConsistent, Had, broker_of}
 use Rattle.wl_broker.proofs.PartitionRows.{at-find, at_none, find_there, put_same}
 use Rattle.wl_broker.proofs.SettledLocks.{settle_same}
 use Rattle.wl_broker.proofs.Arrivals.{all_come-again, all_come-elsewhere, is_within}
@@ -24,7 +24,7 @@ use Rattle.wl_broker.proofs.TakenRows.{AllRows-put, AllRows-settle_if, AllRows-d
 
 -- The change leaves this partition as it is.
 pub record IsApart (listed : List (ℕ × ℕ)) (seats : Table Seat) (t : ℕ) (s : Seat) (q : ℕ) : Type 0 where
-  pub active : all_come listed (put t s seats) q ≡ all_come listed seats q
+  pub active : all_arrived listed (put t s seats) q ≡ all_arrived listed seats q
   pub taken : taken_in (find seats t) q ≤ taken_in (Some s) q
 
 IsPartition-put : {listed : List (ℕ × ℕ)} {seats : Table Seat} {t : ℕ} {s : Seat} {q : ℕ} {st : PartitionState} → IsApart listed seats t s q → IsPartition listed seats q st → IsPartition listed (put t s seats) q st
@@ -78,12 +78,12 @@ rows_as {partitions = partitions} p (Some st) k e = rw (at-find no_partition st 
 pub IsConsistent-rows : {listed : List (ℕ × ℕ)} {seats : Table Seat} {partitions : Table PartitionState} (p : ℕ) → IsConsistent listed seats partitions → AllRows (was_taken seats p) (at no_partition partitions p).locks
 IsConsistent-rows {partitions = partitions} p k = rows_as p (find partitions p) k refl
 
-active_as : {listed : List (ℕ × ℕ)} {seats : Table Seat} {partitions : Table PartitionState} (p : ℕ) (o : Option PartitionState) → IsConsistent listed seats partitions → find partitions p ≡ o → IsSome o → (at no_partition partitions p).is_active ≡ all_come listed seats p
+active_as : {listed : List (ℕ × ℕ)} {seats : Table Seat} {partitions : Table PartitionState} (p : ℕ) (o : Option PartitionState) → IsConsistent listed seats partitions → find partitions p ≡ o → IsSome o → (at no_partition partitions p).is_active ≡ all_arrived listed seats p
 active_as p None k e some = cc
 active_as {partitions = partitions} p (Some st) k e some = rw (at-find no_partition st p partitions e) (k.each p st e).active
 
 -- If a tab has joined in a partition, the partition's row states whether it is active.
-pub IsConsistent-active : {listed : List (ℕ × ℕ)} {seats : Table Seat} {partitions : Table PartitionState} (t p n l : ℕ) → IsConsistent listed seats partitions → find seats t ≡ Some (Joined p n l) → (at no_partition partitions p).is_active ≡ all_come listed seats p
+pub IsConsistent-active : {listed : List (ℕ × ℕ)} {seats : Table Seat} {partitions : Table PartitionState} (t p n l : ℕ) → IsConsistent listed seats partitions → find seats t ≡ Some (Joined p n l) → (at no_partition partitions p).is_active ≡ all_arrived listed seats p
 IsConsistent-active {partitions = partitions} t p n l k e = active_as p (find partitions p) k refl (k.seated t p n l e)
 
 taken_here : (p n l : ℕ) → taken_in (Some (Joined p n l)) p ≡ n
@@ -107,7 +107,7 @@ unlisted_elsewhere : (o : Option ℕ) (p q : ℕ) → elsewhere o p ≡ false �
 unlisted_elsewhere None p q e ne = refl
 unlisted_elsewhere (Some r) p q e ne = ne_eqb r q (λ same. ne (sym same ∙ eqb-true r p (not-false _ e)))
 
-pub IsConsistent-join : {listed : List (ℕ × ℕ)} {seats : Table Seat} {partitions : Table PartitionState} (t p base l : ℕ) (entries : List Entry) (b : Bool) → IsConsistent listed seats partitions → find seats t ≡ None → elsewhere (listed_at t listed) p ≡ false → all_below base entries ≡ true → b ≡ all_come listed (put t (Joined p base l) seats) p → IsConsistent listed (put t (Joined p base l) seats) (put p (state_of (settle_if b (restored t entries (at no_partition partitions p).locks)) b) partitions)
+pub IsConsistent-join : {listed : List (ℕ × ℕ)} {seats : Table Seat} {partitions : Table PartitionState} (t p base l : ℕ) (entries : List Entry) (b : Bool) → IsConsistent listed seats partitions → find seats t ≡ None → elsewhere (listed_at t listed) p ≡ false → all_below base entries ≡ true → b ≡ all_arrived listed (put t (Joined p base l) seats) p → IsConsistent listed (put t (Joined p base l) seats) (put p (state_of (settle_if b (restored t entries (at no_partition partitions p).locks)) b) partitions)
 IsConsistent-join {listed} {seats} {partitions} t p base l entries b k new at_home below active =
     let seat = Joined p base l in
     let next = put t seat seats in
@@ -127,11 +127,11 @@ IsConsistent-join {listed} {seats} {partitions} t p base l entries b k new at_ho
 
 -- A command is taken
 
-pub IsConsistent-command : {listed : List (ℕ × ℕ)} {seats : Table Seat} {partitions : Table PartitionState} (t p n l : ℕ) (o : Operation) → IsConsistent listed seats partitions → find seats t ≡ Some (Joined p n l) → all_come listed seats p ≡ true → IsConsistent listed (put t (Joined p (n + 1) l) seats) (put p (state_of (settle (drafted t n o (at no_partition partitions p).locks)) true) partitions)
+pub IsConsistent-command : {listed : List (ℕ × ℕ)} {seats : Table Seat} {partitions : Table PartitionState} (t p n l : ℕ) (o : Operation) → IsConsistent listed seats partitions → find seats t ≡ Some (Joined p n l) → all_arrived listed seats p ≡ true → IsConsistent listed (put t (Joined p (n + 1) l) seats) (put p (state_of (settle (drafted t n o (at no_partition partitions p).locks)) true) partitions)
 IsConsistent-command {listed} {seats} {partitions} t p n l o k e active =
     let seat = Joined p (n + 1) l in
     let next = put t seat seats in
-    let came : has_come (find seats t) ≡ true = ap has_come e in
+    let came : has_arrived (find seats t) ≡ true = ap has_arrived e in
     let here : taken_in (find seats t) p ≡ n = ap (λ s. taken_in s p) e ∙ taken_here p n l in
     IsConsistent-put t seat p _ k
     (λ q ne. record {
@@ -156,7 +156,7 @@ apart_dead : (listed : List (ℕ × ℕ)) (seats : Table Seat) (t p q : ℕ) →
 apart_dead listed seats t p q r had ne =
     ⊎_elim
     (λ (h : (n l : ℕ) × (find seats t ≡ Some (Joined p n l))). record {
-      active = all_come-again listed seats t Dead q (ap has_come h.2);
+      active = all_come-again listed seats t Dead q (ap has_arrived h.2);
       taken = let there : taken_in (find seats t) q ≡ 0 = ap (λ s. taken_in s q) h.2 ∙ taken_there p q h.0 h.1 ne in omega arith;
     })
     (λ (h : (find seats t ≡ None) × (listed_at t listed ≡ Some p)). record {
@@ -165,7 +165,7 @@ apart_dead listed seats t p q r had ne =
     })
     had
 
-pub IsConsistent-dead : {listed : List (ℕ × ℕ)} {seats : Table Seat} {partitions : Table PartitionState} (partial : Table Partial) (g t p : ℕ) (b : Bool) → IsConsistent listed seats partitions → Had (broker_of g listed seats partitions partial) t p → b ≡ all_come listed (put t Dead seats) p → IsConsistent listed (put t Dead seats) (put p (state_of (settle_if b (ended t (at no_partition partitions p).locks)) b) partitions)
+pub IsConsistent-dead : {listed : List (ℕ × ℕ)} {seats : Table Seat} {partitions : Table PartitionState} (partial : Table Partial) (g t p : ℕ) (b : Bool) → IsConsistent listed seats partitions → Had (broker_of g listed seats partitions partial) t p → b ≡ all_arrived listed (put t Dead seats) p → IsConsistent listed (put t Dead seats) (put p (state_of (settle_if b (ended t (at no_partition partitions p).locks)) b) partitions)
 IsConsistent-dead {listed} {seats} {partitions} partial g t p b k had active =
     IsConsistent-put t Dead p _ k (λ q ne. apart_dead listed seats t p q k.listed_once had ne) (λ q n l e. cc)
     (record {
@@ -185,10 +185,10 @@ IsConsistent-unknown {listed} {seats} t k e unlisted =
 
 -- A query
 
-row_itself : (s : PartitionState) → s.is_active ≡ true → newly s.locks ≡ [] → state_of (settle s.locks) true ≡ s
+row_itself : (s : PartitionState) → s.is_active ≡ true → newly_granted s.locks ≡ [] → state_of (settle s.locks) true ≡ s
 row_itself s active still = rw (settle_same s.locks still, ← active) refl
 
-pub IsConsistent-query : {listed : List (ℕ × ℕ)} {seats : Table Seat} {partitions : Table PartitionState} (t p n l : ℕ) → IsConsistent listed seats partitions → find seats t ≡ Some (Joined p n l) → all_come listed seats p ≡ true → newly (at no_partition partitions p).locks ≡ [] → IsConsistent listed (put t (Joined p (n + 1) l) seats) partitions
+pub IsConsistent-query : {listed : List (ℕ × ℕ)} {seats : Table Seat} {partitions : Table PartitionState} (t p n l : ℕ) → IsConsistent listed seats partitions → find seats t ≡ Some (Joined p n l) → all_arrived listed seats p ≡ true → newly_granted (at no_partition partitions p).locks ≡ [] → IsConsistent listed (put t (Joined p (n + 1) l) seats) partitions
 IsConsistent-query {listed} {seats} {partitions} t p n l k e active still =
     let row = at no_partition partitions p in
     let itself = row_itself row (IsConsistent-active t p n l k e ∙ active) still in

@@ -5,10 +5,10 @@ use Rattle.wl_limits.specs.declared.tabs.TheConstants.{LAST_NUMBER}
 use Rattle.wl_draft.specs.Locks.{live}
 use Rattle.wl_grammar.specs.declared.frame.Operation.{Operation}
 use Rattle.wl_grammar.specs.declared.frame.Stamped.{Stamped}
-use Rattle.wl_parts.specs.ReportParts.{Partial, Told, has_held, all_below, fits, is_there, with_told, is_whole, whole_of}
+use Rattle.wl_broker_reports.specs.ReportParts.{Partial, Told, has_held, all_below, fits, has_part, with_told, is_whole, whole_of}
 use Rattle.wl_broker.specs.declared.dropped.Dropped.TheVariants.{OldGeneration, LaterGeneration, NotJoined, Recovering, OutOfTurn, DeadTab, AlreadyJoined, HeldByNewcomer, BadReport, Misplaced, TooMany, PartTwice}
 use Rattle.wl_grammar.specs.Generation.{generation_of}
-use Rattle.wl_broker.specs.Broker.{BrokerState, Does, Drops, IsTaken, seat_of, partial_of, manager_of, next_of, limit_of, is_joined, is_dead, is_active, is_listed, listed_at, is_misplaced, is_lock, taking, take_inner, keeping, join_if, take_told, take_command, join, perform, later_answer}
+use Rattle.wl_broker.specs.Broker.{BrokerState, Does, Drops, IsTaken, seat_of, partial_of, manager_of, next_of, limit_of, is_joined, is_dead, is_active, is_listed, listed_at, is_misplaced, is_lock, taking, take_inner, keeping, join_if, take_report_part, take_command, join, perform, later_answer}
 
 -- Any message
 
@@ -36,25 +36,25 @@ module _ (b : BrokerState) (s : Stamped) (old : b.generation ≤ generation_of s
 -- Reports
 
 module _ (b : BrokerState) (t p : ℕ) (x : Told) where
-  pub already_joined : is_joined (seat_of b t) ≡ true → take_told b t p x ≡ Drops AlreadyJoined
-  unfolding take_told
+  pub already_joined : is_joined (seat_of b t) ≡ true → take_report_part b t p x ≡ Drops AlreadyJoined
+  unfolding take_report_part
   already_joined h = rw h refl
 
-  pub held_by_newcomer : is_joined (seat_of b t) ≡ false → (not (is_listed (listed_at t b.listed)) && has_held x.entries) ≡ true → take_told b t p x ≡ Drops HeldByNewcomer
-  unfolding take_told
+  pub held_by_newcomer : is_joined (seat_of b t) ≡ false → (not (is_listed (listed_at t b.listed)) && has_held x.entries) ≡ true → take_report_part b t p x ≡ Drops HeldByNewcomer
+  unfolding take_report_part
   held_by_newcomer h k = rw (h, k) refl
 
 module _ (b : BrokerState) (t p : ℕ) (x : Told) (new : is_joined (seat_of b t) ≡ false) (newcomer : (not (is_listed (listed_at t b.listed)) && has_held x.entries) ≡ false) where
-  pub bad_report : not (all_below x.base x.entries && fits x (partial_of b t)) ≡ true → take_told b t p x ≡ Drops BadReport
-  unfolding take_told
+  pub bad_report : not (all_below x.base x.entries && fits x (partial_of b t)) ≡ true → take_report_part b t p x ≡ Drops BadReport
+  unfolding take_report_part
   bad_report h = rw (new, newcomer, h) refl
 
-  pub part_twice : not (all_below x.base x.entries && fits x (partial_of b t)) ≡ false → is_there x (partial_of b t) ≡ true → take_told b t p x ≡ Drops PartTwice
-  unfolding take_told
+  pub part_twice : not (all_below x.base x.entries && fits x (partial_of b t)) ≡ false → has_part x (partial_of b t) ≡ true → take_report_part b t p x ≡ Drops PartTwice
+  unfolding take_report_part
   part_twice h k = rw (new, newcomer, h, k) refl
 
-  pub told_taken : not (all_below x.base x.entries && fits x (partial_of b t)) ≡ false → is_there x (partial_of b t) ≡ false → take_told b t p x ≡ join_if b t p (with_told p x (partial_of b t))
-  unfolding take_told
+  pub told_taken : not (all_below x.base x.entries && fits x (partial_of b t)) ≡ false → has_part x (partial_of b t) ≡ false → take_report_part b t p x ≡ join_if b t p (with_told p x (partial_of b t))
+  unfolding take_report_part
   told_taken h k = rw (new, newcomer, h, k) refl
 
 -- Commands

@@ -15,11 +15,11 @@ use Rattle.wl_draft.proofs.TableLemmas.{find-put_same, insert_entry-put, remove_
 use Rattle.wl_grammar.specs.declared.frame.Operation.{Operation}
 use Rattle.wl_grammar.specs.declared.frame.Outcome.{Outcome}
 use Rattle.wl_grammar.specs.declared.frame.Addressed.{Addressed}
-use Rattle.wl_parts.specs.ReportParts.{Partial, kept_at, has_held}
+use Rattle.wl_broker_reports.specs.ReportParts.{Partial, kept_at, has_held}
 use Rattle.wl_broker.specs.declared.seat.Seat.{Seat}
 use Rattle.wl_broker.specs.declared.seat.Seat.TheVariants.{Joined, Dead}
 use Rattle.wl_broker.specs.Broker.{BrokerState, seat_of, limit_in, limit_of, is_joined, is_dead, is_active, is_misplaced, listed_at, elsewhere, seated_at, next_of, is_lock, is_listed, manager_of, later_answer, next_in, answer_of, outcome_at}
-use Rattle.wl_broker.specs.Kept.{PartitionState, no_partition, all_come, broker_of, IsConsistent}
+use Rattle.wl_broker.specs.BrokerInvariant.{PartitionState, no_partition, all_arrived, broker_of, IsConsistent}
 use Rattle.wl_broker.proofs.Consistency.{IsConsistent-active}
 use Rattle.wl_broker.proofs.PartitionRows.{put_itself, put_put}
 use Rattle.wl_broker.proofs.BrokerSteps.{is_active-fields, manager_of-fields, later_is}
@@ -58,7 +58,7 @@ again_is g listed seats partitions partial t p n o upto outcome outs u a e =
 pub seat_seen : (g : ℕ) (listed : List (ℕ × ℕ)) (seats : Table Seat) (partitions : Table PartitionState) (partial : Table Partial) (b : BrokerState) (t : ℕ) (o : Option Seat) → broker_of g listed seats partitions partial ≡ b → o ≡ find seats t → seat_of b t ≡ o
 seat_seen g listed seats partitions partial b t o v e = ap (λ x. seat_of x t) (sym v) ∙ sym e
 
-pub active_seen : (g : ℕ) (listed : List (ℕ × ℕ)) (seats : Table Seat) (partitions : Table PartitionState) (partial : Table Partial) (b : BrokerState) (p : ℕ) → broker_of g listed seats partitions partial ≡ b → is_active b p ≡ true → all_come listed seats p ≡ true
+pub active_seen : (g : ℕ) (listed : List (ℕ × ℕ)) (seats : Table Seat) (partitions : Table PartitionState) (partial : Table Partial) (b : BrokerState) (p : ℕ) → broker_of g listed seats partitions partial ≡ b → is_active b p ≡ true → all_arrived listed seats p ≡ true
 active_seen g listed seats partitions partial b p v e =
     sym (is_active-fields g listed seats partitions partial p) ∙ ap (λ x. is_active x p) v ∙ e
 

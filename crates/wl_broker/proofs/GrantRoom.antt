@@ -6,11 +6,11 @@ use Rattle.std.proofs.lemmas.List.{length-map}
 use Rattle.wl_draft.specs.declared.row.Row.{Row}
 use Rattle.wl_draft.specs.declared.row.Entry.{Entry}
 use Rattle.wl_draft.specs.declared.row.Grant.{Grant}
-use Rattle.wl_draft.specs.Locks.{Locks, newly, newly_if, grants, without, queued, probed, released, aborted, ended, restored, is_grantable, is_pair, row_of, rows_of, waiting_of}
+use Rattle.wl_draft.specs.Locks.{Locks, newly_granted, newly_granted_if, grants, without, queued, probed, released, aborted, ended, restored, is_grantable, is_pair, row_of, rows_of, waiting_of}
 use Rattle.wl_grammar.specs.declared.frame.Operation.{Operation}
 use Rattle.wl_grammar.specs.declared.frame.Operation.TheVariants.{Request, Release, Abort, Query}
 use Rattle.wl_broker.specs.Broker.{drafted}
-use Rattle.wl_broker.proofs.SettledLocks.{length-newly}
+use Rattle.wl_broker.proofs.SettledLocks.{length-newly_granted}
 
 length-grants : (rows : List Row) → length (grants rows) ≡ length rows
 length-grants rows = simp length-map
@@ -22,16 +22,16 @@ length-filter p (x ∷ xs) = cond_both (p x) (x ∷ filter p xs) (filter p xs) (
 length-rows : (t : ℕ) (p : Entry → Bool) (es : List Entry) → length (rows_of t (filter p es)) ≤ length es
 length-rows t p es = simp length-map (length-filter p es)
 
-granted_if : (b : Bool) (m : Locks) (granted : List Grant) → granted ≡ grants (newly_if b m) → length granted ≤ length m.waiting
-granted_if true m granted e = rw e (omega (arith, length-grants (newly m), length-newly m))
+granted_if : (b : Bool) (m : Locks) (granted : List Grant) → granted ≡ grants (newly_granted_if b m) → length granted ≤ length m.waiting
+granted_if true m granted e = rw e (omega (arith, length-grants (newly_granted m), length-newly_granted m))
 granted_if false m granted e = rw e (omega arith)
 
-pub room_to_join : (t : ℕ) (es : List Entry) (m : Locks) (b : Bool) (granted : List Grant) → granted ≡ grants (newly_if b (restored t es m)) → length granted ≤ length es + length m.waiting
+pub room_to_join : (t : ℕ) (es : List Entry) (m : Locks) (b : Bool) (granted : List Grant) → granted ≡ grants (newly_granted_if b (restored t es m)) → length granted ≤ length es + length m.waiting
 unfolding restored
 room_to_join t es m b granted e =
     omega (arith, granted_if b (restored t es m) granted e, length-append m.waiting (waiting_of t es), length-rows t (λ e. not e.held) es)
 
-pub room_to_bury : (t : ℕ) (m : Locks) (b : Bool) (granted : List Grant) → granted ≡ grants (newly_if b (ended t m)) → length granted ≤ length m.waiting
+pub room_to_bury : (t : ℕ) (m : Locks) (b : Bool) (granted : List Grant) → granted ≡ grants (newly_granted_if b (ended t m)) → length granted ≤ length m.waiting
 unfolding ended
 room_to_bury t m b granted e =
     omega (arith, granted_if b (ended t m) granted e, length-filter (λ (r : Row). not (eqb r.client t)) m.waiting)
@@ -52,7 +52,7 @@ waiting_drafted t n (Release number) m = omega arith
 waiting_drafted t n (Abort number) m = omega (arith, length-filter (λ r. not (is_pair t number r)) m.waiting)
 waiting_drafted t n Query m = omega arith
 
-pub room_to_change : (t n : ℕ) (o : Operation) (m : Locks) (granted : List Grant) → granted ≡ grants (without t n (newly (drafted t n o m))) → length granted ≤ length m.waiting + 1
+pub room_to_change : (t n : ℕ) (o : Operation) (m : Locks) (granted : List Grant) → granted ≡ grants (without t n (newly_granted (drafted t n o m))) → length granted ≤ length m.waiting + 1
 room_to_change t n o m granted e =
     rw e
-    (omega (arith, length-grants (without t n (newly (drafted t n o m))), length-filter (λ r. not (is_pair t n r)) (newly (drafted t n o m)), length-newly (drafted t n o m), waiting_drafted t n o m))
+    (omega (arith, length-grants (without t n (newly_granted (drafted t n o m))), length-filter (λ r. not (is_pair t n r)) (newly_granted (drafted t n o m)), length-newly_granted (drafted t n o m), waiting_drafted t n o m))

@@ -3,7 +3,7 @@ use Rattle.std.proofs.Common.{◌≡◌, ◌≢◌, ◌⊎◌, ⊎_elim, ℕ, �
 use Rattle.std.specs.List.{AllByRecursion, range_with_len}
 use Rattle.std.proofs.lemmas.Bool.{both_ways, cases_eq, cond_both, eqb-false}
 use Rattle.wl_draft.specs.declared.row.Row.{Row}
-use Rattle.wl_draft.specs.Locks.{Locks, settle, settle_if, newly, newly_if, without, ended, restored}
+use Rattle.wl_draft.specs.Locks.{Locks, settle, settle_if, newly_granted, newly_granted_if, without, ended, restored}
 use Rattle.wl_draft.specs.Settling.{IsSettled, Merges, none, right}
 use Rattle.wl_draft.proofs.Settled.{settle-IsSettled, settle-MovesGrants}
 use Rattle.wl_grammar.specs.declared.frame.Operation.{Operation}
@@ -13,10 +13,10 @@ use Rattle.wl_grammar.specs.declared.frame.Addressed.{Addressed}
 use Rattle.wl_grammar.specs.declared.frame.Upward.{Upward}
 use Rattle.wl_grammar.specs.declared.frame.Upward.TheVariants as up
 use Rattle.wl_grammar.specs.PartCount.{part_count}
-use Rattle.wl_parts.specs.ReportParts.{Told, told_of, with_told, whole_of}
+use Rattle.wl_broker_reports.specs.ReportParts.{Told, content_of, with_told, whole_of}
 use Rattle.wl_broker.specs.declared.seat.Seat.TheVariants.{Joined, Dead}
-use Rattle.wl_broker.specs.Broker.{BrokerState, started, seat_of, manager_of, partial_of, limit_of, is_active, is_dead, place_of, burial, with_seat, settled_at, newly_at, keeping, drafted, first_answer, later_answer, snapshot_to, snapshot_part, snapshot_entries, grants_to}
-use Rattle.wl_broker.specs.Laws.{IsListedOnce, LeavesAlone}
+use Rattle.wl_broker.specs.Broker.{BrokerState, started, seat_of, manager_of, partial_of, limit_of, is_active, is_dead, place_of, death_step, with_seat, settled_at, newly_at, keeping, drafted, first_answer, later_answer, snapshot_to, snapshot_part, snapshot_entries, grants_to}
+use Rattle.wl_broker.specs.BrokerLaws.{IsListedOnce, LeavesAlone}
 use Rattle.wl_broker.specs.Grants.{AreSettled, TakesOut, Grants, IsTo, IsOwnAnswer, to_tell, TellsGrants, TellsOfDeath}
 use Rattle.wl_broker.proofs.Activity.{manager_of-settled_at, is_active-settled_at, is_active-keeping, is_active-with_seat, Takes-LeavesAlone, Buries-LeavesAlone}
 use Rattle.wl_broker.proofs.Others.{drafted-SameOfOthers, restored-SameOfOthers, settled_at-cases}
@@ -87,8 +87,8 @@ Buries-own b t p (ends {p = r} living place) alive here =
     (some_same (sym place ∙ here))
     (ended t (manager_of b r), ended-TakesOut t (manager_of b r), settled_at-cases (with_seat t Dead b) r (ended t (manager_of b r)))
 
-pub burial_dead : (b : BrokerState) (t : ℕ) → is_dead (seat_of b t) ≡ true → burial b t ≡ (b, [])
-unfolding burial
+pub burial_dead : (b : BrokerState) (t : ℕ) → is_dead (seat_of b t) ≡ true → death_step b t ≡ (b, [])
+unfolding death_step
 burial_dead b t e = rw e refl
 
 pub Buries-is_active : (b : BrokerState) (t p : ℕ) {after : BrokerState} {outs : List Addressed} → Buries b t after outs → is_active b p ≡ true → is_active after p ≡ true
@@ -98,9 +98,9 @@ Buries-is_active b t p (ends {p = r} alive place) e = is_active-settled_at _ r _
 
 -- Granted requests
 
-settle-Grants : (m n : Locks) → n ≡ settle m → Grants m n (newly m)
+settle-Grants : (m n : Locks) → n ≡ settle m → Grants m n (newly_granted m)
 settle-Grants m n e =
-    subst (λ (x : Locks). Grants m x (newly m)) (sym e) (record { parts = (settle-MovesGrants m).parts; behind = (settle-MovesGrants m).behind })
+    subst (λ (x : Locks). Grants m x (newly_granted m)) (sym e) (record { parts = (settle-MovesGrants m).parts; behind = (settle-MovesGrants m).behind })
 
 all_wait : (rows : List Row) → Merges [] rows rows
 all_wait [] = none
@@ -109,9 +109,9 @@ all_wait (r ∷ rows) = right (all_wait rows)
 no-Grants : (m : Locks) → Grants m m []
 no-Grants m = record { parts = all_wait m.waiting; behind = sym (append-nil m.held) }
 
-newly_now : (b : BrokerState) (p : ℕ) (m : Locks) → is_active (settled_at b p m) p ≡ true → newly_at b p m ≡ newly m
+newly_now : (b : BrokerState) (p : ℕ) (m : Locks) → is_active (settled_at b p m) p ≡ true → newly_at b p m ≡ newly_granted m
 unfolding newly_at
-newly_now b p m active = ap (λ now. newly_if now m) (sym (is_active-settled_at b p m p) ∙ active)
+newly_now b p m active = ap (λ now. newly_granted_if now m) (sym (is_active-settled_at b p m p) ∙ active)
 
 -- The sender's answer
 
@@ -147,7 +147,7 @@ later-own b t p n (Abort number) = (refl, refl)
 later-own b t p n Query = (refl, refl)
 
 -- A report is not answered, and all its grants are sent.
-told-own : (t : ℕ) (u : Upward) (x : Told) → told_of u ≡ Some x → IsOwnAnswer t u [] × ((rows : List Row) → to_tell t u rows ≡ rows)
+told-own : (t : ℕ) (u : Upward) (x : Told) → content_of u ≡ Some x → IsOwnAnswer t u [] × ((rows : List Row) → to_tell t u rows ≡ rows)
 told-own t (up.Command c) x e = absurd (none-some e)
 told-own t (up.Report r) x e = (refl, λ rows. refl)
 told-own t (up.ReportPart r) x e = (refl, λ rows. refl)
@@ -163,7 +163,7 @@ Takes-tells b t p (keeps {u = u} {x = x} told passes may part) active =
       granted = [];
       answer = (told-own t u x told).0;
       moved = record { held = refl; waiting = refl };
-      newly = no-Grants (manager_of b p);
+      newly_granted = no-Grants (manager_of b p);
       sent = sym (ap (grants_to (keeping t (with_told p x (partial_of b t)) b)) ((told-own t u x told).1 []));
     }
 Takes-tells b t p (joins {u = u} {x = x} told passes may whole) active =
@@ -173,11 +173,11 @@ Takes-tells b t p (joins {u = u} {x = x} told passes may whole) active =
     record {
       own = [];
       locks = m;
-      granted = newly m;
+      granted = newly_granted m;
       answer = (told-own t u x told).0;
       moved = restored-SameOfOthers t r.entries (manager_of b p);
-      newly = settle-Grants m _ (settled_now seated p m active);
-      sent = ap (grants_to (settled_at seated p m)) (newly_now seated p m active ∙ sym ((told-own t u x told).1 (newly m)));
+      newly_granted = settle-Grants m _ (settled_now seated p m active);
+      sent = ap (grants_to (settled_at seated p m)) (newly_now seated p m active ∙ sym ((told-own t u x told).1 (newly_granted m)));
     }
 Takes-tells b t p (repeats {c = c} passes served old) active =
     record {
@@ -186,7 +186,7 @@ Takes-tells b t p (repeats {c = c} passes served old) active =
       granted = [];
       answer = (not_empty _ _, (later-own b t p c.number c.operation, tt));
       moved = record { held = refl; waiting = refl };
-      newly = no-Grants (manager_of b p);
+      newly_granted = no-Grants (manager_of b p);
       sent = refl;
     }
 Takes-tells b t p (performs {c = c} passes served next) active =
@@ -195,10 +195,10 @@ Takes-tells b t p (performs {c = c} passes served next) active =
     record {
       own = first_answer (settled_at seated p m) t p c.number c.operation;
       locks = m;
-      granted = newly m;
+      granted = newly_granted m;
       answer = first-own (settled_at seated p m) t p c.number c.operation;
       moved = drafted-SameOfOthers t c.number c.operation (manager_of b p);
-      newly = settle-Grants m _ (settled_now seated p m active);
+      newly_granted = settle-Grants m _ (settled_now seated p m active);
       sent = ap (λ rows. first_answer (settled_at seated p m) t p c.number c.operation ++ grants_to (settled_at seated p m) (without t c.number rows)) (newly_now seated p m active);
     }
 
@@ -213,8 +213,8 @@ Buries-tells b t p (ends {p = r} living place) alive here active =
     subst (λ q. TellsOfDeath b t q (settled_at seated r m) (grants_to (settled_at seated r m) (newly_at seated r m))) same
     (record {
       locks = m;
-      granted = newly m;
+      granted = newly_granted m;
       gone = ended-TakesOut t (manager_of b r);
-      newly = settle-Grants m _ (settled_now seated r m now);
+      newly_granted = settle-Grants m _ (settled_now seated r m now);
       sent = ap (grants_to (settled_at seated r m)) (newly_now seated r m now);
     })

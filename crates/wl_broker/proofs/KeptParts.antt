@@ -5,13 +5,13 @@ use Rattle.wl_draft.specs.declared.row.Entry.{Entry}
 use Rattle.wl_draft.specs.Tables.{Table, find, put}
 use Rattle.wl_draft.proofs.TableLemmas.{find-put_other}
 use Rattle.wl_draft.proofs.RisingTables.{Rises-put, Rises-without, find-without, without_none}
-use Rattle.wl_parts.specs.declared.heading.Heading.{Heading}
-use Rattle.wl_parts.specs.ReportParts.{Partial, all_below, fits, is_there, is_whole, whole_of, without_partial}
-use Rattle.wl_parts.specs.Kept.{told, is_kept}
-use Rattle.wl_parts.proofs.KeptParts.{there-kept}
+use Rattle.wl_broker_reports.specs.declared.heading.PartHeader.{PartHeader}
+use Rattle.wl_broker_reports.specs.ReportParts.{Partial, all_below, fits, has_part, is_whole, whole_of, without_partial}
+use Rattle.wl_broker_reports.specs.PartialReports.{told, is_kept}
+use Rattle.wl_broker_reports.proofs.KeptParts.{there-kept}
 use Rattle.wl_broker.specs.declared.seat.Seat.{Seat}
 use Rattle.wl_broker.specs.Broker.{BrokerState, partial_of, join, keeping, join_if, Does}
-use Rattle.wl_broker.specs.Kept.{PartitionState, broker_of, AwaitsParts}
+use Rattle.wl_broker.specs.BrokerInvariant.{PartitionState, broker_of, AwaitsParts}
 
 -- No part is kept of a tab that has arrived
 
@@ -64,12 +64,12 @@ keeps_part b t p k e = rw e refl
 pub partial_seen : (g : ℕ) (listed : List (ℕ × ℕ)) (seats : Table Seat) (partitions : Table PartitionState) (partial : Table Partial) (b : BrokerState) (t : ℕ) → broker_of g listed seats partitions partial ≡ b → partial_of b t ≡ find partial t
 partial_seen g listed seats partitions partial b t v = ap (λ (x : BrokerState). partial_of x t) (sym v)
 
-pub bad_seen : (g : ℕ) (listed : List (ℕ × ℕ)) (seats : Table Seat) (partitions : Table PartitionState) (partial : Table Partial) (b : BrokerState) (t : ℕ) (h : Heading) (entries : List Entry) (r : Bool) → broker_of g listed seats partitions partial ≡ b → r ≡ not (all_below h.base entries && fits (told h entries) (find partial t)) → not (all_below h.base entries && fits (told h entries) (partial_of b t)) ≡ r
+pub bad_seen : (g : ℕ) (listed : List (ℕ × ℕ)) (seats : Table Seat) (partitions : Table PartitionState) (partial : Table Partial) (b : BrokerState) (t : ℕ) (h : PartHeader) (entries : List Entry) (r : Bool) → broker_of g listed seats partitions partial ≡ b → r ≡ not (all_below h.base entries && fits (told h entries) (find partial t)) → not (all_below h.base entries && fits (told h entries) (partial_of b t)) ≡ r
 bad_seen g listed seats partitions partial b t h entries r v e = rw (← v) (sym e)
 
-pub there_seen : (g : ℕ) (listed : List (ℕ × ℕ)) (seats : Table Seat) (partitions : Table PartitionState) (partial : Table Partial) (b : BrokerState) (t : ℕ) (h : Heading) (entries : List Entry) (r : Bool) → broker_of g listed seats partitions partial ≡ b → r ≡ is_kept h.part (find partial t) → is_there (told h entries) (partial_of b t) ≡ r
+pub there_seen : (g : ℕ) (listed : List (ℕ × ℕ)) (seats : Table Seat) (partitions : Table PartitionState) (partial : Table Partial) (b : BrokerState) (t : ℕ) (h : PartHeader) (entries : List Entry) (r : Bool) → broker_of g listed seats partitions partial ≡ b → r ≡ is_kept h.part (find partial t) → has_part (told h entries) (partial_of b t) ≡ r
 there_seen g listed seats partitions partial b t h entries r v e =
-    ap (λ (x : BrokerState). is_there (told h entries) (partial_of x t)) (sym v) ∙ there-kept (told h entries) (find partial t) ∙ sym e
+    ap (λ (x : BrokerState). has_part (told h entries) (partial_of x t)) (sym v) ∙ there-kept (told h entries) (find partial t) ∙ sym e
 
 pub below_passed : (x y : Bool) → not (x && y) ≡ false → x ≡ true
 below_passed true y e = refl

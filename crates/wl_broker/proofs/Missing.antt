@@ -7,8 +7,8 @@ use Rattle.wl_draft.proofs.TableLemmas.{find-put_same, find-put_other, at-put, a
 use Rattle.wl_grammar.specs.Grammar.{TabsRiseFrom}
 use Rattle.wl_broker.specs.declared.seat.Seat.{Seat}
 use Rattle.wl_broker.specs.declared.seat.Seat.TheVariants.{Joined, Dead}
-use Rattle.wl_broker.specs.Broker.{has_come, listed_at}
-use Rattle.wl_broker.specs.Kept.{all_come, missing_in, awaited_at, one_at, AreCounts}
+use Rattle.wl_broker.specs.Broker.{has_arrived, listed_at}
+use Rattle.wl_broker.specs.BrokerInvariant.{all_arrived, missing_in, awaited_at, one_at, AreCounts}
 use Rattle.wl_broker.proofs.Arrivals.{has_come_some}
 
 -- A partition is active if none of its tabs is missing
@@ -18,9 +18,9 @@ none_missing_step true true rest m e = e ∙ ap (λ (n : ℕ). eqb n 0) (omega a
 none_missing_step true false rest m e = sym (ne_eqb (1 + m) 0 (λ h. omega arith))
 none_missing_step false c rest m e = e ∙ ap (λ (n : ℕ). eqb n 0) (omega arith)
 
-pub none_missing : (listed : List (ℕ × ℕ)) (seats : Table Seat) (p : ℕ) → all_come listed seats p ≡ eqb (missing_in listed seats p) 0
+pub none_missing : (listed : List (ℕ × ℕ)) (seats : Table Seat) (p : ℕ) → all_arrived listed seats p ≡ eqb (missing_in listed seats p) 0
 none_missing [] seats p = refl
-none_missing (x ∷ xs) seats p = none_missing_step (eqb x.1 p) (has_come (find seats x.0)) _ _ (none_missing xs seats p)
+none_missing (x ∷ xs) seats p = none_missing_step (eqb x.1 p) (has_arrived (find seats x.0)) _ _ (none_missing xs seats p)
 
 -- A tab arrives
 
@@ -39,7 +39,7 @@ none_here : (b : Bool) → ◌≡◌ {A = ℕ} 0 (cond (b && false) 1 0)
 none_here true = refl
 none_here false = refl
 
-one_is : (o : Option Seat) (q p : ℕ) → one_at (awaited_at o (Some q)) p ≡ cond (eqb q p && not (has_come o)) 1 0
+one_is : (o : Option Seat) (q p : ℕ) → one_at (awaited_at o (Some q)) p ≡ cond (eqb q p && not (has_arrived o)) 1 0
 one_is None q p = one_alone (eqb q p)
 one_is (Some (Joined r n l)) q p = none_here (eqb q p)
 one_is (Some Dead) q p = none_here (eqb q p)
@@ -55,15 +55,15 @@ come_here false = refl
 missing-put_as : (x : ℕ × ℕ) (xs : List (ℕ × ℕ)) (seats : Table Seat) (t : ℕ) (s : Seat) (p : ℕ) (b : Bool) → eqb x.0 t ≡ b → TabsRiseFrom (x.0 + 1) xs → missing_in xs (put t s seats) p + one_at (awaited_at (find seats t) (listed_at t xs)) p ≡ missing_in xs seats p → missing_in (x ∷ xs) (put t s seats) p + one_at (awaited_at (find seats t) (cond b (Some x.1) (listed_at t xs))) p ≡ missing_in (x ∷ xs) seats p
 missing-put_as x xs seats t s p true e r below =
     let same : x.0 ≡ t = eqb-true x.0 t e in
-    let now : ◌≡◌ {A = ℕ} (cond (eqb x.1 p && not (has_come (find (put t s seats) x.0))) 1 0) 0 =
-    ap (λ c. cond {A = ℕ} (eqb x.1 p && not c) 1 0) (ap (λ j. has_come (find (put t s seats) j)) same ∙ ap has_come (find-put_same t s seats) ∙ has_come_some s) ∙ come_here (eqb x.1 p) in
+    let now : ◌≡◌ {A = ℕ} (cond (eqb x.1 p && not (has_arrived (find (put t s seats) x.0))) 1 0) 0 =
+    ap (λ c. cond {A = ℕ} (eqb x.1 p && not c) 1 0) (ap (λ j. has_arrived (find (put t s seats) j)) same ∙ ap has_arrived (find-put_same t s seats) ∙ has_come_some s) ∙ come_here (eqb x.1 p) in
     let rest = missing-put_behind xs seats t s (x.0 + 1) p r (omega (arith, same)) in
-    let before : cond {A = ℕ} (eqb x.1 p && not (has_come (find seats x.0))) 1 0 ≡ one_at (awaited_at (find seats t) (Some x.1)) p =
-    ap (λ j. cond {A = ℕ} (eqb x.1 p && not (has_come (find seats j))) 1 0) same ∙ sym (one_is (find seats t) x.1 p) in
+    let before : cond {A = ℕ} (eqb x.1 p && not (has_arrived (find seats x.0))) 1 0 ≡ one_at (awaited_at (find seats t) (Some x.1)) p =
+    ap (λ j. cond {A = ℕ} (eqb x.1 p && not (has_arrived (find seats j))) 1 0) same ∙ sym (one_is (find seats t) x.1 p) in
     omega (arith, now, rest, before)
 missing-put_as x xs seats t s p false e r below =
-    let head : cond {A = ℕ} (eqb x.1 p && not (has_come (find (put t s seats) x.0))) 1 0 ≡ cond (eqb x.1 p && not (has_come (find seats x.0))) 1 0 =
-    ap (λ (o : Option Seat). cond {A = ℕ} (eqb x.1 p && not (has_come o)) 1 0) (find-put_other t s seats x.0 (eqb-false x.0 t e)) in
+    let head : cond {A = ℕ} (eqb x.1 p && not (has_arrived (find (put t s seats) x.0))) 1 0 ≡ cond (eqb x.1 p && not (has_arrived (find seats x.0))) 1 0 =
+    ap (λ (o : Option Seat). cond {A = ℕ} (eqb x.1 p && not (has_arrived o)) 1 0) (find-put_other t s seats x.0 (eqb-false x.0 t e)) in
     omega (arith, head, below)
 
 -- The number decreases by one if the tab is listed and had not arrived.
@@ -93,7 +93,7 @@ AreCounts-again listed seats missing t s old r k e = λ p.
     omega (arith, k p, none, missing-put listed seats t s 1 p r)
 
 -- The count determines whether the partition is active after the tab arrives.
-pub active_once : (listed : List (ℕ × ℕ)) (seats : Table Seat) (missing : Table ℕ) (t : ℕ) (s : Seat) (place : Option ℕ) (p n : ℕ) → TabsRiseFrom 1 listed → AreCounts listed seats missing → place ≡ awaited_at (find seats t) (listed_at t listed) → n ≡ at 0 missing p - one_at place p → eqb n 0 ≡ all_come listed (put t s seats) p
+pub active_once : (listed : List (ℕ × ℕ)) (seats : Table Seat) (missing : Table ℕ) (t : ℕ) (s : Seat) (place : Option ℕ) (p n : ℕ) → TabsRiseFrom 1 listed → AreCounts listed seats missing → place ≡ awaited_at (find seats t) (listed_at t listed) → n ≡ at 0 missing p - one_at place p → eqb n 0 ≡ all_arrived listed (put t s seats) p
 active_once listed seats missing t s place p n r k e h =
     let one : one_at place p ≡ one_at (awaited_at (find seats t) (listed_at t listed)) p = ap (λ o. one_at o p) e in
     let same : n ≡ missing_in listed (put t s seats) p = omega (arith, h, k p, one, missing-put listed seats t s 1 p r) in

@@ -5,9 +5,9 @@ use Rattle.std.specs.List.{filter}
 use Rattle.wl_draft.specs.declared.mode.Mode.{Mode}
 use Rattle.wl_draft.specs.declared.row.Row.{Row}
 use Rattle.wl_draft.specs.declared.row.Grant.{Grant}
-use Rattle.wl_draft.specs.Locks.{Locks, is_grantable, newly, settle, settle_if, probed, without, grants, row_of}
+use Rattle.wl_draft.specs.Locks.{Locks, is_grantable, newly_granted, settle, settle_if, probed, without, grants, row_of}
 use Rattle.wl_draft.specs.Settling.{IsSettled, Merges, none, left, right}
-use Rattle.wl_broker.specs.Kept.{PartitionState, state_of, is_grant_of}
+use Rattle.wl_broker.specs.BrokerInvariant.{PartitionState, state_of, is_grant_of}
 use Rattle.wl_draft.proofs.Settled.{Settles, done, grant, pass, Settles-all, settle-IsSettled, settle-MovesGrants, grantable_later}
 
 -- If no request is grantable, settling grants none.
@@ -24,36 +24,36 @@ Settles-waiting (done {ahead = ahead}) e = sym (append-nil ahead)
 Settles-waiting (grant f t) e = cc
 Settles-waiting (pass {ahead = ahead} {rs = rs} {r = r} f t) e = Settles-waiting t e ∙ append_assoc ahead (r ∷ []) rs
 
-newly-IsSettled : (m : Locks) → IsSettled m → newly m ≡ []
-unfolding newly
+newly-IsSettled : (m : Locks) → IsSettled m → newly_granted m ≡ []
+unfolding newly_granted
 newly-IsSettled m s = Settles-none (Settles-all m.held [] m.waiting) s
 
 -- Settling settled locks changes nothing.
-pub settle_same : (m : Locks) → newly m ≡ [] → settle m ≡ m
-unfolding settle newly
+pub settle_same : (m : Locks) → newly_granted m ≡ [] → settle m ≡ m
+unfolding settle newly_granted
 settle_same m e =
     let w = Settles-waiting (Settles-all m.held [] m.waiting) e in
     rw (e, append-nil, w) refl
 
 -- After settling, nothing more is granted.
-pub newly-settle : (m : Locks) → newly (settle m) ≡ []
+pub newly-settle : (m : Locks) → newly_granted (settle m) ≡ []
 newly-settle m = newly-IsSettled (settle m) (settle-IsSettled m)
 
-pub newly-settle_if : (b : Bool) (m : Locks) → IsTrue b → newly (settle_if b m) ≡ []
+pub newly-settle_if : (b : Bool) (m : Locks) → IsTrue b → newly_granted (settle_if b m) ≡ []
 newly-settle_if true m h = newly-settle m
 newly-settle_if false m h = cc
 
 -- More held locks do not make any request grantable.
-newly-held_more : (m : Locks) (more : List Row) → newly m ≡ [] → newly (record { held = m.held ++ more; waiting = m.waiting }) ≡ []
+newly-held_more : (m : Locks) (more : List Row) → newly_granted m ≡ [] → newly_granted (record { held = m.held ++ more; waiting = m.waiting }) ≡ []
 newly-held_more m more e =
     let s : IsSettled m = subst IsSettled (settle_same m e) (settle-IsSettled m) in
     newly-IsSettled _ (λ front back r h. grantable_later m.held more front r (s front back r h))
 
-newly-probed_as : (m : Locks) (r : Row) (b : Bool) → newly m ≡ [] → newly (cond b (record { held = m.held ++ r ∷ []; waiting = m.waiting }) m) ≡ []
+newly-probed_as : (m : Locks) (r : Row) (b : Bool) → newly_granted m ≡ [] → newly_granted (cond b (record { held = m.held ++ r ∷ []; waiting = m.waiting }) m) ≡ []
 newly-probed_as m r true e = newly-held_more m (r ∷ []) e
 newly-probed_as m r false e = e
 
-pub newly-probed : (r : Row) (m : Locks) → newly m ≡ [] → newly (probed r m) ≡ []
+pub newly-probed : (r : Row) (m : Locks) → newly_granted m ≡ [] → newly_granted (probed r m) ≡ []
 unfolding probed
 newly-probed r m e = newly-probed_as m r (is_grantable m.held m.waiting r) e
 
@@ -63,8 +63,8 @@ length-Merges none = omega arith
 length-Merges (left t) = omega (arith, length-Merges t)
 length-Merges (right t) = omega (arith, length-Merges t)
 
-pub length-newly : (m : Locks) → length (newly m) ≤ length m.waiting
-length-newly m = length-Merges (settle-MovesGrants m).parts
+pub length-newly_granted : (m : Locks) → length (newly_granted m) ≤ length m.waiting
+length-newly_granted m = length-Merges (settle-MovesGrants m).parts
 
 -- Grants to other pairs
 
@@ -77,7 +77,7 @@ own_only : (client number : ℕ) (name : List ℕ) (mode : Mode) (b : Bool) → 
 own_only client number name mode true = rw (eq-eqb client client refl, eq-eqb number number refl) refl
 own_only client number name mode false = refl
 
-pub filter-probe : (client number : ℕ) (name : List ℕ) (mode : Mode) (m : Locks) (b : Bool) (items : List Grant) → newly m ≡ [] → items ≡ cond b (grants (row_of client number name mode ∷ [])) [] → filter (λ g. not (is_grant_of client number g)) items ≡ grants (without client number (newly (probed (row_of client number name mode) m)))
+pub filter-probe : (client number : ℕ) (name : List ℕ) (mode : Mode) (m : Locks) (b : Bool) (items : List Grant) → newly_granted m ≡ [] → items ≡ cond b (grants (row_of client number name mode ∷ [])) [] → filter (λ g. not (is_grant_of client number g)) items ≡ grants (without client number (newly_granted (probed (row_of client number name mode) m)))
 filter-probe client number name mode m b items n e =
     rw (e, own_only client number name mode b, newly-probed (row_of client number name mode) m n) refl
 
@@ -91,11 +91,11 @@ either_way (Ok x) a b f h = f a
 either_way (Err e) a b f h = h b
 
 -- Locks stay settled after a probe.
-pub settled_probe : (r : Row) (old new : Locks) (b : Bool) (s : PartitionState) → newly old ≡ [] → state_of old b ≡ s → new ≡ probed r old → state_of new b ≡ state_of (settle (probed r s.locks)) s.is_active
+pub settled_probe : (r : Row) (old new : Locks) (b : Bool) (s : PartitionState) → newly_granted old ≡ [] → state_of old b ≡ s → new ≡ probed r old → state_of new b ≡ state_of (settle (probed r s.locks)) s.is_active
 settled_probe r old new b s n v e =
     let same : settle (probed r old) ≡ probed r old = settle_same _ (newly-probed r old n) in
     rw (← v, same, e) refl
 
 -- Unchanged locks stay settled.
-pub settled_still : (m : Locks) (b : Bool) (s : PartitionState) → newly m ≡ [] → state_of m b ≡ s → s ≡ state_of (settle s.locks) s.is_active
+pub settled_still : (m : Locks) (b : Bool) (s : PartitionState) → newly_granted m ≡ [] → state_of m b ≡ s → s ≡ state_of (settle s.locks) s.is_active
 settled_still m b s n v = rw (← v, settle_same m n) refl

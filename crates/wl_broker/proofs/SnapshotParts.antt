@@ -1,8 +1,9 @@
 -- Division of a snapshot into parts.
 use Rattle.std.proofs.Common.{◌≡◌, ℕ, ◌+◌, ◌*◌, ◌≤◌, List, [], ◌∷◌, ◌++◌, length, map, take, drop, refl, sym, ap, ◌∙◌, append-nil, arith}
-use Rattle.std.proofs.lemmas.List.{take_at, drop_at, take_all, drop_all, drop-drop}
+use Rattle.std.proofs.lemmas.List.{take_at, drop_at, take_all, drop_all}
 use Rattle.std.proofs.lemmas.List.FromFn.{map-range_with_len_more}
 use Rattle.std.specs.List.{range_with_len}
+use Rattle.wl_limits.specs.declared.frames.TheConstants.{ENTRY_LIMIT}
 use Rattle.wl_grammar.specs.declared.frame.SnapshotEntry.{SnapshotEntry}
 use Rattle.wl_grammar.specs.declared.frame.Addressed.{Addressed}
 use Rattle.wl_grammar.specs.declared.frame.Downward.TheVariants as down
@@ -26,12 +27,6 @@ last_part n part rest all e none h =
     (sym (ap (take n) same ∙ take_all n part h), nil ∙ sym (ap (drop n) same ∙ drop_all n part h))
 
 -- One more part appends its frame.
-pub part_more : (g t n : ℕ) (entries : List SnapshotEntry) (k parts : ℕ) (outs : List Addressed) (part rest : List SnapshotEntry) → outs ≡ map (part_of g t n entries) (range_with_len 0 k) → part ≡ take 64 rest → rest ≡ drop (64 * k) entries → parts ≡ part_count entries → outs ++ record { tab = t; inner = down.Snapshot (record { generation = g; number = n; part = k; parts = parts; entries = part }) } ∷ [] ≡ map (part_of g t n entries) (range_with_len 0 (k + 1))
+pub part_more : (g t n : ℕ) (entries : List SnapshotEntry) (k parts : ℕ) (outs : List Addressed) (part rest : List SnapshotEntry) → outs ≡ map (part_of g t n entries) (range_with_len 0 k) → part ≡ take ENTRY_LIMIT rest → rest ≡ drop (ENTRY_LIMIT * k) entries → parts ≡ part_count entries → outs ++ record { tab = t; inner = down.Snapshot (record { generation = g; number = n; part = k; parts = parts; entries = part }) } ∷ [] ≡ map (part_of g t n entries) (range_with_len 0 (k + 1))
 part_more g t n entries k parts outs part rest made taken left count =
     rw (made, taken, left, count) (sym (map-range_with_len_more (part_of g t n entries) 0 k k (omega arith)))
-
--- The entries left after one more part.
-pub drop_part : {X : Type 0} (k : ℕ) (xs ys zs : List X) → ys ≡ drop (64 * k) xs → zs ≡ drop 64 ys → zs ≡ drop (64 * (k + 1)) xs
-drop_part k xs ys zs e f =
-    let more : 64 * k + 64 ≡ 64 * (k + 1) = omega arith in
-    f ∙ ap (drop 64) e ∙ drop-drop 64 (64 * k) xs ∙ ap (λ i. drop i xs) more

@@ -8,16 +8,16 @@ use Rattle.wl_draft.specs.declared.row.Row.{Row}
 use Rattle.wl_draft.specs.declared.row.Entry.{Entry}
 use Rattle.wl_draft.specs.declared.row.Standing.TheVariants.{Absent}
 use Rattle.wl_draft.specs.Tables.{Table, find, put}
-use Rattle.wl_draft.specs.Locks.{Locks, newly, settle, settle_if, is_grantable, is_pair, has_pair, standing, without_client, row_of, rows_of, queued, probed, released, aborted, ended, restored}
+use Rattle.wl_draft.specs.Locks.{Locks, newly_granted, settle, settle_if, is_grantable, is_pair, has_pair, standing, without_client, row_of, rows_of, queued, probed, released, aborted, ended, restored}
 use Rattle.wl_draft.specs.Settling.{Merges, none, left, right}
 use Rattle.wl_draft.proofs.Settled.{settle-MovesGrants}
 use Rattle.wl_draft.proofs.TableLemmas.{find-put_same, find-put_other}
 use Rattle.wl_grammar.specs.declared.frame.Operation.{Operation}
 use Rattle.wl_grammar.specs.declared.frame.Operation.TheVariants.{Request, Release, Abort, Query}
-use Rattle.wl_parts.specs.ReportParts.{all_below}
+use Rattle.wl_broker_reports.specs.ReportParts.{all_below}
 use Rattle.wl_broker.specs.declared.seat.Seat.{Seat}
 use Rattle.wl_broker.specs.Broker.{drafted}
-use Rattle.wl_broker.specs.Kept.{taken_in, was_taken, AllRows}
+use Rattle.wl_broker.specs.BrokerInvariant.{taken_in, was_taken, AllRows}
 
 -- Locks requested by commands already taken
 
@@ -80,7 +80,7 @@ AllRows-settle : (test : Row → Bool) (m : Locks) → AllRows test m → AllRow
 AllRows-settle test m h =
     let moves = settle-MovesGrants m in
     let parts = list_all-Merges test moves.parts h.1 in
-    (rw moves.behind (list_all_both test m.held (newly m) h.0 parts.0), parts.1)
+    (rw moves.behind (list_all_both test m.held (newly_granted m) h.0 parts.0), parts.1)
 
 pub AllRows-settle_if : (test : Row → Bool) (b : Bool) (m : Locks) → AllRows test m → AllRows test (settle_if b m)
 AllRows-settle_if test true m h = AllRows-settle test m h

@@ -1,3 +1,4 @@
+-- Laws of brokers in shards.
 pub mod Cuts
 pub mod Homes
 pub mod Orders

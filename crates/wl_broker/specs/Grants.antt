@@ -11,8 +11,8 @@ use Rattle.wl_grammar.specs.declared.frame.Upward.{Upward}
 use Rattle.wl_grammar.specs.declared.frame.Upward.TheVariants as up
 use Rattle.wl_grammar.specs.declared.frame.Downward.{Downward}
 use Rattle.wl_grammar.specs.declared.frame.Downward.TheVariants as down
-use Rattle.wl_broker.specs.Broker.{BrokerState, started, Does, taking, burial, is_active, is_dead, place_of, manager_of, seat_of, grants_to}
-use Rattle.wl_broker.specs.Laws.{IsListedOnce, SameOfOthers}
+use Rattle.wl_broker.specs.Broker.{BrokerState, started, Does, taking, death_step, is_active, is_dead, place_of, manager_of, seat_of, grants_to}
+use Rattle.wl_broker.specs.BrokerLaws.{IsListedOnce, SameOfOthers}
 
 -- Active partitions are settled
 
@@ -28,7 +28,7 @@ TakesSettled b s =
     (after : BrokerState) (outs : List Addressed) → IsListedOnce b → AreSettled b → taking b s ≡ Does after outs → AreSettled after
 
 abbrev pub BuriesSettled : BrokerState → ℕ → Type 0
-BuriesSettled b t = IsListedOnce b → AreSettled b → AreSettled (burial b t).0
+BuriesSettled b t = IsListedOnce b → AreSettled b → AreSettled (death_step b t).0
 
 -- Deaths
 
@@ -41,15 +41,15 @@ pub record TakesOut (client : ℕ) (m n : Locks) : Type 0 where
 abbrev pub BuriesItsOwn : BrokerState → ℕ → Type 0
 BuriesItsOwn b t =
     (p : ℕ) → is_dead (seat_of b t) ≡ false → place_of b t ≡ Some p
-    → (m : Locks) × TakesOut t (manager_of b p) m × ((manager_of (burial b t).0 p ≡ m) ⊎ (manager_of (burial b t).0 p ≡ settle m))
+    → (m : Locks) × TakesOut t (manager_of b p) m × ((manager_of (death_step b t).0 p ≡ m) ⊎ (manager_of (death_step b t).0 p ≡ settle m))
 
 -- A second report of a death changes nothing.
 abbrev pub BuriesOnce : BrokerState → ℕ → Type 0
-BuriesOnce b t = is_dead (seat_of b t) ≡ true → burial b t ≡ (b, [])
+BuriesOnce b t = is_dead (seat_of b t) ≡ true → death_step b t ≡ (b, [])
 
 -- An active partition stays active when a tab dies.
 abbrev pub BuriesActive : BrokerState → ℕ → Type 0
-BuriesActive b t = (p : ℕ) → is_active b p ≡ true → is_active (burial b t).0 p ≡ true
+BuriesActive b t = (p : ℕ) → is_active b p ≡ true → is_active (death_step b t).0 p ≡ true
 
 -- Frames sent
 
@@ -88,7 +88,7 @@ pub record TellsGrants (b : BrokerState) (s : Stamped) (after : BrokerState) (ou
   pub granted : List Row
   pub answer : IsOwnAnswer s.tab s.inner own
   pub moved : SameOfOthers s.tab (manager_of b s.partition) locks
-  pub newly : Grants locks (manager_of after s.partition) granted
+  pub newly_granted : Grants locks (manager_of after s.partition) granted
   pub sent : outs ≡ own ++ grants_to after (to_tell s.tab s.inner granted)
 
 abbrev pub TakesTelling : BrokerState → Stamped → Type 0
@@ -101,10 +101,10 @@ pub record TellsOfDeath (b : BrokerState) (t p : ℕ) (after : BrokerState) (out
   pub locks : Locks
   pub granted : List Row
   pub gone : TakesOut t (manager_of b p) locks
-  pub newly : Grants locks (manager_of after p) granted
+  pub newly_granted : Grants locks (manager_of after p) granted
   pub sent : outs ≡ grants_to after granted
 
 abbrev pub BuriesTelling : BrokerState → ℕ → Type 0
 BuriesTelling b t =
-    (p : ℕ) → is_dead (seat_of b t) ≡ false → place_of b t ≡ Some p → is_active (burial b t).0 p ≡ true
-    → TellsOfDeath b t p (burial b t).0 (burial b t).1
+    (p : ℕ) → is_dead (seat_of b t) ≡ false → place_of b t ≡ Some p → is_active (death_step b t).0 p ≡ true
+    → TellsOfDeath b t p (death_step b t).0 (death_step b t).1

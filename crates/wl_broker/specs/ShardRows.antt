@@ -8,9 +8,9 @@ use Rattle.wl_grammar.specs.declared.frame.Stamped.{Stamped}
 use Rattle.wl_grammar.specs.declared.frame.Upward.TheVariants as up
 use Rattle.wl_broker.specs.declared.seat.Seat.TheVariants.{Joined, Dead}
 use Rattle.wl_broker.specs.declared.dropped.Dropped.TheVariants.{Misplaced}
-use Rattle.wl_broker.specs.Broker.{BrokerState, Drops, taking, burial}
+use Rattle.wl_broker.specs.Broker.{BrokerState, Drops, taking, death_step}
 use Rattle.wl_broker.specs.Events.{Event, Comes, Dies}
-use Rattle.wl_broker.specs.Rows.{a, answer}
+use Rattle.wl_broker.specs.BrokerRows.{a, answer}
 use Rattle.wl_broker.specs.Shards.{is_of, seen_at, stands_once, places, one_broker, shard_broker, sent_by_shards}
 
 -- Abbreviations
@@ -68,9 +68,9 @@ TwoShards =
 -- The death of tab 1 then grants the lock to tab 3. Only the odd shard sends that grant.
 abbrev pub DeathInOneShard : Type 0
 DeathInOneShard =
-    ((burial (one_broker 1 listed events) 1).1 ≡ answer 1 3 0 1 Granted ∷ [])
-    × ((burial (shard_broker (is_of 2 1) 1 listed events) 1).1 ≡ answer 1 3 0 1 Granted ∷ [])
-    × ((burial (shard_broker (is_of 2 0) 1 listed events) 1).1 ≡ [])
+    ((death_step (one_broker 1 listed events) 1).1 ≡ answer 1 3 0 1 Granted ∷ [])
+    × ((death_step (shard_broker (is_of 2 1) 1 listed events) 1).1 ≡ answer 1 3 0 1 Granted ∷ [])
+    × ((death_step (shard_broker (is_of 2 0) 1 listed events) 1).1 ≡ [])
     × (sent_by_shards 2 1 listed events 1 ≡ answer 1 3 0 1 Granted ∷ [])
 
 -- A tab under two partitions

@@ -6,7 +6,7 @@ use Rattle.wl_grammar.specs.declared.frame.Stamped.{Stamped}
 use Rattle.wl_grammar.specs.declared.frame.Addressed.{Addressed}
 use Rattle.wl_broker.specs.declared.seat.Seat.{Seat}
 use Rattle.wl_broker.specs.declared.seat.Seat.TheVariants.{Joined, Dead}
-use Rattle.wl_broker.specs.Broker.{BrokerState, started, hellos, place_of, Taking, Drops, Does, taking, burial}
+use Rattle.wl_broker.specs.Broker.{BrokerState, started, hellos, place_of, Taking, Drops, Does, taking, death_step}
 use Rattle.wl_broker.specs.Events.{Event, Comes, Dies, run}
 
 -- Contents of a shard
@@ -101,14 +101,14 @@ AnsweredByItsShard =
 -- The frames that the shards send when a tab dies, by rising shard.
 abbrev pub sent_by_shards : ℕ → ℕ → List (ℕ × ℕ) → List Event → ℕ → List Addressed
 sent_by_shards shards g listed events t =
-    flat_map (λ s. (burial (shard_broker (is_of shards s) g listed events) t).1) (range_with_len 0 shards)
+    flat_map (λ s. (death_step (shard_broker (is_of shards s) g listed events) t).1) (range_with_len 0 shards)
 
 -- Together these are the frames that the single broker sends.
 abbrev pub DeathsSentByShards : Type 0
 DeathsSentByShards =
     (shards g : ℕ) (listed : List (ℕ × ℕ)) (before : List Event) (t : ℕ) (after : List Event)
     → 0 < shards → StandsOnce listed (before ++ Dies t ∷ after)
-    → sent_by_shards shards g listed before t ≡ (burial (one_broker g listed before) t).1
+    → sent_by_shards shards g listed before t ≡ (death_step (one_broker g listed before) t).1
 
 -- The shard of the dead tab's partition sends all of them, and each other shard sends nothing.
 abbrev pub DeathsSentByOneShard : Type 0
@@ -117,7 +117,7 @@ DeathsSentByOneShard =
     → StandsOnce listed (before ++ Dies t ∷ after)
     → let b = one_broker g listed before in
     let mine = is_of shards s in
-    (burial (shard_broker mine g listed before) t).1 ≡ (if stands_in mine (place_of b t) then (burial b t).1 else [])
+    (death_step (shard_broker mine g listed before) t).1 ≡ (if stands_in mine (place_of b t) then (death_step b t).1 else [])
 
 -- The hellos of the shards, by rising shard, are those of the single broker in another order.
 abbrev pub HellosOfShards : Type 0

@@ -4,7 +4,7 @@ ghost use Rattle.std.specs.Prelude.{◌≡◌, ◌+◌, ◌≤◌, ◌++◌, IfO
 ghost use Rattle.std.specs.Vec.{vec_len, vec_capacity};
 ghost use Rattle.std.specs.Vec.Iter.{into_iter_items};
 ghost use Rattle.wl_broker.specs.Broker.{hello_to, hellos, outcome_of, answer_of, snapshot_entry_of, snapshot_of};
-ghost use Rattle.wl_broker.specs.Kept.{grant_of};
+ghost use Rattle.wl_broker.specs.BrokerInvariant.{grant_of};
 ghost use Rattle.wl_limits.specs.declared.frames.TheConstants.{ENTRY_LIMIT};
 ghost use Rattle.wl_grammar.specs.PartCount.{part_count};
 
@@ -30,14 +30,14 @@ fn hello(generation: u32, tab: u16) -> Addressed
 
 /// An answer to a tab, which states how many of its commands were taken.
 #[derive(Clone, Copy)]
-pub struct Reply {
+pub struct TabAnswer {
     pub tab: u16,
     pub upto: u32,
     pub number: u32,
     pub outcome: Outcome,
 }
 
-impl Reply {
+impl TabAnswer {
     /// Returns the frame of the answer in this generation.
     pub fn to_frame(self, generation: u32) -> Addressed
         ensures { result ≡ answer_of generation self.upto self.tab self.number self.outcome }

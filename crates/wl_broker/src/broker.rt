@@ -5,13 +5,13 @@ ghost use Rattle.wl_limits.specs.declared.tabs.TheConstants.{LAST_NUMBER};
 ghost use Rattle.wl_grammar.specs.declared.frame.Addressed.{Addressed};
 ghost use Rattle.wl_grammar.specs.declared.frame.Operation.TheVariants.{Query};
 ghost use Rattle.wl_grammar.specs.Grammar.{TabsRiseFrom};
-ghost use Rattle.wl_parts.specs.ReportParts.{fits, is_there, with_told, all_below};
-ghost use Rattle.wl_parts.specs.Kept.{told, joining};
+ghost use Rattle.wl_broker_reports.specs.ReportParts.{fits, has_part, with_told, all_below};
+ghost use Rattle.wl_broker_reports.specs.PartialReports.{told, joining};
 ghost use Rattle.wl_broker.specs.declared.seat.Seat.TheVariants.{Joined, Dead};
-ghost use Rattle.wl_broker.specs.Broker.{started, hellos, taking, burial, Does, Drops, copied, repeated, IsTaken, is_active, is_dead, is_joined, seat_of, listed_at, elsewhere, is_misplaced, take_told, take_command, partial_of, join_if, keeping, join, perform, later_answer, next_of, buried_at, with_seat, manager_of};
-ghost use Rattle.wl_broker.specs.Kept.{Had};
+ghost use Rattle.wl_broker.specs.Broker.{started, hellos, taking, death_step, Does, Drops, copied, repeated, IsTaken, is_active, is_dead, is_joined, seat_of, listed_at, elsewhere, is_misplaced, take_report_part, take_command, partial_of, join_if, keeping, join, perform, later_answer, next_of, buried_at, with_seat, manager_of};
+ghost use Rattle.wl_broker.specs.BrokerInvariant.{Had};
 
-use crate::answers::{Reply, hellos};
+use crate::answers::{TabAnswer, hellos};
 use crate::changes::{
     command_at, end_at, is_active_in, is_too_many, outcome_in, restore_at, row_at, snapshots_at,
     waiting_in,
@@ -20,16 +20,16 @@ use crate::dropped::Dropped;
 use crate::judging::{is_bad_report, is_held_by_newcomer, is_misplaced, is_out_of_turn};
 use crate::listed::{awaited_at, count_arrival, listed_at, missing_at, missing_without, read_list};
 use crate::outs::Outs;
-use crate::partition::Partition;
-use crate::rooms::Rooms;
+use crate::partition_locks::PartitionLocks;
 use crate::seat::Seat;
 use crate::seats::{is_dead, is_joined, limit_in, next_in, put_back, seat_of, set_seat};
+use crate::spare_buffers::SpareBuffers;
 use std::alloc::{AllocError, Global};
 use std::collections::BTreeMap;
 use std::marker::Model;
+use wl_broker_reports::PartHeader;
+use wl_broker_reports::partial_report::{PartialReport, discard, has_part, is_last, keep, kept_of};
 use wl_grammar::{Entry, Operation, Stamped, Upward};
-use wl_parts::Heading;
-use wl_parts::kept::{Kept, give_up, is_last, is_there, keep, kept_of};
 use wl_table::LockTable;
 
 /// The broker (lock manager) of one generation, over any kind of lock table. Contracts see it as
@@ -43,16 +43,16 @@ pub struct Broker<T: LockTable> {
     /// Number of listed tabs that have not arrived, by partition.
     missing: BTreeMap<u16, usize>,
     seats: BTreeMap<u16, Seat>,
-    partitions: BTreeMap<u16, Partition<T>>,
+    partitions: BTreeMap<u16, PartitionLocks<T>>,
     /// The incomplete reports, by tab.
-    kept: BTreeMap<u16, Kept>,
+    kept: BTreeMap<u16, PartialReport>,
     /// Spare output buffers.
-    rooms: Rooms,
+    rooms: SpareBuffers,
 }
 
 impl<T: LockTable> Model for Broker<T> {
     ghost use Rattle.wl_broker.specs.Broker.{BrokerState};
-    ghost use Rattle.wl_broker.specs.Kept.{broker_of, IsConsistent, AwaitsParts, AreCounts};
+    ghost use Rattle.wl_broker.specs.BrokerInvariant.{broker_of, IsConsistent, AwaitsParts, AreCounts};
 
     ghost Value = { BrokerState };
 
@@ -85,7 +85,7 @@ impl<T: LockTable> Broker<T> {
             seats: BTreeMap::new(alloc),
             partitions: BTreeMap::new(alloc),
             kept: BTreeMap::new(alloc),
-            rooms: Rooms::new(alloc),
+            rooms: SpareBuffers::new(alloc),
         };
         Ok((broker, Outs::new(hellos)))
     }
@@ -142,21 +142,21 @@ impl<T: LockTable> Broker<T> {
                 &command.operation,
                 copies,
             ),
-            Upward::Report(report) => self.take_told(
+            Upward::Report(report) => self.take_report_part(
                 stamped.tab,
                 stamped.partition,
                 seat,
                 place,
-                Heading::at_once(report),
+                PartHeader::at_once(report),
                 report.entries.as_slice(),
                 copies,
             ),
-            Upward::ReportPart(part) => self.take_told(
+            Upward::ReportPart(part) => self.take_report_part(
                 stamped.tab,
                 stamped.partition,
                 seat,
                 place,
-                Heading::in_part(part),
+                PartHeader::in_part(part),
                 part.entries.as_slice(),
                 copies,
             ),
@@ -166,7 +166,7 @@ impl<T: LockTable> Broker<T> {
     /// Records the death of a tab, removes its locks and requests, and returns the frames to send.
     /// A second call for the same tab changes nothing. Fails if out of memory.
     pub fn dead(&mut self, tab: u16) -> Result<Outs, AllocError>
-        ensures dead { IfOk result (λ outs. burial self.old tab ≡ (self.new, outs)) }
+        ensures dead { IfOk result (λ outs. death_step self.old tab ≡ (self.new, outs)) }
         ensures err { OnErr result (self.new ≡ self.old) }
     {
         match self.dead_copies(tab, 1) {
@@ -178,15 +178,15 @@ impl<T: LockTable> Broker<T> {
     /// Records a death like `dead`, and returns the frames in `copies` equal lists. It allocates
     /// all memory before it changes anything.
     pub fn dead_copies(&mut self, tab: u16, copies: usize) -> Result<Vec<Outs>, AllocError>
-        ensures dead { IfOk result (λ all. repeated copies (burial self.old tab) ≡ (self.new, all.items)) }
+        ensures dead { IfOk result (λ all. repeated copies (death_step self.old tab) ≡ (self.new, all.items)) }
         ensures err { OnErr result (self.new ≡ self.old) }
     {
         match seat_of(&self.seats, tab) {
             Some(Seat::Dead) => self.say_nothing(copies),
-            Some(Seat::Joined { partition, .. }) => self.bury(tab, partition, copies),
+            Some(Seat::Joined { partition, .. }) => self.remove_tab(tab, partition, copies),
             None => match listed_at(&self.listed, tab) {
-                Some(partition) => self.bury(tab, partition, copies),
-                None => self.bury_stranger(tab, copies),
+                Some(partition) => self.remove_tab(tab, partition, copies),
+                None => self.remove_unknown_tab(tab, copies),
             },
         }
     }
@@ -208,13 +208,13 @@ impl<T: LockTable> Broker<T> {
     }
 
     /// Takes a report or a part of one, from a tab that is neither dead nor misplaced.
-    fn take_told(
+    fn take_report_part(
         &mut self,
         tab: u16,
         partition: u16,
         seat: Option<Seat>,
         place: Option<u16>,
-        heading: Heading,
+        heading: PartHeader,
         entries: &[Entry],
         copies: usize,
     ) -> Result<Vec<Outs>, Dropped>
@@ -223,12 +223,12 @@ impl<T: LockTable> Broker<T> {
         requires alive { is_dead (seat_of self.old tab) ≡ false }
         requires placed { is_misplaced self.old tab partition ≡ false }
         ensures taken { IfOk result (λ all.
-            copied copies (take_told self.old tab partition (told heading entries.now))
+            copied copies (take_report_part self.old tab partition (told heading entries.now))
             ≡ Some (self.new, all.items)) }
         ensures dropped { IfErr result (λ d.
-            d ≢ Dropped.Memory → take_told self.old tab partition (told heading entries.now) ≡ Drops d) }
+            d ≢ Dropped.Memory → take_report_part self.old tab partition (told heading entries.now) ≡ Drops d) }
         ensures memory { IfErr result (λ d.
-            d ≡ Dropped.Memory → IsTaken (take_told self.old tab partition (told heading entries.now))) }
+            d ≡ Dropped.Memory → IsTaken (take_report_part self.old tab partition (told heading entries.now))) }
         ensures err { OnErr result (self.new ≡ self.old) }
     {
         if is_joined(seat) {
@@ -240,7 +240,7 @@ impl<T: LockTable> Broker<T> {
         if is_bad_report(&self.kept, tab, heading, entries) {
             return Err(Dropped::BadReport);
         }
-        if is_there(&self.kept, tab, heading.part) {
+        if has_part(&self.kept, tab, heading.part) {
             return Err(Dropped::PartTwice);
         }
         self.join_if(tab, partition, place, heading, entries, copies)
@@ -299,7 +299,7 @@ impl<T: LockTable> Broker<T> {
         tab: u16,
         partition: u16,
         place: Option<u16>,
-        heading: Heading,
+        heading: PartHeader,
         entries: &[Entry],
         copies: usize,
     ) -> Result<Vec<Outs>, AllocError>
@@ -308,7 +308,7 @@ impl<T: LockTable> Broker<T> {
         requires placed { elsewhere (listed_at tab self.old.listed) partition ≡ false }
         requires below { all_below heading.base entries.now ≡ true }
         requires fits { fits (told heading entries.now) (partial_of self.old tab) ≡ true }
-        requires missing { is_there (told heading entries.now) (partial_of self.old tab) ≡ false }
+        requires missing { has_part (told heading entries.now) (partial_of self.old tab) ≡ false }
         ensures joined { let k = with_told partition (told heading entries.now) (partial_of self.old tab) in
             IfOk result (λ all. copied copies (join_if self.old tab partition k)
             ≡ Some (self.new, all.items)) }
@@ -331,7 +331,7 @@ impl<T: LockTable> Broker<T> {
         &mut self,
         tab: u16,
         partition: u16,
-        heading: Heading,
+        heading: PartHeader,
         entries: &[Entry],
         copies: usize,
     ) -> Result<Vec<Outs>, AllocError>
@@ -356,7 +356,7 @@ impl<T: LockTable> Broker<T> {
         tab: u16,
         partition: u16,
         place: Option<u16>,
-        heading: Heading,
+        heading: PartHeader,
         entries: &[Entry],
         copies: usize,
     ) -> Result<Vec<Outs>, AllocError>
@@ -388,7 +388,7 @@ impl<T: LockTable> Broker<T> {
         ) {
             Ok(granted) => {
                 count_arrival(&mut self.missing, place);
-                give_up(&mut self.kept, tab);
+                discard(&mut self.kept, tab);
                 self.rooms.tell(
                     &mut all,
                     copies,
@@ -407,7 +407,12 @@ impl<T: LockTable> Broker<T> {
     }
 
     /// Removes the locks and requests of a dead tab in its partition.
-    fn bury(&mut self, tab: u16, partition: u16, copies: usize) -> Result<Vec<Outs>, AllocError>
+    fn remove_tab(
+        &mut self,
+        tab: u16,
+        partition: u16,
+        copies: usize,
+    ) -> Result<Vec<Outs>, AllocError>
         requires { Had self.old tab partition }
         ensures buried { IfOk result (λ all.
             repeated copies (buried_at (with_seat tab Dead self.old) tab (Some partition))
@@ -423,7 +428,7 @@ impl<T: LockTable> Broker<T> {
         match end_at(self.alloc, &mut self.partitions, partition, tab, is_active) {
             Ok(granted) => {
                 count_arrival(&mut self.missing, place);
-                give_up(&mut self.kept, tab);
+                discard(&mut self.kept, tab);
                 self.rooms.tell(
                     &mut all,
                     copies,
@@ -442,7 +447,7 @@ impl<T: LockTable> Broker<T> {
     }
 
     /// Records the death of a tab that belongs to no partition.
-    fn bury_stranger(&mut self, tab: u16, copies: usize) -> Result<Vec<Outs>, AllocError>
+    fn remove_unknown_tab(&mut self, tab: u16, copies: usize) -> Result<Vec<Outs>, AllocError>
         requires new { seat_of self.old tab ≡ None }
         requires unlisted { listed_at tab self.old.listed ≡ None }
         ensures buried { IfOk result (λ all.
@@ -451,7 +456,7 @@ impl<T: LockTable> Broker<T> {
     {
         let mut all = self.rooms.prepare(copies, 0, 0)?;
         self.seats.insert(tab, Seat::Dead)?;
-        give_up(&mut self.kept, tab);
+        discard(&mut self.kept, tab);
         self.rooms
             .tell(&mut all, copies, self.generation, &self.seats, None, &[]);
         Ok(all)
@@ -484,7 +489,7 @@ impl<T: LockTable> Broker<T> {
         ensures same { self.new ≡ self.old }
     {
         let outcome = outcome_in(row_at(&self.partitions, partition), tab, number, operation);
-        let reply = Reply {
+        let reply = TabAnswer {
             tab,
             upto,
             number,
@@ -542,7 +547,7 @@ impl<T: LockTable> Broker<T> {
             limit,
         };
         set_seat(&mut self.seats, tab, seat);
-        let reply = Reply {
+        let reply = TabAnswer {
             tab,
             upto: next,
             number,

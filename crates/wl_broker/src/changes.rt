@@ -4,14 +4,14 @@ ghost use Rattle.std.specs.Prelude.{◌≡◌, IfOk, OnOk, OnErr, IsTrue, true, 
 ghost use Rattle.std.specs.Option.{option_copied};
 ghost use Rattle.wl_draft.specs.declared.row.Standing.TheVariants.{Absent};
 ghost use Rattle.wl_draft.specs.Tables.{at, put};
-ghost use Rattle.wl_draft.specs.Locks.{settle, newly, settle_if, newly_if, standing, live, grants, without, ended, restored};
+ghost use Rattle.wl_draft.specs.Locks.{settle, newly_granted, settle_if, newly_granted_if, standing, live, grants, without, ended, restored};
 ghost use Rattle.wl_broker.specs.Broker.{drafted, is_lock, outcome_at, snapshot_of, snapshot_entries};
-ghost use Rattle.wl_broker.specs.Kept.{no_partition, state_of, row_or};
+ghost use Rattle.wl_broker.specs.BrokerInvariant.{no_partition, state_of, row_or};
 
 use crate::answers::outcome;
 use crate::judging::is_lock;
 use crate::outs::Outs;
-use crate::partition::Partition;
+use crate::partition_locks::PartitionLocks;
 use std::alloc::{AllocError, Global};
 use std::collections::BTreeMap;
 use wl_draft::{Entry, Grant};
@@ -20,16 +20,16 @@ use wl_table::LockTable;
 
 /// Returns the partition, if any tab has used it.
 pub fn row_at<T: LockTable>(
-    partitions: &BTreeMap<u16, Partition<T>>,
+    partitions: &BTreeMap<u16, PartitionLocks<T>>,
     partition: u16,
-) -> Option<&Partition<T>>
+) -> Option<&PartitionLocks<T>>
     ensures { row_or (option_copied result) ≡ at no_partition partitions.now.entries partition }
 {
     partitions.get(&partition)
 }
 
 /// Returns whether the partition is active.
-pub fn is_active_in<T: LockTable>(row: Option<&Partition<T>>) -> bool
+pub fn is_active_in<T: LockTable>(row: Option<&PartitionLocks<T>>) -> bool
     ensures { result ≡ (row_or (option_copied row.entry)).is_active }
 {
     match row {
@@ -39,7 +39,7 @@ pub fn is_active_in<T: LockTable>(row: Option<&Partition<T>>) -> bool
 }
 
 /// Returns the number of waiting requests in the partition.
-pub fn waiting_in<T: LockTable>(row: Option<&Partition<T>>) -> usize
+pub fn waiting_in<T: LockTable>(row: Option<&PartitionLocks<T>>) -> usize
     ensures { result ≡ length (row_or (option_copied row.entry)).locks.waiting }
 {
     match row {
@@ -49,7 +49,7 @@ pub fn waiting_in<T: LockTable>(row: Option<&Partition<T>>) -> usize
 }
 
 /// Returns the number of locks that the tab holds or waits for.
-fn live_in<T: LockTable>(row: Option<&Partition<T>>, tab: u16) -> usize
+fn live_in<T: LockTable>(row: Option<&PartitionLocks<T>>, tab: u16) -> usize
     ensures { result ≡ live (row_or (option_copied row.entry)).locks tab }
 {
     match row {
@@ -60,7 +60,7 @@ fn live_in<T: LockTable>(row: Option<&Partition<T>>, tab: u16) -> usize
 
 /// Returns whether the operation requests a lock beyond the tab's limit.
 pub fn is_too_many<T: LockTable>(
-    row: Option<&Partition<T>>,
+    row: Option<&PartitionLocks<T>>,
     tab: u16,
     limit: u16,
     operation: &Operation,
@@ -73,7 +73,7 @@ pub fn is_too_many<T: LockTable>(
 
 /// Returns the outcome of a command that was taken, except for the first answer to a query.
 pub fn outcome_in<T: LockTable>(
-    row: Option<&Partition<T>>,
+    row: Option<&PartitionLocks<T>>,
     tab: u16,
     number: u32,
     operation: &Operation,
@@ -93,7 +93,7 @@ pub fn outcome_in<T: LockTable>(
 /// Returns `copies` copies of the answer to a query in an active partition.
 pub fn snapshots_at<T: LockTable>(
     alloc: Global,
-    partitions: &BTreeMap<u16, Partition<T>>,
+    partitions: &BTreeMap<u16, PartitionLocks<T>>,
     partition: u16,
     copies: usize,
     generation: u32,
@@ -105,7 +105,7 @@ pub fn snapshots_at<T: LockTable>(
     ensures copies { let m = (at no_partition partitions.now.entries partition).locks in
         IfOk result (λ all. all.items
         ≡ replicate copies (snapshot_of generation upto tab number (snapshot_entries m))) }
-    ensures settled { OnOk result (newly (at no_partition partitions.now.entries partition).locks ≡ []) }
+    ensures settled { OnOk result (newly_granted (at no_partition partitions.now.entries partition).locks ≡ []) }
 {
     match row_at(partitions, partition) {
         Some(row) => row.snapshots(alloc, copies, generation, upto, tab, number),
@@ -117,7 +117,7 @@ pub fn snapshots_at<T: LockTable>(
 /// grants.
 pub fn restore_at<T: LockTable>(
     alloc: Global,
-    partitions: &mut BTreeMap<u16, Partition<T>>,
+    partitions: &mut BTreeMap<u16, PartitionLocks<T>>,
     partition: u16,
     tab: u16,
     entries: &[Entry],
@@ -125,7 +125,7 @@ pub fn restore_at<T: LockTable>(
 ) -> Result<Vec<Grant>, AllocError>
     ensures grants { let m = restored tab entries.now
         (at no_partition partitions.old.entries partition).locks in
-        IfOk result (λ g. g.items ≡ grants (newly_if is_active m)) }
+        IfOk result (λ g. g.items ≡ grants (newly_granted_if is_active m)) }
     ensures ok { let m = restored tab entries.now (at no_partition partitions.old.entries partition).locks in
         OnOk result (partitions.new.entries
         ≡ put partition (state_of (settle_if is_active m) is_active) partitions.old.entries) }
@@ -134,7 +134,7 @@ pub fn restore_at<T: LockTable>(
     match partitions.get_mut(&partition) {
         Some(row) => row.restore(tab, entries, is_active),
         None => {
-            let mut row = Partition::new(alloc);
+            let mut row = PartitionLocks::new(alloc);
             let granted = row.restore(tab, entries, is_active)?;
             partitions.insert(partition, row)?;
             Ok(granted)
@@ -146,13 +146,13 @@ pub fn restore_at<T: LockTable>(
 /// the grants.
 pub fn end_at<T: LockTable>(
     alloc: Global,
-    partitions: &mut BTreeMap<u16, Partition<T>>,
+    partitions: &mut BTreeMap<u16, PartitionLocks<T>>,
     partition: u16,
     tab: u16,
     is_active: bool,
 ) -> Result<Vec<Grant>, AllocError>
     ensures grants { let m = ended tab (at no_partition partitions.old.entries partition).locks in
-        IfOk result (λ g. g.items ≡ grants (newly_if is_active m)) }
+        IfOk result (λ g. g.items ≡ grants (newly_granted_if is_active m)) }
     ensures ok { let m = ended tab (at no_partition partitions.old.entries partition).locks in
         OnOk result (partitions.new.entries
         ≡ put partition (state_of (settle_if is_active m) is_active) partitions.old.entries) }
@@ -161,7 +161,7 @@ pub fn end_at<T: LockTable>(
     match partitions.get_mut(&partition) {
         Some(row) => row.end_tab(tab, is_active),
         None => {
-            let mut row = Partition::new(alloc);
+            let mut row = PartitionLocks::new(alloc);
             let granted = row.end_tab(tab, is_active)?;
             partitions.insert(partition, row)?;
             Ok(granted)
@@ -173,7 +173,7 @@ pub fn end_at<T: LockTable>(
 /// other requests, and the command's outcome.
 pub fn command_at<T: LockTable>(
     alloc: Global,
-    partitions: &mut BTreeMap<u16, Partition<T>>,
+    partitions: &mut BTreeMap<u16, PartitionLocks<T>>,
     partition: u16,
     tab: u16,
     number: u32,
@@ -183,7 +183,7 @@ pub fn command_at<T: LockTable>(
     requires new { standing (at no_partition partitions.old.entries partition).locks tab number ≡ Absent }
     ensures grants { let m = drafted tab number operation.now
         (at no_partition partitions.old.entries partition).locks in
-        IfOk result (λ r. r.0.items ≡ grants (without tab number (newly m))) }
+        IfOk result (λ r. r.0.items ≡ grants (without tab number (newly_granted m))) }
     ensures outcome { let m = drafted tab number operation.now
         (at no_partition partitions.old.entries partition).locks in
         IfOk result (λ r. r.1 ≡ outcome_at (settle m) tab number operation.now) }

@@ -1,4 +1,5 @@
 //! Reasons why the broker drops a message.
+
 use thiserror::Error;
 
 /// Reason why the broker did not take a message. A dropped message changes nothing.

@@ -2,19 +2,19 @@
 
 ghost use Rattle.std.specs.Prelude.{◌≡◌, ◌&&◌, ◌||◌, ◌==◌, not, nat_lt};
 ghost use Rattle.wl_draft.specs.Tables.{find};
-ghost use Rattle.wl_parts.specs.ReportParts.{kept_at, has_held, all_below, fits};
-ghost use Rattle.wl_parts.specs.Kept.{told};
+ghost use Rattle.wl_broker_reports.specs.ReportParts.{kept_at, has_held, all_below, fits};
+ghost use Rattle.wl_broker_reports.specs.PartialReports.{told};
 ghost use Rattle.wl_broker.specs.Broker.{elsewhere, seated_at, is_listed, is_lock};
 ghost use Rattle.wl_limits.specs.declared.tabs.TheConstants.{LAST_NUMBER};
 
 use crate::seat::Seat;
 use crate::seats::seated_at;
 use std::collections::BTreeMap;
+use wl_broker_reports::PartHeader;
+use wl_broker_reports::partial_report::{PartialReport, fits, kept_at};
 use wl_draft::Entry;
 use wl_grammar::Operation;
 use wl_limits::tabs::LAST_NUMBER;
-use wl_parts::Heading;
-use wl_parts::kept::{Kept, fits, kept_at};
 
 fn elsewhere(place: Option<u16>, partition: u16) -> bool
     ensures { result ≡ elsewhere place partition }
@@ -30,7 +30,7 @@ fn elsewhere(place: Option<u16>, partition: u16) -> bool
 pub fn is_misplaced(
     place: Option<u16>,
     seat: Option<Seat>,
-    kept: &BTreeMap<u16, Kept>,
+    kept: &BTreeMap<u16, PartialReport>,
     tab: u16,
     partition: u16,
 ) -> bool
@@ -65,9 +65,9 @@ fn all_below(base: u32, entries: &[Entry]) -> bool
 /// Returns whether some entry is not below the base, or the part does not fit the parts kept of the
 /// report.
 pub fn is_bad_report(
-    kept: &BTreeMap<u16, Kept>,
+    kept: &BTreeMap<u16, PartialReport>,
     tab: u16,
-    heading: Heading,
+    heading: PartHeader,
     entries: &[Entry],
 ) -> bool
     ensures { result ≡ not

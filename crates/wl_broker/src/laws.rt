@@ -3,10 +3,10 @@
 ghost use Rattle.std.specs.Prelude.{ℕ, List};
 ghost use Rattle.wl_grammar.specs.declared.frame.Stamped.{Stamped};
 ghost use Rattle.wl_broker.specs.Broker.{BrokerState};
-ghost use Rattle.wl_broker.specs.Laws.{IsListedOnce, TakesInOnePartition, BuriesInOnePartition, GrantsNothingWhileRecovering, BuriesInSilenceWhileRecovering, StaysActive, MovesItsOwn, KeepsCompatible, LeavesPartsOfOthers, CountsCommands, WaitsForItsOwn};
+ghost use Rattle.wl_broker.specs.BrokerLaws.{IsListedOnce, TakesInOnePartition, BuriesInOnePartition, GrantsNothingWhileRecovering, BuriesInSilenceWhileRecovering, StaysActive, MovesItsOwn, KeepsCompatible, LeavesPartsOfOthers, CountsCommands, WaitsForItsOwn};
 ghost use Rattle.wl_broker.specs.Grants.{StartsSettled, TakesSettled, BuriesSettled, BuriesItsOwn, BuriesOnce, BuriesActive, TakesTelling, BuriesTelling};
 ghost use Rattle.wl_broker.specs.Shards.{SeenAtEachShard, AnsweredByItsShard, DeathsSentByShards, DeathsSentByOneShard, HellosOfShards, InOneOrder};
-ghost use Rattle.wl_broker.specs.Speech.{SpellsStart, SpellsTaking, SpellsBurial};
+ghost use Rattle.wl_broker.specs.SentFrames.{SpellsStart, SpellsTaking, SpellsBurial};
 
 /// States the effects of any message and any death. Each changes only one partition. Nothing is
 /// granted while the partition recovers. A message adds or removes only locks of its own tab, and
@@ -48,7 +48,7 @@ pub fn law_grants()
 pub fn law_speech()
     ensures start { (g : ℕ) (listed : List (ℕ × ℕ)) → SpellsStart g listed }
     ensures taking { (b : BrokerState) (s : Stamped) → SpellsTaking b s }
-    ensures burial { (b : BrokerState) (t : ℕ) → SpellsBurial b t }
+    ensures death_step { (b : BrokerState) (t : ℕ) → SpellsBurial b t }
 {}
 
 /// States that the brokers of the shards behave as one broker. This holds for each start list and

@@ -9,11 +9,11 @@ mod judging;
 pub mod laws;
 mod listed;
 pub mod outs;
-mod partition;
-mod rooms;
+mod partition_locks;
 pub mod rows;
 pub mod seat;
 mod seats;
+mod spare_buffers;
 
 pub use broker::Broker;
 pub use dropped::Dropped;

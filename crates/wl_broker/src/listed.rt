@@ -5,7 +5,7 @@ ghost use Rattle.std.specs.Prelude.{◌≡◌, ◌-◌, IfOk, ℕ, []};
 ghost use Rattle.wl_draft.specs.Tables.{at};
 ghost use Rattle.wl_grammar.specs.Grammar.{TabsRiseFrom};
 ghost use Rattle.wl_broker.specs.Broker.{listed_at};
-ghost use Rattle.wl_broker.specs.Kept.{missing_in, awaited_at, one_at};
+ghost use Rattle.wl_broker.specs.BrokerInvariant.{missing_in, awaited_at, one_at};
 
 use crate::seat::Seat;
 use std::alloc::{AllocError, Global};

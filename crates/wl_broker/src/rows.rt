@@ -1,6 +1,6 @@
 //! Worked examples, computed on the broker's definition.
 
-ghost use Rattle.wl_broker.specs.Rows.{SharedThenExclusive, ReleaseHandsOver, LateGrantAfterAbort, RepeatedRequest, RestartWhileAsked, RestartWhileHeld, DeathHandsOver, OtherOriginUnblocked, SnapshotRow, OutOfTurnRow, HeldNewcomer, DeadTabUnblocks, InTwoParts, PartsThatDoNotFit};
+ghost use Rattle.wl_broker.specs.BrokerRows.{SharedThenExclusive, ReleaseHandsOver, LateGrantAfterAbort, RepeatedRequest, RestartWhileAsked, RestartWhileHeld, DeathHandsOver, OtherOriginUnblocked, SnapshotRow, OutOfTurnRow, HeldNewcomer, DeadTabUnblocks, InTwoParts, PartsThatDoNotFit};
 ghost use Rattle.wl_broker.specs.ShardRows.{TwoShards, DeathInOneShard, UnderTwoPartitions};
 
 /// States the results of the definition for short conversations.

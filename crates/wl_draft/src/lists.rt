@@ -86,19 +86,19 @@ pub(crate) fn reserve_grants(
 }
 
 // Grants each grantable request, in the order of queueing.
-pub(crate) fn settle(held: &mut Vec<Row>, waiting: &mut Vec<Row>, newly: &mut Vec<Grant>)
+pub(crate) fn settle(held: &mut Vec<Row>, waiting: &mut Vec<Row>, newly_granted: &mut Vec<Grant>)
     requires held_room { vec_len held.old + vec_len waiting.old ≤ vec_capacity held.old }
-    requires newly_room { vec_len newly.old + vec_len waiting.old ≤ vec_capacity newly.old }
+    requires newly_room { vec_len newly_granted.old + vec_len waiting.old ≤ vec_capacity newly_granted.old }
     ensures held { held.new.items ≡ held.old.items ++ granted held.old.items [] waiting.old.items }
     ensures waiting { waiting.new.items ≡ left_waiting held.old.items [] waiting.old.items }
-    ensures newly { newly.new.items
-        ≡ newly.old.items ++ grants (granted held.old.items [] waiting.old.items) }
+    ensures newly_granted { newly_granted.new.items
+        ≡ newly_granted.old.items ++ grants (granted held.old.items [] waiting.old.items) }
 {
     let mut index = 0;
     while index < waiting.len() {
         if is_grantable(held, &waiting[..index], &waiting[index]) {
             let row = waiting.remove(index);
-            newly.push(Grant::from(&row)).unwrap();
+            newly_granted.push(Grant::from(&row)).unwrap();
             held.push(row).unwrap();
         } else {
             index += 1;
@@ -123,7 +123,7 @@ pub fn rows_of(
         let row = Row {
             client,
             number: entry.number,
-            name: entry.name.copy(alloc)?,
+            name: entry.name.clone()?,
             mode: entry.mode,
         };
         if entry.held {

@@ -2,7 +2,7 @@
 
 ghost use Rattle.std.specs.Prelude.{◌≡◌, [], ◌∷◌, IfOk, OnOk, OnErr, length, if◌then◌else◌};
 ghost use Rattle.wl_draft.specs.declared.row.Standing.TheVariants.{Absent};
-ghost use Rattle.wl_draft.specs.Locks.{no_locks, settle, newly, settle_if, newly_if, is_grantable, standing, live, grantable, grants, row_of, queued, probed, released, aborted, ended, restored};
+ghost use Rattle.wl_draft.specs.Locks.{no_locks, settle, newly_granted, settle_if, newly_granted_if, is_grantable, standing, live, grantable, grants, row_of, queued, probed, released, aborted, ended, restored};
 
 use crate::lists;
 use crate::mode::Mode;
@@ -42,7 +42,7 @@ impl Manager {
 
     /// Queues a request, and settles. The pair must be new. Returns the grants in the order of
     /// queueing. Fails if out of memory.
-    #[tactic(auto, unfolding(crate::specs::Locks::settle, crate::specs::Locks::newly, crate::specs::Locks::queued))]
+    #[tactic(auto, unfolding(crate::specs::Locks::settle, crate::specs::Locks::newly_granted, crate::specs::Locks::queued))]
     pub fn request(
         &mut self,
         client: u16,
@@ -52,7 +52,7 @@ impl Manager {
     ) -> Result<Vec<Grant>, AllocError>
         requires { standing self.old client number ≡ Absent }
         ensures grants { IfOk result
-            (λ g. g.items ≡ grants (newly (queued (row_of client number name.now mode) self.old))) }
+            (λ g. g.items ≡ grants (newly_granted (queued (row_of client number name.now mode) self.old))) }
         ensures ok { OnOk result
             (self.new ≡ settle (queued (row_of client number name.now mode) self.old)) }
         ensures err { OnErr result (self.new ≡ self.old) }
@@ -60,7 +60,7 @@ impl Manager {
         let row = Row {
             client,
             number,
-            name: name.copy(self.alloc)?,
+            name: name.clone()?,
             mode,
         };
         self.waiting.reserve(1)?;
@@ -91,7 +91,7 @@ impl Manager {
         let row = Row {
             client,
             number,
-            name: name.copy(self.alloc)?,
+            name: name.clone()?,
             mode,
         };
         let mut granted = lists::reserve_grants(self.alloc, &mut self.held, 1)?;
@@ -104,10 +104,10 @@ impl Manager {
 
     /// Releases a held lock, and settles. If the pair holds no lock, it only settles. Returns the
     /// grants. Fails if out of memory.
-    #[tactic(auto, unfolding(crate::specs::Locks::settle, crate::specs::Locks::newly, crate::specs::Locks::released))]
+    #[tactic(auto, unfolding(crate::specs::Locks::settle, crate::specs::Locks::newly_granted, crate::specs::Locks::released))]
     pub fn release(&mut self, client: u16, number: u32) -> Result<Vec<Grant>, AllocError>
         ensures grants { IfOk result
-            (λ g. g.items ≡ grants (newly (released client number self.old))) }
+            (λ g. g.items ≡ grants (newly_granted (released client number self.old))) }
         ensures ok { OnOk result (self.new ≡ settle (released client number self.old)) }
         ensures err { OnErr result (self.new ≡ self.old) }
     {
@@ -118,10 +118,10 @@ impl Manager {
     }
 
     /// Removes a pair's lock or request, and settles. Returns the grants. Fails if out of memory.
-    #[tactic(auto, unfolding(crate::specs::Locks::settle, crate::specs::Locks::newly, crate::specs::Locks::aborted))]
+    #[tactic(auto, unfolding(crate::specs::Locks::settle, crate::specs::Locks::newly_granted, crate::specs::Locks::aborted))]
     pub fn abort(&mut self, client: u16, number: u32) -> Result<Vec<Grant>, AllocError>
         ensures grants { IfOk result
-            (λ g. g.items ≡ grants (newly (aborted client number self.old))) }
+            (λ g. g.items ≡ grants (newly_granted (aborted client number self.old))) }
         ensures ok { OnOk result (self.new ≡ settle (aborted client number self.old)) }
         ensures err { OnErr result (self.new ≡ self.old) }
     {
@@ -134,10 +134,10 @@ impl Manager {
 
     /// Removes all locks and requests of a client, and settles if `settle` is set. Returns the
     /// grants. Fails if out of memory.
-    #[tactic(auto, unfolding(crate::specs::Locks::settle, crate::specs::Locks::newly, crate::specs::Locks::ended))]
+    #[tactic(auto, unfolding(crate::specs::Locks::settle, crate::specs::Locks::newly_granted, crate::specs::Locks::ended))]
     pub fn end_client(&mut self, client: u16, settle: bool) -> Result<Vec<Grant>, AllocError>
         ensures grants { IfOk result
-            (λ g. g.items ≡ grants (newly_if settle (ended client self.old))) }
+            (λ g. g.items ≡ grants (newly_granted_if settle (ended client self.old))) }
         ensures ok { OnOk result (self.new ≡ settle_if settle (ended client self.old)) }
         ensures err { OnErr result (self.new ≡ self.old) }
     {
@@ -152,7 +152,7 @@ impl Manager {
 
     /// Appends the entries of a client's report, and settles if `settle` is set. Returns the
     /// grants. Fails if out of memory.
-    #[tactic(auto, unfolding(crate::specs::Locks::settle, crate::specs::Locks::newly, crate::specs::Locks::restored))]
+    #[tactic(auto, unfolding(crate::specs::Locks::settle, crate::specs::Locks::newly_granted, crate::specs::Locks::restored))]
     pub fn restore(
         &mut self,
         client: u16,
@@ -160,7 +160,7 @@ impl Manager {
         settle: bool,
     ) -> Result<Vec<Grant>, AllocError>
         ensures grants { IfOk result
-            (λ g. g.items ≡ grants (newly_if settle (restored client entries.now self.old))) }
+            (λ g. g.items ≡ grants (newly_granted_if settle (restored client entries.now self.old))) }
         ensures ok { OnOk result
             (self.new ≡ settle_if settle (restored client entries.now self.old)) }
         ensures err { OnErr result (self.new ≡ self.old) }

@@ -1,4 +1,5 @@
 //! Mode of a lock.
+
 ghost use Rattle.std.specs.Prelude.{◌≡◌};
 ghost use Rattle.wl_draft.specs.Locks.{conflict};
 

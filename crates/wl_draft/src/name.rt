@@ -1,11 +1,11 @@
 //! Name of a lock or of a channel.
-ghost use Rattle.std.specs.Prelude.{◌≡◌, IfOk, bytes_eq};
+
+ghost use Rattle.std.specs.Prelude.{◌≡◌, bytes_eq};
 ghost use Rattle.std.specs.String.{string_bytes};
 ghost use Rattle.std.specs.Str.{IsUtf8};
 ghost use Rattle.std.specs.Cmp.Rules.{comparing};
 ghost use Rattle.std.proofs.Common.{rules};
 
-use std::alloc::{AllocError, Global};
 use std::marker::Model;
 
 /// The name of a lock or of a channel, which may be any text. Contracts see it as its bytes.
@@ -44,13 +44,6 @@ impl Name {
         ensures utf8 { IsUtf8 self.now }
     {
         self.text.as_str()
-    }
-
-    /// Returns a copy. Fails if out of memory.
-    pub fn copy(&self, _alloc: Global) -> Result<Name, AllocError>
-        ensures { IfOk result (λ copy. copy ≡ self.now) }
-    {
-        self.clone()
     }
 }
 

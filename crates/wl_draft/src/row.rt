@@ -1,10 +1,10 @@
 //! Rows, report entries, grants and standings of locks.
-ghost use Rattle.std.specs.Prelude.{◌≡◌, IfOk};
+
+ghost use Rattle.std.specs.Prelude.{◌≡◌};
 ghost use Rattle.wl_draft.specs.Locks.{is_pair};
 
 use crate::mode::Mode;
 use crate::name::Name;
-use std::alloc::{AllocError, Global};
 
 /// A held lock or a waiting request.
 #[derive(Clone, Debug, Drop, PartialEq, Eq)]
@@ -24,13 +24,6 @@ impl Row {
     {
         self.client == client && self.number == number
     }
-
-    /// Returns a deep copy. Fails if out of memory.
-    pub fn copy(&self, _alloc: Global) -> Result<Row, AllocError>
-        ensures { IfOk result (λ copy. copy ≡ self.now) }
-    {
-        self.clone()
-    }
 }
 
 /// A lock in a client's report.
@@ -41,15 +34,6 @@ pub struct Entry {
     pub held: bool,
     pub mode: Mode,
     pub name: Name,
-}
-
-impl Entry {
-    /// Returns a deep copy. Fails if out of memory.
-    pub fn copy(&self, _alloc: Global) -> Result<Entry, AllocError>
-        ensures { IfOk result (λ copy. copy ≡ self.now) }
-    {
-        self.clone()
-    }
 }
 
 /// A lock that a call has granted.

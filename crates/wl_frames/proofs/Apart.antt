@@ -8,7 +8,7 @@ use Rattle.wl_frames.specs.Reading.{number_at}
 use Rattle.wl_frames.proofs.Forms.{some_is}
 use Rattle.wl_frames.proofs.Fields.{u32_form}
 use Rattle.wl_frames.proofs.Frames.{one_frame}
-use Rattle.wl_encoding.proofs.BodyLength.{body_length}
+use Rattle.wl_grammar.proofs.BodyLength.{body_length}
 
 -- Decoding the front of an encoding yields the length and the bytes after it.
 length_read : (f : Frame) (x : List ℕ) → IsWellFormed f → number_at w32 (spelling f ++ x) ≡ Some (length (body f), body f ++ x)

@@ -412,8 +412,8 @@ begun version code k bytes f rest is b =
     ap (frame_at k) head.2 ∙ subst (λ (k : Kind). frame_at k (fields f ++ rest) ≡ Some (f, rest)) kind_is (frame_again f rest b.well_formed (Ends-from_envelope f rest b.inner_to_the_end))
 
 -- A complete body is at its own front, and nothing follows.
-begins_whole : (bytes : List ℕ) (f : Frame) → IsWellFormed f → bytes ≡ body f → Begins bytes f []
-begins_whole bytes f h e = record { well_formed = h; spelled = e ∙ sym (append-nil (body f)); inner_to_the_end = λ _. refl }
+pub begins_whole : (bytes : List ℕ) (f : Frame) → IsBody bytes f → Begins bytes f []
+begins_whole bytes f p = record { well_formed = p.well_formed; spelled = p.spelled ∙ sym (append-nil (body f)); inner_to_the_end = λ _. refl }
 
 -- A body is the body of only one frame.
 pub one_frame : (bytes : List ℕ) (f g : Frame) → IsBody bytes f → IsBody bytes g → f ≡ g
@@ -421,6 +421,6 @@ one_frame bytes f g a b =
     let k = kind_of f in
     let whole = version_of k ∷ code_of k ∷ fields f in
     let bytes_are : bytes ≡ whole = a.spelled ∙ body_is f in
-    let one : frame_at k (fields f) ≡ some_of (f, []) = begun (version_of k) (code_of k) k (fields f) f [] (kind_at-code k) (begins_whole whole f a.well_formed (sym bytes_are ∙ a.spelled)) in
-    let two : frame_at k (fields f) ≡ some_of (g, []) = begun (version_of k) (code_of k) k (fields f) g [] (kind_at-code k) (begins_whole whole g b.well_formed (sym bytes_are ∙ b.spelled)) in
+    let one : frame_at k (fields f) ≡ some_of (f, []) = begun (version_of k) (code_of k) k (fields f) f [] (kind_at-code k) (begins_whole whole f (record { well_formed = a.well_formed; spelled = sym bytes_are ∙ a.spelled })) in
+    let two : frame_at k (fields f) ≡ some_of (g, []) = begun (version_of k) (code_of k) k (fields f) g [] (kind_at-code k) (begins_whole whole g (record { well_formed = b.well_formed; spelled = sym bytes_are ∙ b.spelled })) in
     ap (λ (p : Frame × List ℕ). p.0) (some_is (f, []) (g, []) (sym one ∙ two))

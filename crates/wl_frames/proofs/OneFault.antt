@@ -1,12 +1,12 @@
 -- Lemmas on faults: a body has only one fault, and none if it is the body of a frame.
 use Rattle.std.proofs.Common.{◌≡◌, ℕ, List, [], ◌∷◌, ◌++◌, Bool, true, false, refl, sym, ap, ◌∙◌, subst, inl, inr}
-use Rattle.std.proofs.lemmas.List.{append-nil}
 use Rattle.wl_grammar.specs.declared.frame.Frame.{Frame}
 use Rattle.wl_grammar.specs.declared.frame.Frame.TheVariants as frame
 use Rattle.wl_frames.specs.declared.fault.FrameFault.{FrameFault}
 use Rattle.wl_frames.specs.declared.fault.FrameFault.TheVariants.{BadLength, BadVersion, BadKind, BadField, LeftOver, Truncated, Memory, Failed}
 use Rattle.wl_grammar.specs.Grammar.{IsBody, body, command, report, report_part, post, hello, answer, snapshot, heard, welcome, pair_welcome, stamped, start, addressed, dead}
 use Rattle.wl_frames.specs.Stream.{IsVersion, IsKind, is_envelope, Begins, HasFault}
+use Rattle.wl_frames.proofs.Frames.{begins_whole}
 use Rattle.wl_frames.proofs.OneFrame.{no_body_begins_another}
 
 -- A body starts with its version and its kind.
@@ -54,10 +54,6 @@ no_kind bytes k (version, kind, rest, e, known, unknown) =
     let same_version : k.version ≡ version = cc in
     let same_kind : k.kind ≡ kind = cc in
     unknown (subst (IsKind version) same_kind (subst (λ (n : ℕ). IsKind n k.kind) same_version k.is_kind))
-
--- A complete body is at its own front.
-begins_whole : (bytes : List ℕ) (f : Frame) → IsBody bytes f → Begins bytes f []
-begins_whole bytes f p = record { well_formed = p.well_formed; spelled = p.spelled ∙ sym (append-nil (body f)); inner_to_the_end = λ _. refl }
 
 ends : (b : Bool) (more : List ℕ) → (b ≡ true → more ≡ []) → (b ≡ false → more ≡ []) → more ≡ []
 ends true more p q = p refl

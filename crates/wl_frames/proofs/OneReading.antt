@@ -7,9 +7,9 @@ use Rattle.std.proofs.lemmas.Nat.{from_be_bytes-to_be_bytes_4}
 use Rattle.wl_grammar.specs.declared.frame.Frame.{Frame}
 use Rattle.wl_frames.specs.declared.fault.FrameFault.{FrameFault}
 use Rattle.wl_grammar.specs.Grammar.{u32, IsWellFormed, body, spelling}
-use Rattle.wl_encoding.specs.Lengths.{IsLength}
+use Rattle.wl_grammar.specs.Lengths.{IsLength}
 use Rattle.wl_frames.specs.Stream.{IsPartial, HasFault, HasFaultNext, Stop, Rest, Fault, StopsAt, Reads}
-use Rattle.wl_encoding.proofs.BodyLength.{body_length}
+use Rattle.wl_grammar.proofs.BodyLength.{body_length}
 use Rattle.wl_frames.proofs.Apart.{apart}
 use Rattle.wl_frames.proofs.OneFault.{no_fault, one_fault}
 

@@ -1,7 +1,7 @@
 -- Reader that counts its reads, and writer. Both record whether they have failed.
 use Rattle.std.specs.Prelude.{ℕ, List, Bool, false, Option}
 use Rattle.std.specs.Io.KnownBytes.{Appends}
-use Rattle.wl_encoding.specs.Prefixes.{IsPrefixOf}
+use Rattle.wl_grammar.specs.Prefixes.{IsPrefixOf}
 
 pub record Reading (R : Type 0) : Type 0 where
   pub reader : R

@@ -3,7 +3,7 @@
 ghost use Rattle.std.specs.Prelude.{◌≡◌, ◌++◌, ℕ, List, length};
 ghost use Rattle.wl_grammar.specs.declared.frame.Frame.{Frame};
 ghost use Rattle.wl_grammar.specs.Grammar.{IsWellFormed, IsBody, body, spelling};
-ghost use Rattle.wl_encoding.specs.Lengths.{IsLength};
+ghost use Rattle.wl_grammar.specs.Lengths.{IsLength};
 ghost use Rattle.wl_frames.specs.Stream.{Reads, Rest, Stop};
 ghost use Rattle.wl_frames.specs.declared.device.TheConstants.{READ_LIMIT, PIECE_LEN, BUNDLE_LEN};
 

@@ -9,9 +9,8 @@ pub mod reading;
 
 pub use fault::{FrameFault, PushFault};
 pub use feed::Feed;
-pub use wl_encoding::{encode, encode_into};
 pub use wl_grammar::{
     Addressed, Answer, Boxed, Command, Dead, Downward, Entry, Frame, Heard, Hello, Memory, Mode,
     Name, Operation, Origin, Outcome, PairWelcome, Post, Report, ReportPart, Sequence, Snapshot,
-    SnapshotEntry, Stamped, Start, Upward, Welcome,
+    SnapshotEntry, Stamped, Start, Upward, Welcome, encode, encode_into,
 };

@@ -1,4 +1,5 @@
 //! Boxed value for large frame variants.
+
 ghost use Rattle.std.specs.Prelude.{◌≡◌, IfOk};
 
 use std::alloc::{AllocError, Global};

@@ -1,9 +1,9 @@
 //! Text of an origin.
-ghost use Rattle.std.specs.Prelude.{◌≡◌, IfOk};
+
+ghost use Rattle.std.specs.Prelude.{◌≡◌};
 ghost use Rattle.std.specs.String.{string_bytes};
 ghost use Rattle.std.specs.Str.{IsUtf8};
 
-use std::alloc::{AllocError, Global};
 use std::marker::Model;
 
 /// The text of an origin in a frame. Contracts see it as its bytes.
@@ -42,12 +42,5 @@ impl Origin {
         ensures utf8 { IsUtf8 self.now }
     {
         self.text.as_str()
-    }
-
-    /// Returns a copy. Fails if out of memory.
-    pub fn copy(&self, _alloc: Global) -> Result<Origin, AllocError>
-        ensures { IfOk result (λ copy. copy ≡ self.now) }
-    {
-        self.clone()
     }
 }

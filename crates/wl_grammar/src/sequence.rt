@@ -1,4 +1,5 @@
 //! List of a frame's entries.
+
 ghost use Rattle.std.specs.Prelude.{◌≡◌, IfOk, OnErr};
 
 use std::marker::Model;

@@ -4,8 +4,8 @@ use Rattle.std.proofs.lemmas.List.{length-map, map_push}
 use Rattle.wl_origin.specs.Order.{Pair}
 use Rattle.wl_draft.specs.Tables.{Table, put}
 use Rattle.wl_kernel.specs.declared.rows.TabRow.{TabRow}
-use Rattle.wl_kernel.specs.Kernel.{OpenedTab, tab_in, living_in, any_tab, put_in, ended}
-use Rattle.wl_kernel.specs.Kept.{HomeTable, home_of, partition_at, SetsHome, KeepsPlaces, seen, all_seen, HaveHomes, place_in, joined, left, AreTabs, IsPlaced, AreHomes, IsConsistent}
+use Rattle.wl_kernel.specs.Kernel.{OpenedTab, tab_in, living_in, any_tab, insert_sorted, ended}
+use Rattle.wl_kernel.specs.TableIndexes.{HomeTable, home_of, partition_at, SetsHome, KeepsPlaces, seen, all_seen, HaveHomes, place_in, joined, left, AreTabs, IsPlaced, AreHomes, IsConsistent}
 use Rattle.wl_kernel.proofs.RisingNumbers.{without}
 use Rattle.wl_kernel.proofs.Living.{living_in-push, living_in-ended}
 use Rattle.wl_kernel.proofs.OpenedTabs.{tabs-push, tabs-ended, placed-push, place_in-ended, row_placed, has_home_at, have_homes-push, have_homes-set, have_homes-kept, seen-kept, rows_ended_at}
@@ -51,7 +51,7 @@ joins_own homes r p more own joins = subst (λ (q : Pair). SetsHome homes more q
 
 one_more : (rows : List TabRow) (places : Table ℕ) (homes : HomeTable) (living : List ℕ) (g l : ℕ) (r : TabRow) (p : Pair) (more : HomeTable)
     → IsConsistent rows places homes living g l → IsEntered rows homes r p more
-    → IsKept (all_seen homes rows ++ seen more r ∷ []) (rows ++ r ∷ []) (put r.tab (length rows) places) more (put_in r.tab living)
+    → IsKept (all_seen homes rows ++ seen more r ∷ []) (rows ++ r ∷ []) (put r.tab (length rows) places) more (insert_sorted r.tab living)
 one_more rows places homes living g l r p more c e =
     let os = all_seen homes rows in
     let o = seen more r in
@@ -60,17 +60,17 @@ one_more rows places homes living g l r p more c e =
       placed = subst (λ n. IsPlaced (os ++ o ∷ []) (put r.tab n places)) (length-map rows (seen homes)) (placed-push os o places e.new c.placed);
       have_homes = have_homes-push more rows r (have_homes-kept homes more rows e.kept c.have_homes) e.has_home;
       housed = homes-push os o homes more e.alive c.housed (joins_own homes r p more e.own e.joins);
-      alive = ap (put_in r.tab) c.alive ∙ sym (living_in-push any_tab os o ∙ ap (λ b. cond (b && true) (put_in r.tab (living_in any_tab os)) (living_in any_tab os)) e.alive);
+      alive = ap (insert_sorted r.tab) c.alive ∙ sym (living_in-push any_tab os o ∙ ap (λ b. cond (b && true) (insert_sorted r.tab (living_in any_tab os)) (living_in any_tab os)) e.alive);
     }
 
 pub consistent-push : (rows : List TabRow) (places : Table ℕ) (homes : HomeTable) (living : List ℕ) (g l : ℕ) (r : TabRow) (p : Pair)
     (after : List TabRow) (at : Table ℕ) (more : HomeTable) (all : List ℕ)
     → IsConsistent rows places homes living g l → IsEntered rows homes r p more
-    → after ≡ rows ++ r ∷ [] → at ≡ put r.tab (length rows) places → all ≡ put_in r.tab living
+    → after ≡ rows ++ r ∷ [] → at ≡ put r.tab (length rows) places → all ≡ insert_sorted r.tab living
     → IsConsistent after at more all g l
 consistent-push rows places homes living g l r p after at more all c e behind there among =
     rw (behind, there, among)
-    (consistent (all_seen homes rows ++ seen more r ∷ []) (rows ++ r ∷ []) (put r.tab (length rows) places) more (put_in r.tab living) g l
+    (consistent (all_seen homes rows ++ seen more r ∷ []) (rows ++ r ∷ []) (put r.tab (length rows) places) more (insert_sorted r.tab living) g l
     (seen-push rows homes r more c.have_homes e.kept) c.from_one c.up_to_last (one_more rows places homes living g l r p more c e))
 
 -- A tab's death was recorded in its row, its partition's home and the living tabs.

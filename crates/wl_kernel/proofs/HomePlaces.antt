@@ -9,8 +9,8 @@ use Rattle.std.specs.BTreeMap.{insert_entry, is_at}
 use Rattle.wl_origin.specs.Order.{Pair, pair_eq, pair_cmp}
 use Rattle.wl_origin.specs.Ties.{pairs_tied}
 use Rattle.wl_origin.proofs.OrderLemmas.{pair_eq-decides}
-use Rattle.wl_kernel.specs.Kernel.{put_in}
-use Rattle.wl_kernel.specs.Kept.{HomeTable, home_place, home_at, home_of, partition_in, partition_at, AreHomePlaces, HasOneMore, SetsHome, joined, left}
+use Rattle.wl_kernel.specs.Kernel.{insert_sorted}
+use Rattle.wl_kernel.specs.TableIndexes.{HomeTable, home_place, home_at, home_of, partition_in, partition_at, AreHomePlaces, HasOneMore, SetsHome, joined, left}
 
 -- Equal partitions
 
@@ -187,7 +187,7 @@ home-set h i w places lt q = home-set_by h i w q places lt (pair_eq (partition_a
 
 -- A tab joins a partition that has a home.
 pub home-join : (h : HomeTable) (p : Pair) (t i : ℕ) (x w : ℕ × List ℕ) → AreHomePlaces h.places (length h.homes) → home_place h.places p ≡ Some i → slice_get h.homes i ≡ Some x
-    → w ≡ (x.0, put_in t x.1) → SetsHome h (record h { homes = set h.homes i w }) p (Some (joined t (home_of h p)))
+    → w ≡ (x.0, insert_sorted t x.1) → SetsHome h (record h { homes = set h.homes i w }) p (Some (joined t (home_of h p)))
 home-join h p t i x w places at there more =
     let lt = place_within p (length h.homes) h.places i places.below at in
     let now : w ≡ joined t (home_of h p) = more ∙ ap (joined t) (sym (ap (home_at h.homes) at ∙ there)) in

@@ -5,8 +5,8 @@ use Rattle.std.proofs.lemmas.Bool.Decides.{nat_tests}
 use Rattle.std.proofs.lemmas.Option.{cond_some}
 use Rattle.std.specs.List.{list_any}
 use Rattle.wl_origin.specs.Order.{Pair, pair_eq}
-use Rattle.wl_kernel.specs.Kernel.{OpenedTab, tab_in, living_in, put_in, is_of, is_listed, number_or, ended}
-use Rattle.wl_kernel.specs.Kept.{HomeTable, home_of, SetsHome, AreTabs, home_in, members, joined, left, AreHomes}
+use Rattle.wl_kernel.specs.Kernel.{OpenedTab, tab_in, living_in, insert_sorted, is_of, is_listed, number_or, ended}
+use Rattle.wl_kernel.specs.TableIndexes.{HomeTable, home_of, SetsHome, AreTabs, home_in, members, joined, left, AreHomes}
 use Rattle.wl_kernel.proofs.HomePlaces.{one_partition}
 use Rattle.wl_kernel.proofs.RisingNumbers.{without, without_none}
 use Rattle.wl_kernel.proofs.Living.{passes, living_in-push, listed-living_in, living_in-ended}
@@ -22,7 +22,7 @@ living_none : (p : Pair) (os : List OpenedTab) → list_any (is_of p) os ≡ fal
 living_none p [] none = refl
 living_none p (x ∷ xs) none = living_none_step p x xs (living_none p xs) none
 
-home_of_more : (a b : Bool) (t n : ℕ) (l : List ℕ) (a' : Bool) (n' : ℕ) (l' : List ℕ) → a' ≡ (a || b) → n' ≡ cond a n (cond b t 0) → l' ≡ cond b (put_in t l) l → (a ≡ false → l ≡ [])
+home_of_more : (a b : Bool) (t n : ℕ) (l : List ℕ) (a' : Bool) (n' : ℕ) (l' : List ℕ) → a' ≡ (a || b) → n' ≡ cond a n (cond b t 0) → l' ≡ cond b (insert_sorted t l) l → (a ≡ false → l ≡ [])
     → cond a' (Some (n', l')) None ≡ cond b (Some (joined t (cond a (Some (n, l)) None))) (cond a (Some (n, l)) None)
 home_of_more true true t n l a' n' l' any number living none = rw (any, number, living) refl
 home_of_more true false t n l a' n' l' any number living none = rw (any, number, living) refl
@@ -30,8 +30,8 @@ home_of_more false true t n l a' n' l' any number living none = rw (any, number,
 home_of_more false false t n l a' n' l' any number living none = rw any refl
 
 living-push_alive : (p : Pair) (os : List OpenedTab) (o : OpenedTab) → o.living ≡ true
-    → living_in (is_of p) (os ++ o ∷ []) ≡ cond (is_of p o) (put_in o.tab (living_in (is_of p) os)) (living_in (is_of p) os)
-living-push_alive p os o alive = living_in-push (is_of p) os o ∙ ap (λ b. cond (b && is_of p o) (put_in o.tab (living_in (is_of p) os)) (living_in (is_of p) os)) alive
+    → living_in (is_of p) (os ++ o ∷ []) ≡ cond (is_of p o) (insert_sorted o.tab (living_in (is_of p) os)) (living_in (is_of p) os)
+living-push_alive p os o alive = living_in-push (is_of p) os o ∙ ap (λ b. cond (b && is_of p o) (insert_sorted o.tab (living_in (is_of p) os)) (living_in (is_of p) os)) alive
 
 home_in-push : (p : Pair) (os : List OpenedTab) (o : OpenedTab) → o.living ≡ true
     → home_in (os ++ o ∷ []) p ≡ cond (is_of p o) (Some (joined o.tab (home_in os p))) (home_in os p)

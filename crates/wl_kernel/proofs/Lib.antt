@@ -8,3 +8,4 @@ pub mod Calls
 pub mod WellFormed
 pub mod Limits
 pub mod Routing
+pub mod Reaching

@@ -4,9 +4,9 @@ use Rattle.std.proofs.lemmas.Bool.Decides.{nat_tests}
 use Rattle.wl_origin.specs.Order.{Pair}
 use Rattle.wl_kernel.specs.declared.fault.OpenFault.TheVariants.{NumberTaken, TooManyLiving, PartitionFull}
 use Rattle.wl_kernel.specs.declared.fault.StartFault.TheVariants.{TooManyListed, NotRising}
-use Rattle.wl_kernel.specs.Kernel.{KernelState, OpenedTab, no_tabs, tab_of, is_opened, lives, is_living, any_tab, put_in, living_in, living_tabs, living_of, living_limit, partition_limit, list_limit, is_of, open_refusal, new_tab, ended, first_such, is_listed, is_from_before, stranger, missing, absence, start_refusal, rises}
-use Rattle.wl_kernel.specs.Laws.{reached, NeverTooManyLiving, NeverTooManyOfOne, StartsWithTheLiving, StartsWithAll}
-use Rattle.wl_kernel.specs.Kept.{AreTabs}
+use Rattle.wl_kernel.specs.Kernel.{KernelState, OpenedTab, no_tabs, tab_of, is_opened, lives, is_living, any_tab, insert_sorted, living_in, living_tabs, living_of, living_limit, partition_limit, list_limit, is_of, open_refusal, new_tab, ended, first_such, is_listed, is_from_before, stranger, missing, absence, start_refusal, rises}
+use Rattle.wl_kernel.specs.KernelLaws.{reached, NeverTooManyLiving, NeverTooManyOfOne, StartsWithTheLiving, StartsWithAll}
+use Rattle.wl_kernel.specs.TableIndexes.{AreTabs}
 use Rattle.wl_kernel.proofs.RisingNumbers.{without}
 use Rattle.wl_kernel.proofs.Living.{passes, living_in-push, living_in-ended, listed-living_in, rises_living_in}
 use Rattle.wl_kernel.proofs.OpenedTabs.{tabs-push, tabs-ended, ended_of, open_is_allowed}
@@ -15,10 +15,10 @@ use Rattle.wl_kernel.proofs.Calls.{Keeps, after_keeps, reached_tabs}
 
 -- One more tab, and one fewer
 
-one_more_step : (n m : ℕ) (ms : List ℕ) → length (put_in n ms) ≡ length ms + 1 → length (put_in n (m ∷ ms)) ≡ length (m ∷ ms) + 1
+one_more_step : (n m : ℕ) (ms : List ℕ) → length (insert_sorted n ms) ≡ length ms + 1 → length (insert_sorted n (m ∷ ms)) ≡ length (m ∷ ms) + 1
 one_more_step n m ms below = grind (arith, nat_tests)
 
-one_more : (n : ℕ) (ms : List ℕ) → length (put_in n ms) ≡ length ms + 1
+one_more : (n : ℕ) (ms : List ℕ) → length (insert_sorted n ms) ≡ length ms + 1
 one_more n [] = refl
 one_more n (m ∷ ms) = one_more_step n m ms (one_more n ms)
 
@@ -53,7 +53,7 @@ record IsWithin (test : OpenedTab → Bool) (limit : ℕ) (k : KernelState) : Ty
   tabs : AreTabs k.opened
   few : length (living_in test k.opened) ≤ limit
 
-with_one_more : (b : Bool) (t limit : ℕ) (ts : List ℕ) → length ts ≤ limit → (b ≡ true → length ts + 1 ≤ limit) → length (cond b (put_in t ts) ts) ≤ limit
+with_one_more : (b : Bool) (t limit : ℕ) (ts : List ℕ) → length ts ≤ limit → (b ≡ true → length ts + 1 ≤ limit) → length (cond b (insert_sorted t ts) ts) ≤ limit
 with_one_more true t limit ts few room = subst (λ n. n ≤ limit) (sym (one_more t ts)) (room refl)
 with_one_more false t limit ts few room = few
 

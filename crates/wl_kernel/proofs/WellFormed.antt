@@ -6,7 +6,7 @@ use Rattle.std.specs.List.{AllByRecursion}
 use Rattle.wl_grammar.specs.Grammar.{IsPlace, TabsRiseFrom}
 use Rattle.wl_kernel.specs.declared.fault.StartFault.TheVariants.{TooManyListed, NotRising}
 use Rattle.wl_kernel.specs.Kernel.{KernelState, OpenedTab, tab_in, tab_of, is_opened, number_or, number_beside, partition_number, stranger, missing, absence, start_refusal, placed, rises_from, rises, list_limit}
-use Rattle.wl_kernel.specs.Kept.{AreTabs, Below, IsList}
+use Rattle.wl_kernel.specs.TableIndexes.{AreTabs, Below, IsList}
 use Rattle.wl_kernel.proofs.RisingNumbers.{rises_first, rises_rest}
 use Rattle.wl_kernel.proofs.Calls.{any_of_tab, opened_some, named}
 

@@ -1,5 +1,7 @@
 pub mod Kernel
 pub mod Routes
-pub mod Kept
+pub mod TableIndexes
 pub mod Lending
-pub mod Laws
+pub mod KernelLaws
+pub mod SupervisorStates
+pub mod Welcome

@@ -1,4 +1,5 @@
 //! Reasons for which the kernel refuses a call.
+
 use std::alloc::{AllocError, AllocFailed};
 use thiserror::Error;
 

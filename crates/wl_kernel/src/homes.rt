@@ -1,10 +1,10 @@
 //! Homes of partitions: the number and the living tabs of each partition in which a tab was opened.
 
 ghost use Rattle.std.specs.Prelude.{◌≡◌, ◌<◌, IfOk, OnOk, OnErr, Some, None, [], ◌∷◌, ◌++◌, length, option_map, true, vec_len, vec_capacity};
-ghost use Rattle.wl_kernel.specs.Kernel.{put_in, rises};
-ghost use Rattle.wl_kernel.specs.Kept.{no_homes, home_of, home_place, partition_at, HasOneMore, SetsHome, KeepsPlaces, members, joined, left};
+ghost use Rattle.wl_kernel.specs.Kernel.{insert_sorted, rises};
+ghost use Rattle.wl_kernel.specs.TableIndexes.{no_homes, home_of, home_place, partition_at, HasOneMore, SetsHome, KeepsPlaces, members, joined, left};
 
-use crate::rising;
+use crate::sorted_tabs;
 use std::alloc::{AllocError, Global};
 use std::collections::BTreeMap;
 use std::marker::Model;
@@ -56,11 +56,11 @@ impl Home {
     /// Adds a further tab.
     fn join(&mut self, tab: u16) -> Result<(), AllocError>
         requires { rises self.old.1 ≡ true }
-        ensures ok { OnOk result (self.new ≡ (self.old.0, put_in tab self.old.1)) }
+        ensures ok { OnOk result (self.new ≡ (self.old.0, insert_sorted tab self.old.1)) }
         ensures err { OnErr result (self.new ≡ self.old) }
     {
         self.living.reserve(1)?;
-        rising::put_in(&mut self.living, tab);
+        sorted_tabs::insert_sorted(&mut self.living, tab);
         Ok(())
     }
 
@@ -68,7 +68,7 @@ impl Home {
     fn leave(&mut self, tab: u16)
         ensures { self.new ≡ left tab self.old }
     {
-        rising::take_out(&mut self.living, tab);
+        sorted_tabs::remove_sorted(&mut self.living, tab);
     }
 }
 
@@ -83,7 +83,7 @@ pub(crate) struct Homes {
 
 impl Model for Homes {
     ghost use Rattle.std.specs.Prelude.{length};
-    ghost use Rattle.wl_kernel.specs.Kept.{HomeTable, AreHomePlaces};
+    ghost use Rattle.wl_kernel.specs.TableIndexes.{HomeTable, AreHomePlaces};
 
     ghost Value = { HomeTable };
 

@@ -59,16 +59,11 @@ fn others_of(source: u16, members: &[u16]) -> usize
 }
 
 /// Appends a copy of a post for this member.
-fn copy_for(
-    alloc: Global,
-    member: u16,
-    post: &Heard,
-    heard: &mut Vec<(u16, Frame)>,
-) -> Result<(), AllocError>
+fn copy_for(member: u16, post: &Heard, heard: &mut Vec<(u16, Frame)>) -> Result<(), AllocError>
     ensures { OnOk result (heard.new.items ≡ heard.old.items ++ (member, frame_with.Heard post.now) ∷ []) }
 {
     heard.reserve(1)?;
-    let copy = post.copy(alloc)?;
+    let copy = post.clone()?;
     heard.push_reserved((member, Frame::Heard(copy)));
     Ok(())
 }
@@ -91,7 +86,7 @@ fn copies(
             continue;
         }
         if let Some(earlier) = last {
-            copy_for(alloc, earlier, post, &mut heard)?;
+            copy_for(earlier, post, &mut heard)?;
         }
         last = Some(*member);
     }

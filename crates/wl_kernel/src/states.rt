@@ -64,7 +64,7 @@ impl Down {
         ensures growth { IfErr result (λ r. r.1 ≡ StartFault.Memory → 0 < length listed.now) }
         ensures err { IfErr result (λ r. r.0 ≡ self) }
     {
-        let list = match self.tabs.listed(listed) {
+        let list = match self.tabs.start_list(listed) {
             Ok(list) => list,
             Err(fault) => return Err((self, fault)),
         };

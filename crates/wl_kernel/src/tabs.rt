@@ -9,13 +9,13 @@ ghost use Rattle.wl_grammar.specs.declared.frame.Frame.TheVariants as frame;
 ghost use Rattle.wl_kernel.specs.declared.routes.Routed.TheVariants.{Broker};
 ghost use Rattle.wl_kernel.specs.Kernel.{OpenedTab, no_tabs, tab_of, is_opened, is_living, living_tabs, living_of, partition_number, number_for, open_refusal, opened, kill_refusal, killed, start_refusal, placed, stranger, missing, is_from_before, rises, may_stop, stopped};
 ghost use Rattle.wl_kernel.specs.Routes.{tab_refusal, stamped, hearers, route_up_refusal, routed_up, TakesMemory, IsWellRouted, route_down_refusal, routed_down};
-ghost use Rattle.wl_kernel.specs.Kept.{seen_in, partition_of, place_in, IsList};
+ghost use Rattle.wl_kernel.specs.TableIndexes.{seen_in, partition_of, place_in, IsList};
 
 use crate::fault::{GenerationsUsedUp, KillFault, OpenFault, RouteFault, StartFault};
 use crate::homes::Homes;
-use crate::rising;
 use crate::routes::{Routed, addressed_in, frame_of, generation_of, heard};
 use crate::rows::{Found, TabRow};
+use crate::sorted_tabs;
 use std::alloc::{AllocError, Global};
 use std::collections::BTreeMap;
 use std::marker::Model;
@@ -43,7 +43,7 @@ pub struct Tabs {
 
 impl Model for Tabs {
     ghost use Rattle.wl_kernel.specs.Kernel.{KernelState};
-    ghost use Rattle.wl_kernel.specs.Kept.{all_seen, IsConsistent};
+    ghost use Rattle.wl_kernel.specs.TableIndexes.{all_seen, IsConsistent};
 
     ghost Value = { KernelState };
 
@@ -133,7 +133,7 @@ impl Tabs {
             generation: self.generation,
             is_living: true,
         });
-        rising::put_in(&mut self.living, tab);
+        sorted_tabs::insert_sorted(&mut self.living, tab);
         Ok(self.homes.at(home).number())
     }
 
@@ -147,7 +147,7 @@ impl Tabs {
         let row = &mut self.rows[place];
         row.is_living = false;
         self.homes.leave(row.home, tab);
-        rising::take_out(&mut self.living, tab);
+        sorted_tabs::remove_sorted(&mut self.living, tab);
         Ok(())
     }
 
@@ -193,7 +193,7 @@ impl Tabs {
     }
 
     /// Returns the start list for a broker: each listed tab with the number of its partition.
-    pub(crate) fn listed(&self, listed: &[u16]) -> Result<Sequence<(u16, u16)>, StartFault>
+    pub fn start_list(&self, listed: &[u16]) -> Result<Sequence<(u16, u16)>, StartFault>
         ensures placed { IfOk result (λ list. list ≡ placed listed.now self.now) }
         ensures well_formed { IfOk result IsList }
         ensures refused { RefusesBy result (start_refusal listed.now self.now) StartFault.Memory }
@@ -202,7 +202,7 @@ impl Tabs {
         if listed.len() > LIST_LIMIT {
             return Err(StartFault::TooManyListed);
         }
-        if !rising::rises(listed) {
+        if !sorted_tabs::rises(listed) {
             return Err(StartFault::NotRising);
         }
         if let Some(tab) = self.stranger(listed) {
@@ -345,7 +345,7 @@ impl Tabs {
     {
         let living = self.living();
         for tab in living {
-            if self.is_from_before(*tab) && !rising::contains(listed, *tab) {
+            if self.is_from_before(*tab) && !sorted_tabs::contains(listed, *tab) {
                 return Some(*tab);
             }
         }

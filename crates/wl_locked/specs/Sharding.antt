@@ -7,7 +7,7 @@ use Rattle.wl_grammar.specs.declared.frame.Addressed.{Addressed}
 use Rattle.wl_locked.specs.declared.event.BookEvent.{BookEvent}
 use Rattle.wl_locked.specs.declared.event.BookEvent.TheVariants.{Take, Dead}
 use Rattle.wl_locked.specs.declared.work.Work.{Work}
-use Rattle.wl_locked.specs.declared.brokers.Beginning.{Beginning}
+use Rattle.wl_locked.specs.declared.brokers.OpenParameters.{OpenParameters}
 use Rattle.wl_locked.specs.declared.receipt.Receipt.{Receipt}
 use Rattle.wl_locked.specs.declared.receipt.Step.{Step}
 use Rattle.wl_locked.specs.declared.receipt.CloseFault.{CloseFault}
@@ -25,7 +25,7 @@ pub record Run : Type 0 where
   pub limit : ℕ
 
 -- Helper: the run that starts with these parameters.
-abbrev pub IsRun : Run → Beginning → Type 0
+abbrev pub IsRun : Run → OpenParameters → Type 0
 IsRun run b =
     (run.generation ≡ b.generation) × (run.listed ≡ b.list.now) × (run.shards ≡ b.shards) × (run.limit ≡ b.limit)
 

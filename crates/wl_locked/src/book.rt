@@ -11,7 +11,7 @@ ghost use Rattle.wl_locked.specs.declared.shards.TheConstants.{SHARD_LIMIT};
 
 use crate::answering::{Replies, answer};
 use crate::event::{BookEvent, Reply};
-use crate::lane::{Generation, Kept, Lane, gather};
+use crate::lane::{Generation, Lane, ShardReceipts, gather};
 use crate::marking::compare;
 use crate::receipt::{CloseFault, History, NotStepped, Receipt, Step};
 use crate::room;
@@ -51,11 +51,11 @@ impl<J: Generation> Model for Book<J> {
 }
 
 /// Allocates the handles of an event for a step and its two receipts, and reserves space for one
-/// more receipt. If the list is full, it grows by `at_once` receipts if memory allows, else by one.
+/// more receipt. If the list is full, it grows by `reserve_step` receipts if memory allows, else by one.
 pub(crate) fn handles_with_room(
     alloc: Global,
     receipts: &mut Vec<Receipt>,
-    at_once: usize,
+    reserve_step: usize,
     event: BookEvent,
 ) -> Result<EventHandles, AllocError>
     ensures receipts { receipts.new.items ≡ receipts.old.items }
@@ -64,7 +64,7 @@ pub(crate) fn handles_with_room(
     ensures first { IfOk result (λ h. h.first ≡ event) }
     ensures second { IfOk result (λ h. h.second ≡ event) }
 {
-    room::for_one(receipts, at_once)?;
+    room::for_one(receipts, reserve_step)?;
     handles_of(alloc, event)
 }
 
@@ -221,7 +221,11 @@ impl<J: Generation> Book<J> {
 
     /// Compares the history with the lanes' receipts of one shard. Returns the result and the spare
     /// share.
-    pub(crate) fn compare<L: Kept>(self, shard: u16, lanes: &[L]) -> (Ending<J>, Share<J>)
+    pub(crate) fn compare<L: ShardReceipts>(
+        self,
+        shard: u16,
+        lanes: &[L],
+    ) -> (ComparedBook<J>, Share<J>)
         requires { shard < SHARD_LIMIT }
         ensures same { result.0.steps.items ≡ self }
         ensures compared { IsCompared J.opening J.limit
@@ -239,7 +243,7 @@ impl<J: Generation> Book<J> {
         } = self;
         let compared = compare(steps.as_slice(), marks.as_mut_slice(), shard, lanes);
         (
-            Ending {
+            ComparedBook {
                 steps,
                 compared,
                 calls,
@@ -251,14 +255,14 @@ impl<J: Generation> Book<J> {
 
 /// A book that has been compared with its lanes' receipts.
 #[derive(Drop)]
-pub(crate) struct Ending<J: Generation> {
+pub(crate) struct ComparedBook<J: Generation> {
     steps: Vec<Step>,
     /// Whether the receipts cover all steps, or the place of a receipt that does not fit.
     compared: Result<bool, u32>,
     calls: ledger::Book<J>,
 }
 
-impl<J: Generation> Ending<J> {
+impl<J: Generation> ComparedBook<J> {
     /// Returns the history, or why it differs from the lanes' receipts. `all` is the sum of the
     /// lanes' shares.
     pub(crate) fn end(self, all: Share<J>) -> Result<History, CloseFault>
@@ -272,7 +276,7 @@ impl<J: Generation> Ending<J> {
             → all.parts ≡ length lanes → all.amount ≡ total lanes
             → IsClosed J.opening J.limit J.parts lanes result }
     {
-        let Ending {
+        let ComparedBook {
             steps,
             compared,
             mut calls,

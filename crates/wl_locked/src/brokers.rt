@@ -10,10 +10,10 @@ ghost use Rattle.wl_locked.specs.Sharding.{IsGathered, IsRoomy, IsRun, IsShardFa
 ghost use Rattle.wl_locked.specs.declared.shards.TheConstants.{SHARD_LIMIT};
 
 use crate::event::Reply;
-use crate::fours::FourBrokers;
 use crate::gathering::Gathering;
 use crate::locked::LockedBroker;
 use crate::receipt::{CloseFault, History, NotStepped, Receipt};
+use crate::shard_groups::FourBrokers;
 use crate::shard_lane::{ShardLane, Shares, gather_all};
 use crate::shards::{At, Blanks, Shards};
 use crate::work::{Work, shard_of};
@@ -35,7 +35,7 @@ pub(crate) struct Brokers<J: Shards> {
 
 /// The parameters that the brokers of all shards are started with.
 #[derive(Clone, Copy)]
-pub(crate) struct Beginning<'a> {
+pub(crate) struct OpenParameters<'a> {
     pub(crate) alloc: Global,
     pub(crate) generation: u32,
     pub(crate) list: &'a [(u16, u16)],
@@ -45,7 +45,7 @@ pub(crate) struct Beginning<'a> {
 }
 
 /// Returns the listed tabs whose partition belongs to a shard.
-fn listed_in(beginning: &Beginning<'_>, shard: u16) -> Result<Vec<(u16, u16)>, AllocError>
+fn listed_in(beginning: &OpenParameters<'_>, shard: u16) -> Result<Vec<(u16, u16)>, AllocError>
     requires shards { 0 < beginning.now.shards }
     requires list { TabsRiseFrom 1 beginning.now.list.now }
     ensures listed { IfOk result (λ part.
@@ -76,7 +76,7 @@ fn append_hellos(
 /// Starts the broker of one shard with its part of the start list, and appends its hellos to the
 /// greetings.
 pub(crate) fn open_shard<J: Shards, const SHARD: u16>(
-    beginning: &Beginning<'_>,
+    beginning: &OpenParameters<'_>,
     blank: Blank,
     greetings: &mut Vec<Addressed>,
 ) -> Result<(LockedBroker<At<J, SHARD>>, Share<At<J, SHARD>>), AllocError>
@@ -107,7 +107,7 @@ impl<J: Shards> Brokers<J> {
     /// Starts the brokers. Returns them with the shares that lanes are cut from, and the hellos in
     /// ascending order of shards.
     pub(crate) fn open(
-        beginning: &Beginning<'_>,
+        beginning: &OpenParameters<'_>,
         blanks: Blanks,
     ) -> Result<(Brokers<J>, Shares<J>, Vec<Addressed>), AllocError>
         requires shards { 0 < beginning.now.shards }

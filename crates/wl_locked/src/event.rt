@@ -2,7 +2,7 @@
 
 ghost use Rattle.std.specs.Prelude.{◌≡◌, IfOk};
 
-use std::alloc::{AllocError, Global};
+use std::alloc::AllocError;
 use wl_broker::{Dropped, Outs};
 use wl_grammar::Stamped;
 
@@ -27,11 +27,11 @@ pub enum Reply {
 
 impl BookEvent {
     /// Copies the event into memory of its own.
-    pub fn copy(&self, alloc: Global) -> Result<BookEvent, AllocError>
+    pub fn copy(&self) -> Result<BookEvent, AllocError>
         ensures { IfOk result (λ copy. copy ≡ self.now) }
     {
         Ok(match self {
-            BookEvent::Take(stamped) => BookEvent::Take(stamped.copy(alloc)?),
+            BookEvent::Take(stamped) => BookEvent::Take(stamped.clone()?),
             BookEvent::Dead(tab) => BookEvent::Dead(*tab),
         })
     }

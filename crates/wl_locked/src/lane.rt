@@ -80,7 +80,7 @@ impl<J: Generation> Lane<J> {
 }
 
 /// Holder of receipts that belong to shards.
-pub(crate) trait Kept {
+pub(crate) trait ShardReceipts {
     ghost use Rattle.std.specs.Prelude.{◌≡◌, ◌<◌, ℕ, List};
     ghost use Rattle.wl_locked.specs.declared.receipt.Receipt.{Receipt};
     ghost use Rattle.wl_locked.specs.declared.shards.TheConstants.{SHARD_LIMIT};
@@ -94,7 +94,7 @@ pub(crate) trait Kept {
 }
 
 /// The lane of a single book has the same receipts for every shard number.
-impl<J: Generation> Kept for Lane<J> {
+impl<J: Generation> ShardReceipts for Lane<J> {
     ghost kept = { λ _ l. l };
 
     fn kept(&self, _shard: u16) -> &[Receipt] {

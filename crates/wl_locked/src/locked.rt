@@ -9,9 +9,9 @@ ghost use Rattle.wl_locked.specs.Receipts.{total, IsMadeOf, IsMismatch};
 ghost use Rattle.wl_locked.specs.Closing.{IsCompared};
 ghost use Rattle.wl_locked.specs.declared.shards.TheConstants.{SHARD_LIMIT};
 
-use crate::book::{Book, Ending, handles_with_room};
+use crate::book::{Book, ComparedBook, handles_with_room};
 use crate::event::{BookEvent, Reply};
-use crate::lane::{Generation, Kept, Lane};
+use crate::lane::{Generation, Lane, ShardReceipts};
 use crate::locking::lock;
 use crate::receipt::{CloseFault, History, NotStepped, Receipt};
 use crate::room::receipts_at_once;
@@ -31,7 +31,7 @@ pub const STEP_LIMIT: u32 = 65_536;
 pub struct LockedBroker<J: Generation> {
     book: Mutex<Book<J>>,
     /// The number of receipts that a lane reserves space for at once.
-    at_once: usize,
+    reserve_step: usize,
     alloc: Global,
 }
 
@@ -109,7 +109,7 @@ impl<J: Generation> LockedBroker<J> {
         let book = Book::open(alloc, broker, limit, calls, share.empty());
         let locked = LockedBroker {
             book: Mutex::new(book),
-            at_once: receipts_at_once(limit, lanes),
+            reserve_step: receipts_at_once(limit, lanes),
             alloc,
         };
         Ok((locked, share, hellos))
@@ -134,7 +134,7 @@ impl<J: Generation> LockedBroker<J> {
         ensures kept { IfOk result (λ r. lane.new ≡ lane.old ++ r ∷ []) }
         ensures err { OnErr result (lane.new ≡ lane.old) }
     {
-        let Ok(event) = handles_with_room(self.alloc, &mut lane.receipts, self.at_once, event)
+        let Ok(event) = handles_with_room(self.alloc, &mut lane.receipts, self.reserve_step, event)
         else {
             return Err(lock(&self.book, rt).without_memory());
         };
@@ -174,7 +174,11 @@ impl<J: Generation> LockedBroker<J> {
 
     /// Compares the history with the lanes' receipts of one shard. Returns the result and the spare
     /// share.
-    pub(crate) fn compare<L: Kept>(self, shard: u16, lanes: &[L]) -> (Ending<J>, Share<J>)
+    pub(crate) fn compare<L: ShardReceipts>(
+        self,
+        shard: u16,
+        lanes: &[L],
+    ) -> (ComparedBook<J>, Share<J>)
         requires { shard < SHARD_LIMIT }
         ensures compared { IsCompared J.opening J.limit
             (map (L.kept shard) lanes.now) result.0.steps.items result.0.compared result.0.calls.total }

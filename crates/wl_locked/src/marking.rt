@@ -6,7 +6,7 @@ ghost use Rattle.wl_locked.specs.declared.shards.TheConstants.{SHARD_LIMIT};
 ghost use Rattle.wl_locked.specs.Marks.{IsFree, IsMarked, IsRefused, AreMarked, AreRefused};
 
 use crate::event::Reply;
-use crate::lane::Kept;
+use crate::lane::ShardReceipts;
 use crate::receipt::{Receipt, Step};
 use crate::shared_event::SharedEvent;
 
@@ -57,7 +57,12 @@ fn mark_lane(steps: &[Step], marks: &mut [bool], receipts: &[Receipt]) -> Result
 
 /// Marks the places of all lanes' receipts of one shard. Fails with the place of the first receipt
 /// that does not fit.
-fn mark_all<L: Kept>(steps: &[Step], marks: &mut [bool], shard: u16, lanes: &[L]) -> Result<(), u32>
+fn mark_all<L: ShardReceipts>(
+    steps: &[Step],
+    marks: &mut [bool],
+    shard: u16,
+    lanes: &[L],
+) -> Result<(), u32>
     requires marks { length marks.old ≡ length steps.now }
     requires shard { shard < SHARD_LIMIT }
     ensures ok { OnOk result (AreMarked steps.now (map (L.kept shard) lanes.now) marks.old marks.new) }
@@ -86,7 +91,7 @@ fn all_marked(marks: &[bool]) -> bool
 #[tactic(auto, using(crate::proofs::Runs::made, crate::proofs::Runs::fewer, crate::proofs::Runs::mismatch))]
 /// Returns whether the lanes' receipts of one shard cover all steps. Fails with the place of the
 /// first receipt that does not fit.
-pub(crate) fn compare<L: Kept>(
+pub(crate) fn compare<L: ShardReceipts>(
     steps: &[Step],
     marks: &mut [bool],
     shard: u16,

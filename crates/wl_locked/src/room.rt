@@ -21,12 +21,12 @@ pub(crate) fn receipts_at_once(limit: u32, lanes: u16) -> usize {
     steps_at_once(limit) / (lanes as usize).max(1)
 }
 
-/// Reserves space for at least one more item: for `at_once` items if memory allows, else for one.
-pub(crate) fn for_one<T>(list: &mut Vec<T>, at_once: usize) -> Result<(), AllocError>
+/// Reserves space for at least one more item: for `reserve_step` items if memory allows, else for one.
+pub(crate) fn for_one<T>(list: &mut Vec<T>, reserve_step: usize) -> Result<(), AllocError>
     ensures items { list.new.items ≡ list.old.items }
     ensures room { OnOk result (vec_len list.new < vec_capacity list.new) }
 {
-    if list.len() < list.capacity() || list.reserve(at_once.max(1)).is_ok() {
+    if list.len() < list.capacity() || list.reserve(reserve_step.max(1)).is_ok() {
         return Ok(());
     }
     list.reserve(1)
@@ -48,8 +48,8 @@ pub(crate) fn for_step(
     if is_spent {
         return Err(NotStepped::GenerationSpent);
     }
-    let at_once = steps_at_once(limit);
-    for_one(steps, at_once)?;
-    for_one(marks, at_once)?;
+    let reserve_step = steps_at_once(limit);
+    for_one(steps, reserve_step)?;
+    for_one(marks, reserve_step)?;
     Ok(())
 }

@@ -5,9 +5,9 @@ ghost use Rattle.wl_locked.specs.Sharding.{receipts_of, receipts_in, raised};
 ghost use Rattle.wl_locked.specs.Receipts.{total};
 ghost use Rattle.wl_locked.specs.declared.shards.TheConstants.{SHARD_LIMIT};
 
-use crate::fours::{FourLanes, FourShares};
-use crate::lane::Kept;
+use crate::lane::ShardReceipts;
 use crate::receipt::Receipt;
+use crate::shard_groups::{FourLanes, FourShares};
 use crate::shards::Shards;
 use std::alloc::Global;
 use std::marker::Model;
@@ -60,7 +60,7 @@ impl<J: Shards> ShardLane<J> {
     }
 }
 
-impl<J: Shards> Kept for ShardLane<J> {
+impl<J: Shards> ShardReceipts for ShardLane<J> {
     ghost use Rattle.wl_locked.specs.Sharding.{receipts_of};
 
     ghost kept = { λ shard l. receipts_of shard l };

@@ -9,7 +9,7 @@ ghost use Rattle.wl_locked.specs.declared.locked.TheConstants.{LANE_LIMIT};
 ghost use Rattle.wl_locked.specs.declared.shards.TheConstants.{SHARD_LIMIT};
 ghost use Rattle.wl_locked.specs.declared.receipt.Step.{Step};
 
-use crate::brokers::{Beginning, Brokers};
+use crate::brokers::{Brokers, OpenParameters};
 use crate::event::Reply;
 use crate::gathering::Gathering;
 use crate::receipt::{CloseFault, History, NotStepped, Receipt};
@@ -90,7 +90,7 @@ impl<J: Shards> Sharded<J> {
         ensures lanes { IfOk result (λ r. r.1.items ≡ replicate lanes (replicate SHARD_LIMIT [])) }
         ensures hellos { IfOk result (λ r. r.2 ≡ hellos_below J.run shards) }
     {
-        let beginning = Beginning {
+        let beginning = OpenParameters {
             alloc,
             generation,
             list,

@@ -1,5 +1,5 @@
 pub mod Fault
-pub mod Kept
+pub mod OriginText
 pub mod Order
 pub mod Partition
 pub mod Ties

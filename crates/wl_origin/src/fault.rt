@@ -1,4 +1,5 @@
 //! Faults of a URL that has no partition.
+
 use std::alloc::AllocError;
 use thiserror::Error;
 use url::ParseError;

@@ -1,4 +1,5 @@
 //! Partitions from URLs.
+
 ghost use Rattle.std.specs.Prelude.{◌≡◌, ◌⊎◌, ◌≤◌, length, IfOk, IfErr, Ok, Err};
 ghost use Rattle.wl_origin.specs.Partition.{origin_of_text, partition_of, partition_of_pair};
 ghost use Rattle.wl_limits.specs.declared.texts.TheConstants.{URL_LIMIT};

@@ -1,4 +1,5 @@
 //! Origin with a scheme, a host and a port.
+
 ghost use Rattle.std.specs.Prelude.{◌≡◌, ◌⊎◌, ◌↔◌, ◌≤◌, length, IfOk, IfErr, IsTrue, Ok, Err};
 ghost use Rattle.std.specs.Ordering.{as_partial_cmp};
 ghost use Rattle.std.specs.Cmp.{partial_order_from_own_ties};
@@ -32,7 +33,7 @@ impl Model for TupleOrigin {
 
     ghost Value = { Triple };
 
-    ghost use Rattle.wl_origin.specs.Kept.{triple_of, KeepsText};
+    ghost use Rattle.wl_origin.specs.OriginText.{triple_of, KeepsText};
 
     ghost view = { triple_of };
 

@@ -4,8 +4,8 @@ use Rattle.std.proofs.lemmas.List.{append-nil}
 use mathlib.Core.Option.{some-injective}
 use lib.ListN.{get_elem?}
 use Rattle.wl_outbox.specs.declared.rule.View.{View}
-use Rattle.wl_outbox.specs.Rule.{IsForTabOf}
-use Rattle.wl_outbox.specs.Laws.{TakesInOrder, OnePassTakes, AllForOneTab, AllArrived}
+use Rattle.wl_outbox.specs.OutboxRule.{IsForTabOf}
+use Rattle.wl_outbox.specs.OutboxLaws.{TakesInOrder, OnePassTakes, AllForOneTab, AllArrived}
 use Rattle.wl_outbox.proofs.Merging.{merge_same}
 use Rattle.wl_outbox.proofs.KeptRule.{merging}
 

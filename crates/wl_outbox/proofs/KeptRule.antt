@@ -9,8 +9,8 @@ use Rattle.wl_outbox.specs.declared.rule.Role.{Role}
 use Rattle.wl_outbox.specs.declared.rule.Role.TheVariants.{Opening, Taking, Putting}
 use Rattle.wl_outbox.specs.declared.rule.View.{View}
 use Rattle.wl_outbox.specs.Parcels.{Packed}
-use Rattle.wl_outbox.specs.Rule.{Knows, puts, put_of, put_by, IsForTabOf, IsMerging, opening, IsOrderly}
-use Rattle.wl_outbox.specs.Steps.{taker_of, putter_of, with_parcel, put_in, taken_out, IsMoment}
+use Rattle.wl_outbox.specs.OutboxRule.{Knows, puts, put_of, put_by, IsForTabOf, IsMerging, opening, IsOrderly}
+use Rattle.wl_outbox.specs.OutboxSteps.{taker_of, putter_of, with_parcel, put_in, taken_out, IsMoment}
 use Rattle.wl_outbox.specs.Passes.{is_taking, role_of}
 use Rattle.wl_outbox.proofs.Merging.{merge_push, merge_same}
 use Rattle.wl_outbox.proofs.Puts.{knows_here, put_by-here, put_by-other, put_by-same, put_by-push}

@@ -4,7 +4,7 @@ use Rattle.std.proofs.lemmas.Bool.{cases_eq}
 use mathlib.Core.Option.{some-ne-none}
 use Rattle.crossbeam_queue.proofs.Lists.{set_else}
 use Rattle.wl_outbox.specs.declared.rule.View.{View}
-use Rattle.wl_outbox.specs.Rule.{Knows, puts, put_of, put_by}
+use Rattle.wl_outbox.specs.OutboxRule.{Knows, puts, put_of, put_by}
 
 pub knows_here : (views : List View) (pass : ℕ) (v w : View) → Knows views pass v → Knows (set views pass w) pass w
 knows_here [] pass v w at = absurd (some-ne-none v (sym at))

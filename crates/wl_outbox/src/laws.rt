@@ -1,7 +1,7 @@
 //! Laws of an outbox's rule, which hold between any two steps.
 
 ghost use Rattle.std.specs.Prelude.{◌≡◌};
-ghost use Rattle.wl_outbox.specs.Laws.{TakesInOrder, OnePassTakes, AllForOneTab, AllArrived};
+ghost use Rattle.wl_outbox.specs.OutboxLaws.{TakesInOrder, OnePassTakes, AllForOneTab, AllArrived};
 ghost use Rattle.wl_outbox.specs.MergeLaws.{KeepsOrder, HasEachOnce, HasNothingElse};
 ghost use Rattle.wl_outbox.specs.declared.outbox.TheConstants.{CAPACITY, PUTTER_LIMIT};
 

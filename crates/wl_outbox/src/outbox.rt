@@ -4,8 +4,8 @@ ghost use Rattle.std.specs.Prelude.{◌≡◌, ◌≤◌, [], true, false, IfOk,
 ghost use Rattle.crossbeam_queue.specs.Fifo.{Held};
 ghost use Rattle.crossbeam_queue.specs.Passes.{view, IsPassOf, ruled_capacity};
 ghost use Rattle.wl_outbox.specs.declared.outbox.TheConstants.{CAPACITY, PUTTER_LIMIT};
-ghost use Rattle.wl_outbox.specs.Rule.{opening};
-ghost use Rattle.wl_outbox.specs.Steps.{with_parcel, taker_of, putter_of, IsMoment};
+ghost use Rattle.wl_outbox.specs.OutboxRule.{opening};
+ghost use Rattle.wl_outbox.specs.OutboxSteps.{with_parcel, taker_of, putter_of, IsMoment};
 ghost use Rattle.wl_outbox.specs.Passes.{Shared, takes, IsOf, IsSamePass, IsFor};
 
 use crate::fault::Full;

@@ -28,7 +28,7 @@ pub struct View {
 pub struct OutboxRule;
 
 impl Protocol<Parcel, View> for OutboxRule {
-    ghost use Rattle.wl_outbox.specs.Rule.{IsOrderly, opening};
+    ghost use Rattle.wl_outbox.specs.OutboxRule.{IsOrderly, opening};
 
     ghost holds = { IsOrderly };
 
@@ -57,7 +57,7 @@ pub(crate) struct Open<A> {
 }
 
 impl<A: Address> Split<View> for Open<A> {
-    ghost use Rattle.wl_outbox.specs.Steps.{taker_of, putter_of};
+    ghost use Rattle.wl_outbox.specs.OutboxSteps.{taker_of, putter_of};
 
     ghost left = { λ v. taker_of A.partition A.tab };
 
@@ -68,7 +68,7 @@ impl<A: Address> Split<View> for Open<A> {
 pub(crate) struct Deal;
 
 impl Split<View> for Deal {
-    ghost use Rattle.wl_outbox.specs.Steps.{putter_of};
+    ghost use Rattle.wl_outbox.specs.OutboxSteps.{putter_of};
 
     ghost left = { λ v. v };
 
@@ -78,13 +78,13 @@ impl Split<View> for Deal {
 pub(crate) struct Put;
 
 impl Outcome<Parcel, View> for Put {
-    ghost use Rattle.wl_outbox.specs.Steps.{put_in};
+    ghost use Rattle.wl_outbox.specs.OutboxSteps.{put_in};
 
     ghost then = { put_in };
 }
 
 impl Lesson<Parcel, View> for Put {
-    ghost use Rattle.wl_outbox.specs.Steps.{IsMoment};
+    ghost use Rattle.wl_outbox.specs.OutboxSteps.{IsMoment};
 
     ghost fact = { IsMoment };
 }
@@ -92,13 +92,13 @@ impl Lesson<Parcel, View> for Put {
 pub(crate) struct Take;
 
 impl Outcome<Parcel, View> for Take {
-    ghost use Rattle.wl_outbox.specs.Steps.{taken_out};
+    ghost use Rattle.wl_outbox.specs.OutboxSteps.{taken_out};
 
     ghost then = { taken_out };
 }
 
 impl Lesson<Parcel, View> for Take {
-    ghost use Rattle.wl_outbox.specs.Steps.{IsMoment};
+    ghost use Rattle.wl_outbox.specs.OutboxSteps.{IsMoment};
 
     ghost fact = { IsMoment };
 }

@@ -1,3 +1,3 @@
-pub mod Status
+pub mod FaultStatus
 pub mod Links
 pub mod Paths

@@ -3,7 +3,7 @@
 ghost use Rattle.std.specs.IoError.{error_kind, raw_os_error};
 ghost use Rattle.std.specs.Prelude.{◌≡◌, ◌≢◌, [], Some, codes, if◌then◌else◌};
 ghost use Rattle.wl_process.specs.Paths.{is_like_an_option};
-ghost use Rattle.wl_process.specs.declared.children.NotStarted.TheVariants as reasons;
+ghost use Rattle.wl_process.specs.declared.children.ChildNotStarted.TheVariants as reasons;
 ghost use Rattle.wl_process.specs.declared.children.TheConstants.{EMFILE, ENFILE};
 ghost use Rattle.wl_process.specs.declared.fault.ProcessFault.TheVariants as faults;
 
@@ -27,34 +27,34 @@ pub const ENFILE: i32 = 23;
 
 /// Why a child was not started.
 #[derive(Clone, Copy, Debug, PartialEq, Eq)]
-pub enum NotStarted {
+pub enum ChildNotStarted {
     /// No file descriptor is left for the child.
     NoDescriptor,
     Fault(ProcessFault),
 }
 
-impl NotStarted {
+impl ChildNotStarted {
     /// Converts an OS error.
-    pub fn of_device(error: io::Error) -> NotStarted
-        ensures process { raw_os_error error ≡ Some EMFILE → result ≡ NotStarted.NoDescriptor }
-        ensures system { raw_os_error error ≡ Some ENFILE → result ≡ NotStarted.NoDescriptor }
+    pub fn of_device(error: io::Error) -> ChildNotStarted
+        ensures process { raw_os_error error ≡ Some EMFILE → result ≡ ChildNotStarted.NoDescriptor }
+        ensures system { raw_os_error error ≡ Some ENFILE → result ≡ ChildNotStarted.NoDescriptor }
         ensures memory { raw_os_error error ≢ Some EMFILE → raw_os_error error ≢ Some ENFILE
-            → error_kind error ≡ ErrorKind.OutOfMemory → result ≡ NotStarted.Fault ProcessFault.Memory }
+            → error_kind error ≡ ErrorKind.OutOfMemory → result ≡ ChildNotStarted.Fault ProcessFault.Memory }
         ensures device { raw_os_error error ≢ Some EMFILE → raw_os_error error ≢ Some ENFILE
-            → error_kind error ≢ ErrorKind.OutOfMemory → result ≡ NotStarted.Fault ProcessFault.Device }
+            → error_kind error ≢ ErrorKind.OutOfMemory → result ≡ ChildNotStarted.Fault ProcessFault.Device }
     {
         match error.raw_os_error() {
-            Some(EMFILE | ENFILE) => NotStarted::NoDescriptor,
-            _ => NotStarted::Fault(ProcessFault::of_device(error)),
+            Some(EMFILE | ENFILE) => ChildNotStarted::NoDescriptor,
+            _ => ChildNotStarted::Fault(ProcessFault::of_device(error)),
         }
     }
 }
 
-impl From<AllocError> for NotStarted {
+impl From<AllocError> for ChildNotStarted {
     ghost from_gives = { λ _ e. e ≡ reasons.Fault faults.Memory };
 
-    fn from(_refused: AllocError) -> NotStarted {
-        NotStarted::Fault(ProcessFault::Memory)
+    fn from(_refused: AllocError) -> ChildNotStarted {
+        ChildNotStarted::Fault(ProcessFault::Memory)
     }
 }
 
@@ -67,7 +67,7 @@ pub struct Started {
 
 /// Returns the prefix that makes a path safe as a program argument: `./` if the path starts with
 /// `-`, else nothing.
-pub fn front_of(path: &str) -> &'static str
+pub fn path_prefix(path: &str) -> &'static str
     ensures { result.now ≡ (if is_like_an_option path.now then codes "./" else []) }
 {
     if path.starts_with('-') { "./" } else { "" }
@@ -83,17 +83,17 @@ pub fn start_child<R: Host>(
     path: &str,
     words: &[&str],
     spare: usize,
-) -> Result<Started, NotStarted> {
-    let listener = rt.listen(path).map_err(NotStarted::of_device)?;
+) -> Result<Started, ChildNotStarted> {
+    let listener = rt.listen(path).map_err(ChildNotStarted::of_device)?;
     let started = match prepare(rt, &listener, path, spare) {
         Ok(()) => start_listened(rt, &listener, program, words),
         Err(error) => Err(error),
     };
     let removed = remove(rt, path);
-    let mut started = started.map_err(NotStarted::of_device)?;
+    let mut started = started.map_err(ChildNotStarted::of_device)?;
     if let Err(fault) = removed {
         end(&mut started.child);
-        return Err(NotStarted::Fault(fault));
+        return Err(ChildNotStarted::Fault(fault));
     }
     Ok(started)
 }

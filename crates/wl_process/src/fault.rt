@@ -4,7 +4,7 @@ ghost use Rattle.std.specs.IoError.{error_kind};
 ghost use Rattle.std.specs.Prelude.{◌≡◌, ◌≢◌};
 ghost use Rattle.wl_frames.specs.Faults.{of_read, of_frame};
 ghost use Rattle.wl_process.specs.declared.fault.ProcessFault.TheVariants as faults;
-ghost use Rattle.wl_process.specs.Status.{status_of};
+ghost use Rattle.wl_process.specs.FaultStatus.{status_of};
 
 use std::alloc::{AllocError, AllocFailed};
 use std::io;

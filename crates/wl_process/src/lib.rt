@@ -2,11 +2,11 @@
 //! a link, output buffers, and script files.
 #![tactic(auto)]
 
-pub mod bundle;
 pub mod children;
 pub mod fault;
 pub mod host;
 pub mod incoming;
+pub mod link_buffer;
 pub mod script;
 pub mod sending;
 

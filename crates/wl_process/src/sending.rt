@@ -8,7 +8,7 @@ use wl_frames::{Frame, encode_into};
 
 /// Appends the encoding of a frame. Appends nothing for a malformed frame. Leaves the bytes
 /// unchanged if out of memory.
-pub fn append(_alloc: Global, bytes: &mut Vec<u8>, frame: &Frame) -> Result<(), AllocError>
+pub fn append(bytes: &mut Vec<u8>, frame: &Frame) -> Result<(), AllocError>
     ensures spelled { IsWellFormed frame.now
         → OnOk result (bytes.new.items ≡ bytes.old.items ++ spelling frame.now) }
     ensures nothing { (¬ IsWellFormed frame.now) → IsOk result × (bytes.new.items ≡ bytes.old.items) }

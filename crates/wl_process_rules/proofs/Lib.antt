@@ -1,1 +1,4 @@
 pub mod Telling
+pub mod Keeping
+pub mod Owing
+pub mod CountLemmas

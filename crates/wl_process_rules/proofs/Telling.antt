@@ -1,7 +1,7 @@
 -- Lemmas on the rows that `retain` keeps.
 use Rattle.std.proofs.Common.{◌≡◌, ℕ, Bool, true, false, cond, [], ◌∷◌, Option, is_none, refl, subst, ap, ◌∙◌}
 use Rattle.std.specs.Map.Calls.{RetainsPairs}
-use Rattle.wl_process_rules.specs.Ends.{Rows, running}
+use Rattle.wl_process_rules.specs.TabEnds.{Rows, running}
 
 running_cons : (p : ℕ × Option ℕ) (ps : Rows) (b : Bool) → is_none p.1 ≡ b → cond b ((p.0, p.1) ∷ running ps) (running ps) ≡ running (p ∷ ps)
 running_cons p ps true e = rw e refl

@@ -1,2 +1,12 @@
-pub mod Ends
-pub mod Status
+pub mod TabEnds
+pub mod ExitStatus
+pub mod RunningKernel
+pub mod Notices
+pub mod BrokerOrders
+pub mod OpenRefusals
+pub mod BrokerKeeping
+pub mod OwedHello
+pub mod KernelLines
+pub mod TabLines
+pub mod KernelReplies
+pub mod CounterFile

@@ -15,7 +15,7 @@ use Rattle.wl_frames.specs.Bodies.{inner_kind_at, frame_at, all_of}
 use Rattle.wl_frames.proofs.Forms.{IsBytes, bind_some, guard_some, some_is}
 use Rattle.wl_frames.proofs.Frames.{code_of, version_of, kind_of, fields, body_is, kind_at-code, begins, begun}
 use Rattle.wl_frames.proofs.OneFault.{no_fault}
-use Rattle.wl_words.specs.Words.{Fails}
+use Rattle.wl_script_words.specs.Words.{Fails}
 use Rattle.wl_script.specs.Forgeries.{body_at, unread_of, ReadsBodies}
 
 -- A body shorter than its version and kind is not read.

@@ -6,18 +6,18 @@ use Rattle.wl_origin.specs.declared.fault.OriginFault.{OriginFault}
 use Rattle.wl_origin.specs.declared.fault.OriginFault.TheVariants.{Memory}
 use Rattle.wl_kernel.specs.declared.fault.OpenFault.{OpenFault}
 use Rattle.wl_kernel.specs.Kernel.{open_refusal}
-use Rattle.wl_said.specs.declared.said.Said.{Said}
-use Rattle.wl_said.specs.declared.said.Said.TheVariants as said
-use Rattle.wl_said.specs.declared.said.Refusal.TheVariants as refusal
-use Rattle.wl_said.specs.Refused.{refused_or}
-use Rattle.wl_world.specs.declared.event.Event.TheVariants as event
-use Rattle.wl_world.specs.World.{WorldState}
-use Rattle.wl_world.specs.Machine.{Machine}
-use Rattle.wl_world.specs.Replies.{said_of, reply_of}
+use Rattle.wl_world_messages.specs.declared.effect.Effect.{Effect}
+use Rattle.wl_world_messages.specs.declared.effect.Effect.TheVariants as said
+use Rattle.wl_world_messages.specs.declared.effect.Refusal.TheVariants as refusal
+use Rattle.wl_world_messages.specs.Refused.{refused_or}
+use Rattle.wl_world_model.specs.declared.event.Event.TheVariants as event
+use Rattle.wl_world_model.specs.World.{WorldState}
+use Rattle.wl_world_model.specs.Machine.{Machine}
+use Rattle.wl_world_model.specs.Replies.{said_of, reply_of}
 use Rattle.wl_script.specs.Played.{Played, plays, says, and_plays, fault_text, opening, opens, opens_url}
 use Rattle.wl_script.specs.SimSteps.{is_opened, Becomes}
 
-unrefused : (o : Option OpenFault) (s : Said) → is_opened s ≡ true → is_opened (refused_or (option_map refusal.Open o) s) ≡ is_none o
+unrefused : (o : Option OpenFault) (s : Effect) → is_opened s ≡ true → is_opened (refused_or (option_map refusal.Open o) s) ≡ is_none o
 unrefused (Some f) s e = refl
 unrefused None s e = e
 

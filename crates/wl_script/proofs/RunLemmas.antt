@@ -3,12 +3,12 @@ use Rattle.std.proofs.Common.{◌≡◌, ℕ, ◌+◌, ◌≤◌, ◌<◌, true,
 use Rattle.std.specs.Prelude.{◌==◌}
 use Rattle.std.proofs.lemmas.Bool.Decides.{nat_tests}
 use Rattle.std.proofs.lemmas.List.{take_more, drop_more}
-use Rattle.wl_world.specs.World.{WorldState}
-use Rattle.wl_encoding.proofs.Prefixes.{IsPrefixOf-append, append-IsPrefixOf}
-use Rattle.wl_script.specs.declared.line.Line.{Line}
+use Rattle.wl_world_model.specs.World.{WorldState}
+use Rattle.wl_grammar.proofs.Prefixes.{IsPrefixOf-append, append-IsPrefixOf}
+use Rattle.wl_script.specs.declared.sim_line.SimLine.{SimLine}
 use Rattle.wl_script.specs.declared.sim.SimFault.{SimFault}
 use Rattle.wl_script.specs.declared.sim.SimFault.TheVariants as sim
-use Rattle.wl_script.specs.Lines.{line_at}
+use Rattle.wl_script.specs.SimLines.{line_at}
 use Rattle.wl_script.specs.Played.{played}
 use Rattle.wl_script.specs.Sim.{Ran, goes, runs, lines_of}
 use Rattle.wl_script.specs.SimSteps.{SimState, lines_after, EndsBy, Plays}
@@ -30,7 +30,7 @@ before-onward : (front : List ℕ) (o : Option ℕ) (r next : Ran) → before fr
 before-onward front None r next = ap (λ l. record next { written = l }) (sym (append_assoc front r.written next.written))
 before-onward front (Some n) r next = refl
 
-goes-append : (n : ℕ) (w : WorldState) (o : Option Line) (texts more : List (List ℕ)) (m : ℕ)
+goes-append : (n : ℕ) (w : WorldState) (o : Option SimLine) (texts more : List (List ℕ)) (m : ℕ)
     → ((after : WorldState) → runs (n + 1) after (texts ++ more) ≡ onward (runs (n + 1) after texts).refused (runs (n + 1) after texts) (runs m (runs (n + 1) after texts).world more))
     → goes n w o (λ after. runs (n + 1) after (texts ++ more))
     ≡ onward (goes n w o (λ after. runs (n + 1) after texts)).refused (goes n w o (λ after. runs (n + 1) after texts))

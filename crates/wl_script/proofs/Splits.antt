@@ -4,8 +4,8 @@ use Rattle.std.specs.Prelude.{◌==◌, nat_lt}
 use Rattle.std.specs.List.{onto_first}
 use Rattle.std.proofs.lemmas.Bool.Decides.{nat_tests}
 use Rattle.std.proofs.lemmas.List.Splits.{length-slice_split}
-use Rattle.wl_words.specs.Reading.{line_words_at}
-use Rattle.wl_script.specs.Lines.{line_at}
+use Rattle.wl_script_words.specs.WordReading.{line_words_at}
+use Rattle.wl_script.specs.SimLines.{line_at}
 use Rattle.wl_script.specs.Sim.{lines_of, whole_lines}
 use Rattle.wl_script.specs.SimSteps.{first_after, lines_after}
 

@@ -2,11 +2,11 @@
 use Rattle.std.proofs.Common.{◌≡◌, ℕ, ◌+◌, ◌≤◌, ◌<◌, List, [], ◌∷◌, ◌++◌, length, drop, get_or, Option, Some, None, refl, sym, ap, ◌∙◌, append_assoc}
 use Rattle.std.specs.Borrow.{Bor}
 use Rattle.std.proofs.lemmas.List.{at_drop_more, at_drop_all, append-nil}
-use Rattle.wl_words.specs.declared.unread.Unread.{Unread}
-use Rattle.wl_words.specs.declared.unread.Unread.TheVariants as unread
-use Rattle.wl_words.specs.Words.{Fails}
-use Rattle.wl_words.specs.Reading.{◌>>=◌, tab_at, texts}
-use Rattle.wl_script.specs.Lines.{tabs_at}
+use Rattle.wl_script_words.specs.declared.parse_fault.ParseFault.{ParseFault}
+use Rattle.wl_script_words.specs.declared.parse_fault.ParseFault.TheVariants as unread
+use Rattle.wl_script_words.specs.Words.{Fails}
+use Rattle.wl_script_words.specs.WordReading.{◌>>=◌, tab_at, texts}
+use Rattle.wl_script.specs.SimLines.{tabs_at}
 
 -- Lists of tabs
 
@@ -33,7 +33,7 @@ tabs_go_on front words i d t lt e so_far =
     ∙ ap (with_front front) (sym (tabs_step words i d (Some t) lt e))
     ∙ so_far
 
-pub tabs_fail : (e : Unread) (front : List ℕ) (words : List (Bor (List ℕ))) (i : ℕ) (d : Bor (List ℕ)) → i < length words → Fails e (tab_at (get_or words i d).now)
+pub tabs_fail : (e : ParseFault) (front : List ℕ) (words : List (Bor (List ℕ))) (i : ℕ) (d : Bor (List ℕ)) → i < length words → Fails e (tab_at (get_or words i d).now)
     → with_front front (tabs_at (texts (drop i words))) ≡ tabs_at (texts words) → Fails e (tabs_at (texts words))
 tabs_fail unread.Form front words i d lt h so_far = sym so_far ∙ ap (with_front front) (tabs_step words i d None lt h)
 tabs_fail unread.Memory front words i d lt h so_far = tt

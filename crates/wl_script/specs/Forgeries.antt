@@ -12,10 +12,10 @@ use Rattle.wl_grammar.specs.declared.frame.Upward.TheVariants as up
 use Rattle.wl_grammar.specs.Grammar.{IsBody}
 use Rattle.wl_frames.specs.Reading.{◌>>=◌}
 use Rattle.wl_frames.specs.Bodies.{inner_kind_at, frame_at, all_of}
-use Rattle.wl_words.specs.declared.unread.Unread.{Unread}
-use Rattle.wl_words.specs.declared.unread.Unread.TheVariants as unread
-use Rattle.wl_world.specs.declared.event.Forged.{Forged}
-use Rattle.wl_world.specs.declared.event.Forged.TheVariants as forged
+use Rattle.wl_script_words.specs.declared.parse_fault.ParseFault.{ParseFault}
+use Rattle.wl_script_words.specs.declared.parse_fault.ParseFault.TheVariants as unread
+use Rattle.wl_world_model.specs.declared.event.Forged.{Forged}
+use Rattle.wl_world_model.specs.declared.event.Forged.TheVariants as forged
 
 abbrev pub decoded : Result (List ℕ) FromHexError → Option (List ℕ)
 decoded (Ok bytes) = Some bytes
@@ -34,7 +34,7 @@ body_at bytes = do
   Some whole.0
 
 -- The reason for refusing a word whose frame has a fault.
-abbrev pub unread_of : FrameFault → Unread
+abbrev pub unread_of : FrameFault → ParseFault
 unread_of fault.Memory = unread.Memory
 unread_of _ = unread.Form
 

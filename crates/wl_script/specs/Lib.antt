@@ -1,6 +1,8 @@
 pub use Rattle.wl_grammar.specs.Grammar
 pub mod Forgeries
-pub mod Lines
+pub mod SimLines
 pub mod Played
 pub mod Sim
 pub mod SimSteps
+pub mod MessageTexts
+pub mod ReplyTexts

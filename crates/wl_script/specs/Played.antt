@@ -6,18 +6,18 @@ use Rattle.wl_origin.specs.Partition.{partition_of, partition_of_pair}
 use Rattle.wl_origin.specs.declared.fault.OriginFault.{OriginFault}
 use Rattle.wl_origin.specs.declared.fault.OriginFault.TheVariants as origin
 use Rattle.wl_kernel.specs.Kernel.{open_refusal, living_tabs}
-use Rattle.wl_bag.specs.declared.message.Message.{Message}
+use Rattle.wl_world_messages.specs.declared.message.Message.{Message}
 use Rattle.wl_tab.specs.declared.holding.Holding.{Holding}
-use Rattle.wl_world.specs.declared.event.Event.{Event}
-use Rattle.wl_world.specs.declared.event.Event.TheVariants as event
-use Rattle.wl_world.specs.World.{WorldState, happens}
-use Rattle.wl_world.specs.Replies.{reply_of}
-use Rattle.wl_world.specs.Machine.{held_by_living}
-use Rattle.wl_script.specs.declared.line.Line.{Line}
-use Rattle.wl_script.specs.declared.line.Line.TheVariants as line
-use Rattle.wl_replies.specs.Texts.{lock_text}
-use Rattle.wl_replies.specs.ReplyTexts.{reply_text}
-use Rattle.wl_words.specs.Printing.{line as text_line}
+use Rattle.wl_world_model.specs.declared.event.Event.{Event}
+use Rattle.wl_world_model.specs.declared.event.Event.TheVariants as event
+use Rattle.wl_world_model.specs.World.{WorldState, after_event}
+use Rattle.wl_world_model.specs.Replies.{reply_of}
+use Rattle.wl_world_model.specs.Machine.{held_by_living}
+use Rattle.wl_script.specs.declared.sim_line.SimLine.{SimLine}
+use Rattle.wl_script.specs.declared.sim_line.SimLine.TheVariants as line
+use Rattle.wl_script.specs.MessageTexts.{lock_text}
+use Rattle.wl_script.specs.ReplyTexts.{reply_text}
+use Rattle.wl_script_words.specs.WordPrinting.{line as text_line}
 
 pub record Played : Type 0 where
   pub world : WorldState
@@ -25,7 +25,7 @@ pub record Played : Type 0 where
 
 -- An event happens, and its reply is printed.
 abbrev pub plays : WorldState → Event → Played
-plays w e = record { world = happens w e; written = reply_text (reply_of w e) }
+plays w e = record { world = after_event w e; written = reply_text (reply_of w e) }
 
 -- The world stays as it is, and a line is printed.
 abbrev pub says : WorldState → List ℕ → Played
@@ -80,7 +80,7 @@ holdings_text (h ∷ hs) = flat_map holding_text (h ∷ hs)
 
 -- Lines
 
-unfoldable pub played : WorldState → Line → Played
+unfoldable pub played : WorldState → SimLine → Played
 played w line.Blank = record { world = w; written = [] }
 played w (line.Open t url) = opens_url false w t (partition_of url)
 played w (line.OpenTwo t top url) = opens_url true w t (partition_of_pair top url)

@@ -2,12 +2,12 @@
 use Rattle.std.specs.Prelude.{◌≡◌, ◌⊎◌, ⊤, ℕ, ◌+◌, ◌==◌, List, [], ◌∷◌, ◌++◌, Option, Some, None, Result, Ok, Err}
 use Rattle.std.specs.List.{slice_split}
 use Rattle.std.specs.Io.KnownBytes.{Consumes, Appends, IsAtEnd}
-use Rattle.wl_world.specs.World.{WorldState, empty_world}
-use Rattle.wl_encoding.specs.Prefixes.{IsPrefixOf}
-use Rattle.wl_script.specs.declared.line.Line.{Line}
+use Rattle.wl_world_model.specs.World.{WorldState, empty_world}
+use Rattle.wl_grammar.specs.Prefixes.{IsPrefixOf}
+use Rattle.wl_script.specs.declared.sim_line.SimLine.{SimLine}
 use Rattle.wl_script.specs.declared.sim.SimFault.{SimFault}
 use Rattle.wl_script.specs.declared.sim.SimFault.TheVariants as sim
-use Rattle.wl_script.specs.Lines.{line_at}
+use Rattle.wl_script.specs.SimLines.{line_at}
 use Rattle.wl_script.specs.Played.{played}
 
 -- The result of playing lines: the world, the output, and the number of the first line with a
@@ -18,7 +18,7 @@ pub record Ran : Type 0 where
   pub refused : Option ℕ
 
 -- Plays line n and goes on with the rest. A syntax error ends the run.
-abbrev pub goes : ℕ → WorldState → Option Line → (WorldState → Ran) → Ran
+abbrev pub goes : ℕ → WorldState → Option SimLine → (WorldState → Ran) → Ran
 goes n w None rest = record { world = w; written = []; refused = Some n }
 goes n w (Some l) rest = let p = played w l in record (rest p.world) { written = p.written ++ (rest p.world).written }
 

@@ -1,18 +1,18 @@
 -- Helpers of the simulator's private contracts: the effect of one line and of one piece of a
 -- script.
 use Rattle.std.specs.Prelude.{◌≡◌, ℕ, ◌+◌, ◌≤◌, Bool, false, true, List, [], ◌∷◌, ◌++◌, length, Some, None, Result, Ok, Err}
-use Rattle.wl_said.specs.declared.said.Said.{Said}
-use Rattle.wl_said.specs.declared.said.Said.TheVariants as said
-use Rattle.wl_world.specs.World.{WorldState, empty_world}
-use Rattle.wl_world.specs.Machine.{Machine}
-use Rattle.wl_encoding.specs.Prefixes.{IsPrefixOf}
+use Rattle.wl_world_messages.specs.declared.effect.Effect.{Effect}
+use Rattle.wl_world_messages.specs.declared.effect.Effect.TheVariants as said
+use Rattle.wl_world_model.specs.World.{WorldState, empty_world}
+use Rattle.wl_world_model.specs.Machine.{Machine}
+use Rattle.wl_grammar.specs.Prefixes.{IsPrefixOf}
 use Rattle.wl_script.specs.declared.sim.SimFault.{SimFault}
 use Rattle.wl_script.specs.declared.sim.SimFault.TheVariants as sim
 use Rattle.wl_script.specs.Played.{Played}
 use Rattle.wl_script.specs.Sim.{Ran, runs, lines_of}
 
 -- The kernel has opened the tab.
-abbrev pub is_opened : Said → Bool
+abbrev pub is_opened : Effect → Bool
 is_opened (said.Opened tab partition) = true
 is_opened (said.OpenedTwo tab partition) = true
 is_opened s = false

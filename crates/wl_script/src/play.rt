@@ -6,21 +6,21 @@ ghost use Rattle.std.specs.List.{flat_map};
 ghost use Rattle.std.specs.Option.{option_copied};
 ghost use Rattle.wl_origin.specs.Partition.{partition_of, partition_of_pair};
 ghost use Rattle.wl_kernel.specs.Kernel.{open_refusal};
-ghost use Rattle.wl_replies.specs.ReplyTexts.{reply_text};
+ghost use Rattle.wl_script.specs.ReplyTexts.{reply_text};
 ghost use Rattle.wl_script.specs.Played.{plays, says, fault_text, opening, opens, opens_url, named as message_named, delivers, holding_text, holdings_text, played};
 ghost use Rattle.wl_script.specs.SimSteps.{Becomes, is_opened};
 
-use crate::line::Line;
+use crate::message_text::put_lock;
+use crate::reply_text::put_reply;
+use crate::sim_line::SimLine;
 use std::alloc::{AllocError, Global};
 use wl_frames::Sequence;
 use wl_origin::{OriginFault, Partition, partition, partition_pair};
-use wl_replies::messages::put_lock;
-use wl_replies::replies::put_reply;
-use wl_words::printing::{put, put_number};
+use wl_script_words::printing::{put, put_number};
 use wl_world::event::Event;
 use wl_world::holding::Holding;
 use wl_world::message::Message;
-use wl_world::reply::{Reply, Said};
+use wl_world::reply::{Effect, Reply};
 use wl_world::world::World;
 
 /// Plays a line and returns the world after it.
@@ -28,24 +28,24 @@ use wl_world::world::World;
 pub(crate) fn play(
     alloc: Global,
     world: World,
-    line: Line,
+    line: SimLine,
     out: &mut Vec<u8>,
 ) -> Result<World, AllocError>
     ensures { IfOk result (λ after. Becomes (played world.world line) after out.old.items out.new.items) }
 {
     match line {
-        Line::Blank => Ok(world),
-        Line::Open { tab, url } => open(alloc, world, tab, url.as_str(), out),
-        Line::OpenTwo { tab, top, url } => {
+        SimLine::Blank => Ok(world),
+        SimLine::Open { tab, url } => open(alloc, world, tab, url.as_str(), out),
+        SimLine::OpenTwo { tab, top, url } => {
             open_two(alloc, world, tab, top.as_str(), url.as_str(), out)
         }
-        Line::StartAll => {
+        SimLine::StartAll => {
             let living = Sequence::new(world.living().to_vec(alloc)?);
             happen(alloc, world, Event::Start(living), out)
         }
-        Line::Deliver { name } => deliver(alloc, world, name, out),
-        Line::Show => show(world, out),
-        Line::Happens(event) => happen(alloc, world, event, out),
+        SimLine::Deliver { name } => deliver(alloc, world, name, out),
+        SimLine::Show => show(world, out),
+        SimLine::Happens(event) => happen(alloc, world, event, out),
     }
 }
 
@@ -177,7 +177,10 @@ fn opening(tab: u16, partition: Partition, in_parts: bool) -> Event
 fn is_opening(reply: &Reply) -> bool
     ensures { result ≡ is_opened reply.now.said }
 {
-    matches!(&reply.said, Said::Opened { .. } | Said::OpenedTwo { .. })
+    matches!(
+        &reply.said,
+        Effect::Opened { .. } | Effect::OpenedTwo { .. }
+    )
 }
 
 // Deliveries
@@ -190,7 +193,7 @@ fn deliver(alloc: Global, world: World, name: u64, out: &mut Vec<u8>) -> Result<
     let Some(message) = named(&world, name) else {
         return say(world, "no message", out);
     };
-    let message = message.copy(alloc)?;
+    let message = message.copy()?;
     happen(alloc, world, Event::Deliver(message), out)
 }
 
@@ -210,7 +213,7 @@ fn named(world: &World, name: u64) -> Option<&Message>
 #[tactic(auto, unfolding(crate::specs::Played::played))]
 fn show(world: World, out: &mut Vec<u8>) -> Result<World, AllocError>
     ensures { IfOk result (λ after.
-        Becomes (played world.world Line.Show) after out.old.items out.new.items) }
+        Becomes (played world.world SimLine.Show) after out.old.items out.new.items) }
 {
     let holdings = world.holdings()?;
     put_holdings(out, holdings.as_slice())?;

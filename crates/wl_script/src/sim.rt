@@ -8,15 +8,15 @@ ghost use Rattle.wl_script.specs.declared.sim.SimFault.TheVariants as faults;
 ghost use Rattle.wl_script.specs.Sim.{Runs};
 ghost use Rattle.wl_script.specs.SimSteps.{at_first, PlaysLine, Takes, Closes};
 
+use crate::line_reading::read_line;
 use crate::play::play;
-use crate::reading::read_line;
 use std::alloc::{AllocError, AllocFailed, Global};
 use std::io::{Read, Write};
 use std::marker::Model;
 use thiserror::Error;
 use wl_frames::device::{PIECE_LEN, READ_LIMIT, ReadFault, Sink, Source, WriteFault};
 use wl_limits::scripts::LINE_LIMIT;
-use wl_words::Unread;
+use wl_script_words::ParseFault;
 use wl_world::world::World;
 
 /// Why the simulator ended before the end of its script.
@@ -168,8 +168,8 @@ fn play_line<W: Write>(
 {
     let line = match read_line(alloc, text) {
         Ok(line) => line,
-        Err(Unread::Form) => return Err(SimFault::Line(number)),
-        Err(Unread::Memory) => return Err(SimFault::Memory),
+        Err(ParseFault::Form) => return Err(SimFault::Line(number)),
+        Err(ParseFault::Memory) => return Err(SimFault::Memory),
     };
     let mut out = Vec::new(alloc);
     let world = play(alloc, world, line, &mut out)?;

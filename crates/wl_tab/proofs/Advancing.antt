@@ -15,12 +15,12 @@ use Rattle.wl_agent.specs.Issued.{Issued}
 use Rattle.wl_agent.specs.SnapshotParts.{PartsState}
 use Rattle.wl_agent.specs.Tab.{TabState, status_of, operation_of, is_probe, ended, is_querying}
 use Rattle.wl_agent.specs.Tokens.{is_own, is_asking, told_query, told_by_status, after_query}
-use Rattle.wl_agent.specs.Kept.{RowsFit, Stands, can_become}
-use Rattle.wl_tab.specs.declared.locks.kept.Kept.{Kept}
+use Rattle.wl_agent.specs.AgentInvariant.{RowsFit, Stands, can_become}
+use Rattle.wl_tab.specs.declared.locks.live_command.LiveCommand.{LiveCommand}
 use Rattle.wl_tab.specs.Tabs.{is_told, told}
 use Rattle.wl_tab.specs.TabTokens.{token_for, kept_as, kept_for}
-use Rattle.wl_tab.specs.declared.locks.telling.Fate.{Fate}
-use Rattle.wl_tab.specs.declared.locks.telling.Fate.TheVariants as fate
+use Rattle.wl_tab.specs.declared.locks.settling.Settlement.{Settlement}
+use Rattle.wl_tab.specs.declared.locks.settling.Settlement.TheVariants as fate
 use Rattle.wl_tab.specs.Telling.{Run, tell_next, told_run, with_fate, fate_of, fate_by_query, after_telling}
 
 -- Changes of a row
@@ -149,7 +149,7 @@ before_push k s (row ∷ D) before = (omega (arith, before.0), before_push k s D
 abbrev pub with_rows : Table Status → TabState → TabState
 with_rows rows a = record a { statuses = rows }
 
-abbrev pub run_with : TabState → List Kept → Option Snapshot → Run
+abbrev pub run_with : TabState → List LiveCommand → Option Snapshot → Run
 run_with a kept snapshot = record { agent = a; kept = kept; snapshot = snapshot }
 
 abbrev pub whole_or : Status → Option Snapshot → Option Snapshot
@@ -202,7 +202,7 @@ tells_query run k s op own issued st =
     let left_is : after_telling (token.Asking q) run.agent ≡ cond (is_querying (Some s)) run.agent (ended k run.agent) = ap (λ b. cond b (after_query k run.agent) run.agent) mine ∙ ap (λ (o : Option Status). cond (is_querying o) run.agent (ended k run.agent)) st in
     ap (with_fate run (kept_as Query (token.Asking q))) fate_is ∙ moved_on (fate_by_query (told_by_status (Some s) q)) q left_is
   where
-    moved_on : (f : Fate) (q : Issued) → after_telling (token.Asking q) run.agent ≡ cond (is_querying (Some s)) run.agent (ended k run.agent) → with_fate run (kept_as Query (token.Asking q)) f ≡ with_fate (run_with (cond (is_querying (Some s)) run.agent (ended k run.agent)) run.kept run.snapshot) (kept_as Query (token.HeldLock (record { tab = run.agent.tab; number = k }))) f
+    moved_on : (f : Settlement) (q : Issued) → after_telling (token.Asking q) run.agent ≡ cond (is_querying (Some s)) run.agent (ended k run.agent) → with_fate run (kept_as Query (token.Asking q)) f ≡ with_fate (run_with (cond (is_querying (Some s)) run.agent (ended k run.agent)) run.kept run.snapshot) (kept_as Query (token.HeldLock (record { tab = run.agent.tab; number = k }))) f
     moved_on (fate.Stays t) q e = ap (λ (a : TabState). run_with a (run.kept ++ kept_as Query t ∷ []) run.snapshot) e
     moved_on fate.Over q e = ap (λ (a : TabState). run_with a run.kept run.snapshot) e
     moved_on (fate.Whole w) q e = ap (λ (a : TabState). run_with a run.kept (Some w)) e
@@ -257,10 +257,10 @@ RunsOn next R =
 runs_none : (D : Table Status) (run : Run) → run.agent.statuses ≡ D ++ [] → run ≡ finished D [] run
 runs_none D run e =
     ap (λ (rows : Table Status). run_with (with_rows rows run.agent) run.kept run.snapshot) e
-    ∙ ap (λ (ks : List Kept). run_with (with_rows (D ++ []) run.agent) ks run.snapshot) (sym (append-nil run.kept))
+    ∙ ap (λ (ks : List LiveCommand). run_with (with_rows (D ++ []) run.agent) ks run.snapshot) (sym (append-nil run.kept))
 
 -- A token stays.
-stays_on : (D X : Table Status) (row : ℕ × Status) (run : Run) (x : Kept) (ks : List Kept) (w : Option Snapshot) → run_with (with_rows ((D ++ row ∷ []) ++ X) run.agent) ((run.kept ++ x ∷ []) ++ ks) w ≡ run_with (with_rows (D ++ row ∷ X) run.agent) (run.kept ++ x ∷ ks) w
+stays_on : (D X : Table Status) (row : ℕ × Status) (run : Run) (x : LiveCommand) (ks : List LiveCommand) (w : Option Snapshot) → run_with (with_rows ((D ++ row ∷ []) ++ X) run.agent) ((run.kept ++ x ∷ []) ++ ks) w ≡ run_with (with_rows (D ++ row ∷ X) run.agent) (run.kept ++ x ∷ ks) w
 stays_on D X row run x ks w = simp append_assoc
 
 stays_as : (next : ℕ × Status → Option Status) (R D : Table Status) (k m : ℕ) (s : Status) (run : Run) → RunsOn next R → run.agent.statuses ≡ D ++ (k, s) ∷ advance next R → Before m D → m ≤ k → Rises (k + 1) R → RowsFit run.agent.issued R → AllMove run.agent.issued next R → fold tell_next (run_with run.agent (run.kept ++ kept_for run.agent.tab run.agent.issued (k, s) ∷ []) run.snapshot) (map (kept_for run.agent.tab run.agent.issued) R) ≡ run_with (with_rows (D ++ (k, s) ∷ untold (advance next R)) run.agent) (run.kept ++ kept_for run.agent.tab run.agent.issued (k, s) ∷ map (kept_for run.agent.tab run.agent.issued) (untold (advance next R))) (last_whole (advance next R) run.snapshot)

@@ -13,20 +13,20 @@ use Rattle.wl_grammar.specs.declared.frame.Frame.{Frame}
 use Rattle.wl_grammar.specs.declared.frame.Frame.TheVariants as frame
 use Rattle.wl_agent.specs.declared.delivered.Delivered.{Delivered}
 use Rattle.wl_agent.specs.declared.delivered.Delivered.TheVariants as told_as
-use Rattle.wl_agent.specs.declared.delivered.Unheard.{Unheard}
-use Rattle.wl_agent.specs.declared.delivered.Unheard.TheVariants as unheard
+use Rattle.wl_agent.specs.declared.drop_reason.DropReason.{DropReason}
+use Rattle.wl_agent.specs.declared.drop_reason.DropReason.TheVariants as unheard
 use Rattle.wl_agent.specs.declared.snapshot.Snapshot.{Snapshot}
 use Rattle.wl_agent.specs.declared.status.Status.{Status}
 use Rattle.wl_agent.specs.declared.status.Status.TheVariants.{Asked, Held, Querying, Whole, Lost}
 use Rattle.wl_agent.specs.SnapshotParts.{with_part, is_whole, snapshot_of}
 use Rattle.wl_agent.specs.Tab.{report_frames, TabState, status_of, is_probe, is_asked_probe, is_querying, enter, enter_first, enter_later, ended}
 use Rattle.wl_agent.specs.Delivery.{delivery, noted, becomes, has_entered, of_other, told_by_answer, told_by_part, told_unless, after_answer, after_part, part_refusal, parts_of, with_part_come}
-use Rattle.wl_agent.specs.Kept.{RowsFit, Stands}
+use Rattle.wl_agent.specs.AgentInvariant.{RowsFit, Stands}
 use Rattle.wl_agent.proofs.Rows.{AllRows-filter}
-use Rattle.wl_tab.specs.declared.locks.kept.Kept.{Kept}
-use Rattle.wl_said.specs.declared.said.Ended.{Ended}
-use Rattle.wl_said.specs.declared.said.Ended.TheVariants as end
-use Rattle.wl_said.specs.declared.said.Said.TheVariants as said
+use Rattle.wl_tab.specs.declared.locks.live_command.LiveCommand.{LiveCommand}
+use Rattle.wl_world_messages.specs.declared.effect.Ended.{Ended}
+use Rattle.wl_world_messages.specs.declared.effect.Ended.TheVariants as end
+use Rattle.wl_world_messages.specs.declared.effect.Effect.TheVariants as said
 use Rattle.wl_tab.specs.Tabs.{is_told, told}
 use Rattle.wl_tab.specs.Arrivals.{arrival, said_of_told, told_said, snapshot_in, generation_in, ended_in, ended_by_entering}
 use Rattle.wl_tab.specs.TabTokens.{token_for, kept_for, kept_of, IsKept, whole_said, NoneTold, ended_by, ended_kept, has_snapshot, entered_by, ended_before}
@@ -37,7 +37,7 @@ use Rattle.wl_agent.specs.declared.token.Token.TheVariants as token
 
 -- Tokens after a delivery
 
-pub tokens-told : (f : Frame) (a b : TabState) (tab entered : ℕ) (kept : List Kept) → IsKept a tab entered kept → b ≡ (delivery f a).0 → told_run b kept ≡ run_with (told b) (kept_of (told b)) (last_whole b.statuses None)
+pub tokens-told : (f : Frame) (a b : TabState) (tab entered : ℕ) (kept : List LiveCommand) → IsKept a tab entered kept → b ≡ (delivery f a).0 → told_run b kept ≡ run_with (told b) (kept_of (told b)) (last_whole b.statuses None)
 unfolding told
 tokens-told f a b tab entered kept is b_is =
     let d : Advances a b = subst (Advances a) (sym b_is) (delivered-advances f a is.rise is.untold) in
@@ -54,7 +54,7 @@ none_told : (rows : Table Status) → NoneTold (untold rows)
 none_told [] = tt
 none_told (row ∷ rows) = none_told_as row (untold rows) (is_told row.1) refl (none_told rows)
 
-pub kept-told : (f : Frame) (a b : TabState) (tab entered g : ℕ) (kept : List Kept) → IsKept a tab entered kept → b ≡ (delivery f a).0 → g ≡ b.entered → IsKept (told b) tab g (kept_of (told b))
+pub kept-told : (f : Frame) (a b : TabState) (tab entered g : ℕ) (kept : List LiveCommand) → IsKept a tab entered kept → b ≡ (delivery f a).0 → g ≡ b.entered → IsKept (told b) tab g (kept_of (told b))
 unfolding told
 kept-told f a b tab entered g kept is b_is g_is =
     let d : Advances a b = subst (Advances a) (sym b_is) (delivered-advances f a is.rise is.untold) in
@@ -88,7 +88,7 @@ no_entering : (x : Answer) (a : TabState) (f : Frame) (d : Delivered) → Answer
 no_entering x a f (told_as.Entered report) n = absurd n
 no_entering x a f d n = refl
 
-part_tells : (x : Part) (a : TabState) (f : Frame) (o : Option Unheard) (b : Bool) → entered_by f (told_unless o (cond b (told_as.Whole x.number) (told_as.Part x.number))) a.entered ≡ a.entered
+part_tells : (x : Part) (a : TabState) (f : Frame) (o : Option DropReason) (b : Bool) → entered_by f (told_unless o (cond b (told_as.Whole x.number) (told_as.Part x.number))) a.entered ≡ a.entered
 part_tells x a f (Some r) b = refl
 part_tells x a f None true = refl
 part_tells x a f None false = refl
@@ -144,7 +144,7 @@ WholeIf p = (k : ℕ) → p.1 ≡ told_as.Whole k → WholeAt p.0 k
 other_whole : (a : TabState) (g : ℕ) → WholeIf (a, of_other g a)
 other_whole a g = either (λ (d : Delivered). WholeIf (a, d)) (ltb g a.entered) (told_as.Dropped unheard.OldGeneration) (told_as.Dropped unheard.LaterGeneration) (λ e k is. let bad : ⊥ = cc in absurd bad) (λ e k is. let bad : ⊥ = cc in absurd bad)
 
-part_whole : (x : Part) (a : TabState) (n : ℕ) (o : Option Unheard) (b : Bool) → NoneTold a.statuses → part_refusal x a ≡ o → is_whole (with_part x (parts_of (status_of a x.number))) ≡ b → (k : ℕ) → told_unless o (cond b (told_as.Whole x.number) (told_as.Part x.number)) ≡ told_as.Whole k → WholeAt (noted n (after_part x a)) k
+part_whole : (x : Part) (a : TabState) (n : ℕ) (o : Option DropReason) (b : Bool) → NoneTold a.statuses → part_refusal x a ≡ o → is_whole (with_part x (parts_of (status_of a x.number))) ≡ b → (k : ℕ) → told_unless o (cond b (told_as.Whole x.number) (told_as.Part x.number)) ≡ told_as.Whole k → WholeAt (noted n (after_part x a)) k
 unfolding noted becomes
 part_whole x a n (Some r) b none refused whole k is = let bad : ⊥ = cc in absurd bad
 part_whole x a n None false none refused whole k is = let bad : ⊥ = cc in absurd bad
@@ -152,7 +152,7 @@ part_whole x a n None true none refused whole k is =
     let parts = parts_of (status_of a x.number) in
     let s : Snapshot = snapshot_of (with_part x parts) in
     let same : x.number ≡ k = cc in
-    let rows : (after_part x a).statuses ≡ put x.number (Whole s) a.statuses = ap (λ (o : Option Unheard). (cond (is_some o) a (becomes x.number (with_part_come x parts) a)).statuses) refused ∙ ap (λ b. put x.number (cond b (Whole (snapshot_of (with_part x parts))) (Querying (with_part x parts))) a.statuses) whole in
+    let rows : (after_part x a).statuses ≡ put x.number (Whole s) a.statuses = ap (λ (o : Option DropReason). (cond (is_some o) a (becomes x.number (with_part_come x parts) a)).statuses) refused ∙ ap (λ b. put x.number (cond b (Whole (snapshot_of (with_part x parts))) (Querying (with_part x parts))) a.statuses) whole in
     record {
       snapshot = s;
       status = ap (λ (rs : Table Status). find rs k) rows ∙ ap (λ i. find (put x.number (Whole s) a.statuses) i) (sym same) ∙ find-put_same x.number (Whole s) a.statuses;
@@ -190,7 +190,7 @@ ends-in tab issued (row ∷ rows) none =
     ∙ ends_as tab row.0 issued row.1 (ended_in issued rows) none.0
 
 -- The stored tokens give the numbers that entering ends.
-pub ends-kept : (a : TabState) (tab entered : ℕ) (kept : List Kept) → IsKept a tab entered kept → ended_kept kept ≡ ended_in a.issued a.statuses
+pub ends-kept : (a : TabState) (tab entered : ℕ) (kept : List LiveCommand) → IsKept a tab entered kept → ended_kept kept ≡ ended_in a.issued a.statuses
 ends-kept a tab entered kept is = ap ended_kept is.tokens ∙ ends-in a.tab a.issued a.statuses is.untold
 
 -- Replies
@@ -215,13 +215,13 @@ said-arrival f a ends none e = said_as f a (delivery f a).0 (delivery f a).1 end
 -- A whole delivery
 
 -- The effect and reply of a delivery, given the entered generation and the settled tokens.
-pub record Comes (f : Frame) (a c : TabState) (d : Delivered) (tab g : ℕ) (kept : List Kept) (w : Option Snapshot) : Type 0 where
+pub record Comes (f : Frame) (a c : TabState) (d : Delivered) (tab g : ℕ) (kept : List LiveCommand) (w : Option Snapshot) : Type 0 where
   pub keeps : IsKept c tab g kept
   pub left : c ≡ told (delivery f a).0
   pub whole : has_snapshot d w ≡ true
   pub says : (ends : List Ended) → ends ≡ ended_by_entering a → said_of_told f ends (whole_said w) d ≡ arrival f a
 
-pub comes : (f : Frame) (a b c : TabState) (d : Delivered) (tab entered g : ℕ) (kept ks : List Kept) (w : Option Snapshot) → IsKept a tab entered kept → (b, d) ≡ delivery f a → g ≡ entered_by f d entered → c ≡ (told_run b kept).agent → ks ≡ (told_run b kept).kept → w ≡ (told_run b kept).snapshot → Comes f a c d tab g ks w
+pub comes : (f : Frame) (a b c : TabState) (d : Delivered) (tab entered g : ℕ) (kept ks : List LiveCommand) (w : Option Snapshot) → IsKept a tab entered kept → (b, d) ≡ delivery f a → g ≡ entered_by f d entered → c ≡ (told_run b kept).agent → ks ≡ (told_run b kept).kept → w ≡ (told_run b kept).snapshot → Comes f a c d tab g ks w
 comes f a b c d tab entered g kept ks w is delivered g_is c_is ks_is w_is =
     let b_is : b ≡ (delivery f a).0 = ap (λ (p : TabState × Delivered). p.0) delivered in
     let d_is : d ≡ (delivery f a).1 = ap (λ (p : TabState × Delivered). p.1) delivered in
@@ -239,6 +239,6 @@ comes f a b c d tab entered g kept ks w is delivered g_is c_is ks_is w_is =
       says = λ ends e. ap (λ (o : Option Snapshot). said_of_told f ends (whole_said o) d) snapshot ∙ ap (λ (t : TabState). said_of_told f ends (whole_said (last_whole t.statuses None)) d) b_is ∙ ap (said_of_told f ends (whole_said (last_whole (delivery f a).0.statuses None))) d_is ∙ said-arrival f a ends is.untold e;
     }
 
-pub ends-before : (a : TabState) (tab entered : ℕ) (kept : List Kept) → IsKept a tab entered kept → ended_before entered kept ≡ ended_by_entering a
+pub ends-before : (a : TabState) (tab entered : ℕ) (kept : List LiveCommand) → IsKept a tab entered kept → ended_before entered kept ≡ ended_by_entering a
 ends-before a tab entered kept is =
     ap (λ e. ended_before e kept) is.generation ∙ ap (λ (ends : List Ended). cond (eqb a.entered 0) [] ends) (ends-kept a tab entered kept is)

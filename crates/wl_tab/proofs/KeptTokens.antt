@@ -17,9 +17,9 @@ use Rattle.wl_agent.specs.Issued.{Issued}
 use Rattle.wl_agent.specs.SnapshotParts.{no_parts}
 use Rattle.wl_draft.specs.declared.mode.Mode.{Mode}
 use Rattle.wl_agent.specs.Tab.{TabState, asked, queried, status_of, is_probe, issue, finish, operation_of, is_held, mode_of, name_of}
-use Rattle.wl_agent.specs.Kept.{RowsFit, Stands, can_become}
+use Rattle.wl_agent.specs.AgentInvariant.{RowsFit, Stands, can_become}
 use Rattle.wl_agent.proofs.Rows.{AllRows-put, AllRows-filter, AllRows-weaker}
-use Rattle.wl_tab.specs.declared.locks.kept.Kept.{Kept}
+use Rattle.wl_tab.specs.declared.locks.live_command.LiveCommand.{LiveCommand}
 use Rattle.wl_tab.specs.Tabs.{is_told}
 use Rattle.wl_tab.specs.declared.holding.Holding.{Holding}
 use Rattle.wl_tab.specs.TabTokens.{kept_as, token_for, kept_for, IsKept, number_of, holding_at, holding_by, holding_in, holdings_of}
@@ -34,7 +34,7 @@ number_as tab k o (Querying p) = refl
 number_as tab k o (Whole s) = refl
 number_as tab k o Lost = refl
 
-abbrev pub number : Kept → ℕ
+abbrev pub number : LiveCommand → ℕ
 number x = number_of x.token
 
 number-kept : (tab : ℕ) (issued : List Operation) (row : ℕ × Status) → number (kept_for tab issued row) ≡ row.0
@@ -46,21 +46,21 @@ kept-rises tab issued least (row ∷ rows) r =
     let e = number-kept tab issued row in
     (omega (arith, e, r.0), subst (λ n. RisesBy number (n + 1) (map (kept_for tab issued) rows)) (sym e) (kept-rises tab issued (row.0 + 1) rows r.1))
 
-without-kept_as : (k : ℕ) (x : Kept) (row : ℕ × Status) (xs : List Kept) (tab : ℕ) (issued : List Operation) (rows : Table Status) (b : Bool) → x ≡ kept_for tab issued row → xs ≡ map (kept_for tab issued) rows → cond b (x ∷ xs) xs ≡ map (kept_for tab issued) (cond b (row ∷ rows) rows)
+without-kept_as : (k : ℕ) (x : LiveCommand) (row : ℕ × Status) (xs : List LiveCommand) (tab : ℕ) (issued : List Operation) (rows : Table Status) (b : Bool) → x ≡ kept_for tab issued row → xs ≡ map (kept_for tab issued) rows → cond b (x ∷ xs) xs ≡ map (kept_for tab issued) (cond b (row ∷ rows) rows)
 without-kept_as k x row xs tab issued rows true e es = cc
 without-kept_as k x row xs tab issued rows false e es = es
 
 without-kept : (k tab : ℕ) (issued : List Operation) (rows : Table Status) → filter (λ x. not (eqb (number x) k)) (map (kept_for tab issued) rows) ≡ map (kept_for tab issued) (without_row k rows)
 without-kept k tab issued [] = refl
 without-kept k tab issued (row ∷ rows) =
-    let rest = filter (λ (x : Kept). not (eqb (number x) k)) (map (kept_for tab issued) rows) in
+    let rest = filter (λ (x : LiveCommand). not (eqb (number x) k)) (map (kept_for tab issued) rows) in
     ap (λ n. cond (not (eqb n k)) (kept_for tab issued row ∷ rest) rest) (number-kept tab issued row)
     ∙ without-kept_as k (kept_for tab issued row) row rest tab issued (without_row k rows) (not (eqb row.0 k)) refl (without-kept k tab issued rows)
 
 -- The token of a number
 
 -- A stored token agrees with the status of its number.
-pub record Stood (tab k : ℕ) (issued : List Operation) (rows : Table Status) (x : Kept) : Type 0 where
+pub record Stood (tab k : ℕ) (issued : List Operation) (rows : Table Status) (x : LiveCommand) : Type 0 where
   pub status : Status
   pub here : find rows k ≡ Some status
   pub kept : x ≡ kept_for tab issued (k, status)
@@ -72,21 +72,21 @@ stood_first tab k issued row rows e = record {
   kept = ap (λ n. kept_for tab issued (n, row.1)) e;
 }
 
-stood_later : (tab k : ℕ) (issued : List Operation) (row : ℕ × Status) (rows : Table Status) (x : Kept) → row.0 < k → Stood tab k issued rows x → Stood tab k issued (row ∷ rows) x
+stood_later : (tab k : ℕ) (issued : List Operation) (row : ℕ × Status) (rows : Table Status) (x : LiveCommand) → row.0 < k → Stood tab k issued rows x → Stood tab k issued (row ∷ rows) x
 stood_later tab k issued row rows x low s = record {
   status = s.status;
   here = ap (λ b. cond b (Some row.1) (find rows k)) (ne_eqb row.0 k (λ e. omega arith)) ∙ s.here;
   kept = s.kept;
 }
 
-stood : (tab k least : ℕ) (issued : List Operation) (rows : Table Status) (i : ℕ) (d : Kept) → Rises least rows → i < length (map (kept_for tab issued) rows) → number (get_or (map (kept_for tab issued) rows) i d) ≡ k → Stood tab k issued rows (get_or (map (kept_for tab issued) rows) i d)
+stood : (tab k least : ℕ) (issued : List Operation) (rows : Table Status) (i : ℕ) (d : LiveCommand) → Rises least rows → i < length (map (kept_for tab issued) rows) → number (get_or (map (kept_for tab issued) rows) i d) ≡ k → Stood tab k issued rows (get_or (map (kept_for tab issued) rows) i d)
 stood tab k least issued [] i d r h e = absurd (omega arith)
 stood tab k least issued (row ∷ rows) zero d r h e = stood_first tab k issued row rows (sym (number-kept tab issued row) ∙ e)
 stood tab k least issued (row ∷ rows) (suc i) d r h e =
     let low : row.0 < k = omega (arith, e, at_least number (row.0 + 1) (map (kept_for tab issued) rows) i d (kept-rises tab issued (row.0 + 1) rows r.1) (omega arith)) in
     stood_later tab k issued row rows _ low (stood tab k (row.0 + 1) issued rows i d r.1 (omega arith) e)
 
-none_as : (k : ℕ) (row : ℕ × Status) (rows : Table Status) (b : Bool) (xs : List Kept) → (b || list_any (λ x. eqb (number x) k) xs) ≡ false → (list_any (λ x. eqb (number x) k) xs ≡ false → find rows k ≡ None) → cond b (Some row.1) (find rows k) ≡ None
+none_as : (k : ℕ) (row : ℕ × Status) (rows : Table Status) (b : Bool) (xs : List LiveCommand) → (b || list_any (λ x. eqb (number x) k) xs) ≡ false → (list_any (λ x. eqb (number x) k) xs ≡ false → find rows k ≡ None) → cond b (Some row.1) (find rows k) ≡ None
 none_as k row rows true xs e below = cc
 none_as k row rows false xs e below = below e
 
@@ -96,16 +96,16 @@ none-kept tab k issued (row ∷ rows) e =
     let xs = map (kept_for tab issued) rows in
     none_as k row rows (eqb row.0 k) xs (ap (λ n. eqb n k || list_any (λ x. eqb (number x) k) xs) (sym (number-kept tab issued row)) ∙ e) (none-kept tab k issued rows)
 
-abbrev is_at : ℕ → Kept → Bool
+abbrev is_at : ℕ → LiveCommand → Bool
 is_at k x = eqb (number x) k
 
 -- Facts about a number that was found among the stored tokens.
-pub record Found (a : TabState) (kept : List Kept) (k place : ℕ) : Type 0 where
+pub record Found (a : TabState) (kept : List LiveCommand) (k place : ℕ) : Type 0 where
   pub within : place < length kept
   pub rest : remove kept place ≡ map (kept_for a.tab a.issued) (without_row k a.statuses)
-  pub stands : (d : Kept) → Stood a.tab k a.issued a.statuses (get_or kept place d)
+  pub stands : (d : LiveCommand) → Stood a.tab k a.issued a.statuses (get_or kept place d)
 
-pub found : (a : TabState) (tab entered : ℕ) (kept xs : List Kept) (k place : ℕ) (d : Kept) (o : Option ℕ) → IsKept a tab entered kept → xs ≡ kept → o ≡ position (is_at k) xs → o ≡ Some place → Found a kept k place
+pub found : (a : TabState) (tab entered : ℕ) (kept xs : List LiveCommand) (k place : ℕ) (d : LiveCommand) (o : Option ℕ) → IsKept a tab entered kept → xs ≡ kept → o ≡ position (is_at k) xs → o ≡ Some place → Found a kept k place
 found a tab entered kept xs k place d o is same at here =
     let there : position (is_at k) kept ≡ Some place = ap (position (is_at k)) (sym same) ∙ sym at ∙ here in
     let p = position-Some (is_at k) kept place d there in
@@ -116,13 +116,13 @@ found a tab entered kept xs k place d o is same at here =
       stands = λ e. stands_at e there;
     }
   where
-    stands_at : (e : Kept) → position (is_at k) kept ≡ Some place → Stood a.tab k a.issued a.statuses (get_or kept place e)
+    stands_at : (e : LiveCommand) → position (is_at k) kept ≡ Some place → Stood a.tab k a.issued a.statuses (get_or kept place e)
     stands_at e there =
         let p = position-Some (is_at k) kept place e there in
-        let P : List Kept → Type 0 = λ ks. place < length ks → number (get_or ks place e) ≡ k → Stood a.tab k a.issued a.statuses (get_or ks place e) in
+        let P : List LiveCommand → Type 0 = λ ks. place < length ks → number (get_or ks place e) ≡ k → Stood a.tab k a.issued a.statuses (get_or ks place e) in
         subst P (sym is.tokens) (stood a.tab k 0 a.issued a.statuses place e is.rise) p.0 (eqb-true _ k p.1)
 
-pub nowhere : (a : TabState) (tab entered : ℕ) (kept xs : List Kept) (k : ℕ) (o : Option ℕ) → IsKept a tab entered kept → xs ≡ kept → o ≡ position (is_at k) xs → o ≡ None → status_of a k ≡ None
+pub nowhere : (a : TabState) (tab entered : ℕ) (kept xs : List LiveCommand) (k : ℕ) (o : Option ℕ) → IsKept a tab entered kept → xs ≡ kept → o ≡ position (is_at k) xs → o ≡ None → status_of a k ≡ None
 nowhere a tab entered kept xs k o is same at here =
     let there : position (is_at k) kept ≡ None = ap (position (is_at k)) (sym same) ∙ sym at ∙ here in
     none-kept a.tab k a.issued a.statuses (ap (list_any (is_at k)) (sym is.tokens) ∙ position-none (is_at k) kept there)
@@ -154,7 +154,7 @@ put-behind issued s [] fit = refl
 put-behind issued s (row ∷ rows) fit = behind_as (length issued) s row rows fit.0.0 (put-behind issued s rows fit.1)
 
 -- A command is issued, and its token is stored after all others.
-pub kept-issue : (a b : TabState) (tab entered : ℕ) (kept xs : List Kept) (o : Operation) (s : Status) (x : Kept) → IsKept a tab entered kept → can_become o s ≡ true → is_told s ≡ false → xs ≡ kept ++ x ∷ [] → x ≡ kept_as o (token_for a.tab o (length a.issued) s) → b ≡ issue o s a → IsKept b tab entered xs
+pub kept-issue : (a b : TabState) (tab entered : ℕ) (kept xs : List LiveCommand) (o : Operation) (s : Status) (x : LiveCommand) → IsKept a tab entered kept → can_become o s ≡ true → is_told s ≡ false → xs ≡ kept ++ x ∷ [] → x ≡ kept_as o (token_for a.tab o (length a.issued) s) → b ≡ issue o s a → IsKept b tab entered xs
 unfolding issue
 kept-issue a b tab entered kept xs o s x is fits untold xs_are x_is b_is =
     let issued = a.issued ++ o ∷ [] in
@@ -173,7 +173,7 @@ kept-issue a b tab entered kept xs o s x is fits untold xs_are x_is b_is =
     })
 
 -- A command ends a number, and its token is removed.
-pub kept-finish : (a b : TabState) (tab entered : ℕ) (kept xs : List Kept) (o : Operation) (k place : ℕ) → IsKept a tab entered kept → Found a kept k place → xs ≡ remove kept place → b ≡ finish o k a → IsKept b tab entered xs
+pub kept-finish : (a b : TabState) (tab entered : ℕ) (kept xs : List LiveCommand) (o : Operation) (k place : ℕ) → IsKept a tab entered kept → Found a kept k place → xs ≡ remove kept place → b ≡ finish o k a → IsKept b tab entered xs
 unfolding finish
 kept-finish a b tab entered kept xs o k place is f xs_are b_is =
     let rows = without_row k a.statuses in
@@ -211,39 +211,39 @@ holds-in a (row ∷ rows) fit =
     ∙ sym (map_as hold row (filter (λ r. is_held (Some r.1)) rows) (is_held (Some row.1)))
 
 -- The stored tokens give the locks that the tab holds.
-pub holds-kept : (a : TabState) (tab entered : ℕ) (kept : List Kept) → IsKept a tab entered kept → filter_map (holding_in tab) kept ≡ holdings_of a
+pub holds-kept : (a : TabState) (tab entered : ℕ) (kept : List LiveCommand) → IsKept a tab entered kept → filter_map (holding_in tab) kept ≡ holdings_of a
 holds-kept a tab entered kept is =
     ap (λ t. filter_map (holding_in t) kept) is.owner ∙ ap (filter_map (holding_in a.tab)) is.tokens ∙ holds-in a a.statuses is.rows
 
 -- Issued requests, probes and queries
 
-pub kept-requested : (a b : TabState) (tab entered : ℕ) (kept xs : List Kept) (o : Operation) (p : Issued) (mode : Mode) (name bytes : List ℕ) → IsKept a tab entered kept → xs ≡ kept ++ kept_as o (token.Pending p) ∷ [] → o ≡ Request mode false name → bytes ≡ name → p.tab ≡ a.tab → p.number ≡ length a.issued → b ≡ asked mode false bytes a → IsKept b tab entered xs
+pub kept-requested : (a b : TabState) (tab entered : ℕ) (kept xs : List LiveCommand) (o : Operation) (p : Issued) (mode : Mode) (name bytes : List ℕ) → IsKept a tab entered kept → xs ≡ kept ++ kept_as o (token.Pending p) ∷ [] → o ≡ Request mode false name → bytes ≡ name → p.tab ≡ a.tab → p.number ≡ length a.issued → b ≡ asked mode false bytes a → IsKept b tab entered xs
 kept-requested a b tab entered kept xs o p mode name bytes is xs_are o_is bytes_are owner number_is b_is =
     let whole : Operation = Request mode false bytes in
     let p_is : p ≡ record { tab = a.tab; number = length a.issued } = ap (λ (t : ℕ). record { tab = t; number = p.number }) owner ∙ ap (λ (n : ℕ). record { tab = a.tab; number = n }) number_is in
     let x_is : kept_as o (token.Pending p) ≡ kept_as whole (token_for a.tab whole (length a.issued) Asked) = ap (λ (q : Operation). kept_as q (token.Pending p)) (o_is ∙ ap (Request mode false) (sym bytes_are)) ∙ ap (λ (q : Issued). kept_as whole (token.Pending q)) p_is in
     kept-issue a b tab entered kept xs whole Asked (kept_as o (token.Pending p)) is refl refl xs_are x_is b_is
 
-pub kept-probed : (a b : TabState) (tab entered : ℕ) (kept xs : List Kept) (o : Operation) (p : Issued) (mode : Mode) (name bytes : List ℕ) → IsKept a tab entered kept → xs ≡ kept ++ kept_as o (token.Probe p) ∷ [] → o ≡ Request mode true name → bytes ≡ name → p.tab ≡ a.tab → p.number ≡ length a.issued → b ≡ asked mode true bytes a → IsKept b tab entered xs
+pub kept-probed : (a b : TabState) (tab entered : ℕ) (kept xs : List LiveCommand) (o : Operation) (p : Issued) (mode : Mode) (name bytes : List ℕ) → IsKept a tab entered kept → xs ≡ kept ++ kept_as o (token.Probe p) ∷ [] → o ≡ Request mode true name → bytes ≡ name → p.tab ≡ a.tab → p.number ≡ length a.issued → b ≡ asked mode true bytes a → IsKept b tab entered xs
 kept-probed a b tab entered kept xs o p mode name bytes is xs_are o_is bytes_are owner number_is b_is =
     let whole : Operation = Request mode true bytes in
     let p_is : p ≡ record { tab = a.tab; number = length a.issued } = ap (λ (t : ℕ). record { tab = t; number = p.number }) owner ∙ ap (λ (n : ℕ). record { tab = a.tab; number = n }) number_is in
     let x_is : kept_as o (token.Probe p) ≡ kept_as whole (token_for a.tab whole (length a.issued) Asked) = ap (λ (q : Operation). kept_as q (token.Probe p)) (o_is ∙ ap (Request mode true) (sym bytes_are)) ∙ ap (λ (q : Issued). kept_as whole (token.Probe q)) p_is in
     kept-issue a b tab entered kept xs whole Asked (kept_as o (token.Probe p)) is refl refl xs_are x_is b_is
 
-pub kept-queried : (a b : TabState) (tab entered : ℕ) (kept xs : List Kept) (q : Issued) → IsKept a tab entered kept → xs ≡ kept ++ kept_as Query (token.Asking q) ∷ [] → q.tab ≡ a.tab → q.number ≡ length a.issued → b ≡ queried a → IsKept b tab entered xs
+pub kept-queried : (a b : TabState) (tab entered : ℕ) (kept xs : List LiveCommand) (q : Issued) → IsKept a tab entered kept → xs ≡ kept ++ kept_as Query (token.Asking q) ∷ [] → q.tab ≡ a.tab → q.number ≡ length a.issued → b ≡ queried a → IsKept b tab entered xs
 kept-queried a b tab entered kept xs q is xs_are owner number_is b_is =
     let q_is : q ≡ record { tab = a.tab; number = length a.issued } = ap (λ (t : ℕ). record { tab = t; number = q.number }) owner ∙ ap (λ (n : ℕ). record { tab = a.tab; number = n }) number_is in
     kept-issue a b tab entered kept xs Query (Querying no_parts) (kept_as Query (token.Asking q)) is refl refl xs_are (ap (λ (r : Issued). kept_as Query (token.Asking r)) q_is) b_is
 
 -- The element at an index
 
-pub stood-at : (a : TabState) (kept : List Kept) (k place : ℕ) (x : Kept) → Found a kept k place → x ≡ get_or kept place x → Stood a.tab k a.issued a.statuses x
-stood-at a kept k place x f e = subst (λ (y : Kept). Stood a.tab k a.issued a.statuses y) (sym e) (f.stands x)
+pub stood-at : (a : TabState) (kept : List LiveCommand) (k place : ℕ) (x : LiveCommand) → Found a kept k place → x ≡ get_or kept place x → Stood a.tab k a.issued a.statuses x
+stood-at a kept k place x f e = subst (λ (y : LiveCommand). Stood a.tab k a.issued a.statuses y) (sym e) (f.stands x)
 
 same_status : (o : Option Status) (s t : Status) → o ≡ Some s → o ≡ Some t → s ≡ t
 same_status o s t e f = cc
 
-pub stood-same : (tab k : ℕ) (issued : List Operation) (rows : Table Status) (x y : Kept) → Stood tab k issued rows x → Stood tab k issued rows y → x ≡ y
+pub stood-same : (tab k : ℕ) (issued : List Operation) (rows : Table Status) (x y : LiveCommand) → Stood tab k issued rows x → Stood tab k issued rows y → x ≡ y
 stood-same tab k issued rows x y s t =
     s.kept ∙ ap (λ (w : Status). kept_for tab issued (k, w)) (same_status (find rows k) s.status t.status s.here t.here) ∙ sym t.kept

@@ -12,11 +12,11 @@ use Rattle.wl_agent.specs.declared.status.Status.TheVariants.{Whole}
 use Rattle.wl_agent.specs.SnapshotParts.{no_parts, snapshot_of}
 use Rattle.wl_agent.specs.Tab.{TabState, status_of, is_querying, is_asked_probe}
 use Rattle.wl_agent.specs.Delivery.{delivery}
-use Rattle.wl_said.specs.declared.said.Said.{Said}
-use Rattle.wl_said.specs.declared.said.Said.TheVariants as said
-use Rattle.wl_said.specs.declared.said.Ended.{Ended}
-use Rattle.wl_said.specs.declared.said.Ended.TheVariants as ended
-use Rattle.wl_said.specs.declared.said.Reason.TheVariants as reason
+use Rattle.wl_world_messages.specs.declared.effect.Effect.{Effect}
+use Rattle.wl_world_messages.specs.declared.effect.Effect.TheVariants as said
+use Rattle.wl_world_messages.specs.declared.effect.Ended.{Ended}
+use Rattle.wl_world_messages.specs.declared.effect.Ended.TheVariants as ended
+use Rattle.wl_world_messages.specs.declared.effect.Reason.TheVariants as reason
 
 -- The numbers that entering a generation ends, by rising number. Asked probes get null, and asked queries are lost.
 abbrev pub ended_in : List Operation → Table Status → List Ended
@@ -51,7 +51,7 @@ parts_in f = 0
 
 -- The reply to a frame, from the agent's delivery result. `ends` lists the numbers that entering ended.
 -- `whole` gives the reply for a complete query.
-abbrev pub said_of_told : Frame → List Ended → (ℕ → Said) → Delivered → Said
+abbrev pub said_of_told : Frame → List Ended → (ℕ → Effect) → Delivered → Effect
 said_of_told f ends whole (told.Entered reports) = said.Entered (generation_in f) ends
 said_of_told f ends whole (told.Granted k) = said.Granted k
 said_of_told f ends whole (told.Waiting k) = said.Waiting k
@@ -63,8 +63,8 @@ said_of_told f ends whole (told.Whole k) = whole k
 said_of_told f ends whole (told.Dropped u) = said.Dropped (reason.AtTab u)
 
 -- The reply to a frame, from the tab's states before and after it.
-abbrev pub told_said : Frame → TabState → TabState → Delivered → Said
+abbrev pub told_said : Frame → TabState → TabState → Delivered → Effect
 told_said f before after d = said_of_told f (ended_by_entering before) (λ k. said.Whole k (snapshot_in (status_of after k))) d
 
-unfoldable pub arrival : Frame → TabState → Said
+unfoldable pub arrival : Frame → TabState → Effect
 arrival f a = let d = delivery f a in told_said f a d.0 d.1

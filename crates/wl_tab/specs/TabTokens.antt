@@ -14,15 +14,15 @@ use Rattle.wl_agent.specs.declared.token.Token.{Token}
 use Rattle.wl_agent.specs.declared.token.Token.TheVariants as token
 use Rattle.wl_agent.specs.Tab.{TabState, status_of, operation_of, is_asked, is_held, is_probe, mode_of, name_of}
 use Rattle.wl_agent.specs.Tokens.{is_own, is_pending, is_holding, held_lock, abort_refusal}
-use Rattle.wl_agent.specs.Kept.{RowsFit}
+use Rattle.wl_agent.specs.AgentInvariant.{RowsFit}
 use Rattle.wl_tab.specs.declared.holding.Holding.{Holding}
-use Rattle.wl_said.specs.declared.said.Ended.{Ended}
-use Rattle.wl_said.specs.declared.said.Ended.TheVariants as ended
-use Rattle.wl_said.specs.declared.said.Said.{Said}
-use Rattle.wl_said.specs.declared.said.Said.TheVariants as said
-use Rattle.wl_tab.specs.declared.locks.Abortion.{Abortion}
-use Rattle.wl_tab.specs.declared.locks.Abortion.TheVariants as became
-use Rattle.wl_tab.specs.declared.locks.kept.Kept.{Kept}
+use Rattle.wl_world_messages.specs.declared.effect.Ended.{Ended}
+use Rattle.wl_world_messages.specs.declared.effect.Ended.TheVariants as ended
+use Rattle.wl_world_messages.specs.declared.effect.Effect.{Effect}
+use Rattle.wl_world_messages.specs.declared.effect.Effect.TheVariants as said
+use Rattle.wl_tab.specs.declared.locks.AbortResult.{AbortResult}
+use Rattle.wl_tab.specs.declared.locks.AbortResult.TheVariants as became
+use Rattle.wl_tab.specs.declared.locks.live_command.LiveCommand.{LiveCommand}
 use Rattle.wl_tab.specs.Tabs.{is_told}
 use Rattle.wl_tab.specs.Arrivals.{generation_in}
 
@@ -34,14 +34,14 @@ token_for tab o k Asked = if is_probe o then token.Probe (record { tab = tab; nu
 token_for tab o k Held = token.HeldLock (held_lock tab k)
 token_for tab o k s = token.Asking (record { tab = tab; number = k })
 
-abbrev pub kept_as : Operation → Token → Kept
+abbrev pub kept_as : Operation → Token → LiveCommand
 kept_as o t = record { operation = o; token = t }
 
 -- The stored entry for a row of the statuses.
-abbrev pub kept_for : ℕ → List Operation → ℕ × Status → Kept
+abbrev pub kept_for : ℕ → List Operation → ℕ × Status → LiveCommand
 kept_for tab issued row = kept_as (get_or issued row.0 Query) (token_for tab (get_or issued row.0 Query) row.0 row.1)
 
-abbrev pub kept_of : TabState → List Kept
+abbrev pub kept_of : TabState → List LiveCommand
 kept_of a = map (kept_for a.tab a.issued) a.statuses
 
 -- No query is complete or lost without its token having been settled.
@@ -49,7 +49,7 @@ abbrev pub NoneTold : Table Status → Type 0
 NoneTold rows = AllByRecursion (λ row. is_told row.1 ≡ false) rows
 
 -- Each number that is not over has a settled token, by rising number.
-pub record IsKept (a : TabState) (tab entered : ℕ) (kept : List Kept) : Type 0 where
+pub record IsKept (a : TabState) (tab entered : ℕ) (kept : List LiveCommand) : Type 0 where
   pub tokens : kept ≡ kept_of a
   pub owner : tab ≡ a.tab
   pub generation : entered ≡ a.entered
@@ -74,7 +74,7 @@ is_open s = is_some s && not (is_held s)
 -- Aborts and releases
 
 -- The result of aborting this number.
-abbrev pub abortion : ℕ → TabState → Abortion
+abbrev pub abortion : ℕ → TabState → AbortResult
 abortion k a =
     if is_pending a k then (if is_asked (status_of a k) then became.Issued (length a.issued) else became.Held) else became.Nothing
 
@@ -103,7 +103,7 @@ holding_by tab (Request mode if_available name) (token.HeldLock lock) =
 holding_by tab o t = None
 
 -- The holding for a stored number, if its lock is held.
-abbrev pub holding_in : ℕ → Kept → Option Holding
+abbrev pub holding_in : ℕ → LiveCommand → Option Holding
 holding_in tab k = holding_by tab k.operation k.token
 
 -- Replies to a delivery
@@ -114,11 +114,11 @@ ended_by (token.Probe p) = Some (ended.Null p.number)
 ended_by (token.Asking q) = Some (ended.Lost q.number)
 ended_by t = None
 
-abbrev pub ended_kept : List Kept → List Ended
+abbrev pub ended_kept : List LiveCommand → List Ended
 ended_kept kept = filter_map (λ k. ended_by k.token) kept
 
 -- The results that end these numbers when the tab enters a generation. The first generation of a tab's life ends none.
-abbrev pub ended_before : ℕ → List Kept → List Ended
+abbrev pub ended_before : ℕ → List LiveCommand → List Ended
 ended_before entered kept = if entered == 0 then [] else ended_kept kept
 
 -- A snapshot is present if the delivery completes a query.
@@ -127,7 +127,7 @@ has_snapshot (told.Whole k) snapshot = is_some snapshot
 has_snapshot d snapshot = true
 
 -- The reply to the delivery that completes a query, from its snapshot.
-abbrev pub whole_said : Option Snapshot → ℕ → Said
+abbrev pub whole_said : Option Snapshot → ℕ → Effect
 whole_said (Some snapshot) k = said.Whole k snapshot
 whole_said None k = said.Taken k
 

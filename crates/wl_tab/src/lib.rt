@@ -4,9 +4,9 @@
 pub mod channel_tables;
 pub mod channels;
 pub mod holding;
+pub mod lock_tables;
 pub mod locks;
-pub mod tables;
 
 pub use channels::{ChannelRefusal, TabChannels};
 pub use holding::Holding;
-pub use locks::{Abortion, TabLocks};
+pub use locks::{AbortResult, TabLocks};

@@ -7,14 +7,14 @@ ghost use Rattle.wl_limits.specs.declared.tabs.TheConstants.{COMMAND_LIMIT};
 ghost use Rattle.wl_tab.specs.TabTokens.{holdings_of, holding_in};
 ghost use Rattle.std.specs.List.{filter_map};
 
-mod arriving;
 mod asking;
 mod ending;
-mod kept;
-mod telling;
+mod live_command;
+mod receiving;
+mod settling;
 
 use crate::holding::Holding;
-use crate::locks::kept::Kept;
+use crate::locks::live_command::LiveCommand;
 use std::alloc::{AllocError, Global};
 use std::marker::Model;
 use wl_agent::{Agent, MessageFault, Resend};
@@ -30,7 +30,7 @@ pub struct TabLocks {
     /// The generation that the tab has entered, or 0 for none.
     entered: u32,
     /// Ordered by rising number.
-    kept: Vec<Kept>,
+    kept: Vec<LiveCommand>,
 }
 
 impl Model for TabLocks {
@@ -55,7 +55,7 @@ impl Drop for TabLocks {
         } = self;
         let dead = agent.die();
         while let Some(last) = kept.pop() {
-            let Kept {
+            let LiveCommand {
                 operation: _,
                 token,
             } = last;
@@ -67,7 +67,7 @@ impl Drop for TabLocks {
 
 /// Result of an abort.
 #[derive(Clone, Copy)]
-pub enum Abortion {
+pub enum AbortResult {
     /// The request is aborted by the command with this number.
     Issued(u32),
     /// The lock is held, so its request cannot be aborted.
@@ -139,21 +139,20 @@ impl TabLocks {
     pub fn add_holdings(&self, holdings: &mut Vec<Holding>) -> Result<(), AllocError>
         ensures { OnOk result (holdings.new.items ≡ holdings.old.items ++ holdings_of self.now) }
     {
-        add_holdings(self.alloc, self.tab, &self.kept, holdings)
+        add_holdings(self.tab, &self.kept, holdings)
     }
 }
 
 /// Appends the holdings among these numbers.
 fn add_holdings(
-    alloc: Global,
     tab: u16,
-    kept: &[Kept],
+    kept: &[LiveCommand],
     holdings: &mut Vec<Holding>,
 ) -> Result<(), AllocError>
     ensures { OnOk result (holdings.new.items ≡ holdings.old.items ++ filter_map (holding_in tab) kept.now) }
 {
     for number in kept {
-        if let Some(holding) = number.holding(alloc, tab)? {
+        if let Some(holding) = number.holding(tab)? {
             holdings.push(holding)?;
         }
     }

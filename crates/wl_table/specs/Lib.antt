@@ -1,4 +1,4 @@
 pub use Rattle.wl_draft.specs.Tables
 pub use Rattle.wl_draft.specs.Locks
 pub mod PlainTables
-pub mod Kept
+pub mod TableInvariant

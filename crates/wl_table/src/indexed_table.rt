@@ -1,4 +1,5 @@
 //! Lock table with indexes.
+
 ghost use Rattle.std.specs.Prelude.{◌≡◌, [], ◌∷◌, true, IfOk, OnOk, OnErr};
 ghost use Rattle.wl_draft.specs.Locks.{is_grantable, row_of, grants, probed};
 
@@ -7,7 +8,7 @@ use std::alloc::{AllocError, Global};
 use std::marker::Model;
 use std::mem;
 use wl_draft::{Entry, Grant, Mode, Name, Row, Standing, rows_of};
-use wl_index::{Candidates, Index};
+use wl_table_index::{Candidates, Index};
 
 /// A lock table with an index of its names and an index of its clients. The cost of a command does
 /// not grow with the locks and requests of other clients.
@@ -26,8 +27,8 @@ impl Model for IndexedTable {
 
     ghost Value = { Locks };
 
-    ghost use Rattle.wl_index.specs.Index.{locks_in};
-    ghost use Rattle.wl_table.specs.Kept.{IsKept};
+    ghost use Rattle.wl_table_index.specs.Index.{locks_in};
+    ghost use Rattle.wl_table.specs.TableInvariant.{IsKept};
 
     ghost view = { λ t. locks_in t.index.held.items t.index.waiting.items };
 
@@ -55,15 +56,15 @@ impl LockTable for IndexedTable {
     ) -> Result<Vec<Grant>, AllocError> {
         // If nothing else is grantable, the request is granted alone or waits.
         if self.candidates.is_empty() && self.index.lines.is_next(name, mode) {
-            return self.grant_at_once(client, number, name, mode);
+            return self.grant_immediately(client, number, name, mode);
         }
         self.index.room_to_settle(&mut self.granted, 1)?;
         self.candidates.reserve(1)?;
-        let row = self.index.ready(self.alloc, client, number, name, mode)?;
+        let row = self.index.ready(client, number, name, mode)?;
         self.candidates.push(self.index.next);
         self.index.queue(row);
         self.index.settle(&mut self.candidates, &mut self.granted);
-        Ok(hand_out(self.alloc, &mut self.granted))
+        Ok(exact_size_grants(self.alloc, &mut self.granted))
     }
 
     fn probe(
@@ -76,7 +77,7 @@ impl LockTable for IndexedTable {
         if !self.index.lines.is_next(name, mode) {
             return Ok(Vec::new(self.alloc));
         }
-        self.grant_at_once(client, number, name, mode)
+        self.grant_immediately(client, number, name, mode)
     }
 
     fn release(&mut self, client: u16, number: u32) -> Result<Vec<Grant>, AllocError> {
@@ -86,7 +87,7 @@ impl LockTable for IndexedTable {
             .take_all_held(client, Some(number), &mut self.candidates);
         self.index.forget_client(client);
         self.index.settle(&mut self.candidates, &mut self.granted);
-        Ok(hand_out(self.alloc, &mut self.granted))
+        Ok(exact_size_grants(self.alloc, &mut self.granted))
     }
 
     fn abort(&mut self, client: u16, number: u32) -> Result<Vec<Grant>, AllocError> {
@@ -99,7 +100,7 @@ impl LockTable for IndexedTable {
             .take_all_waiting(client, which, &mut self.candidates);
         self.index.forget_client(client);
         self.index.settle(&mut self.candidates, &mut self.granted);
-        Ok(hand_out(self.alloc, &mut self.granted))
+        Ok(exact_size_grants(self.alloc, &mut self.granted))
     }
 
     fn end_client(&mut self, client: u16, settle: bool) -> Result<Vec<Grant>, AllocError> {
@@ -113,7 +114,7 @@ impl LockTable for IndexedTable {
             return Ok(Vec::new(self.alloc));
         }
         self.index.settle(&mut self.candidates, &mut self.granted);
-        Ok(hand_out(self.alloc, &mut self.granted))
+        Ok(exact_size_grants(self.alloc, &mut self.granted))
     }
 
     fn restore(
@@ -133,7 +134,7 @@ impl LockTable for IndexedTable {
             return Ok(Vec::new(self.alloc));
         }
         self.index.settle(&mut self.candidates, &mut self.granted);
-        Ok(hand_out(self.alloc, &mut self.granted))
+        Ok(exact_size_grants(self.alloc, &mut self.granted))
     }
 
     fn grantable(&self, client: u16, number: u32) -> bool {
@@ -164,7 +165,7 @@ impl LockTable for IndexedTable {
 
 impl IndexedTable {
     // Holds a lock that is grantable.
-    fn grant_at_once(
+    fn grant_immediately(
         &mut self,
         client: u16,
         number: u32,
@@ -177,9 +178,7 @@ impl IndexedTable {
         ensures err { OnErr result (self.new ≡ self.old) }
     {
         let mut granted = Vec::with_capacity(self.alloc, 1)?;
-        let row = self
-            .index
-            .ready_lock(self.alloc, client, number, name, mode)?;
+        let row = self.index.ready_lock(client, number, name, mode)?;
         granted.push(Grant::from(&row)).unwrap();
         self.index.hold(row);
         Ok(granted)
@@ -188,7 +187,7 @@ impl IndexedTable {
 
 // Returns the grants in a list of exact size. If that cannot be allocated, returns the buffer
 // itself.
-fn hand_out(alloc: Global, granted: &mut Vec<Grant>) -> Vec<Grant>
+fn exact_size_grants(alloc: Global, granted: &mut Vec<Grant>) -> Vec<Grant>
     ensures value { result.items ≡ granted.old.items }
     ensures emptied { granted.new.items ≡ [] }
 {

@@ -13,15 +13,15 @@ use Rattle.wl_grammar.specs.declared.frame.Start.{Start}
 use Rattle.wl_grammar.specs.Grammar.{IsWellFormed, IsStart, IsStamped, IsDead, IsAddressed, spelling}
 use Rattle.wl_broker.specs.declared.dropped.Dropped.{Dropped}
 use Rattle.wl_broker.specs.declared.dropped.Dropped.TheVariants as dropped
-use Rattle.wl_broker.specs.Broker.{BrokerState, started, hellos, Taking, Does, Drops, taking, burial}
-use Rattle.wl_broker.specs.Speech.{IsSpellable}
+use Rattle.wl_broker.specs.Broker.{BrokerState, started, hellos, Taking, Does, Drops, taking, death_step}
+use Rattle.wl_broker.specs.SentFrames.{IsSpellable}
 use Rattle.wl_workers.specs.declared.desk.DeskFault.{DeskFault}
 use Rattle.wl_workers.specs.declared.desk.DeskFault.TheVariants as desk
-use Rattle.wl_encoding.specs.Prefixes.{IsPrefixOf}
+use Rattle.wl_grammar.specs.Prefixes.{IsPrefixOf}
 use Rattle.wl_workers.specs.Desk.{DeskState, Opening, Serving, Refused, taken, desk_step, desk_after, desk_outs, IsServing, IsRefused}
 use Rattle.wl_workers.specs.DeskSteps.{state_of, IsSpeaking, spelled, due, IsBegun, Steps, Spells, Deals}
 use Rattle.wl_broker.proofs.Speech.{spells_start, spells_taking, spells_burial}
-use Rattle.wl_encoding.proofs.Prefixes.{IsPrefixOf-append, append-IsPrefixOf, IsPrefixOf-trans}
+use Rattle.wl_grammar.proofs.Prefixes.{IsPrefixOf-append, append-IsPrefixOf, IsPrefixOf-trans}
 
 -- One frame
 
@@ -67,7 +67,7 @@ pub step_stamped_early : (s : Stamped) → desk_step Opening (frame.Stamped s) �
 unfolding desk_step
 step_stamped_early s = refl
 
-pub step_dead : (b after : BrokerState) (d : Dead) (outs : List Addressed) → burial b d.tab ≡ (after, outs) → desk_step (Serving b) (frame.Dead d) ≡ (Serving after, outs)
+pub step_dead : (b after : BrokerState) (d : Dead) (outs : List Addressed) → death_step b d.tab ≡ (after, outs) → desk_step (Serving b) (frame.Dead d) ≡ (Serving after, outs)
 unfolding desk_step
 step_dead b after d outs e =
     ap (λ (r : BrokerState × List Addressed). let pair : DeskState × List Addressed = (Serving r.0, r.1) in pair) e
@@ -118,7 +118,7 @@ pub taking_spells : (b after : BrokerState) (s : Stamped) (r : Result (List Addr
 taking_spells b after s (Ok outs) known stamped does err = spells_taking b s after outs known stamped does
 taking_spells b after s (Err e) known stamped does err = (subst IsSpellable (sym err) known, tt)
 
-pub burial_spells : (b after : BrokerState) (d : Dead) (outs : List Addressed) → IsSpellable b → IsDead d → burial b d.tab ≡ (after, outs)
+pub burial_spells : (b after : BrokerState) (d : Dead) (outs : List Addressed) → IsSpellable b → IsDead d → death_step b d.tab ≡ (after, outs)
     → IsSpellable after × AllByRecursion IsAddressed outs
 burial_spells b after d outs known dead e =
     subst (λ (r : BrokerState × List Addressed). IsSpellable r.0 × AllByRecursion IsAddressed r.1) e (spells_burial b d.tab known dead)

@@ -11,7 +11,7 @@ use Rattle.wl_frames.specs.Faults.{of_frame}
 use Rattle.wl_frames.specs.Stream.{Stop, Rest, Fault, HasFault, HasFaultNext, Reads, IsPartial, Feeding, Refuses}
 use Rattle.wl_workers.specs.declared.desk.DeskFault.{DeskFault}
 use Rattle.wl_workers.specs.declared.desk.DeskFault.TheVariants as desk
-use Rattle.wl_encoding.specs.Prefixes.{IsPrefixOf}
+use Rattle.wl_grammar.specs.Prefixes.{IsPrefixOf}
 use Rattle.wl_workers.specs.Desk.{DeskState, desk_after, IsRefused, IsReadPart}
 use Rattle.wl_workers.specs.DeskSteps.{due, Deals, EndsBy, Breaks}
 

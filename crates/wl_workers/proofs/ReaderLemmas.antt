@@ -12,7 +12,7 @@ use Rattle.wl_frames.specs.declared.fault.FrameFault.TheVariants as fault
 use Rattle.wl_frames.specs.Stream.{Rest, Fault, Reads, IsPartial, Feeding, Refuses, at_start}
 use Rattle.wl_workers.specs.declared.tab_reader.ReadEnd.{ReadEnd}
 use Rattle.wl_workers.specs.declared.tab_reader.ReadEnd.TheVariants as end
-use Rattle.wl_workers.specs.Told.{Grows}
+use Rattle.wl_workers.specs.CallRecords.{RecordGrows}
 use Rattle.wl_workers.specs.Looks.{IsNotDead, at_tab, FindsDead}
 use Rattle.wl_workers.specs.TabReader.{ended, dead_look, HandsUp, IsButLastPiece, EndsAfter, NeedsEnd, ReadsTab, Passes, IsPieceEnd}
 use Rattle.wl_workers.proofs.ToldLemmas.{Grows-nil, Grows-trans}
@@ -29,15 +29,15 @@ HandsUp-more tab a b c x y z fs gs last h k = record {
   looks = h.looks ++ k.looks;
   not_dead = AllByRecursion-append IsNotDead h.looks k.looks h.not_dead k.not_dead;
   one_each = let l = length-append h.looks k.looks in let f = length-append fs gs in let p = h.one_each in let q = k.one_each in omega arith;
-  looked = subst (Grows a c)
+  looked = subst (RecordGrows a c)
       (sym (map-append (λ (l : Life). (tab, l)) (h.looks ++ []) (k.looks ++ last)) ∙ ap (at_tab tab) (ap (λ l. l ++ (k.looks ++ last)) (append-nil h.looks) ∙ sym (append_assoc h.looks k.looks last)))
       (Grows-trans a b c (at_tab tab (h.looks ++ [])) (at_tab tab (k.looks ++ last)) h.looked k.looked);
-  handed = subst (Grows x z) (sym (map-append (λ (f : Frame). (tab, f)) fs gs)) (Grows-trans x y z (map (λ (f : Frame). (tab, f)) fs) (map (λ (f : Frame). (tab, f)) gs) h.handed k.handed);
+  handed = subst (RecordGrows x z) (sym (map-append (λ (f : Frame). (tab, f)) fs gs)) (Grows-trans x y z (map (λ (f : Frame). (tab, f)) fs) (map (λ (f : Frame). (tab, f)) gs) h.handed k.handed);
 }
 
 -- One more frame is forwarded after a look that did not find the tab dead.
 pub HandsUp-one : (tab : ℕ) (a b c : Option (List (ℕ × Life))) (x y z : Option (List (ℕ × Frame))) (fs : List Frame) (found : Bool) (f : Frame) → HandsUp tab a b x y fs [] → found ≡ false → FindsDead tab found b c
-    → Grows y z ((tab, f) ∷ []) → HandsUp tab a c x z (fs ++ f ∷ []) []
+    → RecordGrows y z ((tab, f) ∷ []) → HandsUp tab a c x z (fs ++ f ∷ []) []
 HandsUp-one tab a b c x y z fs true f h is found handed = absurd cc
 HandsUp-one tab a b c x y z fs false f h is found handed =
     HandsUp-more tab a b c x y z fs (f ∷ []) [] h record { looks = found.0 ∷ []; not_dead = (found.1, tt); one_each = refl; looked = found.2; handed = handed }

@@ -10,13 +10,13 @@ use Rattle.wl_board.specs.declared.tab.Life.{Life}
 use Rattle.wl_board.specs.declared.tab.Life.TheVariants as life
 use Rattle.wl_grammar.specs.declared.frame.Frame.{Frame}
 use Rattle.wl_grammar.specs.Grammar.{IsWellFormed, spelling}
-use Rattle.wl_encoding.specs.Prefixes.{IsPrefixOf}
+use Rattle.wl_grammar.specs.Prefixes.{IsPrefixOf}
 use Rattle.wl_frames.specs.Device.{WritesPrefix}
-use Rattle.wl_encoding.proofs.Prefixes.{append-IsPrefixOf}
+use Rattle.wl_grammar.proofs.Prefixes.{append-IsPrefixOf}
 use Rattle.wl_outbox.specs.Parcels.{Packed}
 use Rattle.wl_outbox.specs.MergeLaws.{IsPickedFrom, nothing, picks, leaves}
 use Rattle.wl_outbox.specs.Passes.{Handed, IsSamePass}
-use Rattle.wl_workers.specs.Told.{Grows}
+use Rattle.wl_workers.specs.CallRecords.{RecordGrows}
 use Rattle.wl_workers.specs.Looks.{at_tab, FindsDead, LooksOnly, FoundDead}
 use Rattle.wl_workers.specs.TabWriter.{IsWritten, WritesFrames, WritesTab}
 use Rattle.wl_workers.proofs.ToldLemmas.{Grows-nil, Grows-trans}
@@ -116,8 +116,8 @@ pub Looked-none : (tab : ℕ) (a : Option (List (ℕ × Life))) → Looked tab f
 Looked-none tab a = ([], Grows-nil a)
 
 -- One more look extends the record.
-looks_more : (tab : ℕ) (a b c : Option (List (ℕ × Life))) (looks : List Life) (l : Life) → Grows a b (at_tab tab looks) → Grows b c ((tab, l) ∷ []) → Grows a c (at_tab tab (looks ++ l ∷ []))
-looks_more tab a b c looks l h k = subst (Grows a c) (sym (map-append (λ (m : Life). (tab, m)) looks (l ∷ []))) (Grows-trans a b c (at_tab tab looks) ((tab, l) ∷ []) h k)
+looks_more : (tab : ℕ) (a b c : Option (List (ℕ × Life))) (looks : List Life) (l : Life) → RecordGrows a b (at_tab tab looks) → RecordGrows b c ((tab, l) ∷ []) → RecordGrows a c (at_tab tab (looks ++ l ∷ []))
+looks_more tab a b c looks l h k = subst (RecordGrows a c) (sym (map-append (λ (m : Life). (tab, m)) looks (l ∷ []))) (Grows-trans a b c (at_tab tab looks) ((tab, l) ∷ []) h k)
 
 pub Looked-more : (tab : ℕ) (a b c : Option (List (ℕ × Life))) (was found : Bool) → was ≡ false → Looked tab was a b → FindsDead tab found b c → Looked tab found a c
 Looked-more tab a b c true found is h f = absurd cc

@@ -8,10 +8,10 @@ use Rattle.wl_grammar.specs.declared.frame.Frame.TheVariants as frame
 use Rattle.wl_frames.specs.declared.fault.FrameFault.TheVariants as fault
 use Rattle.wl_grammar.specs.Grammar.{spelling}
 use Rattle.wl_frames.specs.Stream.{Stop, Rest, Fault, Reads}
-use Rattle.wl_broker.specs.Broker.{BrokerState, started, hellos, Taking, Drops, Does, taking, burial}
+use Rattle.wl_broker.specs.Broker.{BrokerState, started, hellos, Taking, Drops, Does, taking, death_step}
 use Rattle.wl_workers.specs.declared.desk.DeskFault.{DeskFault}
 use Rattle.wl_workers.specs.declared.desk.DeskFault.TheVariants as desk
-use Rattle.wl_encoding.specs.Prefixes.{IsPrefixOf}
+use Rattle.wl_grammar.specs.Prefixes.{IsPrefixOf}
 
 -- The desk's state: before the first frame, with a running broker, or after an unexpected frame.
 pub data DeskState : Type 0 where
@@ -29,7 +29,7 @@ taken b (Does after outs) = (Serving after, outs)
 unfoldable pub desk_step : DeskState → Frame → DeskState × List Addressed
 desk_step Opening (frame.Start s) = (Serving (started s.generation s.list), hellos s.generation s.list)
 desk_step (Serving b) (frame.Stamped s) = taken b (taking b s)
-desk_step (Serving b) (frame.Dead d) = (Serving (burial b d.tab).0, (burial b d.tab).1)
+desk_step (Serving b) (frame.Dead d) = (Serving (death_step b d.tab).0, (death_step b d.tab).1)
 desk_step d f = (Refused, [])
 
 -- The desk's state after a list of frames.

@@ -9,10 +9,10 @@ use Rattle.wl_frames.specs.declared.fault.FrameFault.TheVariants as fault
 use Rattle.wl_grammar.specs.Grammar.{spelling}
 use Rattle.wl_frames.specs.Stream.{Stop, Rest, Fault, Reads, Feeding}
 use Rattle.wl_broker.specs.Broker.{BrokerState}
-use Rattle.wl_broker.specs.Speech.{IsSpellable}
+use Rattle.wl_broker.specs.SentFrames.{IsSpellable}
 use Rattle.wl_workers.specs.declared.desk.DeskFault.{DeskFault}
 use Rattle.wl_workers.specs.declared.desk.DeskFault.TheVariants as desk
-use Rattle.wl_encoding.specs.Prefixes.{IsPrefixOf}
+use Rattle.wl_grammar.specs.Prefixes.{IsPrefixOf}
 use Rattle.wl_workers.specs.Desk.{DeskState, Opening, Serving, Refused, desk_step, desk_after, desk_outs, IsServing, IsRefused, IsReadPart}
 
 -- State

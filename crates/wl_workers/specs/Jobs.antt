@@ -2,7 +2,7 @@
 use Rattle.std.specs.Prelude.{◌≡◌, ◌<◌, ℕ, List, length, slice_index_or, Option, None, Some}
 use Rattle.wl_locked.specs.declared.work.Work.{Work}
 use Rattle.wl_locked.specs.Sharding.{receipts_of}
-use Rattle.wl_workers.specs.declared.jobs.Job.{Job}
+use Rattle.wl_workers.specs.declared.lane_threads.Job.{Job}
 use Rattle.wl_workers.specs.declared.lanes.LaneEnd.{LaneEnd}
 use Rattle.wl_workers.specs.Lane.{PutOut, RunsLane}
 

@@ -11,11 +11,11 @@ use Rattle.wl_locked.specs.declared.receipt.Receipt.{Receipt}
 use Rattle.wl_locked.specs.declared.receipt.NotStepped.{NotStepped}
 use Rattle.wl_locked.specs.declared.receipt.NotStepped.TheVariants.{GenerationSpent}
 use Rattle.wl_workers.specs.declared.lanes.OutletFault.{OutletFault}
-use Rattle.wl_workers.specs.declared.lanes.Cause.{Cause}
-use Rattle.wl_workers.specs.declared.lanes.Cause.TheVariants as cause
+use Rattle.wl_workers.specs.declared.lanes.LaneEndCause.{LaneEndCause}
+use Rattle.wl_workers.specs.declared.lanes.LaneEndCause.TheVariants as cause
 use Rattle.wl_workers.specs.declared.lanes.LaneEnd.{LaneEnd}
 use Rattle.wl_workers.specs.declared.lanes.TheConstants.{EVENT_LIMIT}
-use Rattle.wl_workers.specs.Told.{Grows}
+use Rattle.wl_workers.specs.CallRecords.{RecordGrows}
 
 -- A work with the desk's answer to it.
 abbrev pub Answered : Type 0
@@ -62,10 +62,10 @@ pub record PutsUpTo (before after : Option (List PutOut)) (frames : List Frame) 
   pub refused : Frame
   pub rest : List Frame
   pub are : frames ≡ front ++ refused ∷ rest
-  pub put : Grows before after (all_put front ++ (refused, Err fault) ∷ [])
+  pub put : RecordGrows before after (all_put front ++ (refused, Err fault) ∷ [])
 
 -- The frames of a step were not all sent, for this cause.
-abbrev pub IsUnsent : Cause → Option (List PutOut) → Option (List PutOut) → Reply → Type 0
+abbrev pub IsUnsent : LaneEndCause → Option (List PutOut) → Option (List PutOut) → Reply → Type 0
 IsUnsent cause.Ended before after reply = ⊥
 IsUnsent cause.Spent before after reply = ⊥
 IsUnsent cause.Shut before after reply = after ≡ before
@@ -75,7 +75,7 @@ abbrev pub IsUnspent : Answered → Type 0
 IsUnspent (event, r) = r ≢ Err GenerationSpent
 
 -- The results of the intake after the last event.
-abbrev pub last_given : Cause → List (Option Work)
+abbrev pub last_given : LaneEndCause → List (Option Work)
 last_given cause.Ended = None ∷ []
 last_given cause.Spent = []
 last_given cause.Shut = []
@@ -87,7 +87,7 @@ pub record EndsWith (answers front : List Answered) (last : Answered) : Type 0 w
   pub unspent : AllByRecursion IsUnspent front
 
 -- The frames given to the outlet, by the cause of the lane's end.
-abbrev pub EndsBy : Cause → List Answered → List PutOut → Type 0
+abbrev pub EndsBy : LaneEndCause → List Answered → List PutOut → Type 0
 -- All frames of all steps were sent, and the intake has ended.
 EndsBy cause.Ended answers put = AllByRecursion IsUnspent answers × (put ≡ all_put (flat_map sent_by answers))
 -- All frames of all steps were sent, and the last event met a spent generation or the lane reached
@@ -110,10 +110,10 @@ EndsBy cause.Outlet answers put =
 pub record RunsLane (given_before given_after : Option (List (Option Work))) (answered_before answered_after : Option (List Answered)) (kept_before kept_after : ℕ → Option (List Receipt)) (put_before put_after : Option (List PutOut)) (end : LaneEnd) : Type 0 where
   pub answers : List Answered
   pub put : List PutOut
-  pub given : Grows given_before given_after (map (λ a. Some a.0) answers ++ last_given end.why)
-  pub answered : Grows answered_before answered_after answers
-  pub kept : (shard : ℕ) → Grows (kept_before shard) (kept_after shard) (flat_map (receipt_in shard) answers)
-  pub put_out : Grows put_before put_after put
+  pub given : RecordGrows given_before given_after (map (λ a. Some a.0) answers ++ last_given end.why)
+  pub answered : RecordGrows answered_before answered_after answers
+  pub kept : (shard : ℕ) → RecordGrows (kept_before shard) (kept_after shard) (flat_map (receipt_in shard) answers)
+  pub put_out : RecordGrows put_before put_after put
   pub steps : end.steps ≡ steps_of answers
   pub ends : EndsBy end.why answers put
 
@@ -125,9 +125,9 @@ IsLet lets end = (lets ≡ true) ⊎ (end.steps ≡ 0) ⊎ ((end.steps ≡ 1) ×
 pub record GoesOn (given_before given_now : Option (List (Option Work))) (answered_before answered_now : Option (List Answered)) (kept_before kept_now : ℕ → Option (List Receipt)) (put_before put_now : Option (List PutOut)) (seen steps : ℕ) : Type 0 where
   pub answers : List Answered
   pub unspent : AllByRecursion IsUnspent answers
-  pub given : Grows given_before given_now (map (λ a. Some a.0) answers)
-  pub answered : Grows answered_before answered_now answers
-  pub kept : (shard : ℕ) → Grows (kept_before shard) (kept_now shard) (flat_map (receipt_in shard) answers)
-  pub put_out : Grows put_before put_now (all_put (flat_map sent_by answers))
+  pub given : RecordGrows given_before given_now (map (λ a. Some a.0) answers)
+  pub answered : RecordGrows answered_before answered_now answers
+  pub kept : (shard : ℕ) → RecordGrows (kept_before shard) (kept_now shard) (flat_map (receipt_in shard) answers)
+  pub put_out : RecordGrows put_before put_now (all_put (flat_map sent_by answers))
   pub counts : steps ≡ steps_of answers
   pub length_is : length answers ≡ seen

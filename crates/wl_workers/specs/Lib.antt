@@ -2,10 +2,10 @@ pub use Rattle.wl_grammar.specs.Grammar
 pub use Rattle.wl_frames.specs.Stream
 pub use Rattle.wl_frames.specs.Device
 pub use Rattle.wl_broker.specs.Broker
-pub use Rattle.wl_broker.specs.Speech
+pub use Rattle.wl_broker.specs.SentFrames
 pub mod Desk
 pub mod DeskSteps
-pub mod Told
+pub mod CallRecords
 pub mod Looks
 pub mod TabReader
 pub mod TabWriter

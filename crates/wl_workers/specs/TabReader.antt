@@ -10,7 +10,7 @@ use Rattle.wl_frames.specs.declared.device.TheConstants.{PIECE_LEN}
 use Rattle.wl_frames.specs.Stream.{Stop, Rest, Fault, Reads, Feeding}
 use Rattle.wl_workers.specs.declared.tab_reader.ReadEnd.{ReadEnd}
 use Rattle.wl_workers.specs.declared.tab_reader.ReadEnd.TheVariants as end
-use Rattle.wl_workers.specs.Told.{Grows}
+use Rattle.wl_workers.specs.CallRecords.{RecordGrows}
 use Rattle.wl_workers.specs.Looks.{IsNotDead, at_tab}
 
 -- Ends
@@ -35,8 +35,8 @@ pub record HandsUp (tab : ℕ) (lives_before lives_after : Option (List (ℕ × 
   pub looks : List Life
   pub not_dead : AllByRecursion IsNotDead looks
   pub one_each : length looks ≡ length frames
-  pub looked : Grows lives_before lives_after (at_tab tab (looks ++ last))
-  pub handed : Grows handed_before handed_after (map (λ f. (tab, f)) frames)
+  pub looked : RecordGrows lives_before lives_after (at_tab tab (looks ++ last))
+  pub handed : RecordGrows handed_before handed_after (map (λ f. (tab, f)) frames)
 
 -- `front` is a prefix of the frames that leaves at least one frame.
 abbrev pub IsProperPrefix : List Frame → List Frame → Type 0

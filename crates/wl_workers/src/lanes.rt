@@ -3,7 +3,7 @@
 
 ghost use Rattle.std.specs.Prelude.{◌≡◌, ◌⊎◌, [], ◌∷◌, true, Err, OnOk, IfErr};
 ghost use Rattle.wl_grammar.specs.declared.frame.Frame.TheVariants as frame;
-ghost use Rattle.wl_workers.specs.Told.{Grows};
+ghost use Rattle.wl_workers.specs.CallRecords.{RecordGrows};
 ghost use Rattle.wl_workers.specs.Lane.{as_frames, frames_of, all_put, PutsUpTo, IsUnsent, IsLet, RunsLane};
 
 use std::rt::Clock;
@@ -20,7 +20,7 @@ pub trait Intake {
     ghost use Rattle.std.specs.Prelude.{◌≡◌, ℕ, List, [], ◌∷◌, Option, None, IfSome};
     ghost use Rattle.wl_locked.specs.declared.work.Work.{Work};
     ghost use Rattle.wl_locked.specs.Sharding.{IsDealt};
-    ghost use Rattle.wl_workers.specs.Told.{Grows};
+    ghost use Rattle.wl_workers.specs.CallRecords.{RecordGrows};
 
     /// The results of `next` so far, with `None` for an end. `None` if the intake keeps no record.
     ghost given: { Self → Option (List (Option Work)) } = { λ _. None };
@@ -30,7 +30,7 @@ pub trait Intake {
 
     /// Returns the next work, or `None` if no more will come.
     fn next<R: Wait + Clock>(&mut self, rt: &R) -> Option<Work>
-        ensures given { Grows (given self.old) (given self.new) (result ∷ []) }
+        ensures given { RecordGrows (given self.old) (given self.new) (result ∷ []) }
         ensures dealt { IfSome result (IsDealt (shards self.old)) }
         ensures shards { shards self.new ≡ shards self.old };
 
@@ -48,7 +48,7 @@ pub trait Desk {
     ghost use Rattle.wl_locked.specs.declared.receipt.Receipt.{Receipt};
     ghost use Rattle.wl_locked.specs.declared.receipt.NotStepped.{NotStepped};
     ghost use Rattle.wl_locked.specs.Sharding.{IsDealt};
-    ghost use Rattle.wl_workers.specs.Told.{Grows};
+    ghost use Rattle.wl_workers.specs.CallRecords.{RecordGrows};
     ghost use Rattle.wl_workers.specs.Lane.{receipt_in};
 
     /// The works taken so far, each with its result. `None` if the desk keeps no record.
@@ -66,9 +66,9 @@ pub trait Desk {
     /// Passes one work to the broker and returns the step's receipt. Fails if no step was made.
     fn take_one<R: Wait + Clock>(&mut self, rt: &R, work: Work) -> Result<Receipt, NotStepped>
         requires { IsDealt (shards self.old) work }
-        ensures answered { Grows (answered self.old) (answered self.new) ((work, result) ∷ []) }
+        ensures answered { RecordGrows (answered self.old) (answered self.new) ((work, result) ∷ []) }
         ensures kept { (shard : ℕ)
-            → Grows (kept self.old shard) (kept self.new shard) (receipt_in shard (work, result)) }
+            → RecordGrows (kept self.old shard) (kept self.new shard) (receipt_in shard (work, result)) }
         ensures borrowed { borrowed self.new ≡ borrowed self.old }
         ensures shards { shards self.new ≡ shards self.old };
 }
@@ -105,7 +105,7 @@ pub trait Outlet {
     ghost use Rattle.std.specs.Prelude.{List, [], ◌∷◌, Option, None, Result};
     ghost use Rattle.wl_grammar.specs.declared.frame.Frame.{Frame};
     ghost use Rattle.wl_workers.specs.declared.lanes.OutletFault.{OutletFault};
-    ghost use Rattle.wl_workers.specs.Told.{Grows};
+    ghost use Rattle.wl_workers.specs.CallRecords.{RecordGrows};
 
     /// The frames given to `put` so far, each with its result. `None` if the outlet keeps no
     /// record.
@@ -113,12 +113,12 @@ pub trait Outlet {
 
     /// Sends one frame.
     fn put<R: Wait + Clock>(&mut self, rt: &R, frame: &Frame) -> Result<(), OutletFault>
-        ensures { Grows (put_out self.old) (put_out self.new) ((frame.now, result) ∷ []) };
+        ensures { RecordGrows (put_out self.old) (put_out self.new) ((frame.now, result) ∷ []) };
 }
 
 /// Why a lane ended.
 #[derive(Clone, Copy, Debug, PartialEq, Eq)]
-pub enum Cause {
+pub enum LaneEndCause {
     /// The intake has no more events.
     Ended,
     /// The generation used up its steps, or the lane its `EVENT_LIMIT` events.
@@ -134,7 +134,7 @@ pub enum Cause {
 pub struct LaneEnd {
     /// The number of events that made a step.
     pub steps: u32,
-    pub why: Cause,
+    pub why: LaneEndCause,
 }
 
 /// Sends one frame.
@@ -143,7 +143,7 @@ fn put_one<R: Wait + Clock, O: Outlet>(
     addressed: Addressed,
     outlet: &mut O,
 ) -> Result<(), OutletFault>
-    ensures { Grows (O.put_out outlet.old) (O.put_out outlet.new) ((frame.Addressed addressed, result) ∷ []) }
+    ensures { RecordGrows (O.put_out outlet.old) (O.put_out outlet.new) ((frame.Addressed addressed, result) ∷ []) }
 {
     let frame = Frame::Addressed(addressed);
     let put = outlet.put(rt, &frame);
@@ -158,7 +158,7 @@ fn put_frames<R: Wait + Clock, O: Outlet>(
     outlet: &mut O,
 ) -> Result<(), OutletFault>
     ensures all { OnOk result
-        (Grows (O.put_out outlet.old) (O.put_out outlet.new) (all_put (as_frames outs.items))) }
+        (RecordGrows (O.put_out outlet.old) (O.put_out outlet.new) (all_put (as_frames outs.items))) }
     ensures some { IfErr result (λ fault.
         PutsUpTo (O.put_out outlet.old) (O.put_out outlet.new) (as_frames outs.items) fault) }
 {
@@ -175,7 +175,7 @@ fn put_reply<R: Wait + Clock, O: Outlet>(
     outlet: &mut O,
 ) -> Result<(), OutletFault>
     ensures all { OnOk result
-        (Grows (O.put_out outlet.old) (O.put_out outlet.new) (all_put (frames_of reply))) }
+        (RecordGrows (O.put_out outlet.old) (O.put_out outlet.new) (all_put (frames_of reply))) }
     ensures some { IfErr result (λ fault.
         PutsUpTo (O.put_out outlet.old) (O.put_out outlet.new) (frames_of reply) fault) }
 {
@@ -202,19 +202,19 @@ fn send<R: Wait + Clock, G: Gate, O: Outlet>(
     receipt: Receipt,
     gate: &G,
     outlet: &mut O,
-) -> Result<(), Cause>
+) -> Result<(), LaneEndCause>
     ensures all { OnOk result
-        (Grows (O.put_out outlet.old) (O.put_out outlet.new) (all_put (frames_of receipt.reply))) }
+        (RecordGrows (O.put_out outlet.old) (O.put_out outlet.new) (all_put (frames_of receipt.reply))) }
     ensures some { IfErr result (λ why.
         IsUnsent why (O.put_out outlet.old) (O.put_out outlet.new) receipt.reply) }
-    ensures lets { (result ≡ Err Cause.Shut) ⊎ (G.lets gate.now number ≡ true) }
+    ensures lets { (result ≡ Err LaneEndCause.Shut) ⊎ (G.lets gate.now number ≡ true) }
 {
     if !gate.pass(rt, number) {
         drop(receipt);
-        return Err(Cause::Shut);
+        return Err(LaneEndCause::Shut);
     }
     if put_reply(rt, reply_of(receipt), outlet).is_err() {
-        return Err(Cause::Outlet);
+        return Err(LaneEndCause::Outlet);
     }
     gate.answered(rt, number);
     Ok(())
@@ -244,7 +244,7 @@ pub fn lane<R: Wait + Clock, I: Intake, D: Desk, G: Gate, O: Outlet>(
         let Some(event) = intake.next(rt) else {
             return LaneEnd {
                 steps,
-                why: Cause::Ended,
+                why: LaneEndCause::Ended,
             };
         };
         match desk.take_one(rt, event) {
@@ -258,13 +258,13 @@ pub fn lane<R: Wait + Clock, I: Intake, D: Desk, G: Gate, O: Outlet>(
             Err(NotStepped::GenerationSpent) => {
                 return LaneEnd {
                     steps,
-                    why: Cause::Spent,
+                    why: LaneEndCause::Spent,
                 };
             }
         }
     }
     LaneEnd {
         steps,
-        why: Cause::Spent,
+        why: LaneEndCause::Spent,
     }
 }

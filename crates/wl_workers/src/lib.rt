@@ -2,7 +2,7 @@
 #![tactic(auto)]
 
 pub mod desk;
-pub mod jobs;
+pub mod lane_threads;
 pub mod lanes;
 pub mod laws;
 pub mod lives;
@@ -11,9 +11,11 @@ pub mod tab_writer;
 pub mod uplink;
 
 pub use desk::{DeskFault, desk_run, desk_run_on};
-pub use jobs::{Job, run_lanes};
-pub use lanes::{Cause, Desk, EVENT_LIMIT, Gate, Intake, LaneEnd, Outlet, OutletFault, lane};
-pub use lives::{BoardSeat, Lives, Rung, SharedSeat};
+pub use lane_threads::{Job, run_lanes};
+pub use lanes::{
+    Desk, EVENT_LIMIT, Gate, Intake, LaneEnd, LaneEndCause, Outlet, OutletFault, lane,
+};
+pub use lives::{AfterBell, BoardSeat, Lives, SharedSeat};
 pub use tab_reader::ReadEnd;
 pub use tab_writer::WriteEnd;
 pub use uplink::Uplink;

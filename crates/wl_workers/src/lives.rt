@@ -2,9 +2,9 @@
 
 ghost use Rattle.std.specs.Prelude.{◌≡◌, ◌+◌, ◌<◌, ◌≤◌, Err, IfOk, OnOk, OnErr};
 ghost use Rattle.std.specs.Arc.{arc_value};
-ghost use Rattle.wl_board.specs.Calls.{IsOf, IsSameSeat, HasMetEnd, MeetsEnd, counter_seen, generation_seen, tab_seen, word_of};
-ghost use Rattle.wl_board.specs.Rule.{Has};
-ghost use Rattle.wl_board.specs.Steps.{sees, marks, draws_number, bears, bumps_to};
+ghost use Rattle.wl_board.specs.BoardCalls.{IsOf, IsSameSeat, HasMetEnd, MeetsEnd, counter_seen, generation_seen, tab_seen, word_of};
+ghost use Rattle.wl_board.specs.BoardRule.{Has};
+ghost use Rattle.wl_board.specs.BoardSteps.{sees, marks, draws_number, bears, bumps_to};
 ghost use Rattle.wl_board.specs.declared.board.TheConstants.{SEAT_STEP_LIMIT};
 ghost use Rattle.wl_workers.specs.Looks.{IsOnBoard, FindsDead};
 
@@ -14,19 +14,23 @@ use std::sync::{Arc, Mutex, Wait};
 use std::thread::Parker;
 use wl_board::{Birth, Board, DrawFault, Life, Seat, SeatSpent, Ticket};
 
-/// Tells whether tabs live. A look may block, for instance until a bell rings.
+/// Tells whether tabs live.
 pub trait Lives {
     ghost use Rattle.std.specs.Prelude.{ℕ, List, [], ◌∷◌, Option, None};
     ghost use Rattle.wl_board.specs.declared.tab.Life.{Life};
-    ghost use Rattle.wl_workers.specs.Told.{Grows};
+    ghost use Rattle.wl_workers.specs.CallRecords.{RecordGrows};
 
     /// The looks made so far, each with its tab and result. `None` if the implementation keeps no
     /// record.
     ghost answered: { Self → Option (List (ℕ × Life)) } = { λ _. None };
 
+    /// Blocks until a look may find something new, for instance until a bell rings. The default returns
+    /// at once.
+    fn wait<R: Wait + Clock>(&self, _rt: &R) {}
+
     /// Returns the life state of a tab.
     fn look<R: Wait + Clock>(&mut self, rt: &R, tab: u16) -> Life
-        ensures { Grows (answered self.old) (answered self.new) ((tab, result) ∷ []) };
+        ensures { RecordGrows (answered self.old) (answered self.new) ((tab, result) ∷ []) };
 }
 
 /// A board and one of its seats. Its looks do not block.
@@ -38,7 +42,7 @@ pub struct BoardSeat {
 
 impl Model for BoardSeat {
     ghost use Rattle.std.specs.Arc.{arc_value};
-    ghost use Rattle.wl_board.specs.Calls.{IsOf};
+    ghost use Rattle.wl_board.specs.BoardCalls.{IsOf};
     ghost use Rattle.wl_workers.specs.Looks.{Watching};
 
     ghost Value = { Watching };
@@ -149,28 +153,33 @@ impl Lives for SharedSeat {
     }
 }
 
-/// Looks that sleep until the bell rings. The bell must be rung after a parcel is put and after a
-/// tab is marked dead. A ring since the last look is not lost.
+/// Lives that wait for a bell. The bell must be rung after a parcel is put and after a tab is marked
+/// dead. A ring since the last wait is not lost.
 #[derive(Drop)]
-pub struct Rung<L> {
+pub struct AfterBell<L> {
     bell: Arc<Parker>,
     lives: L,
 }
 
-impl<L> Rung<L> {
-    /// Makes the looks of `lives` wait for a bell.
-    pub fn new(bell: Arc<Parker>, lives: L) -> Rung<L>
+impl<L> AfterBell<L> {
+    /// Lets `lives` wait for a bell.
+    pub fn new(bell: Arc<Parker>, lives: L) -> AfterBell<L>
         ensures { result.lives ≡ lives }
     {
-        Rung { bell, lives }
+        AfterBell { bell, lives }
     }
 }
 
-impl<L: Lives> Lives for Rung<L> {
+impl<L: Lives> Lives for AfterBell<L> {
     ghost answered = { λ r. L.answered r.lives };
 
-    fn look<R: Wait + Clock>(&mut self, rt: &R, tab: u16) -> Life {
+    /// Sleeps until the bell rings, and then waits as `lives` does.
+    fn wait<R: Wait + Clock>(&self, rt: &R) {
         self.bell.park(rt);
+        self.lives.wait(rt);
+    }
+
+    fn look<R: Wait + Clock>(&mut self, rt: &R, tab: u16) -> Life {
         self.lives.look(rt, tab)
     }
 }

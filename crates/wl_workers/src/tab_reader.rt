@@ -139,6 +139,8 @@ fn read_all<R: Wait + Clock, S: Read, L: Lives, U: Uplink>(
     let mut buffer = [0; PIECE_LEN];
     // The prover needs a bounded loop, so this loop counts the reads too.
     for _reads in 0..READ_LIMIT {
+        uplink.flush(rt);
+        uplink.pace(rt);
         let n = source.read(&mut buffer)?;
         if n == 0 {
             return close(feed);
@@ -151,7 +153,8 @@ fn read_all<R: Wait + Clock, S: Read, L: Lives, U: Uplink>(
 /// Reads a tab's frames and forwards them to the uplink until end of input, a fault, or the tab's
 /// death.
 ///
-/// Before each frame it looks whether the tab lives. A frame that the uplink refuses is lost.
+/// In each round it flushes and paces the uplink, reads, and hands the frames up. Before each frame it
+/// looks whether the tab lives. A frame that the uplink refuses is lost.
 pub fn tab_reader<R: Wait + Clock, S: Read, L: Lives, U: Uplink>(
     rt: &R,
     alloc: Global,

@@ -2,7 +2,7 @@
 
 ghost use Rattle.std.specs.Prelude.{◌≡◌, ◌↔◌, [], ◌∷◌, true, false, Ok, OnOk};
 ghost use Rattle.crossbeam_queue.specs.Fifo.{Held};
-ghost use Rattle.wl_outbox.specs.Steps.{IsMoment};
+ghost use Rattle.wl_outbox.specs.OutboxSteps.{IsMoment};
 ghost use Rattle.wl_outbox.specs.Passes.{IsOf, IsSamePass, takes};
 ghost use Rattle.wl_workers.specs.Looks.{LooksOnly, FoundDead};
 ghost use Rattle.wl_workers.specs.TabWriter.{WritesFrames, WritesTab};
@@ -69,6 +69,7 @@ fn write_all<R: Wait + Clock, L: Lives, W: Write>(
             if is_dead {
                 return Ok(());
             }
+            lives.wait(rt);
             is_dead = finds_dead(rt, tab, lives);
             continue;
         };
@@ -82,7 +83,7 @@ fn write_all<R: Wait + Clock, L: Lives, W: Write>(
 /// Takes the parcels of a tab's outbox and writes their frames, in order. Ends when the writer
 /// fails, or when the tab is dead and its outbox is empty.
 ///
-/// It looks only after finding the outbox empty, so a look may block until the next put.
+/// If the outbox is empty, it waits and then looks whether the tab lives.
 pub fn tab_writer<R: Wait + Clock, L: Lives, W: Write>(
     rt: &R,
     alloc: Global,

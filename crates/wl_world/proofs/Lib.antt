@@ -1,9 +1,1 @@
-pub mod Tables
-pub mod AtBroker
-pub mod exclusion
-pub mod own
-pub mod order
-pub mod apart
-pub mod heard
-pub mod honest
 pub mod calls

@@ -8,7 +8,4 @@ pub mod MergedReaches
 pub mod PassedPosts
 pub mod ChannelCalls
 pub mod ChannelRows
-pub mod StepsAndSends
-pub mod RefusedEvents
-pub mod MemoryIsNeverSaid
 pub mod ReportCalls

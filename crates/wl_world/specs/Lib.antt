@@ -1,16 +1,2 @@
-pub mod Sends
-pub mod World
-pub mod Holdings
-pub mod Rows
-pub mod Replies
-pub mod ReplyRows
-pub mod Orders
-pub mod Apart
-pub mod Heard
-pub mod Parts
-pub mod Machine
-pub mod Refusals
+pub mod Components
 pub mod Merging
-pub mod Hostile
-pub mod HostileRows
-pub mod PartRows

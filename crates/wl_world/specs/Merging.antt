@@ -7,14 +7,14 @@ use Rattle.wl_grammar.specs.declared.frame.Heard.{Heard}
 use Rattle.wl_broadcast.specs.declared.letter.Posted.{Posted}
 use Rattle.wl_broadcast.specs.declared.letter.Hearing.{Hearing}
 use Rattle.wl_broadcast.specs.declared.letter.Hearing.TheVariants.{Old, New}
-use Rattle.wl_said.specs.declared.said.Said.{Said}
-use Rattle.wl_said.specs.declared.said.Said.TheVariants as said
-use Rattle.wl_said.specs.declared.said.Reason.TheVariants as reason
-use Rattle.wl_said.specs.declared.said.Reached.{Reached}
-use Rattle.wl_said.specs.declared.said.Reached.TheVariants.{Took, Full}
-use Rattle.wl_bag.specs.declared.message.Message.{Message}
-use Rattle.wl_bag.specs.declared.message.Message.TheVariants.{Across}
-use Rattle.wl_world.specs.Replies.{letter_of}
+use Rattle.wl_world_messages.specs.declared.effect.Effect.{Effect}
+use Rattle.wl_world_messages.specs.declared.effect.Effect.TheVariants as said
+use Rattle.wl_world_messages.specs.declared.effect.Reason.TheVariants as reason
+use Rattle.wl_world_messages.specs.declared.effect.Reached.{Reached}
+use Rattle.wl_world_messages.specs.declared.effect.Reached.TheVariants.{Took, Full}
+use Rattle.wl_world_messages.specs.declared.message.Message.{Message}
+use Rattle.wl_world_messages.specs.declared.message.Message.TheVariants.{Across}
+use Rattle.wl_world_model.specs.Replies.{letter_of}
 
 -- The length of the longest prefix of numbers below the bound.
 abbrev pub count_below : ℕ → List ℕ → ℕ
@@ -35,10 +35,10 @@ number_in (frame.Post p) = p.number
 number_in f = 0
 
 -- The reply to a post.
-abbrev pub posted_said : ℕ → List ℕ → Posted → Said
+abbrev pub posted_said : ℕ → List ℕ → Posted → Effect
 posted_said t bytes p = said.Posted t (number_in p.frame) bytes (merged p.took p.full)
 
 -- The reply to the arrival of another tab's post.
-abbrev pub hearing_said : ℕ → Heard → Hearing → Said
+abbrev pub hearing_said : ℕ → Heard → Hearing → Effect
 hearing_said t x Old = said.Dropped reason.OldPost
 hearing_said t x (New took full) = said.Heard t (letter_of x) (merged took full)

@@ -1,14 +1,11 @@
-//! Model of the browser's locks and channels as one machine over events.
+//! Machine that runs the model of the browser's locks and channels, event by event.
 #![tactic(auto)]
 
-pub mod event;
-pub mod laws;
-mod parts;
-pub mod reply;
-pub mod rows;
+mod components;
 pub mod run;
 mod sending;
 pub mod world;
 
-pub use wl_bag::message;
 pub use wl_tab::holding;
+pub use wl_world_messages::message;
+pub use wl_world_model::{event, laws, reply, rows};

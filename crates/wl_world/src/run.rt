@@ -1,12 +1,12 @@
 //! Run of a list of events from the empty world.
 
 ghost use Rattle.std.specs.Prelude.{◌≡◌, IfOk};
-ghost use Rattle.wl_world.specs.World.{empty_world, run};
-ghost use Rattle.wl_world.specs.Holdings.{Exclusion, Own};
-ghost use Rattle.wl_world.specs.Hostile.{HonestIfUnnamed};
-ghost use Rattle.wl_world.specs.Orders.{CommandsInOrder, GrantedWereHeld, GrantsWereSent, ManagerIsFold};
-ghost use Rattle.wl_world.specs.Heard.{HeardIsRead, HeardPosts, HeardRising, HeardTillClosed};
-ghost use Rattle.wl_world.specs.Apart.{RunsApart};
+ghost use Rattle.wl_world_model.specs.World.{empty_world, run};
+ghost use Rattle.wl_world_model.specs.Holdings.{Exclusion, Own};
+ghost use Rattle.wl_world_model.specs.Hostile.{HonestIfUnnamed};
+ghost use Rattle.wl_world_model.specs.Orders.{CommandsInOrder, GrantedWereHeld, GrantsWereSent, ManagerIsFold};
+ghost use Rattle.wl_world_model.specs.Heard.{HeardIsRead, HeardPosts, HeardRising, HeardTillClosed};
+ghost use Rattle.wl_world_model.specs.Apart.{RunsApart};
 
 use crate::event::Event;
 use crate::world::World;

@@ -2,16 +2,16 @@
 
 ghost use Rattle.std.specs.Prelude.{◌≡◌, ◌++◌, [], ◌∷◌, IfOk, OnOk, map};
 ghost use Rattle.std.specs.List.{flat_map};
-ghost use Rattle.wl_world.specs.Parts.{passed_up};
-ghost use Rattle.wl_world.specs.World.{from_broker};
-ghost use Rattle.wl_world.specs.Sends.{command_message, issued_messages, report_messages, resent};
+ghost use Rattle.wl_world.specs.Components.{passed_up};
+ghost use Rattle.wl_world_model.specs.World.{from_broker};
+ghost use Rattle.wl_world_model.specs.Sends.{command_message, issued_messages, report_messages, resent};
 
 use std::alloc::{AllocError, Global};
-use wl_bag::{Message, Sender};
 use wl_broker::Outs;
 use wl_grammar::{Addressed, Frame, Sequence};
 use wl_kernel::{Routed, Tabs};
 use wl_tab::TabLocks;
+use wl_world_messages::{Message, Sender};
 
 /// Converts the broker's output frames into messages. Fails if out of memory.
 pub fn from_broker(alloc: Global, outs: Outs) -> Result<Vec<Message>, AllocError>

@@ -2,32 +2,32 @@
 
 ghost use Rattle.std.specs.Prelude.{◌≡◌, [], ◌∷◌, ◌++◌, IfOk, is_some, slice_get};
 ghost use Rattle.std.specs.Option.{option_copied};
-ghost use Rattle.wl_world.specs.Hostile.{MovesOwnAloneBetween};
-ghost use Rattle.wl_world.specs.Machine.{AreHoldings, held_by_living};
+ghost use Rattle.wl_world_model.specs.Hostile.{MovesOwnAloneBetween};
+ghost use Rattle.wl_world_model.specs.Machine.{AreHoldings, held_by_living};
 ghost use Rattle.wl_kernel.specs.Kernel.{living_tabs};
-ghost use Rattle.wl_world.specs.World.{empty_world, happens, run};
-ghost use Rattle.wl_world.specs.Replies.{reply_of};
+ghost use Rattle.wl_world_model.specs.World.{empty_world, after_event, run};
+ghost use Rattle.wl_world_model.specs.Replies.{reply_of};
 
+use crate::components::Components;
 use crate::event::Event;
-use crate::parts::Parts;
 use crate::reply::Reply;
 use std::alloc::{AllocError, Global};
 use std::marker::Model;
-use wl_bag::Message;
 use wl_grammar::Sequence;
 use wl_tab::Holding;
+use wl_world_messages::Message;
 
 /// A list of events and the state after them. Dropping it spends the tokens that it holds.
 #[derive(Drop)]
 pub struct World {
     events: Vec<Event>,
-    parts: Parts,
+    parts: Components,
 }
 
 impl Model for World {
     ghost use Rattle.std.specs.Prelude.{◌≡◌};
-    ghost use Rattle.wl_world.specs.Machine.{Machine};
-    ghost use Rattle.wl_world.specs.World.{empty_world, run};
+    ghost use Rattle.wl_world_model.specs.Machine.{Machine};
+    ghost use Rattle.wl_world_model.specs.World.{empty_world, run};
 
     ghost Value = { Machine };
 
@@ -44,14 +44,14 @@ impl World {
     {
         World {
             events: Vec::new(alloc),
-            parts: Parts::new(alloc),
+            parts: Components::new(alloc),
         }
     }
 
     /// Applies an event and returns the new world with the reply. Fails if out of memory; the world is lost then.
     pub fn step(self, event: Event) -> Result<(World, Reply), AllocError>
         ensures events { IfOk result (λ r. r.0.events ≡ self.events ++ event ∷ []) }
-        ensures world { IfOk result (λ r. r.0.world ≡ happens self.world event) }
+        ensures world { IfOk result (λ r. r.0.world ≡ after_event self.world event) }
         ensures reply { IfOk result (λ r. r.1 ≡ reply_of self.world event) }
         // A message that arrives at the broker, forged or not, moves its own tab's locks alone. Other locks
         // move only by settling.

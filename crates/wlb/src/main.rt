@@ -4,14 +4,14 @@
 use std::alloc::{AllocError, Global};
 use std::io::ErrorKind;
 use std::process::ExitCode;
-use wl_broker_process::run_broker;
-use wl_command_line::{Line, LineFault, line};
 use wl_frames::device::{Sink, Source};
-use wl_kernel_process::{KernelWords, run_kernel};
 use wl_process::fault::{DEVICE_OR_MEMORY, ProcessFault, REFUSED};
+use wl_process_broker::run_broker;
+use wl_process_kernel::{KernelWords, run_kernel};
+use wl_process_tab::run_tab;
 use wl_script::sim::{SimFault, sim_run};
-use wl_tab_process::run_tab;
 use wl_workers::{DeskFault, desk_run};
+use wlb_command_line::{Line, LineFault, line};
 
 /// Exit status for a wrong command line.
 const USAGE: u8 = 2;

@@ -3,7 +3,7 @@
 ghost use Rattle.std.specs.Prelude.{◌≡◌};
 
 use crate::agent::Agent;
-use crate::token::{Asking, HeldLock, Pending, Probe, Token};
+use crate::token::Token;
 use std::marker::Model;
 
 /// The remains of a dead tab's agent, which consume its remaining tokens. Contracts see it as the
@@ -41,10 +41,10 @@ impl DeadAgent {
     /// Consumes a token. Does not allocate.
     pub fn void(&self, token: Token) {
         match token {
-            Token::Pending(Pending { tab: _, number: _ }) => {}
-            Token::Probe(Probe { tab: _, number: _ }) => {}
-            Token::HeldLock(HeldLock { tab: _, number: _ }) => {}
-            Token::Asking(Asking { tab: _, number: _ }) => {}
+            Token::Pending(pending) => pending.consume(),
+            Token::Probe(probe) => probe.consume(),
+            Token::HeldLock(lock) => lock.consume(),
+            Token::Asking(asking) => asking.consume(),
         }
     }
 }

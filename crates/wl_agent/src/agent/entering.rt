@@ -4,7 +4,7 @@ ghost use Rattle.std.specs.Prelude.{◌≡◌, ◌<◌, ◌≤◌, length, IfOk,
 ghost use Rattle.std.specs.List.{AllByRecursion};
 ghost use Rattle.wl_grammar.specs.Grammar.{IsWellFormed};
 ghost use Rattle.wl_agent.specs.Tab.{enter, report_frames};
-ghost use Rattle.wl_agent.specs.Kept.{carried_tab, begun, IsTellable};
+ghost use Rattle.wl_agent.specs.AgentInvariant.{carried_tab, begun, IsValidReport};
 
 use crate::agent::Agent;
 use crate::reporting::report_frames;
@@ -42,7 +42,7 @@ impl Agent {
     /// Starts the generation of this report.
     fn begin(&mut self, report: Report)
         requires base { report.base ≤ length self.old.issued }
-        requires tellable { IsTellable self.old.in_parts report }
+        requires tellable { IsValidReport self.old.in_parts report }
         ensures { self.new ≡ begun report self.old }
     {
         self.entered = report.generation;
@@ -54,7 +54,7 @@ impl Agent {
     /// Returns the report of the next generation to enter.
     fn next_report(&self, generation: u32) -> Result<Report, AllocError>
         ensures report { IfOk result (λ report. report ≡ (enter generation self.now).report) }
-        ensures tellable { IfOk result (λ report. IsTellable self.now.in_parts report) }
+        ensures tellable { IfOk result (λ report. IsValidReport self.now.in_parts report) }
     {
         if self.entered == 0 {
             return Ok(Report {

@@ -3,12 +3,12 @@
 ghost use Rattle.std.specs.Prelude.{◌≡◌, ◌<◌, ◌≤◌, ◌+◌, true, false, length, Some, IfOk, OnOk, OnErr, if◌then◌else◌};
 ghost use Rattle.wl_draft.specs.Refusals.{RefusesBy};
 ghost use Rattle.wl_grammar.specs.Grammar.{IsOperation};
-ghost use Rattle.wl_agent.specs.Tab.{asked, queried, issue, ask_refusal, query_refusal, live_refusal, is_supported, keeps_number, kept_numbers, live_numbers, live_limit};
-ghost use Rattle.wl_agent.specs.Kept.{can_become};
+ghost use Rattle.wl_agent.specs.Tab.{asked, queried, issue, ask_refusal, query_refusal, live_refusal, is_supported, reserves_number, reserved_numbers, live_numbers, live_limit};
+ghost use Rattle.wl_agent.specs.AgentInvariant.{can_become};
 
 use crate::agent::Agent;
 use crate::fault::AgentFault;
-use crate::parts::Parts;
+use crate::snapshot_parts::SnapshotParts;
 use crate::status::Status;
 use crate::token::{Asking, Pending, Probe};
 use std::alloc::AllocError;
@@ -27,7 +27,7 @@ impl Agent {
     {
         let tab = self.tab;
         let number = self.ask(name, mode, false)?;
-        Ok(Pending { tab, number })
+        Ok(Pending::new(tab, number))
     }
 
     /// Issues a probe, which is a request with `ifAvailable`, and returns its token. Fails like
@@ -40,7 +40,7 @@ impl Agent {
     {
         let tab = self.tab;
         let number = self.ask(name, mode, true)?;
-        Ok(Probe { tab, number })
+        Ok(Probe::new(tab, number))
     }
 
     /// Issues a query for a snapshot of the partition's locks (Web Locks, "query"), and returns its
@@ -55,9 +55,9 @@ impl Agent {
             return Err(fault);
         }
         let tab = self.tab;
-        let parts = Parts::new(self.alloc);
+        let parts = SnapshotParts::new(self.alloc);
         let number = self.issue(Operation::Query, Status::Querying(parts))?;
-        Ok(Asking { tab, number })
+        Ok(Asking::new(tab, number))
     }
 
     /// Issues a request or a probe, and returns its number.
@@ -121,14 +121,14 @@ impl Agent {
         requires few { live_numbers self.old < live_limit self.old.in_parts }
         requires becomes { can_become operation status ≡ true }
         requires spoken { IsOperation operation }
-        requires numbers { length self.old.issued + kept_numbers self.old
-            + (if keeps_number (Some status) then 2 else 1) ≤ self.old.numbers }
+        requires numbers { length self.old.issued + reserved_numbers self.old
+            + (if reserves_number (Some status) then 2 else 1) ≤ self.old.numbers }
         ensures ok { OnOk result (self.new ≡ issue operation status self.old) }
         ensures number { IfOk result (λ n. n ≡ length self.old.issued) }
         ensures err { OnErr result (self.new ≡ self.old) }
     {
         let number = self.count();
-        let more = 1 + usize::from(status.keeps_number());
+        let more = 1 + usize::from(status.reserves_number());
         self.issued.reserve(self.statuses.kept() + more)?;
         self.statuses.insert(number, status)?;
         self.issued.push_reserved(operation);

@@ -38,7 +38,7 @@ impl Agent {
         Ok(Frame::Command(Command {
             generation: self.entered,
             number,
-            operation: operation.copy(self.alloc)?,
+            operation: operation.clone()?,
         }))
     }
 

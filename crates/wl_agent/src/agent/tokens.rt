@@ -3,7 +3,7 @@
 ghost use Rattle.std.specs.Prelude.{◌≡◌, true, false, length, IfOk, OnOk, IfErr, OnErr};
 ghost use Rattle.wl_draft.specs.Refusals.{RefusesOnlyBy};
 ghost use Rattle.wl_grammar.specs.Grammar.{IsOperation};
-ghost use Rattle.wl_agent.specs.Tab.{released, aborted, finish, keeps_number, status_of};
+ghost use Rattle.wl_agent.specs.Tab.{released, aborted, finish, reserves_number, status_of};
 ghost use Rattle.wl_agent.specs.Tokens.{is_pending, is_probing, is_holding, is_asking, is_own, told_pending, told_probe, told_query, after_query, abort_refusal};
 
 use crate::agent::Agent;
@@ -28,8 +28,7 @@ impl Agent {
             return Err(Foreign { value: pending });
         }
         if self.statuses.is_held(pending.number) {
-            let Pending { tab, number } = pending;
-            return Ok(Settled::Held(HeldLock { tab, number }));
+            return Ok(Settled::Held(pending.into_lock()));
         }
         Ok(Settled::Waiting(pending))
     }
@@ -49,10 +48,10 @@ impl Agent {
         if self.statuses.is_asked(probe.number) {
             return Ok(ProbeSettled::Waiting(probe));
         }
-        let Probe { tab, number } = probe;
-        if self.statuses.is_held(number) {
-            return Ok(ProbeSettled::Held(HeldLock { tab, number }));
+        if self.statuses.is_held(probe.number) {
+            return Ok(ProbeSettled::Held(probe.into_lock()));
         }
+        probe.consume();
         Ok(ProbeSettled::Null)
     }
 
@@ -72,7 +71,8 @@ impl Agent {
         if self.statuses.is_querying(asking.number) {
             return Ok(QuerySettled::Waiting(asking));
         }
-        let Asking { tab: _, number } = asking;
+        let number = asking.number;
+        asking.consume();
         match self.statuses.remove(number) {
             Some(Status::Whole(snapshot)) => Ok(QuerySettled::Whole(snapshot)),
             _ => Ok(QuerySettled::Lost),
@@ -91,10 +91,11 @@ impl Agent {
         if !self.is_pending(&pending) {
             return Err(AbortFault::Foreign(pending));
         }
-        let Pending { tab, number } = pending;
-        if self.statuses.is_held(number) {
-            return Err(AbortFault::Held(HeldLock { tab, number }));
+        if self.statuses.is_held(pending.number) {
+            return Err(AbortFault::Held(pending.into_lock()));
         }
+        let number = pending.number;
+        pending.consume();
         Ok(self.finish(Operation::Abort { number }, number))
     }
 
@@ -111,7 +112,8 @@ impl Agent {
         if !self.is_holding(&lock) {
             return Err(Foreign { value: lock });
         }
-        let HeldLock { tab: _, number } = lock;
+        let number = lock.number;
+        lock.consume();
         Ok(self.finish(Operation::Release { number }, number))
     }
 
@@ -120,7 +122,7 @@ impl Agent {
     {
         pending.tab == self.tab
             && is_request_at(&self.issued, pending.number)
-            && self.statuses.keeps_number(pending.number)
+            && self.statuses.reserves_number(pending.number)
     }
 
     fn is_probing(&self, probe: &Probe) -> bool
@@ -145,7 +147,7 @@ impl Agent {
 
     /// Issues the command that ends a number, in the capacity reserved for it.
     fn finish(&mut self, operation: Operation, number: u32) -> u32
-        requires keeps { keeps_number (status_of self.old number) ≡ true }
+        requires keeps { reserves_number (status_of self.old number) ≡ true }
         requires spoken { IsOperation operation }
         ensures new { self.new ≡ finish operation number self.old }
         ensures number { result ≡ length self.old.issued }

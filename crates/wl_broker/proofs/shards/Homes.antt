@@ -3,17 +3,17 @@ use Rattle.std.proofs.Common.{◌≡◌, ⊎_elim, ℕ, ◌+◌, Bool, not, List
 use Rattle.std.specs.Prelude.{◌==◌}
 use Rattle.std.proofs.lemmas.Bool.{eqb-true}
 use Rattle.wl_draft.specs.Tables.{Table, at, Rises}
-use Rattle.wl_draft.specs.Locks.{Locks, no_locks, newly, settle, settle_if}
+use Rattle.wl_draft.specs.Locks.{Locks, no_locks, newly_granted, settle, settle_if}
 use Rattle.wl_draft.proofs.Membership.{either, In-nil, In-filter_cases}
 use Rattle.wl_draft.specs.Membership.{In, Here, Later}
 use Rattle.wl_draft.proofs.RisingTables.{Rises-put, Rises-filter, find-In, put-cases}
 use Rattle.wl_broker.proofs.Clients.{Own, Stands, newly-Own, settle-Stands, restored-Stands, drafted-Stands, ended-Stands}
 use Rattle.wl_grammar.specs.declared.frame.Addressed.{Addressed}
 use Rattle.wl_grammar.specs.declared.frame.Upward.{Upward}
-use Rattle.wl_parts.specs.ReportParts.{Partial, Told, with_told, whole_of}
+use Rattle.wl_broker_reports.specs.ReportParts.{Partial, Told, with_told, whole_of}
 use Rattle.wl_broker.specs.declared.seat.Seat.{Seat}
 use Rattle.wl_broker.specs.declared.seat.Seat.TheVariants.{Joined, Dead}
-use Rattle.wl_broker.specs.Broker.{BrokerState, started, seat_of, manager_of, is_active, with_seat, settled_at, newly_at, listed_at, seated_at, or_else, limit_of, place_of, partial_of, keeping, burial}
+use Rattle.wl_broker.specs.Broker.{BrokerState, started, seat_of, manager_of, is_active, with_seat, settled_at, newly_at, listed_at, seated_at, or_else, limit_of, place_of, partial_of, keeping, death_step}
 use Rattle.wl_broker.proofs.Takings.{Takes, joins, keeps, repeats, performs, Buries, again, stranger, ends, burial-Buries}
 
 -- Locks of a partition
@@ -23,7 +23,7 @@ settle_if-Stands Q now m s = either (Stands Q) now (settle m) m (λ _. settle-St
 
 pub newly_at-Own : (Q : ℕ → Type 0) (b : BrokerState) (p : ℕ) (m : Locks) → Stands Q m → Own Q (newly_at b p m)
 unfolding newly_at
-newly_at-Own Q b p m s = either (Own Q) (is_active b p) (newly m) [] (λ _. newly-Own Q m s) (λ _ r i. absurd (In-nil i))
+newly_at-Own Q b p m s = either (Own Q) (is_active b p) (newly_granted m) [] (λ _. newly-Own Q m s) (λ _ r i. absurd (In-nil i))
 
 -- The broker
 
@@ -149,5 +149,5 @@ module _ (home : ℕ → ℕ) where
   Buries-Homes {b = b} {t = t} (ends {p = p} alive place) h =
       settled_at-Homes (with_seat t Dead b) p _ (ended-Stands (λ z. home z ≡ p) t (manager_of b p) (manager_of-AtHome b p h)) (with_seat-Homes t Dead b tt h)
 
-  pub burial-Homes : (b : BrokerState) (t : ℕ) → Homes home b → Homes home (burial b t).0
+  pub burial-Homes : (b : BrokerState) (t : ℕ) → Homes home b → Homes home (death_step b t).0
   burial-Homes b t h = Buries-Homes (burial-Buries b t) h

@@ -13,7 +13,7 @@ use Rattle.wl_draft.specs.Membership.{In, Here, Later}
 use Rattle.wl_grammar.specs.declared.frame.Stamped.{Stamped}
 use Rattle.wl_grammar.specs.declared.frame.Addressed.{Addressed}
 use Rattle.wl_broker.specs.declared.seat.Seat.TheVariants.{Dead}
-use Rattle.wl_broker.specs.Broker.{BrokerState, started, hello_to, hellos, is_dead, seat_of, place_of, with_seat, buried_at, Taking, Drops, Does, taking, burial}
+use Rattle.wl_broker.specs.Broker.{BrokerState, started, hello_to, hellos, is_dead, seat_of, place_of, with_seat, buried_at, Taking, Drops, Does, taking, death_step}
 use Rattle.wl_broker.specs.Events.{Event, Comes, Dies, broker_after, happens, run}
 use Rattle.wl_broker.specs.Shards.{shard_of, is_of, is_for, events_of, seen_at, taking_at, stands_in, named_by, places, stands_once, StandsOnce, one_broker, shard_broker, SeenAtEachShard, AnsweredByItsShard, DeathsSentByShards, DeathsSentByOneShard, HellosOfShards}
 use Rattle.wl_broker.proofs.shards.Homes.{Homes, started-Homes, burial-Homes}
@@ -137,9 +137,9 @@ module _ (home : ℕ → ℕ) where
       ap (λ z. taking z m) (sym (seen-shard_broker f g listed es a)) ∙ own-taking home f (one_broker g listed es) m own h (one_broker-Homes g listed es a)
 
   pub sent-by_one : (f : ℕ → Bool) (g : ℕ) (listed : List (ℕ × ℕ)) (es : List Event) (t : ℕ) → AllHome home listed es
-      → (burial (shard_broker f g listed es) t).1 ≡ cond (stands_in f (place_of (one_broker g listed es) t)) (burial (one_broker g listed es) t).1 []
+      → (death_step (shard_broker f g listed es) t).1 ≡ cond (stands_in f (place_of (one_broker g listed es) t)) (death_step (one_broker g listed es) t).1 []
   sent-by_one f g listed es t a =
-      ap (λ z. (burial z t).1) (sym (seen-shard_broker f g listed es a)) ∙ (buries-alike home f (one_broker g listed es) t (one_broker-Homes g listed es a)).sent
+      ap (λ z. (death_step z t).1) (sym (seen-shard_broker f g listed es a)) ∙ (buries-alike home f (one_broker g listed es) t (one_broker-Homes g listed es a)).sent
 
 pub seen-at_each_shard : SeenAtEachShard
 seen-at_each_shard shards s g listed es once = seen-shard_broker (home_in (places listed es)) (is_of shards s) g listed es (all_home listed es once)
@@ -175,8 +175,8 @@ nothing-of_these : {X : Type 0} (ns : List ℕ) → flat_map {A = X} (λ s. []) 
 nothing-of_these [] = refl
 nothing-of_these (n ∷ ns) = nothing-of_these ns
 
-nobody-told : (b : BrokerState) (t : ℕ) → place_of b t ≡ None → (burial b t).1 ≡ []
-unfolding burial
+nobody-told : (b : BrokerState) (t : ℕ) → place_of b t ≡ None → (death_step b t).1 ≡ []
+unfolding death_step
 nobody-told b t e =
     either (λ (x : BrokerState × List Addressed). x.1 ≡ []) (is_dead (seat_of b t)) (b, []) (buried_at (with_seat t Dead b) t (place_of b t))
     (λ _. refl) (λ _. ap (λ q. (buried_at (with_seat t Dead b) t q).1) e)
@@ -188,11 +188,11 @@ pub deaths-sent_by_shards : DeathsSentByShards
 deaths-sent_by_shards shards g listed es t after some once =
     ap (λ F. flat_map F (range_with_len 0 shards)) (fun_ext (λ s. deaths-sent_by_one_shard shards s g listed es t after once)) ∙ go (place_of (one_broker g listed es) t) refl
   where
-    go : (q : Option ℕ) → place_of (one_broker g listed es) t ≡ q → flat_map (λ s. cond (stands_in (is_of shards s) q) (burial (one_broker g listed es) t).1 []) (range_with_len 0 shards) ≡ (burial (one_broker g listed es) t).1
+    go : (q : Option ℕ) → place_of (one_broker g listed es) t ≡ q → flat_map (λ s. cond (stands_in (is_of shards s) q) (death_step (one_broker g listed es) t).1 []) (range_with_len 0 shards) ≡ (death_step (one_broker g listed es) t).1
     go None e = nothing-of_these (range_with_len 0 shards) ∙ sym (nobody-told (one_broker g listed es) t e)
     go (Some p) e =
-        one-of_these (shard_of shards p) 0 shards (burial (one_broker g listed es) t).1 (omega arith) (let below : shard_of shards p < shards = shard_of-below shards p some in omega (arith, below))
-        ∙ append-nil (burial (one_broker g listed es) t).1
+        one-of_these (shard_of shards p) 0 shards (death_step (one_broker g listed es) t).1 (omega arith) (let below : shard_of shards p < shards = shard_of-below shards p some in omega (arith, below))
+        ∙ append-nil (death_step (one_broker g listed es) t).1
 
 -- Hellos
 

@@ -6,7 +6,7 @@ use Rattle.std.specs.List.{list_all, range_with_len}
 use Rattle.std.proofs.lemmas.Bool.{eqb-true, cond-true, cond-false}
 use Rattle.wl_draft.specs.declared.row.Row.{Row}
 use Rattle.wl_draft.specs.Tables.{put, find}
-use Rattle.wl_draft.specs.Locks.{Locks, no_locks, settle_if, newly_if, live, standing as standing_of, without, restored, ended}
+use Rattle.wl_draft.specs.Locks.{Locks, no_locks, settle_if, newly_granted_if, live, standing as standing_of, without, restored, ended}
 use Rattle.wl_draft.proofs.Membership.{apart, either, by_test, along, map-same, filter-swap}
 use Rattle.wl_draft.specs.Membership.{In, Here, Later}
 use Rattle.wl_draft.proofs.RisingTables.{find-In}
@@ -21,12 +21,12 @@ use Rattle.wl_grammar.specs.declared.frame.Stamped.{Stamped}
 use Rattle.wl_grammar.specs.declared.frame.Upward.{Upward}
 use Rattle.wl_grammar.specs.declared.frame.Upward.TheVariants as up
 use Rattle.wl_grammar.specs.declared.frame.Downward.TheVariants as down
-use Rattle.wl_parts.specs.ReportParts.{has_held, all_below, Partial, Told, Whole, kept_at, at_once, in_part, fits, is_there, with_told, is_whole, whole_of}
+use Rattle.wl_broker_reports.specs.ReportParts.{has_held, all_below, Partial, Told, Whole, kept_at, at_once, in_part, fits, has_part, with_told, is_whole, whole_of}
 use Rattle.wl_broker.specs.declared.seat.Seat.{Seat}
 use Rattle.wl_broker.specs.declared.seat.Seat.TheVariants.{Joined, Dead}
 use Rattle.wl_broker.specs.declared.dropped.Dropped.TheVariants.{OldGeneration, LaterGeneration, NotJoined, Recovering, OutOfTurn, DeadTab, AlreadyJoined, HeldByNewcomer, BadReport, Misplaced, TooMany, PartTwice}
 use Rattle.wl_grammar.specs.Generation.{generation_of}
-use Rattle.wl_broker.specs.Broker.{BrokerState, seat_of, manager_of, is_joined, is_dead, has_come, next_in, next_of, is_active, with_seat, settled_at, newly_at, answer_to, grants_to, outcome_of, snapshot_entries, snapshot_part, snapshot_to, first_answer, later_answer, listed_at, is_listed, elsewhere, seated_at, or_else, is_lock, limit_in, limit_of, is_misplaced, place_of, drafted, Taking, Drops, Does, join, perform, partial_of, keeping, join_if, take_told, take_command, take_inner, taking, buried_at, burial}
+use Rattle.wl_broker.specs.Broker.{BrokerState, seat_of, manager_of, is_joined, is_dead, has_arrived, next_in, next_of, is_active, with_seat, settled_at, newly_at, answer_to, grants_to, outcome_of, snapshot_entries, snapshot_part, snapshot_to, first_answer, later_answer, listed_at, is_listed, elsewhere, seated_at, or_else, is_lock, limit_in, limit_of, is_misplaced, place_of, drafted, Taking, Drops, Does, join, perform, partial_of, keeping, join_if, take_report_part, take_command, take_inner, taking, buried_at, death_step}
 use Rattle.wl_broker.specs.Events.{broker_after}
 use Rattle.wl_broker.specs.Shards.{listed_of, is_seen, seen_at, taking_at, stands_in}
 use Rattle.wl_broker.proofs.Takings.{Takes, joins, keeps, repeats, performs, taking-Takes}
@@ -105,22 +105,22 @@ module _ (home : ℕ → ℕ) (f : ℕ → Bool) where
   for-listed : (b : BrokerState) (t : ℕ) → f (home t) ≡ true → Homes home b → listed_at t (listed_of f b.listed) ≡ listed_at t b.listed
   for-listed b t e h = listed-in t b.listed e h.listed
 
-  for-all_come : (b : BrokerState) (p : ℕ) (ls : List (ℕ × ℕ)) → f p ≡ true → Homes home b → ((x : ℕ × ℕ) → In x ls → home x.0 ≡ x.1)
-      → list_all (λ x. not (x.1 == p) || has_come (seat_of (seen_at f b) x.0)) (listed_of f ls) ≡ list_all (λ x. not (x.1 == p) || has_come (seat_of b x.0)) ls
-  for-all_come b p [] e h l = refl
-  for-all_come b p (x ∷ xs) e h l =
-      let rest = for-all_come b p xs e h (λ y i. l y (Later i)) in
-      either (λ zs. list_all (λ x. not (x.1 == p) || has_come (seat_of (seen_at f b) x.0)) zs ≡ ((not (x.1 == p) || has_come (seat_of b x.0)) && list_all (λ x. not (x.1 == p) || has_come (seat_of b x.0)) xs))
+  for-all_arrived : (b : BrokerState) (p : ℕ) (ls : List (ℕ × ℕ)) → f p ≡ true → Homes home b → ((x : ℕ × ℕ) → In x ls → home x.0 ≡ x.1)
+      → list_all (λ x. not (x.1 == p) || has_arrived (seat_of (seen_at f b) x.0)) (listed_of f ls) ≡ list_all (λ x. not (x.1 == p) || has_arrived (seat_of b x.0)) ls
+  for-all_arrived b p [] e h l = refl
+  for-all_arrived b p (x ∷ xs) e h l =
+      let rest = for-all_arrived b p xs e h (λ y i. l y (Later i)) in
+      either (λ zs. list_all (λ x. not (x.1 == p) || has_arrived (seat_of (seen_at f b) x.0)) zs ≡ ((not (x.1 == p) || has_arrived (seat_of b x.0)) && list_all (λ x. not (x.1 == p) || has_arrived (seat_of b x.0)) xs))
       (f x.1) (x ∷ listed_of f xs) (listed_of f xs)
-      (λ y. ap₂ (λ s v. (not (x.1 == p) || has_come s) && v) (for-seat b x.0 (ap f (l x Here) ∙ y) h) rest)
+      (λ y. ap₂ (λ s v. (not (x.1 == p) || has_arrived s) && v) (for-seat b x.0 (ap f (l x Here) ∙ y) h) rest)
       (λ n. rest
-      ∙ by_test (λ v. list_all (λ x. not (x.1 == p) || has_come (seat_of b x.0)) xs ≡ ((not v || has_come (seat_of b x.0)) && list_all (λ x. not (x.1 == p) || has_come (seat_of b x.0)) xs)) (x.1 == p)
+      ∙ by_test (λ v. list_all (λ x. not (x.1 == p) || has_arrived (seat_of b x.0)) xs ≡ ((not v || has_arrived (seat_of b x.0)) && list_all (λ x. not (x.1 == p) || has_arrived (seat_of b x.0)) xs)) (x.1 == p)
       (λ s. apart (ap f (eqb-true x.1 p s) ∙ e) n)
       (λ _. refl))
 
   for-active : (b : BrokerState) (p : ℕ) → f p ≡ true → Homes home b → is_active (seen_at f b) p ≡ is_active b p
   unfolding is_active
-  for-active b p e h = for-all_come b p b.listed e h h.listed
+  for-active b p e h = for-all_arrived b p b.listed e h h.listed
 
   -- A message of these partitions
 
@@ -141,7 +141,7 @@ module _ (home : ℕ → ℕ) (f : ℕ → Bool) where
 
   own-newly_at : (b : BrokerState) (p : ℕ) (m : Locks) → f p ≡ true → Homes home b → newly_at (seen_at f b) p m ≡ newly_at b p m
   unfolding newly_at
-  own-newly_at b p m e h = ap (λ z. newly_if z m) (for-active b p e h)
+  own-newly_at b p m e h = ap (λ z. newly_granted_if z m) (for-active b p e h)
 
   own-answer : (b : BrokerState) (t n : ℕ) (o : Outcome) → f (home t) ≡ true → Homes home b → answer_to (seen_at f b) t n o ≡ answer_to b t n o
   own-answer b t n o e h =
@@ -212,8 +212,8 @@ module _ (home : ℕ → ℕ) (f : ℕ → Bool) where
       ∙ own-done (with_seat t (Joined p (n + 1) (limit_of b t)) b) p (drafted t n o (manager_of b p)) t n o i e
       (drafted-Stands (λ t. home t ≡ p) t n o (manager_of b p) m (manager_of-AtHome home b p h)) (with_seat-Homes home t (Joined p (n + 1) (limit_of b t)) b m h)
 
-  own-told : (b : BrokerState) (t p : ℕ) (x : Told) → f (home t) ≡ true → f p ≡ true → home t ≡ p → Homes home b → take_told (seen_at f b) t p x ≡ taking_at f (take_told b t p x)
-  unfolding take_told join_if
+  own-told : (b : BrokerState) (t p : ℕ) (x : Told) → f (home t) ≡ true → f p ≡ true → home t ≡ p → Homes home b → take_report_part (seen_at f b) t p x ≡ taking_at f (take_report_part b t p x)
+  unfolding take_report_part join_if
   own-told b t p x i e m h =
       let k = with_told p x (partial_of b t) in
       along (taking_at f) (is_joined (seat_of (seen_at f b) t)) (is_joined (seat_of b t)) _ _ (Drops AlreadyJoined) _ (ap is_joined (for-seat b t i h)) (λ _. refl)
@@ -221,8 +221,8 @@ module _ (home : ℕ → ℕ) (f : ℕ → Bool) where
       (ap (λ z. not (is_listed z) && has_held x.entries) (for-listed b t i h)) (λ _. refl)
       (λ _. along (taking_at f) (not (all_below x.base x.entries && fits x (partial_of (seen_at f b) t))) (not (all_below x.base x.entries && fits x (partial_of b t))) _ _ (Drops BadReport) _
       (ap (λ z. not (all_below x.base x.entries && fits x z)) (for-partial b t i h)) (λ _. refl)
-      (λ _. along (taking_at f) (is_there x (partial_of (seen_at f b) t)) (is_there x (partial_of b t)) _ _ (Drops PartTwice) _
-      (ap (is_there x) (for-partial b t i h)) (λ _. refl)
+      (λ _. along (taking_at f) (has_part x (partial_of (seen_at f b) t)) (has_part x (partial_of b t)) _ _ (Drops PartTwice) _
+      (ap (has_part x) (for-partial b t i h)) (λ _. refl)
       (λ _. ap (λ z. cond (is_whole (with_told p x z)) (join (seen_at f b) t p (whole_of (with_told p x z))) (Does (keeping t (with_told p x z) (seen_at f b)) [])) (for-partial b t i h)
       ∙ along (taking_at f) (is_whole k) (is_whole k) (join (seen_at f b) t p (whole_of k)) (Does (keeping t k (seen_at f b)) []) (join b t p (whole_of k)) (Does (keeping t k b) []) refl
       (λ _. own-join b t p (whole_of k) e m h) (λ _. ap (λ c. Does c []) (own-keeping t k b (sym (ap f (with_told-home home b t p x m h)) ∙ i) h))))))
@@ -364,10 +364,10 @@ module _ (home : ℕ → ℕ) (f : ℕ → Bool) where
       subst (λ x. BuriesAlike b t (buried_at z t (place_of b t)) x) (sym (ap₂ (λ c q. buried_at c t q) same (no-place b t e h))) (record { state = o.0; sent = o.1 }))
       refl
 
-  pub buries-alike : (b : BrokerState) (t : ℕ) → Homes home b → BuriesAlike b t (burial b t) (burial (seen_at f b) t)
-  unfolding burial
+  pub buries-alike : (b : BrokerState) (t : ℕ) → Homes home b → BuriesAlike b t (death_step b t) (death_step (seen_at f b) t)
+  unfolding death_step
   buries-alike b t h =
-      subst (λ v. BuriesAlike b t (burial b t) (cond v (seen_at f b, []) (buried_at (with_seat t Dead (seen_at f b)) t (place_of (seen_at f b) t)))) (sym (for-dead b t h))
+      subst (λ v. BuriesAlike b t (death_step b t) (cond v (seen_at f b, []) (buried_at (with_seat t Dead (seen_at f b)) t (place_of (seen_at f b) t)))) (sym (for-dead b t h))
       (by_test (λ v. BuriesAlike b t (cond v (b, []) (buried_at (with_seat t Dead b) t (place_of b t))) (cond v (seen_at f b, []) (buried_at (with_seat t Dead (seen_at f b)) t (place_of (seen_at f b) t)))) (is_dead (seat_of b t))
       (λ _. record { state = refl; sent = either (λ z. [] ≡ z) (stands_in f (place_of b t)) [] [] (λ _. refl) (λ _. refl) })
       (λ _. living-buries b t h))

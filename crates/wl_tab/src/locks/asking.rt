@@ -6,7 +6,7 @@ ghost use Rattle.wl_grammar.specs.declared.frame.Operation.TheVariants.{Request}
 ghost use Rattle.wl_agent.specs.Tab.{asked, queried, ask_refusal, query_refusal};
 
 use crate::locks::TabLocks;
-use crate::locks::kept::Kept;
+use crate::locks::live_command::LiveCommand;
 use std::alloc::Global;
 use wl_agent::{Agent, AgentFault, Token};
 use wl_draft::{Mode, Name};
@@ -20,10 +20,10 @@ impl TabLocks {
         ensures refused { RefusesBy result (ask_refusal self.old name.now) AgentFault.Memory }
         ensures err { OnErr result (self.new ≡ self.old) }
     {
-        let operation = prepared(self.alloc, &self.agent, &mut self.kept, name, mode, false)?;
+        let operation = prepared(&self.agent, &mut self.kept, name, mode, false)?;
         let pending = self.agent.request(name.as_str(), mode)?;
         let number = pending.number();
-        self.kept.push_reserved(Kept {
+        self.kept.push_reserved(LiveCommand {
             operation,
             token: Token::Pending(pending),
         });
@@ -37,10 +37,10 @@ impl TabLocks {
         ensures refused { RefusesBy result (ask_refusal self.old name.now) AgentFault.Memory }
         ensures err { OnErr result (self.new ≡ self.old) }
     {
-        let operation = prepared(self.alloc, &self.agent, &mut self.kept, name, mode, true)?;
+        let operation = prepared(&self.agent, &mut self.kept, name, mode, true)?;
         let probe = self.agent.probe(name.as_str(), mode)?;
         let number = probe.number();
-        self.kept.push_reserved(Kept {
+        self.kept.push_reserved(LiveCommand {
             operation,
             token: Token::Probe(probe),
         });
@@ -60,7 +60,7 @@ impl TabLocks {
         self.kept.reserve(1)?;
         let asking = self.agent.query()?;
         let number = asking.number();
-        self.kept.push_reserved(Kept {
+        self.kept.push_reserved(LiveCommand {
             operation: Operation::Query,
             token: Token::Asking(asking),
         });
@@ -70,9 +70,8 @@ impl TabLocks {
 
 /// Reserves memory for the token of a request or a probe, and returns its operation. Fails if the agent would refuse it.
 fn prepared(
-    alloc: Global,
     agent: &Agent,
-    kept: &mut Vec<Kept>,
+    kept: &mut Vec<LiveCommand>,
     name: &Name,
     mode: Mode,
     if_available: bool,
@@ -89,6 +88,6 @@ fn prepared(
     Ok(Operation::Request {
         mode,
         if_available,
-        name: name.copy(alloc)?,
+        name: name.clone()?,
     })
 }

@@ -5,33 +5,33 @@ ghost use Rattle.wl_agent.specs.Tab.{aborted, released, status_of, is_asked};
 ghost use Rattle.wl_agent.specs.Tokens.{is_pending, is_holding};
 ghost use Rattle.wl_tab.specs.TabTokens.{abortion, is_open, number_of, can_abort, can_release};
 
-use crate::locks::kept::Kept;
-use crate::locks::{Abortion, TabLocks};
+use crate::locks::live_command::LiveCommand;
+use crate::locks::{AbortResult, TabLocks};
 use wl_agent::{AbortFault, Agent, Foreign, Token};
 
 impl TabLocks {
     /// Aborts a request that is asked. Allocates no memory.
-    pub fn abort(&mut self, number: u32) -> Abortion
+    pub fn abort(&mut self, number: u32) -> AbortResult
         ensures said { result ≡ abortion number self.old }
         ensures new { self.new ≡ (if is_pending self.old number && is_asked (status_of self.old number)
             then aborted number self.old else self.old) }
     {
         let Some(place) = place_of(&self.kept, number) else {
-            return Abortion::Nothing;
+            return AbortResult::Nothing;
         };
         if !self.kept[place].is_request() {
-            return Abortion::Nothing;
+            return AbortResult::Nothing;
         }
         if self.kept[place].is_lock() {
-            return Abortion::Held;
+            return AbortResult::Held;
         }
-        let Kept { operation, token } = self.kept.remove(place);
+        let LiveCommand { operation, token } = self.kept.remove(place);
         match abort(&mut self.agent, token) {
-            Ok(next) => Abortion::Issued(next),
+            Ok(next) => AbortResult::Issued(next),
             Err(token) => {
                 // Unreachable: the stored token of a request that is not held is a pending one.
-                self.kept.push_reserved(Kept { operation, token });
-                Abortion::Nothing
+                self.kept.push_reserved(LiveCommand { operation, token });
+                AbortResult::Nothing
             }
         }
     }
@@ -45,12 +45,12 @@ impl TabLocks {
         if !self.kept[place].is_lock() {
             return None;
         }
-        let Kept { operation, token } = self.kept.remove(place);
+        let LiveCommand { operation, token } = self.kept.remove(place);
         match release(&mut self.agent, token) {
             Ok(next) => Some(next),
             Err(token) => {
                 // Unreachable: the stored token of a held lock is a lock token.
-                self.kept.push_reserved(Kept { operation, token });
+                self.kept.push_reserved(LiveCommand { operation, token });
                 None
             }
         }
@@ -70,7 +70,7 @@ impl TabLocks {
 }
 
 /// Returns the index of the number in `kept`.
-fn place_of(kept: &[Kept], number: u32) -> Option<usize>
+fn place_of(kept: &[LiveCommand], number: u32) -> Option<usize>
     ensures { result ≡ position (λ k. number_of k.token == number) kept.now }
 {
     kept.iter().position(|kept| kept.number() == number)

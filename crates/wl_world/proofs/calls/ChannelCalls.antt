@@ -9,18 +9,19 @@ use Rattle.wl_broadcast.specs.declared.fault.ChannelFault.TheVariants as fault
 use Rattle.wl_broadcast.specs.Channels.{Object, ChannelState, after_hearing, heard, is_old, is_open_at, is_own, post_refusal, posted, read_at, post_limit, name_at}
 use Rattle.wl_broadcast.proofs.Numbered.{is_open_at-suc}
 use Rattle.wl_kernel.specs.Routes.{hearers}
-use Rattle.wl_said.specs.declared.said.Said.{Said}
-use Rattle.wl_said.specs.declared.said.Said.TheVariants as said
-use Rattle.wl_said.specs.declared.said.Refusal.TheVariants as refusal
-use Rattle.wl_said.specs.Refused.{refused}
+use Rattle.wl_world_messages.specs.declared.effect.Effect.{Effect}
+use Rattle.wl_world_messages.specs.declared.effect.Effect.TheVariants as said
+use Rattle.wl_world_messages.specs.declared.effect.Refusal.TheVariants as refusal
+use Rattle.wl_world_messages.specs.Refused.{refused}
 use Rattle.wl_tab.specs.declared.channels.ChannelRefusal.{ChannelRefusal}
 use Rattle.wl_tab.specs.declared.channels.ChannelRefusal.TheVariants as why
 use Rattle.wl_tab.specs.Tabs.{channels_in}
 use Rattle.wl_tab.specs.TabChannels.{number_refusal, posting_refusal, refusal_or}
-use Rattle.wl_world.specs.World.{WorldState, channels_of, lives, becomes, posts, reads, nothing, post_of}
-use Rattle.wl_world.specs.Sends.{across}
-use Rattle.wl_world.specs.Replies.{posting, reached}
-use Rattle.wl_world.specs.Parts.{OwnRows, of_posting}
+use Rattle.wl_world_model.specs.World.{WorldState, channels_of, lives, becomes, posts, reads, unchanged, post_of}
+use Rattle.wl_world_model.specs.Sends.{across}
+use Rattle.wl_world_model.specs.Replies.{posting, reached}
+use Rattle.wl_world.specs.Components.{OwnRows, of_posting}
+use Rattle.wl_world_model.proofs.replies.RefusedEvents.{open_beyond}
 
 -- Each tab's channels carry its number
 
@@ -44,11 +45,11 @@ abbrev refusal_by : (l o d p : Bool) → Option ChannelRefusal
 refusal_by l o d p =
     cond l (cond o (cond d (Some (why.Fault fault.DataTooLong)) (cond p (Some (why.Fault fault.PostsUsedUp)) None)) (Some why.Closed)) (Some why.NoChannel)
 
-abbrev said_by : (l o d p : Bool) → Said → Said
+abbrev said_by : (l o d p : Bool) → Effect → Effect
 said_by l o d p s =
     cond l (cond o (cond d (refused (refusal.Channel fault.DataTooLong)) (cond p (refused (refusal.Channel fault.PostsUsedUp)) s)) (refused refusal.InvalidState)) (refused refusal.NoChannel)
 
-refused-by : (l o d p : Bool) (s : Said) (e : ChannelRefusal) → refusal_by l o d p ≡ Some e → said_by l o d p s ≡ refused (of_posting e)
+refused-by : (l o d p : Bool) (s : Effect) (e : ChannelRefusal) → refusal_by l o d p ≡ Some e → said_by l o d p s ≡ refused (of_posting e)
 refused-by true true true p s e h = let k : why.Fault fault.DataTooLong ≡ e = cc in ap (λ x. refused (of_posting x)) k
 refused-by true true false true s e h = let k : why.Fault fault.PostsUsedUp ≡ e = cc in ap (λ x. refused (of_posting x)) k
 refused-by true true false false s e h = cc
@@ -61,12 +62,6 @@ allowed-by true true false true h = cc
 allowed-by true true false false h = (refl, refl, refl, refl)
 allowed-by true false d p h = cc
 allowed-by false o d p h = cc
-
--- A number that was never opened is not open.
-pub open_beyond : (os : List Object) (k : ℕ) → ltb k (length os) ≡ false → is_open_at os k ≡ false
-open_beyond [] k e = refl
-open_beyond (o ∷ os) zero e = absurd (omega (arith, ltb-false zero (length (o ∷ os)) e))
-open_beyond (o ∷ os) (suc k) e = is_open_at-suc o os k ∙ open_beyond os k (le-ltb k (length os) (omega (arith, ltb-false (suc k) (length (o ∷ os)) e)))
 
 post_shape : (l o d p own : Bool) → own ≡ o → refusal_or (cond l (cond o None (Some why.Closed)) (Some why.NoChannel)) (option_map why.Fault (cond d (Some fault.DataTooLong) (cond p (Some fault.PostsUsedUp) (cond own None (Some fault.ForeignChannel))))) ≡ refusal_by l o d p
 post_shape true true true p own e = refl
@@ -86,7 +81,7 @@ posting-refused w t k bytes e live own h =
     let c = channels_of w t in
     posting-said w t k bytes live own ∙ refused-by (ltb k (length c.objects)) (is_open_at c.objects k) (ltb 16384 (length bytes)) (leb post_limit c.posts) (said.Posted t c.posts bytes (reached (Some k) (name_at c.objects k) c.objects)) e (sym (posting-by k bytes c) ∙ h)
 
-said-allowed : (l o d p : Bool) (s : Said) → (l ≡ true) × (o ≡ true) × (d ≡ false) × (p ≡ false) → said_by l o d p s ≡ s
+said-allowed : (l o d p : Bool) (s : Effect) → (l ≡ true) × (o ≡ true) × (d ≡ false) × (p ≡ false) → said_by l o d p s ≡ s
 said-allowed l o d p s h = rw (h.0, h.1, h.2, h.3) refl
 
 pub posting-done : (w : WorldState) (t k : ℕ) (bytes : List ℕ) → lives w t ≡ true → (channels_of w t).tab ≡ t → posting_refusal k bytes (channels_of w t) ≡ None → posting w t k bytes ≡ said.Posted t (channels_of w t).posts bytes (reached (Some k) (name_at (channels_of w t).objects k) (channels_of w t).objects)
@@ -115,7 +110,7 @@ may_not_post true true false false own r e b h = cc
 may_not_post true false d p own r e b h = may_not false d p own refl e
 may_not_post false o d p own r e b h = may_not o d p own (b refl) e
 
-pub posts-refused : (w : WorldState) (t k : ℕ) (bytes : List ℕ) (e : ChannelRefusal) → lives w t ≡ true → (channels_of w t).tab ≡ t → posting_refusal k bytes (channels_of w t) ≡ Some e → posts w t k bytes ≡ nothing w
+pub posts-refused : (w : WorldState) (t k : ℕ) (bytes : List ℕ) (e : ChannelRefusal) → lives w t ≡ true → (channels_of w t).tab ≡ t → posting_refusal k bytes (channels_of w t) ≡ Some e → posts w t k bytes ≡ unchanged w
 posts-refused w t k bytes e live own h =
     let c = channels_of w t in
     let some : is_some (post_refusal t k bytes c) ≡ true = may_not_post (ltb k (length c.objects)) (is_open_at c.objects k) (ltb 16384 (length bytes)) (leb post_limit c.posts) (is_own c t k) e (own-open c t k own) (open_beyond c.objects k) (sym (posting-by k bytes c) ∙ h) in
@@ -145,7 +140,7 @@ reads-done w t k live own h =
     let yes : is_own c t k ≡ true = own-open c t k own ∙ (number_allowed (ltb k (length c.objects)) (is_open_at c.objects k) h).1 in
     rw (live, yes) refl
 
-pub reads-refused : (w : WorldState) (t k : ℕ) (e : ChannelRefusal) → lives w t ≡ true → (channels_of w t).tab ≡ t → number_refusal k (channels_of w t) ≡ Some e → reads w t k ≡ nothing w
+pub reads-refused : (w : WorldState) (t k : ℕ) (e : ChannelRefusal) → lives w t ≡ true → (channels_of w t).tab ≡ t → number_refusal k (channels_of w t) ≡ Some e → reads w t k ≡ unchanged w
 reads-refused w t k e live own h =
     let c = channels_of w t in
     let no : is_own c t k ≡ false = own-open c t k own ∙ number_not_open (ltb k (length c.objects)) (is_open_at c.objects k) e (open_beyond c.objects k) h in

@@ -1,23 +1,22 @@
 -- Each living tab has its rows after every event.
-use Rattle.std.proofs.Common.{◌≡◌, ℕ, Bool, true, false, not, cond, List, None, Result, Ok, Err, OnOk, OnErr, is_some, refl, sym, ap, ◌∙◌, subst}
+use Rattle.std.proofs.Common.{◌≡◌, ℕ, Bool, true, false, cond, List, Option, Some, None, Result, Ok, Err, OnOk, OnErr, is_some, refl, sym, ap, ◌∙◌, subst}
 use Rattle.wl_origin.specs.Order.{Pair}
 use Rattle.wl_draft.specs.Tables.{Table, find, put}
 use Rattle.wl_draft.proofs.Membership.{either}
 use Rattle.wl_draft.proofs.TableLemmas.{find-put_same}
-use Rattle.wl_broker.specs.Broker.{started}
+use Rattle.wl_broker.specs.Broker.{BrokerState}
 use Rattle.wl_broadcast.specs.Channels.{ChannelState, no_channels}
 use Rattle.wl_agent.specs.Tab.{TabState}
-use Rattle.wl_kernel.specs.Kernel.{KernelState, lives as lives_in, is_living, open_refusal, opened, killed, may_stop, stopped, start_refusal, placed}
-use Rattle.wl_supervisor.specs.declared.supervisor.Supervisor.{Supervisor}
-use Rattle.wl_supervisor.specs.declared.supervisor.Supervisor.TheVariants.{Down, Up}
-use Rattle.wl_supervisor.specs.Supervised.{kernel_of, with_kernel, after_stop, after_start}
-use Rattle.wl_bag.specs.declared.message.Message.{Message}
-use Rattle.wl_world.specs.World.{WorldState, lives}
-use Rattle.wl_world.specs.Parts.{OwnRows, HasRows, IsRowed, world_of}
-use Rattle.wl_world.proofs.Tables.{each_found}
+use Rattle.wl_kernel.specs.Kernel.{KernelState, lives as lives_in, is_living, open_refusal, opened, killed}
+use Rattle.wl_kernel_supervisor.specs.Changes.{Change, stop_change}
+use Rattle.wl_kernel_supervisor.specs.SupervisedStates.{SupervisedState, with_kernel, changed, after_stop}
+use Rattle.wl_world_messages.specs.declared.message.Message.{Message}
+use Rattle.wl_world_model.specs.World.{WorldState, lives}
+use Rattle.wl_world.specs.Components.{OwnRows, HasRows, IsRowed, world_of}
+use Rattle.wl_world_model.proofs.Tables.{each_found}
 use Rattle.wl_world.proofs.calls.ChannelCalls.{OwnRows-put}
-use Rattle.wl_world.proofs.exclusion.OpenedTabs.{each_opened, ended-lives}
-use Rattle.wl_world.proofs.exclusion.OpeningAndKilling.{not_opened}
+use Rattle.wl_world_model.proofs.exclusion.OpenedTabs.{each_opened, ended-lives}
+use Rattle.wl_world_model.proofs.exclusion.OpeningAndKilling.{not_opened}
 
 -- Storing a row
 
@@ -66,10 +65,6 @@ channels-after_if false k t c ts cs ds is e r = channels-same k ts cs ds is r
 fewer-rowed : (k m : KernelState) (ts : Table TabState) (cs : Table ChannelState) → ((u : ℕ) → is_living m u ≡ true → is_living k u ≡ true) → IsRowed k ts cs → IsRowed m ts cs
 fewer-rowed k m ts cs lived r = record { tabs = λ u l. r.tabs u (lived u l); channels = λ u l. r.channels u (lived u l); own = r.own }
 
-kernel-with : (k : KernelState) (s : Supervisor) → kernel_of (with_kernel k s) ≡ k
-kernel-with k (Down m) = refl
-kernel-with k (Up m b) = refl
-
 pub kernel-rowed : (k m : KernelState) (ts : Table TabState) (cs : Table ChannelState) → m ≡ k → IsRowed k ts cs → IsRowed m ts cs
 kernel-rowed k m ts cs is r = subst (λ z. IsRowed z ts cs) (sym is) r
 
@@ -83,41 +78,40 @@ opened-rowed k t p a ts cs none r =
       own = OwnRows-put t (no_channels t) cs refl r.own;
     }
 
-pub opens-rowed : (s n : Supervisor) (t : ℕ) (p : Pair) (a : TabState) (ts us : Table TabState) (cs ds : Table ChannelState) → n ≡ with_kernel (opened t p (kernel_of s)) s → open_refusal t p (kernel_of s) ≡ None → us ≡ put t a ts → ds ≡ put t (no_channels t) cs → IsRowed (kernel_of s) ts cs → IsRowed (kernel_of n) us ds
+pub opens-rowed : (s n : SupervisedState) (t : ℕ) (p : Pair) (a : TabState) (ts us : Table TabState) (cs ds : Table ChannelState) → n ≡ with_kernel (opened t p s.kernel) s → open_refusal t p s.kernel ≡ None → us ≡ put t a ts → ds ≡ put t (no_channels t) cs → IsRowed s.kernel ts cs → IsRowed n.kernel us ds
 opens-rowed s n t p a ts us cs ds is none tabs channels r =
-    kernel-rowed (opened t p (kernel_of s)) (kernel_of n) us ds (ap kernel_of is ∙ kernel-with (opened t p (kernel_of s)) s)
-    (subst (λ z. IsRowed (opened t p (kernel_of s)) z ds) (sym tabs)
-    (subst (λ z. IsRowed (opened t p (kernel_of s)) (put t a ts) z) (sym channels)
-    (opened-rowed (kernel_of s) t p a ts cs none r)))
+    kernel-rowed (opened t p s.kernel) n.kernel us ds (ap (λ (z : SupervisedState). z.kernel) is)
+    (subst (λ z. IsRowed (opened t p s.kernel) z ds) (sym tabs)
+    (subst (λ z. IsRowed (opened t p s.kernel) (put t a ts) z) (sym channels)
+    (opened-rowed s.kernel t p a ts cs none r)))
 
-pub kills-rowed : (s n : Supervisor) (t : ℕ) (ts : Table TabState) (cs : Table ChannelState) → n ≡ with_kernel (cond (is_living (kernel_of s) t) (killed t (kernel_of s)) (kernel_of s)) s → IsRowed (kernel_of s) ts cs → IsRowed (kernel_of n) ts cs
+pub kills-rowed : (s n : SupervisedState) (t : ℕ) (ts : Table TabState) (cs : Table ChannelState) → n ≡ with_kernel (cond (is_living s.kernel t) (killed t s.kernel) s.kernel) s → IsRowed s.kernel ts cs → IsRowed n.kernel ts cs
 kills-rowed s n t ts cs is r =
-    let k = kernel_of s in
+    let k = s.kernel in
     let m = cond (is_living k t) (killed t k) k in
-    kernel-rowed m (kernel_of n) ts cs (ap kernel_of is ∙ kernel-with m s)
+    kernel-rowed m n.kernel ts cs (ap (λ (z : SupervisedState). z.kernel) is)
     (fewer-rowed k m ts cs (λ u. either (λ z. is_living z u ≡ true → is_living k u ≡ true) (is_living k t) (killed t k) k (λ _ l. ended-lives t k.opened u l) (λ _ l. l)) r)
 
--- Starts and stops leave every living tab alive.
-start-living : (ts : List ℕ) (s : Supervisor) (u : ℕ) → is_living (kernel_of (after_start ts s)) u ≡ is_living (kernel_of s) u
-start-living ts (Up k b) u = refl
-start-living ts (Down k) u = elim (not (is_some (start_refusal ts k))) as (λ b. is_living (kernel_of (cond b (Up k (started k.generation (placed ts k))) (Down k))) u ≡ is_living k u) [ true ↦ refl | false ↦ refl ]
+-- Stops leave every living tab alive.
+change-living : (c : Change) (s : SupervisedState) → ((u : ℕ) → is_living c.kernel u ≡ is_living s.kernel u) → (u : ℕ) → is_living (changed c s).kernel u ≡ is_living s.kernel u
+change-living c s same u = elim c.happens as (λ h. is_living (cond h (record { kernel = c.kernel; broker = c.broker }) s).kernel u ≡ is_living s.kernel u) [ true ↦ same u | false ↦ refl ]
 
-stop-living : (s : Supervisor) (u : ℕ) → is_living (kernel_of (after_stop s)) u ≡ is_living (kernel_of s) u
-stop-living (Down k) u = refl
-stop-living (Up k b) u = elim (may_stop k) as (λ m. is_living (kernel_of (cond m (Down (stopped k)) (Up k b))) u ≡ is_living k u) [ true ↦ refl | false ↦ refl ]
+stop-kernel : (k : KernelState) (o : Option BrokerState) (u : ℕ) → is_living (stop_change k o).kernel u ≡ is_living k u
+stop-kernel k None u = refl
+stop-kernel k (Some b) u = refl
 
-kept-rowed : (s m n : Supervisor) (tabs : Table TabState) (cs : Table ChannelState) → ((u : ℕ) → is_living (kernel_of m) u ≡ is_living (kernel_of s) u) → n ≡ m → IsRowed (kernel_of s) tabs cs → IsRowed (kernel_of n) tabs cs
-kept-rowed s m n tabs cs same is r = fewer-rowed (kernel_of s) (kernel_of n) tabs cs (λ u l. sym (same u) ∙ subst (λ z. is_living (kernel_of z) u ≡ true) is l) r
+stop-living : (s : SupervisedState) (u : ℕ) → is_living (after_stop s).kernel u ≡ is_living s.kernel u
+stop-living s = change-living (stop_change s.kernel s.broker) s (stop-kernel s.kernel s.broker)
 
-pub starts-rowed : (ts : List ℕ) (s n : Supervisor) (tabs : Table TabState) (cs : Table ChannelState) → n ≡ after_start ts s → IsRowed (kernel_of s) tabs cs → IsRowed (kernel_of n) tabs cs
-starts-rowed ts s n tabs cs = kept-rowed s (after_start ts s) n tabs cs (start-living ts s)
+kept-rowed : (s m n : SupervisedState) (tabs : Table TabState) (cs : Table ChannelState) → ((u : ℕ) → is_living m.kernel u ≡ is_living s.kernel u) → n ≡ m → IsRowed s.kernel tabs cs → IsRowed n.kernel tabs cs
+kept-rowed s m n tabs cs same is r = fewer-rowed s.kernel n.kernel tabs cs (λ u l. sym (same u) ∙ subst (λ z. is_living z.kernel u ≡ true) is l) r
 
-pub stops-rowed : (s n : Supervisor) (tabs : Table TabState) (cs : Table ChannelState) → n ≡ after_stop s → IsRowed (kernel_of s) tabs cs → IsRowed (kernel_of n) tabs cs
+pub stops-rowed : (s n : SupervisedState) (tabs : Table TabState) (cs : Table ChannelState) → n ≡ after_stop s → IsRowed s.kernel tabs cs → IsRowed n.kernel tabs cs
 stops-rowed s n tabs cs = kept-rowed s (after_stop s) n tabs cs (stop-living s)
 
 -- Rows of a living tab
 
-module _ (ts : Table TabState) (cs : Table ChannelState) (s : Supervisor) (bag : List Message) (corrupt : List ℕ) (w : WorldState) (v : world_of ts cs s bag corrupt ≡ w) (t : ℕ) (live : lives w t ≡ true) (r : IsRowed (kernel_of s) ts cs) where
+module _ (ts : Table TabState) (cs : Table ChannelState) (s : SupervisedState) (bag : List Message) (corrupt : List ℕ) (w : WorldState) (v : world_of ts cs s bag corrupt ≡ w) (t : ℕ) (live : lives w t ≡ true) (r : IsRowed s.kernel ts cs) where
   pub tab-there : is_some (find ts t) ≡ true
   tab-there = r.tabs t (ap (λ z. lives z t) v ∙ live)
 

@@ -2,9 +2,9 @@
 use Rattle.std.proofs.Common.{◌≡◌, ℕ, ◌+◌, ◌≤◌, Bool, true, false, not, ◌&&◌, cond, ltb, List, [], ◌∷◌, Option, refl, ap, ◌∙◌, arith, one-add}
 use Rattle.std.proofs.lemmas.Bool.{lt-ltb, le-ltb}
 use Rattle.wl_broadcast.specs.Channels.{Object, is_destination, has_room, taking_from, full_from}
-use Rattle.wl_said.specs.declared.said.Reached.{Reached}
-use Rattle.wl_said.specs.declared.said.Reached.TheVariants.{Took, Full}
-use Rattle.wl_world.specs.Replies.{reached_from}
+use Rattle.wl_world_messages.specs.declared.effect.Reached.{Reached}
+use Rattle.wl_world_messages.specs.declared.effect.Reached.TheVariants.{Took, Full}
+use Rattle.wl_world_model.specs.Replies.{reached_from}
 use Rattle.wl_world.specs.Merging.{merged}
 
 -- The first number, if there is one, is at least `least`.

@@ -1,8 +1,8 @@
 -- Messages that are sent one after another.
 use Rattle.std.proofs.Common.{◌≡◌, List, [], ◌∷◌, ◌++◌, refl, ap}
-use Rattle.wl_bag.specs.declared.message.Message.{Message}
-use Rattle.wl_bag.specs.Messages.{sent, sent_all, sending}
-use Rattle.wl_world.specs.Replies.{sendings}
+use Rattle.wl_world_messages.specs.declared.message.Message.{Message}
+use Rattle.wl_world_messages.specs.Messages.{sent, sent_all, sending}
+use Rattle.wl_world_model.specs.Replies.{sendings}
 
 pub sent_all-push : (ms : List Message) (m : Message) (bag : List Message) → sent_all (ms ++ m ∷ []) bag ≡ sent m (sent_all ms bag)
 sent_all-push [] m bag = refl

@@ -7,10 +7,10 @@ use Rattle.wl_grammar.specs.declared.frame.Heard.{Heard}
 use Rattle.wl_kernel.specs.Kernel.{KernelState}
 use Rattle.wl_kernel.specs.Routes.{routed_up, heard_of, hearers}
 use Rattle.wl_kernel.specs.declared.routes.Routed.TheVariants.{Tabs}
-use Rattle.wl_bag.specs.declared.message.Message.{Message}
-use Rattle.wl_bag.specs.declared.message.Message.TheVariants.{Across}
+use Rattle.wl_world_messages.specs.declared.message.Message.{Message}
+use Rattle.wl_world_messages.specs.declared.message.Message.TheVariants.{Across}
 use Rattle.wl_world.specs.Merging.{across_to}
-use Rattle.wl_world.specs.Parts.{crossed}
+use Rattle.wl_world.specs.Components.{crossed}
 
 abbrev pub all_across : List (ℕ × Frame) → List Message
 all_across posts = filter_map (λ p. across_to p.0 p.1) posts

@@ -5,9 +5,9 @@ use Rattle.wl_grammar.specs.declared.frame.Upward.{Upward}
 use Rattle.wl_grammar.specs.declared.frame.Upward.TheVariants as up
 use Rattle.wl_agent.specs.Tab.{upward_frame}
 use Rattle.wl_kernel.specs.Kernel.{KernelState}
-use Rattle.wl_bag.specs.declared.message.Message.{Message}
-use Rattle.wl_world.specs.Parts.{passed_up}
-use Rattle.wl_world.specs.Sends.{stamped}
+use Rattle.wl_world_messages.specs.declared.message.Message.{Message}
+use Rattle.wl_world.specs.Components.{passed_up}
+use Rattle.wl_world_model.specs.Sends.{stamped}
 
 pub upward-stamped : (k : KernelState) (t : ℕ) (u : Upward) → passed_up k t (upward_frame u) ≡ stamped k t u ∷ []
 upward-stamped k t (up.Command c) = refl

@@ -1,5 +1,5 @@
 use Rattle.std.proofs.Common.{subst}
-use Rattle.wl_command_line.specs.Words.{IsInRange}
+use Rattle.wlb_command_line.specs.CommandWords.{IsInRange}
 use Rattle.wlb.proofs.main.Goals as goal
 
 pub run_broker-requires-clause-lanes : goal.run_broker-requires-clause-lanes

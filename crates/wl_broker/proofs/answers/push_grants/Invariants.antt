@@ -1,6 +1,6 @@
 use Rattle.std.proofs.Common.{◌≡◌, ◌+◌, ◌++◌, map, take}
 use Rattle.std.specs.Vec.{vec_len, vec_capacity}
-use Rattle.wl_broker.specs.Kept.{grant_of}
+use Rattle.wl_broker.specs.BrokerInvariant.{grant_of}
 use Rattle.wl_broker.proofs.answers.push_grants.Given as goal
 
 abbrev pub invariant-loop-grant : goal.invariant-loop-grant

@@ -1,6 +1,7 @@
 use Rattle.std.proofs.Common.{◌∙◌, ◌++◌, ◌∷◌, [], ap}
 use Rattle.wl_grammar.specs.declared.frame.Downward.TheVariants as down
-use Rattle.wl_broker.proofs.SnapshotParts.{drop_part, part_more}
+use Rattle.wl_grammar.proofs.Parts.{drop_part}
+use Rattle.wl_broker.proofs.SnapshotParts.{part_more}
 use Rattle.wl_broker.proofs.answers.snapshot_parts.Goals as goal
 
 pub loop-part-preserved : goal.loop-part-preserved

@@ -3,9 +3,9 @@ use Rattle.std.proofs.lemmas.Bool.{false≢true}
 use Rattle.wl_draft.specs.Tables.{put}
 use Rattle.wl_draft.specs.Locks.{standing, settle}
 use Rattle.wl_draft.proofs.RisingTables.{written_same}
-use Rattle.wl_parts.proofs.WrittenRows.{written}
+use Rattle.wl_broker_reports.proofs.WrittenRows.{written}
 use Rattle.wl_broker.specs.Broker.{drafted, outcome_at}
-use Rattle.wl_broker.specs.Kept.{PartitionState, state_of, no_partition}
+use Rattle.wl_broker.specs.BrokerInvariant.{PartitionState, state_of, no_partition}
 use Rattle.wl_broker.proofs.Fields.{if_err_always}
 use Rattle.wl_broker.proofs.PartitionRows.{at-lookup, at-lookup_none}
 use Rattle.wl_broker.proofs.changes.command_at.Goals as goal

@@ -2,10 +2,10 @@ use Rattle.std.proofs.Common.{ℕ, sym, ap, ◌∙◌}
 use Rattle.std.specs.BTreeMap.{BTreeMap}
 use Rattle.std.proofs.lemmas.Result.{IfOk-weaker, on_err_weaker}
 use Rattle.wl_draft.specs.Tables.{put}
-use Rattle.wl_draft.specs.Locks.{grants, newly_if, settle_if, ended}
+use Rattle.wl_draft.specs.Locks.{grants, newly_granted_if, settle_if, ended}
 use Rattle.wl_draft.proofs.RisingTables.{written_same}
-use Rattle.wl_parts.proofs.WrittenRows.{inserted, written}
-use Rattle.wl_broker.specs.Kept.{PartitionState, state_of, no_partition}
+use Rattle.wl_broker_reports.proofs.WrittenRows.{inserted, written}
+use Rattle.wl_broker.specs.BrokerInvariant.{PartitionState, state_of, no_partition}
 use Rattle.wl_broker.proofs.PartitionRows.{at-lookup, at-lookup_none}
 use Rattle.wl_broker.proofs.changes.end_at.Goals as goal
 
@@ -25,7 +25,7 @@ returns-in-Some-clause-err g c =
 pub returns-in_ok-insert-in-None-clause-grants : goal.returns-in_ok-insert-in-None-clause-grants
 returns-in_ok-insert-in-None-clause-grants g c =
     let e = c.new-row.ensures ∙ sym (at-lookup_none no_partition _ c.args.partitions.now.entries c.in-None.ensures.value) in
-    c.in_ok-granted-in-None.ensures.grants ∙ ap (λ (s : PartitionState). grants (newly_if c.args.is_active (ended c.args.tab s.locks))) e
+    c.in_ok-granted-in-None.ensures.grants ∙ ap (λ (s : PartitionState). grants (newly_granted_if c.args.is_active (ended c.args.tab s.locks))) e
 
 pub returns-in_ok-insert-in-None-clause-ok : goal.returns-in_ok-insert-in-None-clause-ok
 returns-in_ok-insert-in-None-clause-ok g c =

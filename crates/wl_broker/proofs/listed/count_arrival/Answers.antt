@@ -2,7 +2,7 @@ use Rattle.std.proofs.Common.{ℕ, Option, sym, ◌∙◌, subst}
 use Rattle.std.proofs.Common.{◌≡◌, ◌-◌}
 use Rattle.wl_draft.specs.Tables.{at}
 use Rattle.wl_draft.proofs.TableLemmas.{insert_entry-put, lookup-find}
-use Rattle.wl_broker.specs.Kept.{one_at}
+use Rattle.wl_broker.specs.BrokerInvariant.{one_at}
 use Rattle.wl_broker.proofs.SettledLocks.{either_way}
 use Rattle.wl_broker.proofs.Missing.{counted_down, none_counted}
 use Rattle.wl_broker.proofs.listed.count_arrival.Goals as goal

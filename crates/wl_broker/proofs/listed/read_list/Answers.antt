@@ -2,7 +2,7 @@ use Rattle.std.proofs.Common.{◌+◌, ℕ, List, [], ap, ◌∙◌, get_or, ari
 use Rattle.std.proofs.lemmas.List.{take_all}
 use Rattle.wl_draft.specs.Tables.{Table, at, put}
 use Rattle.wl_draft.proofs.TableLemmas.{insert_entry-put}
-use Rattle.wl_broker.specs.Kept.{missing_in}
+use Rattle.wl_broker.specs.BrokerInvariant.{missing_in}
 use Rattle.wl_broker.proofs.Missing.{read_one, counted_one, missing_in-below}
 use Rattle.wl_broker.proofs.listed.read_list.Goals as goal
 

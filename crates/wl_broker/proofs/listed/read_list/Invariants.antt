@@ -1,6 +1,6 @@
 use Rattle.std.proofs.Common.{◌≡◌, ℕ, [], take}
 use Rattle.wl_draft.specs.Tables.{at}
-use Rattle.wl_broker.specs.Kept.{missing_in}
+use Rattle.wl_broker.specs.BrokerInvariant.{missing_in}
 use Rattle.wl_broker.proofs.listed.read_list.Given as goal
 
 -- The list and the counts contain the tabs read so far.

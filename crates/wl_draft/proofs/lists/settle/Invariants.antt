@@ -6,10 +6,10 @@ abbrev pub invariant-loop-index : goal.invariant-loop-index
 invariant-loop-index l = record {
   within : l.index ≤ vec_len l.waiting;
   held_room : vec_len l.held + vec_len l.waiting ≤ vec_capacity l.held;
-  newly_room : vec_len l.newly + vec_len l.waiting ≤ vec_capacity l.newly;
+  newly_room : vec_len l.newly_granted + vec_len l.waiting ≤ vec_capacity l.newly_granted;
   held : l.held.items ++ granted l.held.items (take l.index l.waiting.items) (drop l.index l.waiting.items) ≡ l.initial.held.items ++ granted l.initial.held.items [] l.initial.waiting.items;
   waiting : left_waiting l.held.items (take l.index l.waiting.items) (drop l.index l.waiting.items) ≡ left_waiting l.initial.held.items [] l.initial.waiting.items;
-  newly : l.newly.items ++ grants (granted l.held.items (take l.index l.waiting.items) (drop l.index l.waiting.items)) ≡ l.initial.newly.items ++ grants (granted l.initial.held.items [] l.initial.waiting.items);
+  newly_granted : l.newly_granted.items ++ grants (granted l.held.items (take l.index l.waiting.items) (drop l.index l.waiting.items)) ≡ l.initial.newly_granted.items ++ grants (granted l.initial.held.items [] l.initial.waiting.items);
 }
 
 abbrev pub decreases-loop-index : goal.decreases-loop-index

@@ -1,5 +1,5 @@
 use Rattle.wl_frames.proofs.Apart.{apart}
-use Rattle.wl_encoding.proofs.BodyLength.{body_length}
+use Rattle.wl_grammar.proofs.BodyLength.{body_length}
 use Rattle.wl_frames.proofs.Frames.{one_frame}
 use Rattle.wl_frames.proofs.laws.law_spelling.Goals as goal
 

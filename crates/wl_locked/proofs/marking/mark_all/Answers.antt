@@ -6,7 +6,7 @@ use Rattle.wl_locked.proofs.marking.mark_all.Goals as goal
 
 pub loop-lane-preserved : goal.loop-lane-preserved
 loop-lane-preserved g c =
-    let of = g.L.Kept.kept c.args.shard in
+    let of = g.L.ShardReceipts.kept c.args.shard in
     let xs = c.args.lanes.now in
     let l = c.loop-lane in
     let lane = c.lane-item.result in
@@ -23,7 +23,7 @@ loop-lane-preserved g c =
 
 pub returns-clause-ok : goal.returns-clause-ok
 returns-clause-ok g c =
-    let of = g.L.Kept.kept c.args.shard in
+    let of = g.L.ShardReceipts.kept c.args.shard in
     let xs = c.args.lanes.now in
     let l = c.loop-lane in
     let none = ap (map of) (drop_all l.lane-index xs (omega arith)) in

@@ -1,7 +1,7 @@
 use Rattle.std.proofs.Common.{ap, ◌∙◌}
-use Rattle.wl_world.specs.declared.event.Event.{Event}
-use Rattle.wl_world.specs.declared.reply.Reply.{Reply}
-use Rattle.wl_world.specs.Replies.{reply_of}
+use Rattle.wl_world_model.specs.declared.event.Event.{Event}
+use Rattle.wl_world_model.specs.declared.reply.Reply.{Reply}
+use Rattle.wl_world_model.specs.Replies.{reply_of}
 use Rattle.wl_script.specs.SimSteps.{is_opened}
 use Rattle.wl_script.proofs.PlayLemmas.{opened_said}
 use Rattle.wl_script.proofs.play.try_open.Goals as goal

@@ -3,15 +3,15 @@ use Rattle.std.specs.List.{filter_map, cons_option}
 use Rattle.std.proofs.lemmas.List.{append-nil, take_more}
 use Rattle.std.proofs.lemmas.List.Elements.{filter_map-append}
 use Rattle.wl_tab.specs.declared.holding.Holding.{Holding}
-use Rattle.wl_tab.specs.declared.locks.kept.Kept.{Kept}
+use Rattle.wl_tab.specs.declared.locks.live_command.LiveCommand.{LiveCommand}
 use Rattle.wl_tab.specs.TabTokens.{holding_in}
 use Rattle.wl_tab.proofs.locks.add_holdings.Goals as goal
 use Rattle.wl_tab.proofs.locks.add_holdings.Goals.{in-Some+in_ok-push, in_default}
 
 -- The holding of the next number, if any, is appended.
-one_more : (tab : ℕ) (kept : List Kept) (i : ℕ) (x : Kept) (o : Option Holding) (first so_far : List Holding) → i < length kept → x ≡ get_or kept i x → o ≡ holding_in tab x → so_far ≡ first ++ filter_map (holding_in tab) (take i kept) → so_far ++ cons_option o [] ≡ first ++ filter_map (holding_in tab) (take (i + 1) kept)
+one_more : (tab : ℕ) (kept : List LiveCommand) (i : ℕ) (x : LiveCommand) (o : Option Holding) (first so_far : List Holding) → i < length kept → x ≡ get_or kept i x → o ≡ holding_in tab x → so_far ≡ first ++ filter_map (holding_in tab) (take i kept) → so_far ++ cons_option o [] ≡ first ++ filter_map (holding_in tab) (take (i + 1) kept)
 one_more tab kept i x o first so_far below here held so_far_is =
-    let h : Kept → Option Holding = holding_in tab in
+    let h : LiveCommand → Option Holding = holding_in tab in
     let last : filter_map h (take (i + 1) kept) ≡ filter_map h (take i kept) ++ cons_option (h (get_or kept i x)) [] = ap (filter_map h) (take_more kept i x below) ∙ filter_map-append h (take i kept) (get_or kept i x ∷ []) in
     let same : o ≡ h (get_or kept i x) = held ∙ ap h here in
     let apart : (first ++ filter_map h (take i kept)) ++ cons_option o [] ≡ first ++ (filter_map h (take i kept) ++ cons_option o []) = simp append_assoc in

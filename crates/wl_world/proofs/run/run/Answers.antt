@@ -1,20 +1,20 @@
 use Rattle.std.proofs.Common.{◌≡◌, List, sym, ap, ◌∙◌, subst}
 use Rattle.std.proofs.lemmas.List.{take_all}
-use Rattle.wl_world.specs.declared.event.Event.{Event}
-use Rattle.wl_world.specs.World.{empty_world, run}
-use Rattle.wl_world.specs.Holdings.{Exclusion, Own}
-use Rattle.wl_world.specs.Hostile.{HonestIfUnnamed}
-use Rattle.wl_world.specs.Orders.{CommandsInOrder, GrantedWereHeld, GrantsWereSent, ManagerIsFold}
-use Rattle.wl_world.specs.Heard.{HeardIsRead}
-use Rattle.wl_world.specs.Apart.{RunsApart}
-use Rattle.wl_world.proofs.exclusion.CoverExcludes.{Sound-exclusion}
-use Rattle.wl_world.proofs.honest.StaysHonest.{honest-unless_named}
-use Rattle.wl_world.proofs.exclusion.SoundRuns.{run-sound}
-use Rattle.wl_world.proofs.own.AskedByEvents.{run-own}
-use Rattle.wl_world.proofs.order.EventsInOrder.{commands-in_order, granted-were_held, grants-were_sent, manager-is_fold}
-use Rattle.wl_world.proofs.heard.PostsRise.{heard-rising, heard-posts}
-use Rattle.wl_world.proofs.heard.ReadsAndRest.{heard-till_closed, heard-is_read}
-use Rattle.wl_world.proofs.apart.RunsApart.{runs-apart}
+use Rattle.wl_world_model.specs.declared.event.Event.{Event}
+use Rattle.wl_world_model.specs.World.{empty_world, run}
+use Rattle.wl_world_model.specs.Holdings.{Exclusion, Own}
+use Rattle.wl_world_model.specs.Hostile.{HonestIfUnnamed}
+use Rattle.wl_world_model.specs.Orders.{CommandsInOrder, GrantedWereHeld, GrantsWereSent, ManagerIsFold}
+use Rattle.wl_world_model.specs.Heard.{HeardIsRead}
+use Rattle.wl_world_model.specs.Apart.{RunsApart}
+use Rattle.wl_world_model.proofs.exclusion.CoverExcludes.{Sound-exclusion}
+use Rattle.wl_world_model.proofs.honest.StaysHonest.{honest-unless_named}
+use Rattle.wl_world_model.proofs.exclusion.SoundRuns.{run-sound}
+use Rattle.wl_world_model.proofs.own.AskedByEvents.{run-own}
+use Rattle.wl_world_model.proofs.order.EventsInOrder.{commands-in_order, granted-were_held, grants-were_sent, manager-is_fold}
+use Rattle.wl_world_model.proofs.heard.PostsRise.{heard-rising, heard-posts}
+use Rattle.wl_world_model.proofs.heard.ReadsAndRest.{heard-till_closed, heard-is_read}
+use Rattle.wl_world_model.proofs.apart.RunsApart.{runs-apart}
 use Rattle.wl_world.proofs.run.run.Goals as goal
 
 -- The loop has applied all events.

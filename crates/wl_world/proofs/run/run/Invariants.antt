@@ -1,5 +1,5 @@
 use Rattle.std.proofs.Common.{◌≡◌, take}
-use Rattle.wl_world.specs.World.{empty_world, run}
+use Rattle.wl_world_model.specs.World.{empty_world, run}
 use Rattle.wl_world.proofs.run.run.Given as goal
 
 abbrev pub invariant-loop-event : goal.invariant-loop-event

@@ -3,8 +3,8 @@ use Rattle.std.specs.List.{flat_map}
 use Rattle.std.proofs.lemmas.Result.{IfOk-weaker}
 use Rattle.wl_grammar.specs.declared.frame.Frame.{Frame}
 use Rattle.wl_agent.specs.Tab.{report_bodies}
-use Rattle.wl_bag.specs.declared.message.Message.{Message}
-use Rattle.wl_world.specs.Parts.{passed_up}
+use Rattle.wl_world_messages.specs.declared.message.Message.{Message}
+use Rattle.wl_world.specs.Components.{passed_up}
 use Rattle.wl_world.proofs.calls.StampedMessages.{upwards-stamped}
 use Rattle.wl_world.proofs.sending.add_report.Goals as goal
 

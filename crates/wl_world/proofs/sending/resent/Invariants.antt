@@ -1,5 +1,5 @@
 use Rattle.std.proofs.Common.{◌≡◌, ◌++◌, map, take}
-use Rattle.wl_world.specs.Sends.{command_message, report_if_due}
+use Rattle.wl_world_model.specs.Sends.{command_message, report_if_due}
 use Rattle.wl_world.proofs.sending.resent.Given as goal
 
 abbrev pub invariant-loop-number : goal.invariant-loop-number

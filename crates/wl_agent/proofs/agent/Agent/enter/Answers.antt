@@ -1,6 +1,6 @@
 use Rattle.std.proofs.Common.{Bool, sym, ap, subst, arith}
 use Rattle.wl_agent.specs.Tab.{TabState}
-use Rattle.wl_agent.specs.Kept.{IsTellable}
+use Rattle.wl_agent.specs.AgentInvariant.{IsValidReport}
 use Rattle.wl_agent.proofs.EnterSteps.{base-le, enters}
 use Rattle.wl_agent.proofs.ToldReports.{enters-frames}
 use Rattle.wl_agent.proofs.Spellings.{enters-spoken}
@@ -18,5 +18,5 @@ returns-clause-frames c =
 
 pub returns-clause-spoken : goal.returns-clause-spoken
 returns-clause-spoken c =
-    let tellable = subst (λ (b : Bool). IsTellable b c.in_ok-report.report) (sym (ap (λ (a : TabState). a.in_parts) c.self.view_is)) c.in_ok-report.ensures.tellable in
+    let tellable = subst (λ (b : Bool). IsValidReport b c.in_ok-report.report) (sym (ap (λ (a : TabState). a.in_parts) c.self.view_is)) c.in_ok-report.ensures.tellable in
     enters-spoken c.args.generation c.args.self.now _ _ _ c.in_ok-report.ensures.report (omega (arith, c.requires), omega (arith, c.ranges.generation)) tellable c.in_ok-frames.ensures

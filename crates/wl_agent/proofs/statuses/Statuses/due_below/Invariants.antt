@@ -1,5 +1,5 @@
 use Rattle.std.proofs.Common.{◌≡◌, ◌++◌}
-use Rattle.wl_agent.specs.Kept.{due_below}
+use Rattle.wl_agent.specs.AgentInvariant.{due_below}
 use Rattle.wl_agent.proofs.statuses.Statuses.due_below.Given as goal
 
 -- The numbers so far, followed by those of the remaining rows, are the numbers of all rows.

@@ -16,7 +16,7 @@ pub invariant_of-self-2 : goal.invariant_of-self-2
 invariant_of-self-2 c =
     let rows = c.self.inside.rows.entries in
     let absent = ap (λ rs. find rs c.args.number) c.self.view_is ∙ c.requires.new in
-    counts-insert rows _ _ _ _ _ _ _ c.self.invariant absent (c.in_ok-insert.ensures.entries ∙ insert_entry-put c.args.number c.args.status rows) (weighs _ _ _ c.from-live.ensures c.is_live.ensures) (weighs _ _ _ c.from-kept.ensures c.keeps_number.ensures)
+    counts-insert rows _ _ _ _ _ _ _ c.self.invariant absent (c.in_ok-insert.ensures.entries ∙ insert_entry-put c.args.number c.args.status rows) (weighs _ _ _ c.from-live.ensures c.is_live.ensures) (weighs _ _ _ c.from-kept.ensures c.reserves_number.ensures)
 
 pub returns-clause-ok : goal.returns-clause-ok
 returns-clause-ok c =

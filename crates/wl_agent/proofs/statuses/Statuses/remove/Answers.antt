@@ -24,14 +24,14 @@ pub overflow_sub-self-2 : goal.overflow_sub-self-2
 overflow_sub-self-2 c =
     let rows = c.self.inside.rows.entries in
     let found = sym (lookup-find rows c.args.number) ∙ sym c.in_ok-before.ensures.value in
-    (kept-fits rows _ _ _ _ (Some c.in_ok-before.before) c.self.invariant found (weighs _ _ _ c.from-2.ensures c.keeps_number.ensures))
+    (kept-fits rows _ _ _ _ (Some c.in_ok-before.before) c.self.invariant found (weighs _ _ _ c.from-2.ensures c.reserves_number.ensures))
 
 pub invariant_of-self-2 : goal.invariant_of-self-2
 invariant_of-self-2 c =
     let rows = c.self.inside.rows.entries in
     let found = sym (lookup-find rows c.args.number) ∙ sym c.in_ok-before.ensures.value in
     let rest = c.remove.ensures.entries ∙ remove_entry-without c.args.number 0 rows c.self.invariant.rise in
-    counts-without rows _ _ _ _ _ _ (Some c.in_ok-before.before) c.self.invariant found rest (weighs _ _ _ c.from.ensures c.is_live.ensures) (weighs _ _ _ c.from-2.ensures c.keeps_number.ensures)
+    counts-without rows _ _ _ _ _ _ (Some c.in_ok-before.before) c.self.invariant found rest (weighs _ _ _ c.from.ensures c.is_live.ensures) (weighs _ _ _ c.from-2.ensures c.reserves_number.ensures)
 
 pub returns-clause-rest : goal.returns-clause-rest
 returns-clause-rest c =

@@ -1,5 +1,5 @@
 use Rattle.std.proofs.Common.{◌≡◌, ◌++◌}
-use Rattle.wl_agent.specs.Kept.{RowsFit, entries_of}
+use Rattle.wl_agent.specs.AgentInvariant.{RowsFit, entries_of}
 use Rattle.wl_agent.proofs.statuses.Statuses.reported.Given as goal
 
 -- The entries so far, followed by those of the remaining rows, are the entries of all rows. Each

@@ -16,7 +16,7 @@ pub overflow_sub-self-in-Some : goal.overflow_sub-self-in-Some
 overflow_sub-self-in-Some c =
     let rows = c.self.inside.rows.entries in
     let found = sym (lookup-find rows c.args.number) ∙ sym c.in-Some.ensures.value in
-    kept-fits rows _ _ _ _ (Some c.in-Some.row.now) c.self.invariant found (weighs _ _ _ c.from-in-Some-2.ensures c.keeps_number.ensures)
+    kept-fits rows _ _ _ _ (Some c.in-Some.row.now) c.self.invariant found (weighs _ _ _ c.from-in-Some-2.ensures c.reserves_number.ensures)
 
 pub overflow_add-self-in-Some : goal.overflow_add-self-in-Some
 overflow_add-self-in-Some c =
@@ -30,7 +30,7 @@ invariant_of-self c =
     let s = c.args.status in
     let found = sym (lookup-find rows c.args.number) ∙ sym c.in-Some.ensures.value in
     let new = written c.args.number _ _ rows _ c.self.invariant.rise c.in-Some.ensures.value (c.get_mut.follows.holds _).0 ∙ ap (λ t. put c.args.number t rows) c.set.ensures in
-    counts-put rows _ _ _ _ _ _ _ _ s (Some c.in-Some.row.now) c.self.invariant found new (weighs _ _ _ c.from.ensures c.is_live.ensures) (weighs _ _ _ c.from-in-Some-2.ensures c.keeps_number.ensures) (weighs _ _ _ c.from-in-Some.ensures c.is_live-in-Some.ensures) (weighs _ _ _ c.from-in-Some-3.ensures c.keeps_number-in-Some.ensures)
+    counts-put rows _ _ _ _ _ _ _ _ s (Some c.in-Some.row.now) c.self.invariant found new (weighs _ _ _ c.from.ensures c.is_live.ensures) (weighs _ _ _ c.from-in-Some-2.ensures c.reserves_number.ensures) (weighs _ _ _ c.from-in-Some.ensures c.is_live-in-Some.ensures) (weighs _ _ _ c.from-in-Some-3.ensures c.reserves_number-in-Some.ensures)
 
 pub unreachable-requires : goal.unreachable-requires
 unreachable-requires c =

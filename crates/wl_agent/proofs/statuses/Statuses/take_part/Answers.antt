@@ -6,7 +6,7 @@ use Rattle.wl_agent.specs.declared.status.Status.{Status}
 use Rattle.wl_agent.specs.SnapshotParts.{with_part, is_whole}
 use Rattle.wl_agent.specs.Tab.{is_querying}
 use Rattle.wl_agent.specs.Delivery.{parts_of, with_part_come}
-use Rattle.wl_agent.specs.Kept.{IsCounted}
+use Rattle.wl_agent.specs.AgentInvariant.{IsCounted}
 use Rattle.wl_agent.proofs.Rows.{written}
 use Rattle.wl_agent.proofs.Outcomes.{on_err}
 use Rattle.wl_agent.proofs.QueryCounts.{asking-live, counts-part}

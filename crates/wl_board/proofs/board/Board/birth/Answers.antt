@@ -1,5 +1,5 @@
 use Rattle.std.proofs.Common.{◌≡◌, ◌+◌, ap, sym, ◌∙◌, subst, arith}
-use Rattle.wl_board.specs.Rule.{Has}
+use Rattle.wl_board.specs.BoardRule.{Has}
 use Rattle.wl_board.proofs.Allowed.{births_at}
 use Rattle.wl_board.proofs.Counted.{at_table}
 use Rattle.wl_board.proofs.board.Board.birth.Goals as goal

@@ -1,6 +1,6 @@
 use Rattle.std.proofs.Common.{◌≡◌, ◌+◌, ◌-◌, All, vec_len, vec_capacity}
-use Rattle.wl_board.specs.Rule.{newcomer}
-use Rattle.wl_board.specs.Calls.{IsOf, IsNew}
+use Rattle.wl_board.specs.BoardRule.{newcomer}
+use Rattle.wl_board.specs.BoardCalls.{IsOf, IsNew}
 use Rattle.wl_board.proofs.board.Board.deal.Given as goal
 
 abbrev pub invariant-loop-made : goal.invariant-loop-made

@@ -1,5 +1,5 @@
 use Rattle.std.proofs.Common.{◌∷◌, [], ◌++◌, ap, sym, subst, arith}
-use Rattle.wl_board.specs.Rule.{Has}
+use Rattle.wl_board.specs.BoardRule.{Has}
 use Rattle.wl_board.proofs.Allowed.{draws}
 use Rattle.wl_board.proofs.Views.{times-push_same}
 use Rattle.wl_board.proofs.Counted.{at_table, draw_counted}

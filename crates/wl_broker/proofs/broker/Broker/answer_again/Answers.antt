@@ -1,7 +1,7 @@
 use Rattle.std.proofs.Common.{[], ◌∷◌, List, replicate, refl, sym, ap, ◌∙◌}
 use Rattle.wl_grammar.specs.declared.frame.Addressed.{Addressed}
 use Rattle.wl_broker.specs.Broker.{BrokerState, later_answer, next_of, outcome_at}
-use Rattle.wl_broker.specs.Kept.{PartitionState}
+use Rattle.wl_broker.specs.BrokerInvariant.{PartitionState}
 use Rattle.wl_broker.proofs.Fields.{again_is}
 use Rattle.wl_broker.proofs.broker.Broker.answer_again.Goals as goal
 

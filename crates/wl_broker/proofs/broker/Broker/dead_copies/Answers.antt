@@ -18,17 +18,17 @@ pub returns-in-Some-Joined-clause-dead : goal.returns-in-Some-Joined-clause-dead
 returns-in-Some-Joined-clause-dead g c =
     let b = c.self.inside in
     let seat = seat_seen b.generation b.listed.entries b.seats.entries b.partitions.entries b.kept.entries c.args.self.now c.args.tab _ c.self.view_is c.seat_of.ensures ∙ c.in-Some-Joined.is ∙ ap (λ (s : Seat). Some s) c.in-Some-Joined.field-0-is in
-    IfOk-weaker c.bury.result _ _ (λ all e. ap (repeated c.args.copies) (burial_joined c.args.self.now c.args.tab c.in-Some-Joined.partition _ _ seat) ∙ e) c.bury.ensures.buried
+    IfOk-weaker c.remove_tab.result _ _ (λ all e. ap (repeated c.args.copies) (burial_joined c.args.self.now c.args.tab c.in-Some-Joined.partition _ _ seat) ∙ e) c.remove_tab.ensures.buried
 
 pub returns-in-Some-clause-dead : goal.returns-in-Some-clause-dead
 returns-in-Some-clause-dead g c =
     let b = c.self.inside in
     let seat = seat_seen b.generation b.listed.entries b.seats.entries b.partitions.entries b.kept.entries c.args.self.now c.args.tab _ c.self.view_is c.seat_of.ensures ∙ c.in-None.is in
     let place = ap (λ (x : BrokerState). listed_at c.args.tab x.listed) (sym c.self.view_is) ∙ sym c.listed_at.ensures ∙ c.in-Some.is in
-    IfOk-weaker c.bury-in-Some.result _ _ (λ all e. ap (repeated c.args.copies) (burial_listed c.args.self.now c.args.tab c.in-Some.partition seat place) ∙ e) c.bury-in-Some.ensures.buried
+    IfOk-weaker c.remove_tab-in-Some.result _ _ (λ all e. ap (repeated c.args.copies) (burial_listed c.args.self.now c.args.tab c.in-Some.partition seat place) ∙ e) c.remove_tab-in-Some.ensures.buried
 
-pub bury_stranger-requires : goal.bury_stranger-requires
-bury_stranger-requires g c =
+pub remove_unknown_tab-requires : goal.remove_unknown_tab-requires
+remove_unknown_tab-requires g c =
     let b = c.self.inside in
     record {
       new = seat_seen b.generation b.listed.entries b.seats.entries b.partitions.entries b.kept.entries c.args.self.now c.args.tab _ c.self.view_is c.seat_of.ensures ∙ c.in-None.is;
@@ -40,4 +40,4 @@ returns-in-None-listed_at-clause-dead g c =
     let b = c.self.inside in
     let seat = seat_seen b.generation b.listed.entries b.seats.entries b.partitions.entries b.kept.entries c.args.self.now c.args.tab _ c.self.view_is c.seat_of.ensures ∙ c.in-None.is in
     let place = ap (λ (x : BrokerState). listed_at c.args.tab x.listed) (sym c.self.view_is) ∙ sym c.listed_at.ensures ∙ c.in-None-listed_at.is in
-    IfOk-weaker c.bury_stranger.result _ _ (λ all e. ap (repeated c.args.copies) (burial_stranger c.args.self.now c.args.tab seat place) ∙ e) c.bury_stranger.ensures.buried
+    IfOk-weaker c.remove_unknown_tab.result _ _ (λ all e. ap (repeated c.args.copies) (burial_stranger c.args.self.now c.args.tab seat place) ∙ e) c.remove_unknown_tab.ensures.buried

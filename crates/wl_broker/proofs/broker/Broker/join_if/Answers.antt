@@ -1,8 +1,8 @@
 use Rattle.std.proofs.Common.{◌≡◌, ◌+◌, true, Option, eqb, length, sym, ap, ◌∙◌, subst}
 use Rattle.std.proofs.lemmas.Result.{IfOk-weaker}
-use Rattle.wl_parts.specs.ReportParts.{Partial, whole_of, fits, came_in, with_told}
-use Rattle.wl_parts.specs.Kept.{told}
-use Rattle.wl_parts.proofs.KeptParts.{last-whole, whole-one, whole-more, below-more}
+use Rattle.wl_broker_reports.specs.ReportParts.{Partial, whole_of, fits, came_in, with_told}
+use Rattle.wl_broker_reports.specs.PartialReports.{told}
+use Rattle.wl_broker_reports.proofs.KeptParts.{last-whole, whole-one, whole-more, below-more}
 use Rattle.wl_broker.specs.Broker.{copied, partial_of, join}
 use Rattle.wl_broker.proofs.KeptParts.{partial_seen, keeps_part, joins_whole}
 use Rattle.wl_broker.proofs.broker.Broker.join_if.Goals as goal

@@ -6,7 +6,7 @@ use Rattle.wl_draft.specs.declared.row.Grant.{Grant}
 use Rattle.wl_grammar.specs.declared.frame.Addressed.{Addressed}
 use Rattle.wl_grammar.specs.declared.frame.Outcome.{Outcome}
 use Rattle.wl_broker.specs.Broker.{BrokerState, seat_of, manager_of, outcome_at, answer_of}
-use Rattle.wl_broker.specs.Kept.{PartitionState, no_partition, grant_of}
+use Rattle.wl_broker.specs.BrokerInvariant.{PartitionState, no_partition, grant_of}
 use Rattle.wl_broker.proofs.BrokerSteps.{change_does, manager_of-fields}
 use Rattle.wl_broker.proofs.Consistency.{IsConsistent-active, IsConsistent-new, IsConsistent-command}
 use Rattle.wl_broker.specs.declared.seat.Seat.TheVariants.{Joined}

@@ -1,6 +1,6 @@
 use Rattle.std.proofs.Common.{◌+◌, refl, ap, ◌∙◌}
 use Rattle.wl_draft.specs.Tables.{at}
-use Rattle.wl_broker.specs.Kept.{no_partition}
+use Rattle.wl_broker.specs.BrokerInvariant.{no_partition}
 use Rattle.wl_broker.specs.Broker.{BrokerState, seat_of}
 use Rattle.wl_broker.proofs.BrokerSteps.{query_does}
 use Rattle.wl_broker.proofs.Consistency.{IsConsistent-active, IsConsistent-query}

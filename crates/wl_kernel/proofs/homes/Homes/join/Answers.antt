@@ -2,7 +2,7 @@ use Rattle.std.proofs.Common.{◌≡◌, ℕ, ◌++◌, ◌∷◌, [], List, Som
 use Rattle.std.proofs.lemmas.List.{length-set, length_push}
 use Rattle.std.proofs.lemmas.Option.{slice_get_read}
 use Rattle.wl_kernel.specs.Kernel.{rises}
-use Rattle.wl_kernel.specs.Kept.{HomeTable, home_place, home_at, home_of, partition_in, AreHomePlaces, HasOneMore, SetsHome, KeepsPlaces, members, joined}
+use Rattle.wl_kernel.specs.TableIndexes.{HomeTable, home_place, home_at, home_of, partition_in, AreHomePlaces, HasOneMore, SetsHome, KeepsPlaces, members, joined}
 use Rattle.wl_kernel.proofs.HomePlaces.{place_within, places-push, partition_kept, partition_last, home-join, home-found}
 use Rattle.wl_kernel.proofs.homes.Homes.join.Goals as goal
 

@@ -1,6 +1,6 @@
 use Rattle.std.proofs.Common.{◌≡◌, ◌<◌, Some, length, set, slice_get, option_map, refl, sym, subst}
 use Rattle.std.proofs.lemmas.Option.{slice_get_read}
-use Rattle.wl_kernel.specs.Kept.{HomeTable, home_of, partition_at, SetsHome, left}
+use Rattle.wl_kernel.specs.TableIndexes.{HomeTable, home_of, partition_at, SetsHome, left}
 use Rattle.wl_kernel.proofs.HomePlaces.{home-leave}
 use Rattle.wl_kernel.proofs.homes.Homes.leave.Goals as goal
 

@@ -1,6 +1,6 @@
 use Rattle.std.proofs.Common.{◌≡◌, Some, length, slice_get, refl, sym, ap, ◌∙◌, arith}
 use Rattle.std.proofs.lemmas.Option.{slice_get_read}
-use Rattle.wl_kernel.specs.Kept.{HomeTable, home_at, home_of, members}
+use Rattle.wl_kernel.specs.TableIndexes.{HomeTable, home_at, home_of, members}
 use Rattle.wl_kernel.proofs.HomePlaces.{place_within}
 use Rattle.wl_kernel.proofs.homes.Homes.members.Goals as goal
 

@@ -1,6 +1,6 @@
 use Rattle.std.proofs.Common.{◌≡◌, Option, Some, None, sym, ap, ◌∙◌, subst, arith}
 use Rattle.wl_kernel.specs.Kernel.{KernelState, OpenedTab, tab_of, is_of, living_in, living_of, number_beside, partition_number}
-use Rattle.wl_kernel.specs.Kept.{seen_in, seen, all_seen, partition_at, partition_beside, partition_of, AreTabs}
+use Rattle.wl_kernel.specs.TableIndexes.{seen_in, seen, all_seen, partition_at, partition_beside, partition_of, AreTabs}
 use Rattle.wl_kernel.proofs.OpenedTabs.{place_got, row_below, row_read, not_placed, has_home_at}
 use Rattle.wl_kernel.proofs.KeptHomes.{home_is}
 use Rattle.wl_kernel.proofs.WellFormed.{tab_from_one, number_from_one}

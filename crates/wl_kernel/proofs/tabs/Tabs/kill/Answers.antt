@@ -1,6 +1,6 @@
 use Rattle.std.proofs.Common.{◌≡◌, List, Some, ap, ◌∙◌, arith}
 use Rattle.wl_kernel.specs.Kernel.{KernelState, OpenedTab, killed}
-use Rattle.wl_kernel.specs.Kept.{all_seen, place_in}
+use Rattle.wl_kernel.specs.TableIndexes.{all_seen, place_in}
 use Rattle.wl_kernel.proofs.OpenedTabs.{row_below, row_read, has_home_at}
 use Rattle.wl_kernel.proofs.Consistency.{IsBuried, seen-ended, consistent-ended}
 use Rattle.wl_kernel.proofs.tabs.Tabs.kill.Goals as goal
@@ -35,8 +35,8 @@ invariant_of-self c =
     let place : place_in (all_seen h rows) t ≡ Some i = ap (λ (k : KernelState). place_in k.opened t) c.self.view_is ∙ c.in_ok-place.ensures.place in
     let buried : IsBuried rows h t i r c.leave.new.self =
     record { placed = place; there = (row_read h rows t i r place c.index_mut-row.ensures.value).0; leaves = c.leave.ensures.left; kept = c.leave.ensures.kept } in
-    consistent-ended rows c.self.inside.places.entries h c.self.inside.living.items c.self.inside.generation c.self.inside.last t i r c.leave.new.self c.take_out.new.numbers.items
-    c.self.invariant buried c.take_out.ensures
+    consistent-ended rows c.self.inside.places.entries h c.self.inside.living.items c.self.inside.generation c.self.inside.last t i r c.leave.new.self c.remove_sorted.new.numbers.items
+    c.self.invariant buried c.remove_sorted.ensures
 
 pub returns-clause-ok : goal.returns-clause-ok
 returns-clause-ok c =

@@ -2,7 +2,7 @@ use Rattle.std.proofs.Common.{Bool, Option, Some, None, is_some, if◌then◌els
 use Rattle.wl_kernel.specs.declared.fault.KillFault.{KillFault}
 use Rattle.wl_kernel.specs.declared.fault.KillFault.TheVariants.{NoTab, AlreadyDead}
 use Rattle.wl_kernel.specs.Kernel.{KernelState, OpenedTab, tab_in, lives}
-use Rattle.wl_kernel.specs.Kept.{all_seen, place_in}
+use Rattle.wl_kernel.specs.TableIndexes.{all_seen, place_in}
 use Rattle.wl_kernel.proofs.OpenedTabs.{place_got, row_below, row_read, not_placed}
 use Rattle.wl_kernel.proofs.tabs.Tabs.living_place.Goals as goal
 

@@ -1,6 +1,6 @@
 use Rattle.std.proofs.Common.{ap, ◌∙◌}
 use Rattle.wl_kernel.specs.Kernel.{living_of}
-use Rattle.wl_kernel.specs.Kept.{all_seen}
+use Rattle.wl_kernel.specs.TableIndexes.{all_seen}
 use Rattle.wl_kernel.proofs.KeptHomes.{members_kept}
 use Rattle.wl_kernel.proofs.tabs.Tabs.members.Goals as goal
 

@@ -6,8 +6,8 @@ use Rattle.std.specs.Map.{remove_entry}
 use Rattle.wl_draft.proofs.TableLemmas.{insert_entry-put}
 use Rattle.wl_draft.specs.Tables.{put}
 use Rattle.wl_kernel.specs.declared.rows.TabRow.{TabRow}
-use Rattle.wl_kernel.specs.Kernel.{KernelState, OpenedTab, tab_in, any_tab, is_of, number_or, put_in, rises, opened, new_tab}
-use Rattle.wl_kernel.specs.Kept.{all_seen, home_of, joined}
+use Rattle.wl_kernel.specs.Kernel.{KernelState, OpenedTab, tab_in, any_tab, is_of, number_or, insert_sorted, rises, opened, new_tab}
+use Rattle.wl_kernel.specs.TableIndexes.{all_seen, home_of, joined}
 use Rattle.wl_kernel.proofs.Living.{rises_living_in}
 use Rattle.wl_kernel.proofs.OpenedTabs.{open_is_allowed, place_taken_back}
 use Rattle.wl_kernel.proofs.HomePlaces.{home-set_at}
@@ -21,8 +21,8 @@ join-requires c =
     let os = all_seen h c.self.inside.rows.items in
     ap rises (members_kept c.args.partition os h c.self.invariant.housed) ∙ rises_living_in (is_of c.args.partition) os c.self.invariant.tabs
 
-pub put_in-requires-clause-rising : goal.put_in-requires-clause-rising
-put_in-requires-clause-rising c =
+pub insert_sorted-requires-clause-rising : goal.insert_sorted-requires-clause-rising
+insert_sorted-requires-clause-rising c =
     let os = all_seen c.self.inside.homes c.self.inside.rows.items in
     ap rises (c.enter.ensures.living ∙ c.self.invariant.alive) ∙ rises_living_in any_tab os c.self.invariant.tabs
 
@@ -46,9 +46,9 @@ invariant_of-self-2 c =
     } in
     let there : c.enter.new.places.entries ≡ put t (length rows) c.self.inside.places.entries =
     c.in_default-enter.ensures.places ∙ insert_entry-put t (length rows) c.self.inside.places.entries in
-    let among : c.put_in.new.numbers.items ≡ put_in t c.self.inside.living.items = c.put_in.ensures ∙ ap (put_in t) c.enter.ensures.living in
+    let among : c.insert_sorted.new.numbers.items ≡ insert_sorted t c.self.inside.living.items = c.insert_sorted.ensures ∙ ap (insert_sorted t) c.enter.ensures.living in
     consistent-push rows c.self.inside.places.entries h c.self.inside.living.items c.self.inside.generation c.self.inside.last r c.args.partition
-    c.push_reserved.new.self.items c.enter.new.places.entries c.join.new.self c.put_in.new.numbers.items
+    c.push_reserved.new.self.items c.enter.new.places.entries c.join.new.self c.insert_sorted.new.numbers.items
     c.self.invariant entered behind there among
 
 pub invariant_of-self-in-Err-join : goal.invariant_of-self-in-Err-join

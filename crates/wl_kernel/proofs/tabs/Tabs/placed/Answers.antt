@@ -2,7 +2,7 @@ use Rattle.std.proofs.Common.{◌≡◌, ap, ◌∙◌, sym, subst}
 use Rattle.std.proofs.lemmas.List.{take_all}
 use Rattle.std.specs.List.{AllByRecursion}
 use Rattle.wl_kernel.specs.Kernel.{KernelState, placed}
-use Rattle.wl_kernel.specs.Kept.{AreTabs, Below, IsList}
+use Rattle.wl_kernel.specs.TableIndexes.{AreTabs, Below, IsList}
 use Rattle.wl_kernel.proofs.WellFormed.{list_is_well_formed}
 use Rattle.wl_kernel.proofs.tabs.Tabs.placed.Goals as goal
 

@@ -1,7 +1,7 @@
 use Rattle.std.proofs.Common.{◌≡◌, take}
 use Rattle.std.specs.List.{AllByRecursion}
 use Rattle.wl_kernel.specs.Kernel.{placed}
-use Rattle.wl_kernel.specs.Kept.{Below}
+use Rattle.wl_kernel.specs.TableIndexes.{Below}
 use Rattle.wl_kernel.proofs.tabs.Tabs.placed.Given as goal
 
 abbrev pub invariant-loop-tab : goal.invariant-loop-tab

@@ -1,5 +1,5 @@
 use Rattle.std.proofs.Common.{ap, arith}
-use Rattle.wl_kernel.specs.Kept.{seen_in, partition_of}
+use Rattle.wl_kernel.specs.TableIndexes.{seen_in, partition_of}
 use Rattle.wl_kernel.proofs.tabs.Tabs.to_broker.Goals as goal
 
 pub returns-clause-well_formed : goal.returns-clause-well_formed

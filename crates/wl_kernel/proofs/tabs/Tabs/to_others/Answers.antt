@@ -4,7 +4,7 @@ use Rattle.wl_grammar.specs.declared.frame.Frame.{Frame}
 use Rattle.wl_grammar.specs.Grammar.{IsTab, IsWellFormed}
 use Rattle.wl_kernel.specs.declared.routes.Routed.TheVariants.{Tabs}
 use Rattle.wl_kernel.specs.Kernel.{OpenedTab}
-use Rattle.wl_kernel.specs.Kept.{seen_in, partition_of}
+use Rattle.wl_kernel.specs.TableIndexes.{seen_in, partition_of}
 use Rattle.wl_kernel.specs.Routes.{heard_of, hearers_beside}
 use Rattle.wl_kernel.proofs.Routing.{all_heard}
 use Rattle.wl_kernel.proofs.tabs.Tabs.to_others.Goals as goal

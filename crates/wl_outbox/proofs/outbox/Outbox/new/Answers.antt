@@ -1,6 +1,6 @@
 use Rattle.std.proofs.Common.{◌≡◌, ap, ◌∙◌, arith, rules}
 use Rattle.std.proofs.lemmas.List.Elements.{All-push}
-use Rattle.wl_outbox.specs.Steps.{putter_of}
+use Rattle.wl_outbox.specs.OutboxSteps.{putter_of}
 use Rattle.wl_outbox.specs.Passes.{Handed}
 use Rattle.wl_outbox.proofs.KeptRule.{deals}
 use Rattle.wl_outbox.proofs.outbox.Outbox.new.Goals as goal

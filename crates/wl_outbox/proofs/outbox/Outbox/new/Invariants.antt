@@ -1,6 +1,6 @@
 use Rattle.std.proofs.Common.{◌≡◌, All, vec_len, vec_capacity}
 use Rattle.crossbeam_queue.specs.Passes.{view, IsPassOf}
-use Rattle.wl_outbox.specs.Steps.{taker_of, putter_of}
+use Rattle.wl_outbox.specs.OutboxSteps.{taker_of, putter_of}
 use Rattle.wl_outbox.proofs.outbox.Outbox.new.Given as goal
 
 abbrev pub ghosts-open : goal.ghosts-open

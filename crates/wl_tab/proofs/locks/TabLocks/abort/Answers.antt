@@ -1,7 +1,7 @@
 use Rattle.std.proofs.Common.{◌≡◌, true, false, ap, subst, ◌∙◌, rules}
 use Rattle.wl_grammar.specs.declared.frame.Operation.TheVariants.{Abort}
 use Rattle.wl_agent.specs.Tab.{TabState, is_request, aborted}
-use Rattle.wl_tab.specs.declared.locks.Abortion.TheVariants as became
+use Rattle.wl_tab.specs.declared.locks.AbortResult.TheVariants as became
 use Rattle.wl_tab.specs.TabTokens.{IsKept, is_lock}
 use Rattle.wl_tab.proofs.KeptTokens.{Found, found, kept-finish}
 use Rattle.wl_tab.proofs.Spending.{Aborts, TakenOut, apart, abort-none, abort-other, abort-held, abort-asked}

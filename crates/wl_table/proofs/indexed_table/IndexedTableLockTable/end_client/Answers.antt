@@ -1,7 +1,7 @@
 use Rattle.std.proofs.Common.{◌≡◌, ◌∙◌, ◌++◌, true, ap}
-use Rattle.wl_draft.specs.Locks.{grants, newly, newly_if, settle, settle_if, ended}
-use Rattle.wl_index.specs.Index.{locks_in}
-use Rattle.wl_index.proofs.RemovalLemmas.{ended-in}
+use Rattle.wl_draft.specs.Locks.{grants, newly_granted, newly_granted_if, settle, settle_if, ended}
+use Rattle.wl_table_index.specs.Index.{locks_in}
+use Rattle.wl_table_index.proofs.RemovalLemmas.{ended-in}
 use Rattle.wl_table.proofs.indexed_table.IndexedTableLockTable.end_client.Goals as goal
 
 pub returns-then-not-settle-clause-grants : goal.returns-then-not-settle-clause-grants
@@ -17,7 +17,7 @@ pub returns-clause-grants : goal.returns-clause-grants
 returns-clause-grants c =
     let t = c.self.inside.index in
     let before : locks_in c.forget_client.new.self.held.items c.forget_client.new.self.waiting.items ≡ ended c.args.client (locks_in t.held.items t.waiting.items) = rw (c.forget_client.ensures.held, c.forget_client.ensures.waiting, c.take_all_waiting.ensures.held, c.take_all_waiting.ensures.waiting, c.take_all_held.ensures.held, c.take_all_held.ensures.waiting) (ended-in c.args.client t.held.items t.waiting.items) in
-    let e : c.hand_out.result.items ≡ grants (newly_if true (ended c.args.client (locks_in t.held.items t.waiting.items))) = c.hand_out.ensures.value ∙ c.settle.ensures.granted ∙ ap (λ g. g ++ grants (newly (locks_in c.forget_client.new.self.held.items c.forget_client.new.self.waiting.items))) (c.room_to_settle.ensures.items ∙ c.self.invariant.granted) ∙ ap (λ m. grants (newly m)) before in
+    let e : c.exact_size_grants.result.items ≡ grants (newly_granted_if true (ended c.args.client (locks_in t.held.items t.waiting.items))) = c.exact_size_grants.ensures.value ∙ c.settle.ensures.granted ∙ ap (λ g. g ++ grants (newly_granted (locks_in c.forget_client.new.self.held.items c.forget_client.new.self.waiting.items))) (c.room_to_settle.ensures.items ∙ c.self.invariant.granted) ∙ ap (λ m. grants (newly_granted m)) before in
     rw (c.if-not-settle.false, ← c.self.view_is) e
 
 pub returns-clause-ok : goal.returns-clause-ok

@@ -1,10 +1,10 @@
 use Rattle.std.proofs.Common.{◌≡◌, ◌∙◌, [], false, Some, None, sym, ap}
 use Rattle.std.specs.Option.{option_map_or}
 use Rattle.wl_draft.specs.Locks.{grantable}
-use Rattle.wl_ordered.specs.Places.{first_place}
-use Rattle.wl_index.specs.Index.{locks_in, places_in}
-use Rattle.wl_index.specs.Nexts.{is_next}
-use Rattle.wl_index.proofs.CandidateLemmas.{grantable-first}
+use Rattle.wl_table_index.specs.Places.{first_place}
+use Rattle.wl_table_index.specs.Index.{locks_in, places_in}
+use Rattle.wl_table_index.specs.Nexts.{is_next}
+use Rattle.wl_table_index.proofs.CandidateLemmas.{grantable-first}
 use Rattle.wl_table.proofs.indexed_table.IndexedTableLockTable.grantable.Goals as goal
 
 pub returns-in-Some : goal.returns-in-Some

@@ -1,8 +1,8 @@
 use Rattle.std.proofs.Common.{◌≡◌, ◌∙◌, ◌++◌, true, length, ap, arith}
-use Rattle.wl_draft.specs.Locks.{grants, newly, newly_if, settle, settle_if, restored}
-use Rattle.wl_ordered.specs.Orders.{values_in}
-use Rattle.wl_index.specs.Index.{locks_in}
-use Rattle.wl_index.proofs.ReportLemmas.{restored-in, held-mine, waiting-mine, entries-length, values-length}
+use Rattle.wl_draft.specs.Locks.{grants, newly_granted, newly_granted_if, settle, settle_if, restored}
+use Rattle.wl_table_index.specs.OrderNumbers.{values_in}
+use Rattle.wl_table_index.specs.Index.{locks_in}
+use Rattle.wl_table_index.proofs.ReportLemmas.{restored-in, held-mine, waiting-mine, entries-length, values-length}
 use Rattle.wl_table.proofs.indexed_table.IndexedTableLockTable.restore.Goals as goal
 
 pub put_all-requires-clause-held_mine : goal.put_all-requires-clause-held_mine
@@ -41,7 +41,7 @@ pub returns-clause-grants : goal.returns-clause-grants
 returns-clause-grants c =
     let t = c.self.inside.index in
     let before : locks_in c.forget_client.new.self.held.items c.forget_client.new.self.waiting.items ≡ restored c.args.client c.args.entries.now (locks_in t.held.items t.waiting.items) = restored-in c.args.client c.args.entries.now t.held.items t.waiting.items c.forget_client.new.self.held.items c.forget_client.new.self.waiting.items (ap (λ ps. values_in ps) c.forget_client.ensures.held ∙ c.put_all.ensures.held ∙ ap (λ ps. values_in ps ++ c.in_ok-held.held.items) c.in_ok-make_room.ensures.held ∙ ap (λ rs. values_in t.held.items ++ rs) c.in_ok-held.ensures.rows.0) (ap (λ ps. values_in ps) c.forget_client.ensures.waiting ∙ c.put_all.ensures.waiting ∙ ap (λ ps. values_in ps ++ c.in_ok-held.waiting.items) c.in_ok-make_room.ensures.waiting ∙ ap (λ rs. values_in t.waiting.items ++ rs) c.in_ok-held.ensures.rows.1) in
-    let e : c.hand_out.result.items ≡ grants (newly_if true (restored c.args.client c.args.entries.now (locks_in t.held.items t.waiting.items))) = c.hand_out.ensures.value ∙ c.settle.ensures.granted ∙ ap (λ g. g ++ grants (newly (locks_in c.forget_client.new.self.held.items c.forget_client.new.self.waiting.items))) (c.room_to_settle.ensures.items ∙ c.self.invariant.granted) ∙ ap (λ m. grants (newly m)) before in
+    let e : c.exact_size_grants.result.items ≡ grants (newly_granted_if true (restored c.args.client c.args.entries.now (locks_in t.held.items t.waiting.items))) = c.exact_size_grants.ensures.value ∙ c.settle.ensures.granted ∙ ap (λ g. g ++ grants (newly_granted (locks_in c.forget_client.new.self.held.items c.forget_client.new.self.waiting.items))) (c.room_to_settle.ensures.items ∙ c.self.invariant.granted) ∙ ap (λ m. grants (newly_granted m)) before in
     rw (c.if-not-settle.false, ← c.self.view_is) e
 
 pub returns-clause-ok : goal.returns-clause-ok

@@ -1,6 +1,6 @@
 use Rattle.std.proofs.Common.{◌∙◌, sym}
-use Rattle.wl_index.specs.Clients.{places_at}
-use Rattle.wl_index.proofs.IndexLemmas.{standing-places}
+use Rattle.wl_table_index.specs.Clients.{places_at}
+use Rattle.wl_table_index.proofs.IndexLemmas.{standing-places}
 use Rattle.wl_table.proofs.indexed_table.IndexedTableLockTable.state.Goals as goal
 
 pub returns : goal.returns

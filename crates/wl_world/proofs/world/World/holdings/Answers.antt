@@ -1,8 +1,8 @@
 use Rattle.std.proofs.Common.{List, sym, subst, ◌∙◌}
 use Rattle.wl_tab.specs.declared.holding.Holding.{Holding}
-use Rattle.wl_world.specs.Machine.{Machine, AreHoldings, held_by_living}
-use Rattle.wl_world.specs.World.{WorldState}
-use Rattle.wl_world.proofs.own.ListedHoldings.{run-holdings}
+use Rattle.wl_world_model.specs.Machine.{Machine, AreHoldings, held_by_living}
+use Rattle.wl_world_model.specs.World.{WorldState}
+use Rattle.wl_world_model.proofs.own.ListedHoldings.{run-holdings}
 use Rattle.wl_world.proofs.world.World.holdings.Goals as goal
 
 pub returns-clause-exact : goal.returns-clause-exact

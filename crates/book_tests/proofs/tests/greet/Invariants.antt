@@ -1,8 +1,0 @@
-use Rattle.wl_broker.specs.Broker.{started}
-use Rattle.book_tests.proofs.tests.greet.Given as goal
-
-abbrev pub ghosts-greet_named-J-Ledger : goal.ghosts-greet_named-J-Ledger
-ghosts-greet_named-J-Ledger g a = record { name = a.blank.name; parts = a.blank.parts }
-
-abbrev pub ghosts-greet_named-J-Generation : goal.ghosts-greet_named-J-Generation
-ghosts-greet_named-J-Generation g a = record { opening = started 2 a.list.now; limit = 1 }

@@ -1,4 +1,0 @@
-//! One file a crate.
-
-mod kernel;
-mod origin;

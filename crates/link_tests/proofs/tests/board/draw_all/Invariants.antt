@@ -1,5 +1,0 @@
-use Rattle.wl_board.specs.Calls.{IsOf}
-use Rattle.link_tests.proofs.tests.board.draw_all.Given as goal
-
-abbrev pub invariant-loop : goal.invariant-loop
-invariant-loop g l = IsOf l.seat l.board

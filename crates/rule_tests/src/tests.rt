@@ -1,6 +1,0 @@
-//! One file a part.
-
-mod command_line;
-mod rules;
-mod statuses;
-mod supervising;

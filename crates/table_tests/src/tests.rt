@@ -1,5 +1,0 @@
-//! The manager alone, and the tables beside each other.
-
-mod again;
-mod draft;
-mod table;

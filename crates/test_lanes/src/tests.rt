@@ -1,0 +1,18 @@
+//! Modules: steps of one lane, lanes on threads over shards, ends of a lane, and the lanes of the broker's process.
+
+mod events;
+mod lane_ends;
+mod lanes;
+mod process_lanes;
+mod runs;
+mod shards;
+mod steps;
+mod turnstile;
+
+use std::fmt::Debug;
+use std::process::Abort;
+
+/// Asserts that two values are equal, and prints both if they differ.
+fn same<T: Copy + PartialEq + Debug>(rt: &impl Abort, found: T, wanted: T) {
+    assert_eq!(rt; found, wanted);
+}

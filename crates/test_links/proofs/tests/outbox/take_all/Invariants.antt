@@ -1,0 +1,6 @@
+use Rattle.std.proofs.Common.{◌≡◌, true}
+use Rattle.wl_outbox.specs.Passes.{IsOf, takes}
+use Rattle.test_links.proofs.tests.outbox.take_all.Given as goal
+
+abbrev pub invariant-loop-generation : goal.invariant-loop-generation
+invariant-loop-generation g l = IsOf l.pass l.outbox × (takes l.pass ≡ true)

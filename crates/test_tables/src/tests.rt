@@ -1,0 +1,5 @@
+//! Modules: the manager alone, and both lock tables side by side.
+
+mod entries;
+mod manager;
+mod tables;

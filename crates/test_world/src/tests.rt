@@ -1,0 +1,4 @@
+//! Modules: rows of events, and random events.
+
+mod random;
+mod rows;

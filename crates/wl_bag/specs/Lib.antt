@@ -1,3 +1,0 @@
-pub mod Messages
-pub mod Keys
-pub mod Index

@@ -1,4 +1,0 @@
-use Rattle.wl_broker_process.proofs.inbox.Inbox.deal_frames.Given as goal
-
-abbrev pub decreases-loop-work : goal.decreases-loop-work
-decreases-loop-work g l = goal.left-loop-work g l

@@ -1,0 +1,3 @@
+pub use Rattle.wl_draft.specs.Tables
+pub mod PartialReports
+pub mod ReportParts

@@ -1,4 +1,0 @@
-pub mod Prefixes
-pub mod BodyLength
-pub mod Framing
-pub mod Lists

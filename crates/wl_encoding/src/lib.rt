@@ -1,6 +1,0 @@
-//! Encoder of frames.
-#![tactic(auto)]
-
-pub mod writing;
-
-pub use writing::{encode, encode_into};

@@ -1,0 +1,5 @@
+pub mod Prefixes
+pub mod BodyLength
+pub mod Framing
+pub mod Lists
+pub mod Parts

@@ -1,3 +1,0 @@
-pub mod Reaching
-pub mod Keeping
-pub mod Owing

@@ -1,4 +1,0 @@
-pub mod OrderLemmas
-pub mod WithoutLemmas
-mod QueueLemmas
-mod PlaceLemmas

@@ -1,7 +1,0 @@
-use Rattle.std.proofs.Common.{◌≡◌, drop, max}
-use Rattle.wl_parts.specs.Kept.{end_of}
-use Rattle.wl_parts.proofs.kept.end_of.Given as goal
-
--- The end of the whole list is the maximum of the end so far and the end of the remaining entries.
-abbrev pub invariant-loop-entry : goal.invariant-loop-entry
-invariant-loop-entry l = max l.end (end_of (drop l.entry-index l.entries)) ≡ end_of l.entries

@@ -1,6 +1,0 @@
-use Rattle.std.proofs.Common.{◌∙◌}
-use Rattle.wl_draft.proofs.TableLemmas.{lookup-find}
-use Rattle.wl_parts.proofs.kept.kept_of.Goals as goal
-
-pub returns : goal.returns
-returns c = c.get.ensures.value ∙ lookup-find c.args.kept.now.entries c.args.tab

@@ -1,3 +1,0 @@
-pub use Rattle.wl_draft.specs.Tables
-pub mod Kept
-pub mod ReportParts

@@ -1,9 +1,0 @@
-//! Reports of tabs, which may come in parts: their headers, the parts kept, and the test whether a
-//! report is whole.
-#![tactic(auto)]
-
-pub mod heading;
-pub mod kept;
-
-pub use heading::Heading;
-pub use kept::Kept;

@@ -1,0 +1,295 @@
+//! The broker's input, read by its lanes in turn.
+//!
+//! The lane that reads distributes the works to all lanes. A lane that reads works of its own wakes
+//! no other thread.
+
+ghost use Rattle.std.specs.Prelude.{◌≡◌, ◌<◌, ◌%◌};
+
+use crate::mailbox::{Mailbox, Woken};
+use std::alloc::{AllocError, Global};
+use std::os::unix::net::UnixStream;
+use std::rt::Clock;
+use std::sync::{Condvar, CondvarTimeouts, Mutex, Wait};
+use std::time::Duration;
+use wl_frames::Frame;
+use wl_locked::{BookEvent, Work, deal};
+use wl_process::{Incoming, ProcessFault};
+use wl_process_rules::Dealt;
+
+/// The time that a lane waits for the threads of all other lanes, in milliseconds.
+const MEETING: u64 = 5_000;
+
+/// The rendezvous of the lanes before any of them reads.
+#[derive(Drop)]
+struct StartBarrier {
+    /// The number of lanes that have a thread.
+    met: usize,
+    /// Whether the wait for the other lanes timed out.
+    is_off: bool,
+}
+
+/// The turn to read the link.
+#[derive(Drop)]
+enum Turn<'a> {
+    /// No lane reads. The next idle lane takes the turn.
+    Free(Incoming<&'a UnixStream>),
+    /// A lane is reading.
+    Taken,
+    /// Reading has ended, with this result.
+    Over(Result<(), ProcessFault>),
+}
+
+/// The link's reading end and the mailboxes of the lanes. The lock of the turn is taken before
+/// those of the mailboxes.
+#[derive(Drop)]
+pub(crate) struct Inbox<'a> {
+    alloc: Global,
+    lanes: u16,
+    shards: u16,
+    mailboxes: Vec<Mailbox>,
+    turn: Mutex<Turn<'a>>,
+    meeting: Mutex<StartBarrier>,
+    met: Condvar,
+    ghost some_lanes: { 0 < lanes },
+    ghost some_shards: { 0 < shards },
+}
+
+impl<'a> Inbox<'a> {
+    /// Creates the inbox of a broker with these numbers of lanes and shards.
+    pub(crate) fn new(
+        alloc: Global,
+        lanes: u16,
+        shards: u16,
+        incoming: Incoming<&'a UnixStream>,
+    ) -> Result<Inbox<'a>, AllocError>
+        requires lanes { 0 < lanes }
+        requires shards { 0 < shards }
+    {
+        let mut mailboxes = Vec::new(alloc);
+        for _lane in 0..lanes {
+            mailboxes.push(Mailbox::new(alloc))?;
+        }
+        Ok(Inbox {
+            alloc,
+            lanes,
+            shards,
+            mailboxes,
+            turn: Mutex::new(Turn::Free(incoming)),
+            meeting: Mutex::new(StartBarrier {
+                met: 0,
+                is_off: false,
+            }),
+            met: Condvar::new(),
+        })
+    }
+
+    /// Waits until every lane has a thread. Returns false if a lane gets none, because works for
+    /// that lane would wait forever.
+    pub(crate) fn meet<R: Wait + Clock>(&self, rt: &R) -> bool {
+        let (lanes, most) = (self.mailboxes.len(), Duration::from_millis(MEETING));
+        let mut meeting = self.meeting.lock(rt);
+        meeting.met = meeting.met.saturating_add(1);
+        self.met.notify_all();
+        let (mut meeting, result) = self.met.wait_timeout_while(
+            rt,
+            meeting,
+            most,
+            |meeting| meeting.met < lanes && !meeting.is_off,
+        );
+        if result.timed_out() {
+            meeting.is_off = true;
+            self.met.notify_all();
+        }
+        !meeting.is_off
+    }
+
+    /// Returns true if a lane got no thread, so no lane reads.
+    pub(crate) fn is_off<R: Wait>(&self, rt: &R) -> bool {
+        self.meeting.lock(rt).is_off
+    }
+
+    /// Distributes frames that arrived before the lanes were started.
+    pub(crate) fn begin<R: Wait>(&self, rt: &R, frames: Vec<Frame>) {
+        let mut turn = self.turn.lock(rt);
+        if let Err(fault) = self.deal_frames(rt, self.mailboxes.len(), frames) {
+            *turn = Turn::Over(Err(fault));
+            self.shut(rt);
+        }
+    }
+
+    /// Returns the next work of a lane, if there is one.
+    pub(crate) fn take_now<R: Wait>(&self, rt: &R, lane: usize) -> Option<Work> {
+        self.mailboxes.get(lane)?.take_now(rt)
+    }
+
+    /// Waits for the next work of a lane. Returns `None` if no more will come. A lane without works
+    /// reads the link, unless another lane does.
+    pub(crate) fn take<R: Wait>(&self, rt: &R, lane: usize) -> Option<Work> {
+        let mailbox = self.mailboxes.get(lane)?;
+        for _turns in rt.forever() {
+            match self.look(rt, lane, mailbox) {
+                Woken::Work(work) => return Some(work),
+                Woken::Turn => {}
+                Woken::Closed => return None,
+            }
+        }
+        None
+    }
+
+    /// Returns the next work of a lane, if there is one. Otherwise the lane reads the link, if it
+    /// is free, or sleeps until it is woken.
+    fn look<R: Wait>(&self, rt: &R, lane: usize, mailbox: &Mailbox) -> Woken {
+        if let Some(work) = mailbox.take_now(rt) {
+            return Woken::Work(work);
+        }
+        if self.reads_on(rt, lane, mailbox) {
+            return Woken::Turn;
+        }
+        mailbox.take(rt)
+    }
+
+    /// Reads the link if no lane reads. Returns true if the lane must look again without sleeping.
+    fn reads_on<R: Wait>(&self, rt: &R, lane: usize, mailbox: &Mailbox) -> bool {
+        match self.take_turn(rt, mailbox) {
+            Some(incoming) => self.read(rt, lane, incoming),
+            None => false,
+        }
+    }
+
+    /// Closes all mailboxes, so no lane waits for works.
+    pub(crate) fn shut<R: Wait>(&self, rt: &R) {
+        for mailbox in self.mailboxes.iter() {
+            mailbox.close(rt);
+        }
+    }
+
+    /// Returns the fault that ended reading, if any.
+    pub(crate) fn end<R: Wait>(&self, rt: &R) -> Result<(), ProcessFault> {
+        match &*self.turn.lock(rt) {
+            Turn::Over(Err(fault)) => Err(*fault),
+            _ => Ok(()),
+        }
+    }
+
+    /// Takes the turn to read, if it is free. A lane with works in its mailbox does not read. The
+    /// works may have arrived since the lane looked, and the lane that put them left the turn to
+    /// this one.
+    fn take_turn<R: Wait>(&self, rt: &R, mailbox: &Mailbox) -> Option<Incoming<&'a UnixStream>> {
+        let mut turn = self.turn.lock(rt);
+        if mailbox.has_work(rt) {
+            return None;
+        }
+        match std::mem::replace(&mut *turn, Turn::Taken) {
+            Turn::Free(incoming) => Some(incoming),
+            other => {
+                *turn = other;
+                None
+            }
+        }
+    }
+
+    /// Reads once and distributes the works. Returns true if this lane must look again without
+    /// sleeping. Returns false if another lane reads next or the input has ended.
+    ///
+    /// The lock of the turn is held during distribution, so a woken lane finds the turn free.
+    fn read<R: Wait>(&self, rt: &R, lane: usize, mut incoming: Incoming<&'a UnixStream>) -> bool {
+        let came = incoming.next();
+        let mut turn = self.turn.lock(rt);
+        let dealt = self.deal_all(rt, lane, came);
+        *turn = turn_after(dealt, incoming);
+        let Ok(Some(dealt)) = dealt else {
+            self.shut(rt);
+            return false;
+        };
+        if dealt.offers() {
+            self.offer_turn(rt, lane);
+        }
+        !dealt.leaves()
+    }
+
+    /// Asks an idle lane, if there is one, to read while this one has many works to do.
+    fn offer_turn<R: Wait>(&self, rt: &R, lane: usize) {
+        for (place, mailbox) in self.mailboxes.iter().enumerate() {
+            if place != lane && mailbox.offer_turn(rt) {
+                return;
+            }
+        }
+    }
+
+    /// Distributes the frames of a read. Returns `None` if it was the last read.
+    fn deal_all<R: Wait>(
+        &self,
+        rt: &R,
+        lane: usize,
+        came: Result<Option<Vec<Frame>>, ProcessFault>,
+    ) -> Result<Option<Dealt>, ProcessFault> {
+        match came {
+            Ok(Some(frames)) => self.deal_frames(rt, lane, frames).map(Some),
+            Ok(None) => Ok(None),
+            Err(fault) => Err(fault),
+        }
+    }
+
+    /// Puts the works of these frames into the mailboxes of their tabs' lanes. Returns how the
+    /// works were distributed. An event is lost if memory runs out.
+    fn deal_frames<R: Wait>(
+        &self,
+        rt: &R,
+        lane: usize,
+        frames: Vec<Frame>,
+    ) -> Result<Dealt, ProcessFault> {
+        let mut dealt = Dealt { own: 0, others: 0 };
+        let mut works = Vec::new(self.alloc);
+        for frame in frames {
+            let (tab, event) = event_of(frame)?;
+            let place = usize::from(lane_of(tab, self.lanes));
+            let _lost = deal(&mut works, self.shards, event).is_err();
+            while let Some(work) = works.pop() {
+                let coming = self.put(rt, place, work);
+                if place == lane {
+                    dealt.own = dealt.own.saturating_add(1);
+                } else {
+                    dealt.others = dealt.others.max(coming);
+                }
+            }
+        }
+        Ok(dealt)
+    }
+
+    /// Puts a work into a lane's mailbox. Returns the number of works that the lane was woken for.
+    fn put<R: Wait>(&self, rt: &R, place: usize, work: Work) -> usize {
+        match self.mailboxes.get(place) {
+            Some(mailbox) => mailbox.put(rt, work),
+            None => 0,
+        }
+    }
+}
+
+/// Returns the turn after a read and its distribution.
+fn turn_after<'a>(
+    dealt: Result<Option<Dealt>, ProcessFault>,
+    incoming: Incoming<&'a UnixStream>,
+) -> Turn<'a> {
+    match dealt {
+        Ok(Some(_)) => Turn::Free(incoming),
+        Ok(None) => Turn::Over(Ok(())),
+        Err(fault) => Turn::Over(Err(fault)),
+    }
+}
+
+/// Returns the lane that handles a tab's messages.
+fn lane_of(tab: u16, lanes: u16) -> u16
+    requires { 0 < lanes }
+    ensures { result ≡ tab % lanes }
+{
+    tab % lanes
+}
+
+/// Returns a frame's event with its tab. Fails with `Unexpected` if the frame is no event.
+fn event_of(frame: Frame) -> Result<(u16, BookEvent), ProcessFault> {
+    match frame {
+        Frame::Stamped(stamped) => Ok((stamped.tab, BookEvent::Take(stamped))),
+        Frame::Dead(dead) => Ok((dead.tab, BookEvent::Dead(dead.tab))),
+        _ => Err(ProcessFault::Unexpected),
+    }
+}

@@ -1,4 +1,0 @@
-pub mod KernelLines
-pub mod TabLines
-pub mod KernelReplies
-pub mod Counts

@@ -1,7 +1,0 @@
-use Rattle.std.proofs.Common.{◌≡◌, ◌++◌, take}
-use Rattle.std.specs.List.{flat_map}
-use Rattle.wl_replies.specs.ReplyTexts.{ended_text}
-use Rattle.wl_replies.proofs.replies.put_all_ended.Given as goal
-
-abbrev pub invariant-loop-ended : goal.invariant-loop-ended
-invariant-loop-ended l = l.out.items ≡ l.fn.out.items ++ flat_map ended_text (take l.ended-index l.endings)

@@ -1,7 +1,0 @@
-use Rattle.std.proofs.Common.{◌≡◌, ◌++◌, take}
-use Rattle.std.specs.List.{flat_map}
-use Rattle.wl_replies.specs.ReplyTexts.{sent_text}
-use Rattle.wl_replies.proofs.replies.put_all_sent.Given as goal
-
-abbrev pub invariant-loop-one : goal.invariant-loop-one
-invariant-loop-one l = l.out.items ≡ l.fn.out.items ++ flat_map sent_text (take l.one-index l.sent)

@@ -1,8 +1,0 @@
-use Rattle.std.proofs.Common.{◌≡◌, drop}
-use Rattle.wl_words.specs.Reading.{texts}
-use Rattle.wl_script.specs.Lines.{tabs_at}
-use Rattle.wl_script.proofs.Texts.{with_front}
-use Rattle.wl_script.proofs.reading.tabs_of.Given as goal
-
-abbrev pub invariant-loop-word : goal.invariant-loop-word
-invariant-loop-word l = with_front l.tabs.items (tabs_at (texts (drop l.word-index l.words))) ≡ tabs_at (texts l.words)

@@ -1,0 +1,5 @@
+pub mod Decimals
+pub mod Numbers
+pub mod Texts
+pub mod WordLemmas
+mod NoFloats

@@ -1,0 +1,4 @@
+pub mod Words
+pub mod WordReading
+pub mod WordPrinting
+pub mod Snapshots

@@ -1,7 +1,0 @@
-use Rattle.std.proofs.Common.{◌≡◌, map, take}
-use Rattle.serde_json.specs.View.{view}
-use Rattle.wl_snapshots.specs.Snapshots.{info_data}
-use Rattle.wl_snapshots.proofs.json.infos_value.Given as goal
-
-abbrev pub invariant-loop-info : goal.invariant-loop-info
-invariant-loop-info l = map view l.values.items ≡ map info_data (take l.info-index l.infos)

@@ -1,0 +1,16 @@
+pub mod Stuck
+pub mod SettleLemmas
+pub mod IndexLemmas
+mod EntryLemmas
+pub mod LeanLemmas
+mod UsedLemmas
+mod NextLemmas
+pub mod RemovalLemmas
+pub mod CandidateLemmas
+mod RoomLemmas
+mod SortLemmas
+pub mod ReportLemmas
+pub mod OrderLemmas
+pub mod WithoutLemmas
+mod QueueLemmas
+mod PlaceLemmas

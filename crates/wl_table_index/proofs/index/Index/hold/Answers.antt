@@ -1,0 +1,40 @@
+use Rattle.std.proofs.Common.{◌∙◌, cond, length, sym, ap, arith}
+use Rattle.std.specs.Prelude.{◌==◌, bytes_eq}
+use Rattle.wl_table_index.specs.Index.{line_of, places_of}
+use Rattle.wl_table_index.specs.NameLines.{with_holder}
+use Rattle.wl_table_index.specs.Clients.{places_at, held_room_at, with_held}
+use Rattle.wl_table_index.proofs.OrderLemmas.{rising-last}
+use Rattle.wl_table_index.proofs.IndexLemmas.{below-last, below-next, line-held, client-held, counts-length}
+use Rattle.wl_table_index.proofs.EntryLemmas.{below-places, room-step, length-held}
+use Rattle.wl_table_index.proofs.index.Index.hold.Goals as goal
+
+pub hold-requires-2-clause-last : goal.hold-requires-2-clause-last
+hold-requires-2-clause-last c =
+    rw (c.requires.indexed.clients c.args.row.client) (below-places c.args.row.client c.args.self.now.next c.args.self.now.held.items c.requires.indexed.held_below)
+
+pub hold-requires-clause-there : goal.hold-requires-clause-there
+hold-requires-clause-there c = c.requires.holdable.line
+
+pub hold-requires-clause-small : goal.hold-requires-clause-small
+hold-requires-clause-small c =
+    let e = counts-length c.args.row.name c.args.self.now.held.items c.args.self.now.waiting.items in
+    rw (c.requires.indexed.lines c.args.row.name) (omega (arith, e, c.len-count.ensures.len, c.len-count.ensures.small))
+
+pub returns-clause-indexed : goal.returns-clause-indexed
+returns-clause-indexed c =
+    let t = c.args.self.now in
+    let r = c.args.row in
+    let i = c.requires.indexed in
+    record {
+      held_rise = rw c.push.ensures.items (rising-last t.next r t.held.items i.held_rise i.held_below);
+      waiting_rise = i.waiting_rise;
+      held_below = rw c.push.ensures.items (below-last t.next r t.held.items i.held_below);
+      waiting_below = below-next t.next t.waiting.items i.waiting_below;
+      lines = λ n. c.hold.ensures.lines n ∙ ap (λ s. cond (bytes_eq r.name n) (with_holder s r.mode) s) (i.lines n) ∙ line-held n t.held.items t.waiting.items t.next r ∙ ap (λ h. line_of n h t.waiting.items) (sym c.push.ensures.items);
+      clients = λ k. c.hold-2.ensures.places k ∙ ap (λ s. cond (r.client == k) (with_held s t.next r.number) s) (i.clients k) ∙ client-held k t.held.items t.waiting.items t.next r ∙ ap (λ h. places_of k h t.waiting.items) (sym c.push.ensures.items);
+      room = omega (arith, c.requires.holdable.held, c.push.ensures.room);
+      client_room = λ k.
+          let e = length-held (r.client == k) (places_at t.clients k) t.next r.number in
+          let m = room-step r.client k (λ j. length (places_at t.clients j).waiting) (λ j. held_room_at t.clients j) (λ j. held_room_at c.hold-2.new.self j) c.requires.holdable.client_held (i.client_room k) (c.hold-2.ensures.held k) in
+          rw (c.hold-2.ensures.places k, e) m;
+    }

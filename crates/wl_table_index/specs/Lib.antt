@@ -1,0 +1,10 @@
+pub use Rattle.wl_draft.specs.Tables
+pub use Rattle.wl_draft.specs.Locks
+pub mod NameLines
+pub mod Clients
+pub mod Index
+pub mod Nexts
+pub mod OrderNumbers
+pub mod Places
+pub mod Found
+pub mod RequestQueue

@@ -1,0 +1,251 @@
+//! Index of the two lists of a lock table, by name and by client.
+
+ghost use Rattle.std.specs.Prelude.{◌≡◌, ◌+◌, ◌-◌, ◌<◌, ◌≤◌, ◌^◌, [], ◌∷◌, ◌++◌, ℕ, List, ◌==◌, bytes_eq, OnOk, OnErr, IfOk, IfSome, IfNone};
+ghost use Rattle.wl_draft.specs.Tables.{find};
+ghost use Rattle.wl_draft.specs.Locks.{row_of};
+ghost use Rattle.wl_table_index.specs.OrderNumbers.{without_order};
+ghost use Rattle.wl_table_index.specs.NameLines.{HasLine};
+ghost use Rattle.wl_table_index.specs.Clients.{held_room_at};
+ghost use Rattle.wl_table_index.specs.Index.{IsIndexed, IsHoldable, IsReady, TakesRoom, IsLean, IsLeanBut, Fills, Empties};
+
+use crate::clients::Clients;
+use crate::name_lines::Lines;
+use crate::rows::Rows;
+use std::alloc::{AllocError, Global};
+use wl_draft::{Mode, Name, Row};
+
+/// Held locks and waiting requests with rising order numbers, which can be found by name and by
+/// client.
+#[derive(Drop)]
+pub struct Index {
+    pub next: u64,
+    pub held: Rows,
+    pub waiting: Rows,
+    pub lines: Lines,
+    pub clients: Clients,
+}
+
+impl Index {
+    /// Returns an index without entries.
+    pub fn new(alloc: Global) -> Index
+        ensures indexed { IsIndexed result }
+        ensures held { result.held.items ≡ [] }
+        ensures waiting { result.waiting.items ≡ [] }
+        ensures lean { IsLean result }
+    {
+        Index {
+            next: 0,
+            held: Rows::new(alloc),
+            waiting: Rows::new(alloc),
+            lines: Lines::new(alloc),
+            clients: Clients::new(alloc),
+        }
+    }
+
+    /// Appends a held lock. Capacity must be reserved.
+    pub fn hold(&mut self, row: Row)
+        requires indexed { IsIndexed self.old }
+        requires holdable { IsHoldable self.old row.client row.name }
+        requires small { self.old.next + 1 < 2 ^ 64 }
+        ensures indexed { IsIndexed self.new }
+        ensures held { self.new.held.items ≡ self.old.held.items ++ (self.old.next, row) ∷ [] }
+        ensures waiting { self.new.waiting.items ≡ self.old.waiting.items }
+        ensures next { self.new.next ≡ self.old.next + 1 }
+        ensures room { TakesRoom self.old self.new 1 0 row.name }
+        ensures fills { Fills self.old self.new row }
+    {
+        let order = self.next;
+        let _count = self.held.len();
+        self.next = order + 1;
+        self.lines.hold(&row.name, row.mode);
+        self.clients.hold(row.client, order, row.number);
+        self.held.push(order, row);
+    }
+
+    /// Appends a waiting request. Capacity must be reserved.
+    pub fn queue(&mut self, row: Row)
+        requires indexed { IsIndexed self.old }
+        requires ready { IsReady self.old row.client row.name 1 }
+        requires small { self.old.next + 1 < 2 ^ 64 }
+        ensures indexed { IsIndexed self.new }
+        ensures held { self.new.held.items ≡ self.old.held.items }
+        ensures waiting { self.new.waiting.items ≡ self.old.waiting.items ++ (self.old.next, row) ∷ [] }
+        ensures next { self.new.next ≡ self.old.next + 1 }
+        ensures room { TakesRoom self.old self.new 0 1 row.name }
+        ensures fills { Fills self.old self.new row }
+    {
+        let order = self.next;
+        self.next = order + 1;
+        self.lines.push(&row.name, order);
+        self.clients.wait(row.client, order, row.number);
+        self.waiting.push(order, row);
+    }
+
+    /// Removes and returns a held lock.
+    pub fn take_held(&mut self, order: u64) -> Option<Row>
+        requires { IsIndexed self.old }
+        ensures indexed { IsIndexed self.new }
+        ensures value { result ≡ find self.old.held.items order }
+        ensures held { self.new.held.items ≡ without_order order self.old.held.items }
+        ensures waiting { self.new.waiting.items ≡ self.old.waiting.items }
+        ensures next { self.new.next ≡ self.old.next }
+        ensures empties { IfSome result (λ r. Empties self.old self.new r) }
+    {
+        match self.held.remove(order) {
+            Some(row) => {
+                self.lines.remove_holder(&row.name, row.mode);
+                self.clients.drop_held(row.client, order);
+                Some(row)
+            }
+            None => None,
+        }
+    }
+
+    /// Removes and returns a waiting request.
+    pub fn take_waiting(&mut self, order: u64) -> Option<Row>
+        requires { IsIndexed self.old }
+        ensures indexed { IsIndexed self.new }
+        ensures value { result ≡ find self.old.waiting.items order }
+        ensures held { self.new.held.items ≡ self.old.held.items }
+        ensures waiting { self.new.waiting.items ≡ without_order order self.old.waiting.items }
+        ensures next { self.new.next ≡ self.old.next }
+        ensures room { self.old.held.room ≤ self.new.held.room }
+        ensures client_room { (c : ℕ) → held_room_at self.old.clients c ≤ held_room_at self.new.clients c }
+        ensures lines { (n : List ℕ) → HasLine self.old.lines n → HasLine self.new.lines n }
+        ensures empties { IfSome result (λ r. Empties self.old self.new r) }
+        ensures absent { IfNone result (IsLean self.old → IsLean self.new) }
+    {
+        match self.waiting.remove(order) {
+            Some(row) => {
+                self.lines.take_out(&row.name, order);
+                self.clients.drop_waiting(row.client, order);
+                Some(row)
+            }
+            None => None,
+        }
+    }
+
+    /// Reserves capacity for one more entry of the client with this name, held or waiting. Returns
+    /// its row. Fails if out of memory, and then keeps the index lean.
+    pub fn ready(
+        &mut self,
+        client: u16,
+        number: u32,
+        name: &Name,
+        mode: Mode,
+    ) -> Result<Row, AllocError>
+        requires { IsIndexed self.old }
+        ensures indexed { IsIndexed self.new }
+        ensures held { self.new.held.items ≡ self.old.held.items }
+        ensures waiting { self.new.waiting.items ≡ self.old.waiting.items }
+        ensures next { self.new.next ≡ self.old.next }
+        ensures row { IfOk result (λ r. r ≡ row_of client number name.now mode) }
+        ensures ready { OnOk result (IsReady self.new client name.now 1) }
+        ensures small { OnOk result (self.new.next + 1 < 2 ^ 64) }
+        ensures lean { OnOk result (IsLean self.old
+            → IsLeanBut self.new (λ n. bytes_eq name.now n) (λ c. client == c)) }
+        ensures refused { OnErr result (IsLean self.old → IsLean self.new) }
+    {
+        let row = self.make_ready(client, number, name, mode);
+        if row.is_err() {
+            self.forget(client, name);
+        }
+        row
+    }
+
+    // Does the same as `ready`, but a failure may leave a name or a client without an entry.
+    fn make_ready(
+        &mut self,
+        client: u16,
+        number: u32,
+        name: &Name,
+        mode: Mode,
+    ) -> Result<Row, AllocError>
+        requires { IsIndexed self.old }
+        ensures indexed { IsIndexed self.new }
+        ensures held { self.new.held.items ≡ self.old.held.items }
+        ensures waiting { self.new.waiting.items ≡ self.old.waiting.items }
+        ensures next { self.new.next ≡ self.old.next }
+        ensures row { IfOk result (λ r. r ≡ row_of client number name.now mode) }
+        ensures ready { OnOk result (IsReady self.new client name.now 1) }
+        ensures small { OnOk result (self.new.next + 1 < 2 ^ 64) }
+        ensures lean { IsLean self.old → IsLeanBut self.new (λ n. bytes_eq name.now n) (λ c. client == c) }
+    {
+        let waiting = self.waiting.len();
+        if self.next == u64::MAX {
+            return Err(AllocError);
+        }
+        self.waiting.reserve(1)?;
+        self.held.reserve(waiting + 1)?;
+        self.clients.reserve(client, 1)?;
+        self.lines.reserve(name, 1)?;
+        new_row(client, number, name, mode)
+    }
+
+    /// Reserves capacity for one more lock of the client with this name, which does not have to
+    /// wait. Returns its row. Fails if out of memory, and then keeps the index lean.
+    pub fn ready_lock(
+        &mut self,
+        client: u16,
+        number: u32,
+        name: &Name,
+        mode: Mode,
+    ) -> Result<Row, AllocError>
+        requires { IsIndexed self.old }
+        ensures indexed { IsIndexed self.new }
+        ensures held { self.new.held.items ≡ self.old.held.items }
+        ensures waiting { self.new.waiting.items ≡ self.old.waiting.items }
+        ensures next { self.new.next ≡ self.old.next }
+        ensures row { IfOk result (λ r. r ≡ row_of client number name.now mode) }
+        ensures holdable { OnOk result (IsHoldable self.new client name.now) }
+        ensures small { OnOk result (self.new.next + 1 < 2 ^ 64) }
+        ensures lean { OnOk result (IsLean self.old
+            → IsLeanBut self.new (λ n. bytes_eq name.now n) (λ c. client == c)) }
+        ensures refused { OnErr result (IsLean self.old → IsLean self.new) }
+    {
+        let row = self.make_ready_lock(client, number, name, mode);
+        if row.is_err() {
+            self.forget(client, name);
+        }
+        row
+    }
+
+    // Does the same as `ready_lock`, but a failure may leave a name or a client without an entry.
+    fn make_ready_lock(
+        &mut self,
+        client: u16,
+        number: u32,
+        name: &Name,
+        mode: Mode,
+    ) -> Result<Row, AllocError>
+        requires { IsIndexed self.old }
+        ensures indexed { IsIndexed self.new }
+        ensures held { self.new.held.items ≡ self.old.held.items }
+        ensures waiting { self.new.waiting.items ≡ self.old.waiting.items }
+        ensures next { self.new.next ≡ self.old.next }
+        ensures row { IfOk result (λ r. r ≡ row_of client number name.now mode) }
+        ensures holdable { OnOk result (IsHoldable self.new client name.now) }
+        ensures small { OnOk result (self.new.next + 1 < 2 ^ 64) }
+        ensures lean { IsLean self.old → IsLeanBut self.new (λ n. bytes_eq name.now n) (λ c. client == c) }
+    {
+        let waiting = self.waiting.len();
+        if self.next == u64::MAX {
+            return Err(AllocError);
+        }
+        self.held.reserve(waiting + 1)?;
+        self.clients.reserve_lock(client)?;
+        self.lines.open(name)?;
+        new_row(client, number, name, mode)
+    }
+}
+
+fn new_row(client: u16, number: u32, name: &Name, mode: Mode) -> Result<Row, AllocError>
+    ensures { IfOk result (λ r. r ≡ row_of client number name.now mode) }
+{
+    Ok(Row {
+        client,
+        number,
+        name: name.clone()?,
+        mode,
+    })
+}

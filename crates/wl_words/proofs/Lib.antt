@@ -1,4 +1,0 @@
-pub mod Decimals
-pub mod Numbers
-pub mod Texts
-pub mod WordLemmas

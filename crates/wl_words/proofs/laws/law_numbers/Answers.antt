@@ -1,5 +1,0 @@
-use Rattle.wl_words.proofs.Decimals.{reads_numbers_back, one_decimal}
-use Rattle.wl_words.proofs.laws.law_numbers.Goals as goal
-
-pub returns : goal.returns
-returns c = record { reads_back = reads_numbers_back; one_decimal = one_decimal }

@@ -1,5 +1,0 @@
-use Rattle.wl_words.proofs.WordLemmas.{reads_back, one_spelling}
-use Rattle.wl_words.proofs.laws.law_words.Goals as goal
-
-pub returns : goal.returns
-returns c = record { reads_back = reads_back; one_spelling = one_spelling }

@@ -1,9 +1,0 @@
--- Records kept by a worker's neighbours: `Some` list of the calls made so far, or `None` if nothing
--- is claimed.
-use Rattle.std.specs.Prelude.{◌≡◌, List, ◌++◌, Option, None, Some, ⊤}
-
--- A recorded list has grown by these entries.
-abbrev pub Grows : {A : Type 0} → Option (List A) → Option (List A) → List A → Type 0
-Grows None new more = ⊤
-Grows (Some xs) None more = ⊥
-Grows (Some xs) (Some ys) more = ys ≡ xs ++ more

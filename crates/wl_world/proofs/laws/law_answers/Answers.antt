@@ -1,5 +1,0 @@
-use Rattle.wl_world.proofs.calls.MemoryIsNeverSaid.{memory-is_never_said}
-use Rattle.wl_world.proofs.laws.law_answers.Goals as goal
-
-pub returns : goal.returns
-returns c = record { memory = memory-is_never_said }

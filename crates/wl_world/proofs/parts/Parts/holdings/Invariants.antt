@@ -1,8 +1,0 @@
-use Rattle.std.proofs.Common.{◌≡◌, take}
-use Rattle.std.specs.List.{flat_map}
-use Rattle.wl_tab.specs.TabTokens.{holdings_of}
-use Rattle.wl_world.specs.World.{tab_of}
-use Rattle.wl_world.proofs.parts.Parts.holdings.Given as goal
-
-abbrev pub invariant-loop-tab : goal.invariant-loop-tab
-invariant-loop-tab l = l.holdings.items ≡ flat_map (λ t. holdings_of (tab_of l.self t)) (take l.tab-index l.tab-items)

@@ -1,8 +1,0 @@
-use Rattle.std.proofs.Common.{◌≡◌}
-use Rattle.wl_bag.specs.Messages.{sent_all}
-use Rattle.wl_world.specs.Replies.{sendings}
-use Rattle.wl_world.proofs.parts.acting.send_all.Given as goal
-
-abbrev pub invariant-loop-message : goal.invariant-loop-message
-invariant-loop-message l =
-    record { bag : l.bag ≡ sent_all l.yielded l.initial.bag; sent : l.sent.items ≡ sendings l.yielded l.initial.bag }

@@ -1,0 +1,4 @@
+pub mod Messages
+pub mod MessageKeys
+pub mod BagIndex
+pub mod Refused

@@ -1,0 +1,9 @@
+pub mod Tables
+pub mod AtBroker
+pub mod exclusion
+pub mod own
+pub mod order
+pub mod apart
+pub mod heard
+pub mod honest
+pub mod replies

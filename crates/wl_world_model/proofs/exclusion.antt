@@ -1,0 +1,24 @@
+-- Exclusion: each event keeps a world sound, and a sound world satisfies exclusion.
+pub mod HeldAfterSettling
+pub mod ToldParts
+pub mod Invariant
+pub mod UnchangedParts
+pub mod CoverExcludes
+pub mod GrownTabs
+pub mod HeardNumbers
+pub mod ActsWithinAGeneration
+pub mod EnteringReports
+pub mod Entering
+pub mod OpenedTabs
+pub mod OpeningAndKilling
+pub mod Corrupting
+pub mod Starting
+pub mod ManagedLocks
+pub mod SayingAndPosting
+pub mod BrokerAnswers
+pub mod TakenSeats
+pub mod ReportsTaken
+pub mod CommandsTaken
+pub mod DeathsTaken
+pub mod MessagesHeard
+pub mod SoundRuns

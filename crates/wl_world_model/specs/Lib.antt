@@ -1,0 +1,14 @@
+pub mod Sends
+pub mod World
+pub mod Holdings
+pub mod WorldRows
+pub mod Replies
+pub mod ReplyRows
+pub mod Orders
+pub mod Apart
+pub mod Heard
+pub mod Machine
+pub mod Refusals
+pub mod Hostile
+pub mod HostileRows
+pub mod PartRows

@@ -1,4 +1,0 @@
-//! One file a part.
-
-mod random;
-mod world;
