@@ -1,4 +1,5 @@
-//! Modules: rows of events, and random events.
+//! Modules: rows of events, random events, and a hub.
 
+mod hub;
 mod random;
 mod rows;

@@ -1,0 +1,191 @@
+-- The hub: the kernel with its broker, the frames that tabs have sent, and the frames for tabs.
+use Rattle.std.specs.Prelude.{◌≡◌, ℕ, List, [], ◌∷◌, ◌++◌, Bool, ◌==◌, nat_eq, length, map, Option, Some, None, is_some, option_map, Result, Ok, Err, if◌then◌else◌}
+use Rattle.indexmap.specs.IndexMap.{insert_entry, swap_remove_entry}
+use Rattle.wl_limits.specs.declared.brokers.TheConstants.{LAST_GENERATION}
+use Rattle.wl_origin.specs.declared.fault.OriginFault.{OriginFault}
+use Rattle.wl_origin.specs.Order.{Pair}
+use Rattle.wl_grammar.specs.declared.frame.Frame.{Frame}
+use Rattle.wl_grammar.specs.declared.frame.Frame.TheVariants as frame
+use Rattle.wl_grammar.specs.declared.frame.Addressed.{Addressed}
+use Rattle.wl_frames.specs.Stream.{Feeding, at_start, Takes, Refuses}
+use Rattle.std.specs.Map.{lookup}
+use Rattle.wl_frames.specs.declared.fault.FrameFault.{FrameFault}
+use Rattle.wl_kernel.specs.Kernel.{no_tabs, open_refusal, opened, killed, living_tabs}
+use Rattle.wl_kernel.specs.Routes.{routed_up, route_up_refusal, frame_of}
+use Rattle.wl_kernel.specs.Welcome.{texts_of, welcome}
+use Rattle.wl_kernel.specs.declared.fault.RouteFault.{RouteFault}
+use Rattle.wl_kernel.specs.declared.routes.Routed.{Routed}
+use Rattle.wl_hub.specs.declared.fault.OpenRefusal.{OpenRefusal}
+use Rattle.wl_hub.specs.declared.fault.OpenRefusal.TheVariants.{Origin, Tab}
+use Rattle.wl_hub.specs.declared.hub.HubStatus.{HubStatus}
+use Rattle.wl_hub.specs.declared.receiving.Progress.{Progress}
+use Rattle.wl_hub.specs.declared.receiving.Progress.TheVariants.{Idle, Told, Handled, Refused}
+use Rattle.wl_kernel.specs.declared.routes.Routed.TheVariants.{Broker, Tabs}
+use Rattle.wl_kernel_supervisor.specs.SupervisedStates.{SupervisedState, without_broker, with_kernel, after_message, frames_after_message, after_death, frames_at_death, after_stop, after_start, frames_at_start}
+
+pub record HubState : Type 0 where
+  pub supervised : SupervisedState
+  pub feeds : List (ℕ × Feeding)  -- what each living tab has sent of an unfinished frame
+  pub untold : List ℕ  -- dead tabs of which the broker was not told
+  pub sender : ℕ  -- the tab that sent the arrived frames
+  pub arrived : List Frame  -- frames that the hub has still to handle
+  pub outputs : List (ℕ × Frame)  -- each with its tab, oldest first
+
+abbrev pub new_hub : HubState
+new_hub = record {
+  supervised = without_broker (no_tabs LAST_GENERATION);
+  feeds = [];
+  untold = [];
+  sender = 0;
+  arrived = [];
+  outputs = [];
+}
+
+-- Outputs
+
+-- The frames that the broker sends, each with its tab.
+abbrev pub from_broker : List Addressed → List (ℕ × Frame)
+from_broker outs = map (λ a. (a.tab, frame_of a.inner)) outs
+
+abbrev pub sends : List (ℕ × Frame) → HubState → HubState
+sends outs h = record h { outputs = h.outputs ++ outs }
+
+-- Tabs
+
+-- The kernel tells a new tab the generation of the broker that is up.
+abbrev pub greeting : ℕ → SupervisedState → List (ℕ × Frame)
+greeting t s = if is_some s.broker then (t, frame.Hello (record { generation = s.kernel.generation })) ∷ [] else []
+
+-- A tab opens in the kernel's table. It is sent its welcome and a greeting.
+abbrev pub hub_opened : ℕ → Pair → Bool → HubState → HubState
+hub_opened t p is_pair h =
+    let texts = texts_of p is_pair in
+    sends ((t, welcome t texts.top texts.own) ∷ greeting t h.supervised)
+    (record h { supervised = with_kernel (opened t p h.supervised.kernel) h.supervised; feeds = insert_entry nat_eq h.feeds t at_start })
+
+-- A page whose URLs give this partition, or none for a fault, opens as a tab.
+abbrev pub page_refusal : ℕ → Result Pair OriginFault → HubState → Option OpenRefusal
+page_refusal t (Err f) h = Some (Origin f)
+page_refusal t (Ok p) h = option_map Tab (open_refusal t p h.supervised.kernel)
+
+abbrev pub page_opened : ℕ → Result Pair OriginFault → Bool → HubState → HubState
+page_opened t (Err f) is_pair h = h
+page_opened t (Ok p) is_pair h = hub_opened t p is_pair h
+
+-- The frames of a dead tab are not handled.
+abbrev pub without_sender : ℕ → HubState → HubState
+without_sender t h = if h.sender == t then record h { arrived = [] } else h
+
+-- A tab dies. The broker is told later.
+abbrev pub hub_closed : ℕ → HubState → HubState
+hub_closed t h =
+    without_sender t (record h {
+      supervised = with_kernel (killed t h.supervised.kernel) h.supervised;
+      feeds = swap_remove_entry (nat_eq t) h.feeds;
+      untold = h.untold ++ t ∷ [];
+    })
+
+-- Events of the kernel and its broker
+
+-- The supervisor after an event, and the frames that are sent.
+pub record Step : Type 0 where
+  pub supervised : SupervisedState
+  pub sent : List (ℕ × Frame)
+
+-- The broker takes a stamped frame, and other tabs receive a post.
+abbrev pub routed_step : Routed → SupervisedState → Step
+routed_step (Tabs heard) s = record { supervised = s; sent = heard }
+routed_step (Broker (frame.Stamped x)) s = record { supervised = after_message x s; sent = from_broker (frames_after_message x s) }
+routed_step (Broker f) s = record { supervised = s; sent = [] }
+
+-- The kernel routes a tab's frame. It drops a frame that it refuses.
+abbrev pub frame_step : ℕ → Frame → SupervisedState → Step
+frame_step t f s =
+    if is_some (route_up_refusal t f s.kernel) then record { supervised = s; sent = [] } else routed_step (routed_up t f s.kernel) s
+
+-- The broker hears of a death.
+abbrev pub told_step : ℕ → SupervisedState → Step
+told_step t s = record { supervised = after_death t s; sent = from_broker (frames_at_death t s) }
+
+abbrev pub stepped : Step → HubState → HubState
+stepped x h = record h { supervised = x.supervised; outputs = h.outputs ++ x.sent }
+
+-- The oldest arrived frame is handled.
+abbrev pub after_first : HubState → List Frame → HubState
+after_first h [] = h
+after_first h (f ∷ fs) = stepped (frame_step h.sender f h.supervised) (record h { arrived = fs })
+
+-- The broker hears of the oldest death that it was not told of.
+abbrev pub after_told : HubState → List ℕ → HubState
+after_told h [] = after_first h h.arrived
+after_told h (t ∷ ts) = stepped (told_step t h.supervised) (record h { untold = ts })
+
+-- Deaths come before frames. A death waits until a broker is up.
+abbrev pub advanced : HubState → HubState
+advanced h = if is_some h.supervised.broker then after_told h h.untold else after_first h h.arrived
+
+-- What a call of `advance` returns: what it did.
+abbrev pub handling : Option RouteFault → Progress
+handling None = Handled
+handling (Some f) = Refused f
+
+abbrev pub progress_at : HubState → List Frame → Progress
+progress_at h [] = Idle
+progress_at h (f ∷ fs) = handling (route_up_refusal h.sender f h.supervised.kernel)
+
+abbrev pub progress_from : HubState → List ℕ → Progress
+progress_from h [] = progress_at h h.arrived
+progress_from h (t ∷ ts) = Told t
+
+abbrev pub progress_of : HubState → Progress
+progress_of h = if is_some h.supervised.broker then progress_from h h.untold else progress_at h h.arrived
+
+-- Life of the broker
+
+abbrev pub hub_stopped : HubState → HubState
+hub_stopped h = record h { supervised = after_stop h.supervised }
+
+-- The broker of the next generation starts with all living tabs.
+abbrev pub hub_started : HubState → HubState
+hub_started h =
+    let ts = living_tabs h.supervised.kernel in
+    stepped (record { supervised = after_start ts h.supervised; sent = from_broker (frames_at_start ts h.supervised) }) h
+
+-- A broker that is up is stopped first.
+abbrev pub hub_down : HubState → HubState
+hub_down h = if is_some h.supervised.broker then hub_stopped h else h
+
+abbrev pub hub_restarted : HubState → HubState
+hub_restarted h = hub_started (hub_down h)
+
+-- Bytes of tabs
+
+-- A decoder makes these frames of a piece, with a fault behind them or none.
+abbrev pub Decodes : Feeding → Feeding → List ℕ → List Frame → Option FrameFault → Type 0
+Decodes before after piece frames None = Takes before after piece frames
+Decodes before after piece frames (Some f) = Refuses before after piece frames f
+
+-- The tab's decoder is given a piece. The other decoders stay the same.
+pub record IsFed (t : ℕ) (piece : List ℕ) (old new : List (ℕ × Feeding)) (frames : List Frame) (fault : Option FrameFault) : Type 0 where
+  pub before : Feeding
+  pub after : Feeding
+  pub had : lookup (nat_eq t) old ≡ Some before
+  pub decodes : Decodes before after piece frames fault
+  pub now : new ≡ insert_entry nat_eq old t after
+
+-- The frames of a piece have arrived from its tab.
+pub record IsReceived (t : ℕ) (piece : List ℕ) (old new : HubState) (fault : Option FrameFault) : Type 0 where
+  pub feeds : List (ℕ × Feeding)
+  pub frames : List Frame
+  pub fed : IsFed t piece old.feeds feeds frames fault
+  pub now : new ≡ record old { feeds = feeds; sender = t; arrived = frames }
+
+-- Status
+
+abbrev pub status_of : HubState → HubStatus
+status_of h = record {
+  generation = if is_some h.supervised.broker then Some h.supervised.kernel.generation else None;
+  living = length (living_tabs h.supervised.kernel);
+  untold = length h.untold;
+  outputs = length h.outputs;
+}

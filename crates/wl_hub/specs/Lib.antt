@@ -1,0 +1,4 @@
+pub mod Faults
+pub mod Hub
+pub mod Sending
+pub mod Stored
