@@ -177,7 +177,7 @@ fn is_longest(frame: &Frame) -> bool {
     }
 }
 
-/// Returns how many frames a piece gives, each of which must be the longest.
+/// Returns the number of frames in a piece. Panics if a frame is not the longest one.
 fn count_longest(rt: &impl Abort, feed: &mut Feed, piece: &[u8]) -> usize {
     let frames = pushed(rt, feed, piece);
     assert!(rt; frames.iter().all(is_longest));
