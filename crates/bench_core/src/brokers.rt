@@ -1,5 +1,5 @@
 //! Benchmark of the broker's lanes over shards, beside a broker without a lock and a locked broker that
-//! one thread steps. These two take the trace of one tab, and that of sixteen tabs that contend for
+//! one thread steps. The single brokers take two traces: one tab, and sixteen tabs that contend for
 //! four locks.
 
 mod events;

@@ -8,7 +8,7 @@ use wl_process_kernel::{KernelWords, run_kernel};
 use wl_process_tab::run_tab;
 use wlb_command_line::{Line, LineFault, line};
 
-/// Returns whether these are words of the program, and not those of a binary of tests.
+/// Returns whether these words are arguments of the program rather than of the test binary.
 fn are_words(words: &[String]) -> bool {
     words.len() > 2
 }

@@ -19,7 +19,7 @@ const PARTITION: u16 = 1;
 /// The receiving tab.
 const TAB: u16 = 2;
 
-/// The capacity of a queue, equal to that of an outbox.
+/// The capacity of a queue. An outbox has the same capacity.
 const CAPACITY: usize = 256;
 
 /// A thread that puts into an outbox.

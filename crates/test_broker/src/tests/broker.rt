@@ -161,7 +161,7 @@ fn write(rt: &impl Abort, alloc: Global, outs: Outs, written: &mut Vec<u8>) {
     }
 }
 
-/// Returns the frames of bytes, all of which are whole.
+/// Decodes bytes that hold whole frames only.
 fn frames_of(alloc: Global, bytes: &[u8]) -> Result<Vec<Frame>, AllocError> {
     Feed::new(alloc).push(bytes).map_err(|_| AllocError)
 }

@@ -32,7 +32,7 @@ fn events_of(alloc: Global, tab: u16, times: u32) -> Result<Events, AllocError> 
     Ok(events)
 }
 
-/// Returns the works of two tabs over one shard, each of which takes the lock `times` times.
+/// Returns the work of two tabs over one shard. Each tab takes the lock `times` times.
 fn handing_over(alloc: Global, times: u32) -> Result<Vec<VecDeque<Work>>, AllocError> {
     let mut scripts = Vec::new(alloc);
     scripts.push(dealt(alloc, 1, events_of(alloc, 1, times)?)?)?;

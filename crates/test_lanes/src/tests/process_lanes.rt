@@ -84,7 +84,7 @@ fn two_lanes_of_a_process_at_the_same_time(rt: HostRuntime) {
     runs_gated(&rt, rt.alloc(), 2);
 }
 
-/// Runs a broker of two lanes, one of which uses up the generation's only step while the link stays open.
+/// Runs a broker of two lanes. One lane uses up the generation's only step while the link stays open.
 fn spend<R: Threads + Wait + Clock + Net + Abort + Sync>(
     rt: &R,
     alloc: Global,

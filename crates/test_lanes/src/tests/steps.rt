@@ -140,7 +140,7 @@ fn take<J: Generation, R: Wait + Abort>(
     }
 }
 
-/// Returns whether a receipt is that of the step at its place.
+/// Returns whether a receipt equals the step at its place.
 fn is_of(receipt: &Receipt, steps: &[Step]) -> bool {
     match steps.get(receipt.place as usize) {
         Some(step) => receipt.event == step.event && receipt.reply == step.reply,
@@ -188,7 +188,7 @@ fn find_spent<J: Generation, R: Wait + Abort>(
     same(rt, lane.count(), count);
 }
 
-/// Takes the steps of a row, and one event more if these steps are all that the generation has.
+/// Takes the steps of a row. Takes one more event if these steps use up the generation.
 fn take_row<J: Generation, R: Wait + Abort>(
     rt: &R,
     alloc: Global,
@@ -207,7 +207,7 @@ fn take_row<J: Generation, R: Wait + Abort>(
     }
 }
 
-/// Asserts that the receipts of lanes are those of a row.
+/// Asserts that the lanes' receipts equal the receipts of a row.
 fn are_of_row<J: Generation>(rt: &impl Abort, lanes: &[Lane<J>], row: &[Step]) {
     for lane in lanes {
         for receipt in lane.receipts() {
@@ -216,7 +216,7 @@ fn are_of_row<J: Generation>(rt: &impl Abort, lanes: &[Lane<J>], row: &[Step]) {
     }
 }
 
-/// Asserts that the steps of a history are those of a row.
+/// Asserts that the steps of a history equal the steps of a row.
 fn is_row(rt: &impl Abort, steps: &[Step], row: &[Step]) {
     same(rt, steps.len(), row.len());
     for (step, wanted) in steps.iter().zip(row) {

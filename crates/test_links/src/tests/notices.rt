@@ -113,7 +113,7 @@ fn is_pair_welcome(frame: &Frame) -> bool {
     }
 }
 
-/// Only a tab that sent a frame of an earlier generation is told of the current one. A hello is no answer.
+/// The kernel tells a tab of the current generation if the tab sent a frame of an earlier one. A hello is no answer.
 #[test]
 fn late_tabs_are_told(rt: HostRuntime) {
     for (sent, current, told) in [

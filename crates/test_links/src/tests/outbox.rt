@@ -108,7 +108,7 @@ fn generation_in(taken: &Option<Parcel>) -> Option<u32> {
     }
 }
 
-/// Takes a parcel, and compares its address with that of the outbox. Its generation is 0.
+/// Takes a parcel of generation 0, and compares its address with the outbox's.
 fn take_first<R: Wait + Abort>(rt: &R, outbox: &Outbox, pass: &mut Pass)
     requires { IsOf pass.old outbox.now × (takes pass.old ≡ true) }
     ensures { IsOf pass.new outbox.now × (takes pass.new ≡ true) }

@@ -13,7 +13,7 @@ fn a_tab_beyond_its_burst_pauses(rt: HostRuntime) {
     // 32 milliseconds for the frames, 5 for their bytes.
     pace.send(flood, 0);
     assert_eq!(&rt; pace.pause(), 0);
-    // The same load a millisecond later: 73 milliseconds, 50 of which are a burst.
+    // The same load a millisecond later: 73 milliseconds, including a burst of 50.
     pace.send(flood, 1_000_000);
     assert_eq!(&rt; pace.pause(), 23_000_000);
     // The tab has paused for that long, and sends one frame more.

@@ -164,7 +164,7 @@ fn write_until_dead<R: Wait + Clock, L: Lives>(
     }
 }
 
-/// Writes the parcels of a tab, the last of which comes as the tab dies.
+/// Writes the parcels of a tab. The last parcel comes as the tab dies.
 fn last_words<R: Wait + Clock + Abort>(rt: &R, alloc: Global) -> Result<Vec<u8>, AllocError> {
     let (outbox, mut taker, mut putter) = outbox_of_one(alloc)?;
     put_hello(rt, &outbox, &mut putter, 1);

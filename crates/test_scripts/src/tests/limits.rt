@@ -268,7 +268,7 @@ pub fn living_tabs(alloc: Global) -> Result<Play, AllocError> {
     Ok(play)
 }
 
-/// Adds a start with `count` listed tabs, none of which was opened, and its answer.
+/// Adds a start that lists `count` tabs, and its answer. No listed tab was opened.
 fn start(alloc: Global, play: &mut Play, count: u32, answer: &[u8]) -> Result<(), AllocError> {
     append(&mut play.script, b"start")?;
     put_each(alloc, &mut play.script, 1..count.saturating_add(1), " {n}")?;

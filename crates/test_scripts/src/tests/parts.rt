@@ -54,7 +54,7 @@ pub fn in_two_parts(alloc: Global) -> Result<Play, AllocError> {
     Ok(play)
 }
 
-/// A query whose answer comes in two parts, the first of which comes again. LOCKS are the locks of that part.
+/// A query whose answer comes in two parts. The first part comes twice, and LOCKS are its locks.
 const QUERIED: &str = "\
 > query 1
 1#65
@@ -112,7 +112,7 @@ m142 3>b gen 2 #0 request shared b
 m143 b>3 gen 2 #0 waiting upto 1
 ";
 
-/// The same site at the top shares no lock with the page. A page that names its own site as its top shares those of the site.
+/// The same site at the top shares no lock with the page. A page that names its own site as its top shares the site's locks.
 pub fn under_another_top(alloc: Global) -> Result<Play, AllocError> {
     let mut play = in_two_parts(alloc)?;
     play.part(UNDER_ANOTHER_TOP)?;
