@@ -73,7 +73,7 @@ impl TabChannels {
     }
 
     /// Opens a channel and returns its number. Memory for its token is reserved before it is opened.
-    pub(crate) fn open(&mut self, name: &Name) -> Result<usize, ChannelFault>
+    pub fn open(&mut self, name: &Name) -> Result<usize, ChannelFault>
         ensures ok { OnOk result (self.new ≡ opened name.now self.old) }
         ensures number { IfOk result (λ n. n ≡ length self.old.objects) }
         ensures refused { RefusesBy result (open_refusal name.now self.old) ChannelFault.Memory }
@@ -92,7 +92,7 @@ impl TabChannels {
     }
 
     /// Posts data on a channel.
-    pub(crate) fn post(&mut self, number: usize, bytes: &[u8]) -> Result<Posted, ChannelRefusal>
+    pub fn post(&mut self, number: usize, bytes: &[u8]) -> Result<Posted, ChannelRefusal>
         ensures ok { OnOk result (self.new ≡ posted number bytes.now self.old) }
         ensures posted { IfOk result (λ p.
             (p.frame ≡ post_frame self.old.posts (name_at self.old.objects number) bytes.now)
@@ -107,7 +107,7 @@ impl TabChannels {
     }
 
     /// Takes another tab's post. An old post changes nothing.
-    pub(crate) fn heard(&mut self, frame: &Frame) -> Result<Hearing, AllocError>
+    pub fn heard(&mut self, frame: &Frame) -> Result<Hearing, AllocError>
         requires { heard_refusal frame.now ≡ None }
         ensures ok { OnOk result (self.new ≡ after_hearing frame.now self.old) }
         ensures hearing { IfOk result (λ h. h ≡ hearing_of frame.now self.old) }
@@ -120,7 +120,7 @@ impl TabChannels {
     }
 
     /// Takes the oldest post out of a channel's inbox. Allocates no memory.
-    pub(crate) fn read(&mut self, number: usize) -> Result<Option<Letter>, ChannelRefusal>
+    pub fn read(&mut self, number: usize) -> Result<Option<Letter>, ChannelRefusal>
         ensures ok { OnOk result (self.new ≡ read_at number self.old) }
         ensures letter { IfOk result (λ letter. letter ≡ first_of (inbox_at self.old.objects number)) }
         ensures refused { RefusesOnlyBy result (number_refusal number self.old) }
@@ -131,7 +131,7 @@ impl TabChannels {
     }
 
     /// Closes a channel. A closed channel stays closed. Allocates no memory.
-    pub(crate) fn close(&mut self, number: usize) -> Result<(), ChannelRefusal>
+    pub fn close(&mut self, number: usize) -> Result<(), ChannelRefusal>
         ensures result { result
             ≡ (if nat_lt number (length self.old.objects) then Ok tt else Err ChannelRefusal.NoChannel) }
         ensures new { self.new
