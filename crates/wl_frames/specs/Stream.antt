@@ -1,6 +1,6 @@
 -- Decoding of a byte stream. Its result is the frames at its front, and either an incomplete rest
 -- or the first fault.
-use Rattle.std.specs.Prelude.{◌≡◌, ◌≢◌, ◌⊎◌, ◌↔◌, ◌==◌, ℕ, ◌^◌, ◌<◌, List, [], ◌∷◌, ◌++◌, Bool, true, false, length, Result, Ok, Err, if◌then◌else◌}
+use Rattle.std.specs.Prelude.{◌≡◌, ◌≢◌, ◌⊎◌, ◌↔◌, ◌==◌, ℕ, ◌^◌, ◌<◌, List, [], ◌∷◌, ◌++◌, Bool, true, false, length, Option, None, Some, Result, Ok, Err, if◌then◌else◌}
 use Rattle.std.specs.List.{flat_map, AllByRecursion}
 use Rattle.wl_grammar.specs.declared.kinds.TheConstants.{FIRST_VERSION, SECOND_VERSION, COMMAND, REPORT, POST, HELLO, ANSWER, SNAPSHOT, HEARD, WELCOME, STAMPED, START, ADDRESSED, DEAD, REPORT_PART, PAIR_WELCOME}
 use Rattle.wl_grammar.specs.declared.frame.Frame.{Frame}
@@ -123,6 +123,11 @@ pub record Refuses (old new : Feeding) (piece : List ℕ) (before : List Frame) 
   pub failed : fault ≡ Failed → (before ≡ []) × (new ≡ old)
   pub memory : fault ≡ Memory → (before ≡ []) × (new ≡ old)
   pub stops : fault ≢ Failed → fault ≢ Memory → Reads (old.rest ++ piece) before (Fault fault) × (new ≡ at_fault)
+
+-- A piece yields these frames, with a fault behind them or none.
+abbrev pub Decodes : Feeding → Feeding → List ℕ → List Frame → Option FrameFault → Type 0
+Decodes old new piece frames None = Takes old new piece frames
+Decodes old new piece before (Some fault) = Refuses old new piece before fault
 
 -- At the end of the stream, a rest is a truncated frame.
 abbrev pub end_of : Feeding → Result (Unit {0}) FrameFault

@@ -3,7 +3,7 @@
 ghost use Rattle.std.specs.Prelude.{◌≡◌, ◌++◌, ◌<◌, ◌≤◌, ◌^◌, ◌⊎◌, [], length, drop, IfOk, IfErr, OnOk, MatchOption};
 ghost use Rattle.wl_frames.specs.declared.fault.FrameFault.TheVariants.{Memory};
 ghost use Rattle.wl_grammar.specs.Grammar.{IsWellFormed, u32 as spelled_u32, spelling};
-ghost use Rattle.wl_frames.specs.Stream.{IsPartial, HasFaultNext, Reads, Rest, Fault, Takes, Refuses, at_start, end_of};
+ghost use Rattle.wl_frames.specs.Stream.{IsPartial, HasFaultNext, Reads, Rest, Fault, Decodes, Takes, Refuses, at_start, end_of};
 
 use crate::fault::{FrameFault, PushFault};
 use crate::reading::decode;
@@ -71,6 +71,13 @@ fn unstored(failed: AllocFailed<Frame>) -> FrameFault
     FrameFault::Memory
 }
 
+/// What a decoder makes of a piece: the frames that the piece completes, and a fault behind them.
+#[derive(Drop)]
+pub struct Decoded {
+    pub frames: Vec<Frame>,
+    pub fault: Option<FrameFault>,
+}
+
 /// Decoder of a stream that arrives in pieces of any size.
 #[derive(Drop)]
 pub struct Feed {
@@ -113,6 +120,22 @@ impl Feed {
                 before: frames,
                 fault,
             }),
+        }
+    }
+
+    /// Consumes the next piece as `push` does, and returns its frames with the fault behind them.
+    pub fn decode(&mut self, piece: &[u8]) -> Decoded
+        ensures { Decodes self.old self.new piece.now result.frames.items result.fault }
+    {
+        match self.push(piece) {
+            Ok(frames) => Decoded {
+                frames,
+                fault: None,
+            },
+            Err(PushFault { before, fault }) => Decoded {
+                frames: before,
+                fault: Some(fault),
+            },
         }
     }
 

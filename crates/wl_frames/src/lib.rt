@@ -8,7 +8,7 @@ pub mod laws;
 pub mod reading;
 
 pub use fault::{FrameFault, PushFault};
-pub use feed::Feed;
+pub use feed::{Decoded, Feed};
 pub use wl_grammar::{
     Addressed, Answer, Boxed, Command, Dead, Downward, Entry, Frame, Heard, Hello, Memory, Mode,
     Name, Operation, Origin, Outcome, PairWelcome, Post, Report, ReportPart, Sequence, Snapshot,

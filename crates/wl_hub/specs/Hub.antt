@@ -7,7 +7,7 @@ use Rattle.wl_origin.specs.Order.{Pair}
 use Rattle.wl_grammar.specs.declared.frame.Frame.{Frame}
 use Rattle.wl_grammar.specs.declared.frame.Frame.TheVariants as frame
 use Rattle.wl_grammar.specs.declared.frame.Addressed.{Addressed}
-use Rattle.wl_frames.specs.Stream.{Feeding, at_start, Takes, Refuses}
+use Rattle.wl_frames.specs.Stream.{Feeding, at_start, Decodes}
 use Rattle.std.specs.Map.{lookup}
 use Rattle.wl_frames.specs.declared.fault.FrameFault.{FrameFault}
 use Rattle.wl_kernel.specs.Kernel.{no_tabs, open_refusal, opened, killed, living_tabs}
@@ -159,11 +159,6 @@ abbrev pub hub_restarted : HubState → HubState
 hub_restarted h = hub_started (hub_down h)
 
 -- Bytes of tabs
-
--- A decoder makes these frames of a piece, with a fault behind them or none.
-abbrev pub Decodes : Feeding → Feeding → List ℕ → List Frame → Option FrameFault → Type 0
-Decodes before after piece frames None = Takes before after piece frames
-Decodes before after piece frames (Some f) = Refuses before after piece frames f
 
 -- The tab's decoder is given a piece. The other decoders stay the same.
 pub record IsFed (t : ℕ) (piece : List ℕ) (old new : List (ℕ × Feeding)) (frames : List Frame) (fault : Option FrameFault) : Type 0 where

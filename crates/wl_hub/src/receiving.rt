@@ -5,7 +5,7 @@ ghost use Rattle.std.specs.Map.{lookup};
 ghost use Rattle.wl_frames.specs.declared.fault.FrameFault.{FrameFault};
 ghost use Rattle.wl_hub.specs.declared.fault.ReceiveFault.TheVariants as faults;
 ghost use Rattle.wl_kernel.specs.Routes.{route_up_refusal};
-ghost use Rattle.wl_hub.specs.Hub.{Decodes, IsFed, IsReceived, advanced, after_first, frame_step, handling, progress_at, progress_of};
+ghost use Rattle.wl_hub.specs.Hub.{IsFed, IsReceived, advanced, after_first, frame_step, handling, progress_at, progress_of};
 ghost use Rattle.wl_hub.specs.Stored.{queued, HasRoom};
 
 use crate::fault::ReceiveFault;
@@ -13,7 +13,7 @@ use crate::hub::Hub;
 use crate::outputs::Outputs;
 use indexmap::IndexMap;
 use std::alloc::{AllocError, Global};
-use wl_frames::{Feed, Frame, FrameFault, PushFault};
+use wl_frames::{Decoded, Feed, Frame};
 use wl_kernel::{RouteFault, Routed};
 use wl_kernel_supervisor::SupervisedBroker;
 
@@ -30,31 +30,8 @@ pub enum Progress {
     Refused(RouteFault),
 }
 
-/// What a decoder makes of a piece: the frames that the piece completes, and a fault behind them.
-#[derive(Drop)]
-struct Fed {
-    frames: Vec<Frame>,
-    fault: Option<FrameFault>,
-}
-
-/// Decodes a piece.
-fn decode(feed: &mut Feed, piece: &[u8]) -> Fed
-    ensures { Decodes feed.old feed.new piece.now result.frames.items result.fault }
-{
-    match feed.push(piece) {
-        Ok(frames) => Fed {
-            frames,
-            fault: None,
-        },
-        Err(PushFault { before, fault }) => Fed {
-            frames: before,
-            fault: Some(fault),
-        },
-    }
-}
-
 /// Gives a piece to a tab's decoder. Returns `None` if there is none.
-fn feed(feeds: &mut IndexMap<u16, Feed>, tab: u16, piece: &[u8]) -> Option<Fed>
+fn feed(feeds: &mut IndexMap<u16, Feed>, tab: u16, piece: &[u8]) -> Option<Decoded>
     ensures fed { IfSome result (λ f. IsFed tab piece.now feeds.old.entries feeds.new.entries f.frames.items f.fault) }
     ensures none { result ≡ None → (feeds.new.entries ≡ feeds.old.entries) × (lookup (nat_eq tab) feeds.old.entries ≡ None) }
 {
@@ -64,7 +41,7 @@ fn feed(feeds: &mut IndexMap<u16, Feed>, tab: u16, piece: &[u8]) -> Option<Fed>
     let Some(feed) = feeds.get_index_mut(place) else {
         return None;
     };
-    Some(decode(feed, piece))
+    Some(feed.decode(piece))
 }
 
 impl Hub {
