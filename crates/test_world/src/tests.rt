@@ -1,5 +1,6 @@
-//! Modules: rows of events, random events, and a hub.
+//! Modules: rows of events, random events, a hub, and clients of a hub.
 
+mod client;
 mod hub;
 mod random;
 mod rows;
