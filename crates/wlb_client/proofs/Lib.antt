@@ -1,0 +1,2 @@
+mod FrameLength
+mod Steps
