@@ -1,2 +1,3 @@
 pub mod Handle
 pub mod Numbers
+pub mod Statuses

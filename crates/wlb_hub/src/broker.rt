@@ -1,6 +1,7 @@
 //! Restart of the broker, and the status page.
 
-ghost use Rattle.std.specs.Prelude.{◌≡◌, ◌≢◌, None, is_some, option_map, IfSome};
+ghost use Rattle.std.specs.Prelude.{◌≡◌, ◌≢◌, false, None, is_some, option_map, IfSome};
+ghost use Rattle.wl_kernel.specs.Kernel.{may_stop};
 ghost use Rattle.wl_hub.specs.Hub.{hub_down, hub_restarted, status_of};
 ghost use Rattle.wlb_hub.specs.Numbers.{capped, numbers_of};
 ghost use Rattle.wlb_hub.specs.declared.status.TheConstants.{WLB_OK, WLB_MEMORY, WLB_NO_HANDLE, WLB_GENERATIONS_USED_UP};
@@ -50,6 +51,7 @@ fn restart(hub: &mut Hub) -> i32
     ensures ok { result ≡ WLB_OK → hub.new ≡ hub_restarted hub.old }
     ensures memory { result ≡ WLB_MEMORY → hub.new ≡ hub_down hub.old }
     ensures used_up { result ≡ WLB_GENERATIONS_USED_UP → hub.new ≡ hub.old }
+    ensures last { result ≡ WLB_GENERATIONS_USED_UP → may_stop hub.old.supervised.kernel ≡ false }
 {
     match hub.restart() {
         Ok(()) => WLB_OK,
@@ -65,6 +67,7 @@ pub extern "C" fn wlb_hub_restart(handle: &mut Handle, alloc: Global) -> i32
     ensures ok { result ≡ WLB_OK → handle.new.value ≡ option_map hub_restarted handle.old.value }
     ensures memory { result ≡ WLB_MEMORY → handle.new.value ≡ option_map hub_down handle.old.value }
     ensures used_up { result ≡ WLB_GENERATIONS_USED_UP → handle.new.value ≡ handle.old.value }
+    ensures last { result ≡ WLB_GENERATIONS_USED_UP → IfSome handle.old.value (λ h. may_stop h.supervised.kernel ≡ false) }
 {
     let Some(mut hub) = taken(handle, alloc) else {
         return WLB_NO_HANDLE;
@@ -78,6 +81,7 @@ pub extern "C" fn wlb_hub_restart(handle: &mut Handle, alloc: Global) -> i32
 #[unsafe(no_mangle)]
 pub extern "C" fn wlb_hub_status(handle: &mut Handle, alloc: Global, numbers: &mut Numbers) -> i32
     ensures empty { handle.old.value ≡ None → result ≡ WLB_NO_HANDLE }
+    ensures unwritten { result ≢ WLB_OK → numbers.new ≡ numbers.old }
     ensures ok { result ≡ WLB_OK → IfSome handle.old.value (λ h. numbers.new ≡ numbers_of (status_of h)) }
     ensures same { handle.new.value ≡ handle.old.value }
 {

@@ -1,8 +1,9 @@
 //! Bytes from tabs and for tabs.
 
-ghost use Rattle.std.specs.Prelude.{◌≡◌, ◌≢◌, ◌≤◌, ◌+◌, [], Some, None, is_some, option_map, take, length, IfSome, IfOk};
+ghost use Rattle.std.specs.Prelude.{◌≡◌, ◌≢◌, ◌≤◌, [], Some, None, is_some, option_map, take, length, IfSome};
 ghost use Rattle.wl_frames.specs.declared.fault.FrameFault.{FrameFault};
 ghost use Rattle.wl_frames.specs.declared.fault.FrameFault.TheVariants.{Memory};
+ghost use Rattle.wl_kernel.specs.declared.fault.RouteFault.{RouteFault};
 ghost use Rattle.wl_hub.specs.Hub.{IsReceived, advanced, progress_of};
 ghost use Rattle.wl_hub.specs.Sending.{IsNext};
 ghost use Rattle.wl_hub.specs.declared.receiving.Progress.TheVariants as progress;
@@ -42,6 +43,7 @@ fn advance(hub: &mut Hub) -> i32
     ensures done { result ≢ WLB_MEMORY → hub.new ≡ advanced hub.old }
     ensures memory { result ≡ WLB_MEMORY → hub.new ≡ hub.old }
     ensures idle { result ≡ WLB_IDLE → progress_of hub.old ≡ progress.Idle }
+    ensures frame { result ≡ WLB_BAD_FRAME → (f : RouteFault) × (progress_of hub.old ≡ progress.Refused f) }
 {
     match hub.advance() {
         Ok(Progress::Idle) => WLB_IDLE,
@@ -73,6 +75,7 @@ fn next_output(
     ensures dropped { result ≡ WLB_DROPPED → IsNext hub.old output.Dropped [] [] hub.new }
     ensures memory { result ≡ WLB_MEMORY → hub.new ≡ hub.old }
     ensures short { result ≡ WLB_SHORT_BUFFER → hub.new ≡ hub.old }
+    ensures unwritten { result ≢ WLB_OK → (tab.new ≡ tab.old) × (out.new ≡ out.old) × (written.new ≡ written.old) }
 {
     if out.len() < WLB_FRAME_BYTES {
         return WLB_SHORT_BUFFER;
@@ -120,6 +123,7 @@ pub extern "C" fn wlb_hub_advance(handle: &mut Handle, alloc: Global) -> i32
     ensures done { result ≢ WLB_MEMORY → handle.new.value ≡ option_map advanced handle.old.value }
     ensures memory { result ≡ WLB_MEMORY → handle.new.value ≡ handle.old.value }
     ensures idle { result ≡ WLB_IDLE → IfSome handle.old.value (λ h. progress_of h ≡ progress.Idle) }
+    ensures frame { result ≡ WLB_BAD_FRAME → IfSome handle.old.value (λ h. (f : RouteFault) × (progress_of h ≡ progress.Refused f)) }
 {
     let Some(mut hub) = taken(handle, alloc) else {
         return WLB_NO_HANDLE;
@@ -146,6 +150,7 @@ pub extern "C" fn wlb_hub_next_output(
     ensures dropped { result ≡ WLB_DROPPED → IfSome handle.old.value (λ old. IfSome handle.new.value (λ new. IsNext old output.Dropped [] [] new)) }
     ensures memory { result ≡ WLB_MEMORY → handle.new.value ≡ handle.old.value }
     ensures short { result ≡ WLB_SHORT_BUFFER → handle.new.value ≡ handle.old.value }
+    ensures unwritten { result ≢ WLB_OK → (tab.new ≡ tab.old) × (out.new ≡ out.old) × (written.new ≡ written.old) }
 {
     let Some(mut hub) = taken(handle, alloc) else {
         return WLB_NO_HANDLE;

@@ -1,6 +1,8 @@
 //! Statuses of the C interface, and their meanings for the faults of `wl_hub`.
 
 ghost use Rattle.std.specs.Prelude.{◌≡◌, ◌≢◌};
+ghost use Rattle.wlb_hub.specs.Statuses.{status_of_refusal};
+ghost use Rattle.wl_hub.specs.declared.fault.CloseFault.TheVariants as closings;
 ghost use Rattle.wlb_hub.specs.declared.status.TheConstants.{WLB_OK, WLB_MEMORY, WLB_NO_HANDLE, WLB_BUSY, WLB_BAD_FRAME, WLB_NO_TAB, WLB_GENERATIONS_USED_UP};
 ghost use Rattle.wl_frames.specs.declared.fault.FrameFault.{FrameFault};
 ghost use Rattle.wl_frames.specs.declared.fault.FrameFault.TheVariants.{Memory};
@@ -47,6 +49,7 @@ pub const WLB_SHORT_BUFFER: i32 = 27;
 
 /// Returns the status of a tab that was not opened.
 pub(crate) fn of_open(refusal: OpenRefusal) -> i32
+    ensures status { result ≡ status_of_refusal refusal }
     ensures not_ok { result ≢ WLB_OK }
     ensures handle { result ≢ WLB_NO_HANDLE }
 {
@@ -65,6 +68,7 @@ pub(crate) fn of_open(refusal: OpenRefusal) -> i32
 /// Returns the status of a tab that was not closed.
 pub(crate) fn of_close(fault: CloseFault) -> i32
     ensures not_ok { result ≢ WLB_OK }
+    ensures no_tab { result ≡ WLB_NO_TAB → fault ≡ closings.NotLiving }
     ensures handle { result ≢ WLB_NO_HANDLE }
 {
     match fault {
