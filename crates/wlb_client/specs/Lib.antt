@@ -1,2 +1,3 @@
 pub mod Handle
 pub mod Pages
+pub mod Statuses

@@ -1,14 +1,15 @@
 //! Commands of the tab.
 
-ghost use Rattle.std.specs.Prelude.{◌≡◌, ◌≢◌, ◌++◌, [], ◌∷◌, true, false, None, is_some, option_map, length, IfSome, IfOk, IfErr};
-ghost use Rattle.wl_agent.specs.Tab.{asked, queried};
+ghost use Rattle.std.specs.Prelude.{◌≡◌, ◌≢◌, ◌⊎◌, ◌++◌, [], ◌∷◌, true, false, Some, None, is_some, option_map, length, IfSome, IfOk, IfErr};
+ghost use Rattle.wl_agent.specs.Tab.{asked, queried, ask_refusal, query_refusal};
 ghost use Rattle.wl_agent.specs.Tokens.{is_holding};
 ghost use Rattle.wl_tab.specs.TabTokens.{abortion};
 ghost use Rattle.wl_tab.specs.declared.locks.AbortResult.TheVariants as aborts;
-ghost use Rattle.wl_client.specs.Client.{after_command, after_abort, after_release};
+ghost use Rattle.wl_client.specs.Client.{call_refusal, after_command, after_abort, after_release};
 ghost use Rattle.wl_client.specs.declared.client.Unsent.TheVariants as unsent_with;
 ghost use Rattle.wlb_client.specs.Pages.{mode_of, on_client};
-ghost use Rattle.wlb_client.specs.declared.status.TheConstants.{WLB_OK, WLB_NO_HANDLE, WLB_HELD, WLB_NOTHING};
+ghost use Rattle.wlb_client.specs.Statuses.{status_of_call};
+ghost use Rattle.wlb_client.specs.declared.status.TheConstants.{WLB_OK, WLB_MEMORY, WLB_NO_HANDLE, WLB_BAD_TEXT, WLB_HELD, WLB_NOTHING};
 
 use crate::handle::Handle;
 use crate::life::{put, taken};
@@ -35,6 +36,7 @@ fn mode_of(shared: bool) -> Mode
 pub(crate) fn name_of(alloc: Global, bytes: &[u8]) -> Result<Name, i32>
     ensures ok { IfOk result (λ name. name ≡ bytes.now) }
     ensures err { IfErr result (λ status. (status ≢ WLB_OK) × (status ≢ WLB_NO_HANDLE)) }
+    ensures reason { IfErr result (λ status. status ≢ WLB_BAD_TEXT → status ≡ WLB_MEMORY) }
 {
     let Ok(text) = std::str::from_utf8(bytes) else {
         return Err(WLB_BAD_TEXT);
@@ -48,6 +50,9 @@ pub(crate) fn name_of(alloc: Global, bytes: &[u8]) -> Result<Name, i32>
 /// Requests a lock.
 fn request(client: &mut Client, alloc: Global, name: &[u8], shared: bool, number: &mut u32) -> i32
     ensures handle { result ≢ WLB_NO_HANDLE }
+    ensures allowed { result ≡ WLB_OK → call_refusal (ask_refusal client.old.locks name.now) client.old ≡ None }
+    ensures reason { result ≢ WLB_OK → result ≢ WLB_BAD_TEXT → (result ≡ WLB_MEMORY)
+        ⊎ (option_map status_of_call (call_refusal (ask_refusal client.old.locks name.now) client.old) ≡ Some result) }
     ensures ok { result ≡ WLB_OK → client.new ≡ after_command (asked (mode_of shared) false name.now) client.old }
     ensures number { result ≡ WLB_OK → number.new ≡ length client.old.locks.issued }
     ensures refused { result ≢ WLB_OK → client.new ≡ client.old }
@@ -69,6 +74,9 @@ fn request(client: &mut Client, alloc: Global, name: &[u8], shared: bool, number
 /// Requests a lock with `ifAvailable`.
 fn probe(client: &mut Client, alloc: Global, name: &[u8], shared: bool, number: &mut u32) -> i32
     ensures handle { result ≢ WLB_NO_HANDLE }
+    ensures allowed { result ≡ WLB_OK → call_refusal (ask_refusal client.old.locks name.now) client.old ≡ None }
+    ensures reason { result ≢ WLB_OK → result ≢ WLB_BAD_TEXT → (result ≡ WLB_MEMORY)
+        ⊎ (option_map status_of_call (call_refusal (ask_refusal client.old.locks name.now) client.old) ≡ Some result) }
     ensures ok { result ≡ WLB_OK → client.new ≡ after_command (asked (mode_of shared) true name.now) client.old }
     ensures number { result ≡ WLB_OK → number.new ≡ length client.old.locks.issued }
     ensures refused { result ≢ WLB_OK → client.new ≡ client.old }
@@ -90,6 +98,9 @@ fn probe(client: &mut Client, alloc: Global, name: &[u8], shared: bool, number: 
 /// Queries the locks of the tab's partition.
 fn query(client: &mut Client, number: &mut u32) -> i32
     ensures handle { result ≢ WLB_NO_HANDLE }
+    ensures allowed { result ≡ WLB_OK → call_refusal (query_refusal client.old.locks) client.old ≡ None }
+    ensures reason { result ≢ WLB_OK → (result ≡ WLB_MEMORY)
+        ⊎ (option_map status_of_call (call_refusal (query_refusal client.old.locks) client.old) ≡ Some result) }
     ensures ok { result ≡ WLB_OK → client.new ≡ after_command queried client.old }
     ensures number { result ≡ WLB_OK → number.new ≡ length client.old.locks.issued }
     ensures refused { result ≢ WLB_OK → client.new ≡ client.old }
@@ -158,6 +169,9 @@ pub extern "C" fn wlb_client_request(
 ) -> i32
     ensures empty { handle.old.value ≡ None → result ≡ WLB_NO_HANDLE }
     ensures kept { is_some handle.new.value ≡ is_some handle.old.value }
+    ensures allowed { result ≡ WLB_OK → IfSome handle.old.value (λ p. call_refusal (ask_refusal p.client.locks name.now) p.client ≡ None) }
+    ensures reason { result ≢ WLB_OK → result ≢ WLB_BAD_TEXT → IfSome handle.old.value (λ p. (result ≡ WLB_MEMORY)
+        ⊎ (option_map status_of_call (call_refusal (ask_refusal p.client.locks name.now) p.client) ≡ Some result)) }
     ensures ok { result ≡ WLB_OK → handle.new.value
         ≡ option_map (on_client (after_command (asked (mode_of shared) false name.now))) handle.old.value }
     ensures number { result ≡ WLB_OK → IfSome handle.old.value (λ p. number.new ≡ length p.client.locks.issued) }
@@ -183,6 +197,9 @@ pub extern "C" fn wlb_client_probe(
 ) -> i32
     ensures empty { handle.old.value ≡ None → result ≡ WLB_NO_HANDLE }
     ensures kept { is_some handle.new.value ≡ is_some handle.old.value }
+    ensures allowed { result ≡ WLB_OK → IfSome handle.old.value (λ p. call_refusal (ask_refusal p.client.locks name.now) p.client ≡ None) }
+    ensures reason { result ≢ WLB_OK → result ≢ WLB_BAD_TEXT → IfSome handle.old.value (λ p. (result ≡ WLB_MEMORY)
+        ⊎ (option_map status_of_call (call_refusal (ask_refusal p.client.locks name.now) p.client) ≡ Some result)) }
     ensures ok { result ≡ WLB_OK → handle.new.value
         ≡ option_map (on_client (after_command (asked (mode_of shared) true name.now))) handle.old.value }
     ensures number { result ≡ WLB_OK → IfSome handle.old.value (λ p. number.new ≡ length p.client.locks.issued) }
@@ -202,6 +219,9 @@ pub extern "C" fn wlb_client_probe(
 pub extern "C" fn wlb_client_query(handle: &mut Handle, alloc: Global, number: &mut u32) -> i32
     ensures empty { handle.old.value ≡ None → result ≡ WLB_NO_HANDLE }
     ensures kept { is_some handle.new.value ≡ is_some handle.old.value }
+    ensures allowed { result ≡ WLB_OK → IfSome handle.old.value (λ p. call_refusal (query_refusal p.client.locks) p.client ≡ None) }
+    ensures reason { result ≢ WLB_OK → IfSome handle.old.value (λ p. (result ≡ WLB_MEMORY)
+        ⊎ (option_map status_of_call (call_refusal (query_refusal p.client.locks) p.client) ≡ Some result)) }
     ensures ok { result ≡ WLB_OK → handle.new.value ≡ option_map (on_client (after_command queried)) handle.old.value }
     ensures number { result ≡ WLB_OK → IfSome handle.old.value (λ p. number.new ≡ length p.client.locks.issued) }
     ensures refused { result ≢ WLB_OK → handle.new.value ≡ handle.old.value }

@@ -4,6 +4,7 @@ ghost use Rattle.std.specs.Prelude.{◌≡◌, ◌≢◌};
 ghost use Rattle.wl_frames.specs.declared.fault.FrameFault.{FrameFault};
 ghost use Rattle.wl_frames.specs.declared.fault.FrameFault.TheVariants.{Memory};
 ghost use Rattle.wl_client.specs.declared.fault.ReceiveFault.TheVariants as receipts;
+ghost use Rattle.wlb_client.specs.Statuses.{status_of_call};
 ghost use Rattle.wlb_client.specs.declared.status.TheConstants.{WLB_OK, WLB_IDLE, WLB_MEMORY, WLB_NO_HANDLE, WLB_BUSY, WLB_BAD_FRAME, WLB_HELD, WLB_NOTHING};
 
 use wl_agent::AgentFault;
@@ -72,6 +73,7 @@ pub(crate) fn of_receive(fault: ReceiveFault) -> i32
 
 /// Returns the status of a command that was not issued.
 pub(crate) fn of_call(fault: CallFault) -> i32
+    ensures status { result ≡ status_of_call fault }
     ensures not_ok { result ≢ WLB_OK }
     ensures handle { result ≢ WLB_NO_HANDLE }
     ensures held { result ≢ WLB_HELD }
