@@ -1,8 +1,10 @@
 # Shows, measures and tests `wlb`. `make` alone lists the targets.
-.PHONY: help demo demo-processes try bench soak fuzz refuse mutants test
+.PHONY: help demo demo-processes try lib install bench soak fuzz refuse mutants test
 
 WLB = crates/wlb/out/wlb
 BENCH = crates/bench_core/out/bench_core
+HUB = crates/wlb_hub/out/libwlb_hub.a
+CLIENT = crates/wlb_client/out/libwlb_client.a
 
 help: ## lists the targets
 	@sed -n 's/^\([a-z-]*\):.* ## \(.*\)/make \1\t\2/p' $(firstword $(MAKEFILE_LIST)) | expand -t 22
@@ -20,8 +22,19 @@ demo-processes: $(WLB) ## plays PROCESSES, a folder with the scripts of a kernel
 try: ## plays EXAMPLE, a script of the sim, with nothing proved
 	cd crates/wlb && rt try -- sim < $(abspath $(EXAMPLE))
 
-bench: $(WLB) $(BENCH) ## measures scripts, the broker, lock tables, the board, lanes and processes
-	python3 tools/bench.py $(WLB) $(BENCH)
+PREFIX ?= /usr/local
+BUILD ?= build
+# Folders with archives that `rt lib` has made elsewhere.
+ARCHIVES ?=
+
+lib: $(if $(ARCHIVES),,$(HUB) $(CLIENT)) ## builds the C libraries in the folder `build`
+	python3 tools/library.py --prefix $(PREFIX) build $(BUILD) $(or $(ARCHIVES),$(dir $(HUB) $(CLIENT)))
+
+install: lib ## installs the header and the C libraries under PREFIX
+	python3 tools/library.py --prefix $(PREFIX) install --destdir "$(DESTDIR)" $(BUILD)
+
+bench: $(WLB) $(BENCH) lib ## measures scripts, the broker, lock tables, the board, lanes, processes and the C libraries
+	python3 tools/bench.py --build $(BUILD) $(WLB) $(BENCH)
 
 MINUTES ?= 10
 SEED ?= 1
@@ -52,9 +65,13 @@ test: ## the gate: proves every crate, kills mutants, runs every test and the pr
 	@python3 tools/refuse.py --gate
 	@python3 tools/check_program.py $(WLB)
 	@python3 tools/check_processes.py $(WLB)
+	@python3 tools/check_library.py $(ARCHIVES)
 
 $(WLB): crates.txt $(wildcard crates/*/src/*.rt crates/*/src/*/*.rt crates/*/specs/*.antt)
 	cd crates/wlb && rt run < stdin > /dev/null
 
 $(BENCH): crates.txt $(wildcard crates/wl_*/src/*.rt crates/wl_*/src/*/*.rt crates/wl_*/specs/*.antt crates/bench_core/src/*.rt)
 	cd crates/bench_core && rt run > /dev/null
+
+$(HUB) $(CLIENT): crates.txt $(wildcard crates/wl*/src/*.rt crates/wl*/src/*/*.rt crates/wl*/specs/*.antt)
+	cd $(dir $@).. && rt lib > /dev/null

@@ -1,9 +1,9 @@
-"""Measures `wlb`: scripts, the broker, the lock tables, the board, the lanes, and processes.
+"""Measures `wlb`: scripts, the broker, the lock tables, the board, the lanes, processes, and the C libraries.
 
 BENCH is the program of the crate `bench_core`, which measures single parts. If OLDER is given, an older `wlb`, the lines of
-Reports, Waiting and Answers also say how many times as long it takes. The tool builds `relay.c` and `bare_table.c` and leaves
-out their figures if there is no `cc`. It needs `/proc`. It ends with an error if a run fails or has an unexpected number of
-answers.
+Reports, Waiting and Answers also say how many times as long it takes. The tool builds `relay.c`, `bare_table.c` and
+`bench_library.c` and leaves out their figures if there is no `cc`. It needs `/proc`. It ends with an error if a run fails or has
+an unexpected number of answers.
 
 Handover: scripts of growing length, in which two tabs of one origin hand a lock over again and again. Prints the seconds of
 each script, and the time of a line as a ratio to the shortest script. If a line costs the same whatever was sent before it, the
@@ -57,6 +57,13 @@ Idle: 64 tabs of one origin wait for a lock. One of them holds it, and waits for
 sends its request again after 20 milliseconds without an answer. Prints the processor time of kernel, broker and tabs over five
 seconds, as a share of one processor: the median of the runs. The 64 tabs of the relay stand beside it, which each send a frame
 20 milliseconds after the last answer, and then a kernel and a broker without tabs.
+
+Library: `bench_library.c` over the archives in the folder BUILD, as `make lib` makes them. Its calls stand in one process: tabs
+with clients of their own take turns, and each requests a lock of its own, is granted it and releases it. Prints the best rate for
+each number of tabs, and the median ratio of the time to that with one tab. Its processes are a browser with one poll loop and
+renderers over socket pairs. A round sends a release and the next request, and waits for a grant. Beside them stands the same loop
+without a hub, which sends each frame back. Prints the best rates, and the median ratio. Then come the bytes that a hub allocates
+for each of 65,536 locks of 1,024 tabs, and the sizes of the stripped shared libraries.
 """
 
 import argparse
@@ -93,6 +100,12 @@ IDLE_RUNS = 3
 QUIET = 20
 # The most seconds of a run of processes.
 SECONDS = 120
+
+CALLED_TABS = [1, 4, 1_024]
+CALLED_ROUNDS = 50_000
+# Title, number of renderers, and whose the lock's name is.
+LINKED = [("1 renderer", 1, "own"), ("4 renderers, a name each", 4, "own"), ("4 renderers, one name", 4, "one")]
+LOCKS = 65_536
 
 
 def handover(lines):
@@ -457,14 +470,14 @@ def relaying_seconds(relay, tabs, rounds):
         return seconds_between([relay, "kernel", ".", str(tabs), str(rounds)], place, b"up", b"ended", 1)
 
 
-def build(place, name):
-    """Builds a C program of this folder and returns its path, or None without a compiler."""
+def build(place, name, *words):
+    """Builds a C program of this folder and returns its path, or None without a compiler. `words` follow its source."""
     if not shutil.which("cc"):
         print(f"no cc: {name} and the ratios to it are left out")
         return None
     program = os.path.join(place, name)
     source = os.path.join(os.path.dirname(os.path.abspath(__file__)), f"{name}.c")
-    subprocess.run(["cc", "-O2", "-pthread", "-o", program, source], check=True)
+    subprocess.run(["cc", "-O2", "-pthread", "-o", program, source, *words], check=True)
     return program
 
 
@@ -561,11 +574,61 @@ def tables(bench):
             print(f"bare table: {few} nanoseconds a call with 64 entries, {many} with 65,536: {ratio}")
 
 
+# ---- The C libraries
+
+
+def number_of(program, *words):
+    """Returns the number that a program prints."""
+    words = [program, *map(str, words)]
+    return int(subprocess.run(words, stdout=subprocess.PIPE, timeout=SECONDS, check=True).stdout)
+
+
+def calling(program):
+    """Prints the rate of locks through hub and clients in one process."""
+    taken = {tabs: [] for tabs in CALLED_TABS}
+    for _ in range(RUNS):
+        for tabs, some in taken.items():
+            some.append(number_of(program, "calls", tabs, CALLED_ROUNDS))
+    for tabs, some in taken.items():
+        ratio = statistics.median(time / first for time, first in zip(some, taken[CALLED_TABS[0]]))
+        rate = CALLED_ROUNDS / min(some) * 1e9
+        print(f"library: calls, {tabs:5} tabs {rate:8.0f} locks a second  ratio of the time of a lock {ratio:5.2f}")
+
+
+def linked(program, rounds=ROUNDS):
+    """Prints the rate of locks of a browser process, beside the loop without a hub."""
+    for what, tabs, name in LINKED:
+        relayed, taken = [], []
+        for _ in range(RUNS):
+            relayed.append(number_of(program, "relay", tabs, rounds))
+            taken.append(number_of(program, "browser", tabs, rounds, name))
+        ratio = statistics.median(bare / time for bare, time in zip(relayed, taken))
+        rates = [tabs * rounds / min(some) * 1e9 for some in (taken, relayed)]
+        print(f"library: {what:25} {rates[0]:8.0f} locks a second  the bare loop {rates[1]:8.0f} trips  ratio {ratio:5.2f}")
+
+
+def library(folder):
+    archives = [os.path.join(folder, f"libwlb_{part}.a") for part in ("hub", "client")]
+    include = os.path.join(os.path.dirname(os.path.abspath(__file__)), "..", "include")
+    with tempfile.TemporaryDirectory(prefix="wlb-") as place:
+        program = build(place, "bench_library", f"-I{include}", "-D_GNU_SOURCE", *archives)
+        if not program:
+            return
+        calling(program)
+        linked(program)
+        print(f"library: a lock of the hub takes {number_of(program, 'memory') / LOCKS:5.0f} bytes")
+        for part in ("hub", "client"):
+            stripped = os.path.join(place, "stripped")
+            subprocess.run(["strip", "-o", stripped, os.path.join(folder, f"libwlb_{part}.so")], check=True)
+            print(f"library: libwlb_{part}.so, stripped {os.path.getsize(stripped) / 1024:6.0f} KiB")
+
+
 def main():
     parser = argparse.ArgumentParser(description=__doc__, formatter_class=argparse.RawDescriptionHelpFormatter)
     parser.add_argument("program", metavar="WLB", help="the program `wlb`")
     parser.add_argument("bench", metavar="BENCH", help="the program `bench_core`")
     parser.add_argument("older", metavar="OLDER", nargs="?", help="an older `wlb`")
+    parser.add_argument("--build", metavar="BUILD", default="build", help="the folder that `make lib` has written")
     given = parser.parse_args()
     program, bench = given.program, given.bench
     programs = [program, given.older] if given.older else [program]
@@ -580,6 +643,7 @@ def main():
     granting(program)
     sharding(program)
     idle(program)
+    library(given.build)
 
 
 if __name__ == "__main__":

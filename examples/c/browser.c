@@ -30,7 +30,8 @@ enum {
     PIECE = 16384,                // most bytes of one read
     OUTPUT = 4 * WLB_FRAME_BYTES, // most bytes that wait for a renderer that does not read
     RETRY_MS = 5,                 // milliseconds until a call that was refused memory is repeated
-    RESTART_MS = 10,              // milliseconds between two restarts of the broker
+    STARTS = 10,                  // starts of the broker, beside the one after renderer 1 has stopped
+    RESTART_MS = 10,              // milliseconds between two of them
     SLEEP_US = 1000               // microseconds between a renderer's read of the counter and its write
 };
 
@@ -271,20 +272,23 @@ static long now_ms(void) {
     return now.tv_sec * 1000 + now.tv_nsec / 1000000;
 }
 
-static bool is_broker_wanted = true; // also at the beginning
-static long next_restart;
+static bool is_broker_wanted;
+static int starts;
+static long next_start;
 
-// Restarts the broker when it is time, and kills renderer 1 when it has stopped itself.
+// Starts the broker when it is time, at once at the beginning, and kills renderer 1 when it has stopped itself.
 static void disturb(void) {
     siginfo_t info = {0};
     bool is_stopped = tabs[1].link >= 0 && waitid(P_PID, (id_t)tabs[1].process, &info, WSTOPPED | WNOHANG) == 0 && info.si_pid;
-    if (is_stopped || now_ms() >= next_restart) is_broker_wanted = true;
+    bool is_due = starts < STARTS && now_ms() >= next_start;
+    if (is_due) starts++;
+    if (is_stopped || is_due) is_broker_wanted = true;
     if (is_broker_wanted) {
         int32_t status = wlb_hub_restart(&hub);
         // Without memory no broker is up. The next turn of the loop starts it.
         is_broker_wanted = status == WLB_MEMORY;
         if (!is_broker_wanted) need(status, "wlb_hub_restart");
-        next_restart = now_ms() + RESTART_MS;
+        next_start = now_ms() + RESTART_MS;
     }
     if (is_stopped) kill(tabs[1].process, SIGKILL);
 }

@@ -1,0 +1,242 @@
+"""Checks the C libraries of `wlb` as a C program uses them.
+
+It installs the header and the libraries into a temporary folder by `make install`. It compiles the programs in `examples/c` and
+plays them, with and without sanitizers: `in_process` has to print the file beside it, and each run of `browser` has to lose no
+update. It compares the header's limits and statuses with the constants of the crates, the header's functions with the names that
+the shared libraries export, and compiles the header as C++. `library_edges.c` plays the edge cases of every function, and
+`fuzz_library.c` gives hub and client random and mutated bytes under the address sanitizer.
+
+It prints each difference, and nothing if there is none. The status is 1 if there is a difference. It needs `make`, a C compiler
+`cc`, `nm` and `pkg-config`. Without a C++ compiler `c++` it leaves that part out.
+"""
+
+import argparse
+import os
+import pathlib
+import re
+import shutil
+import signal
+import subprocess
+import sys
+import tempfile
+
+from checks import differences, same
+from library import HEADER, LIBRARIES, TOP, functions_of
+
+TOOLS = TOP / "tools"
+EXAMPLES = TOP / "examples" / "c"
+SECONDS = 300
+
+FLAGS = ["-std=c11", "-D_POSIX_C_SOURCE=200809L", "-Wall", "-Wextra", "-Werror", "-O1", "-g"]
+SANITIZERS = ["-fsanitize=address,undefined", "-fno-sanitize-recover=all"]
+# Renderers and rounds of a run of `browser`, and whether one more renderer does not read.
+RUNS = [(1, 1, False), (2, 9, False), (4, 12, False), (4, 12, True), (9, 5, True), (30, 2, False)]
+
+# Each limit of the header with the constant of a crate that it repeats, and what is added to that.
+LIMITS = {
+    "WLB_FRAME_BYTES": ("BODY_LIMIT", 4),
+    "WLB_NAME_BYTES": ("NAME_LIMIT", 0),
+    "WLB_DATA_BYTES": ("DATA_LIMIT", 0),
+    "WLB_URL_BYTES": ("URL_LIMIT", 0),
+    "WLB_LIVING_TABS": ("LIVING_LIMIT", 0),
+    "WLB_PARTITION_TABS": ("PARTITION_LIMIT", 0),
+    "WLB_LAST_TAB": ("LAST_TAB", 0),
+    "WLB_LAST_GENERATION": ("LAST_GENERATION", 0),
+    "WLB_LIVE_NUMBERS": ("LIVE_LIMIT", 0),
+    "WLB_PAIR_LIVE_NUMBERS": ("LIVE_LIMIT_IN_PARTS", 0),
+    "WLB_COMMANDS": ("COMMAND_LIMIT", 0),
+    "WLB_CHANNELS": ("CHANNEL_LIMIT", 0),
+    "WLB_POSTS": ("POST_LIMIT", 0),
+    "WLB_INBOX": ("INBOX_LIMIT", 0),
+}
+
+
+class Installed:
+    """Folder with the installed header and libraries."""
+
+    def __init__(self, folder, archives):
+        self.folder = pathlib.Path(folder)
+        self.prefix = self.folder / "prefix"
+        words = ["make", "-s", "-C", TOP, "install", f"PREFIX={self.prefix}", f"BUILD={self.folder / 'build'}"]
+        words += [f"ARCHIVES={' '.join(str(one.absolute()) for one in archives)}"] if archives else []
+        subprocess.run(words, check=True)
+        self.environment = {**os.environ, "LD_LIBRARY_PATH": str(self.prefix / "lib")}
+
+    def pkg_config(self, *words):
+        environment = {**os.environ, "PKG_CONFIG_PATH": str(self.prefix / "lib" / "pkgconfig")}
+        ran = subprocess.run(["pkg-config", *words, "wlb"], env=environment, capture_output=True, text=True, check=True)
+        return ran.stdout.split()
+
+    def compile(self, source, *flags, is_static=False):
+        """Compiles a program and returns its path, or None after a difference."""
+        program = self.folder / f"{source.stem}{'-static' if is_static else ''}{'-sanitized' if flags else ''}"
+        libraries = self.pkg_config("--cflags", "--libs")
+        if is_static:
+            archives = [self.prefix / "lib" / f"lib{name}.a" for name in LIBRARIES]
+            libraries = [*self.pkg_config("--cflags"), *archives]
+        ran = run(["cc", *FLAGS, *flags, "-o", program, source, *libraries])
+        same(f"cc {source.name}", "standard error", ran.stderr, "")
+        return program if ran.returncode == 0 else None
+
+    def play(self, program, *words):
+        return run([program, *words], env=self.environment)
+
+
+def run(words, **how):
+    """Runs a program in a session of its own. When its time is up, it ends all processes of the session."""
+    words = [str(word) for word in words]
+    pipes = {"stdin": subprocess.DEVNULL, "stdout": subprocess.PIPE, "stderr": subprocess.PIPE, "text": True}
+    process = subprocess.Popen(words, start_new_session=True, **pipes, **how)
+    try:
+        stdout, stderr = process.communicate(timeout=SECONDS)
+    except subprocess.TimeoutExpired:
+        os.killpg(process.pid, signal.SIGKILL)
+        stdout, stderr = process.communicate()
+        differences.append(f"{' '.join(words)}: it did not end within {SECONDS} seconds")
+    return subprocess.CompletedProcess(words, process.returncode, stdout, stderr)
+
+
+def builds_of(installed, source):
+    """Yields the program as three builds: over the shared libraries, over the archives, and over these with sanitizers."""
+    for flags, is_static in [([], False), ([], True), (SANITIZERS, True)]:
+        program = installed.compile(source, *flags, is_static=is_static)
+        if program:
+            yield program
+
+
+def ends(name, ran, stdout):
+    same(name, "standard output", ran.stdout, stdout)
+    same(name, "standard error", ran.stderr, "")
+    same(name, "the status", ran.returncode, 0)
+
+
+# ---- The header and the names
+
+
+def check_limits(installed):
+    """The header's limits are the constants of the crates."""
+    constants = {}
+    for file in TOP.glob("crates/wl_*/src/*.rt"):
+        for name, value in re.findall(r"pub const (\w+): \w+ = ([\d_]+);", file.read_text(encoding="utf-8")):
+            constants.setdefault(name, set()).add(int(value))
+    named = re.findall(r"^#define (WLB_\w+) \d+", HEADER.read_text(encoding="utf-8"), re.MULTILINE)
+    same("wlb.h", "the list of limits", sorted(named), sorted(LIMITS))
+    source = installed.folder / "limits.c"
+    lines = "".join(f'    printf("{name} %lld\\n", (long long){name});\n' for name in LIMITS)
+    source.write_text(f"#include <stdio.h>\n#include <wlb.h>\nint main(void) {{\n{lines}    return 0;\n}}\n", encoding="utf-8")
+    program = installed.compile(source)
+    if program:
+        found = dict(line.split() for line in installed.play(program).stdout.splitlines())
+        for limit, (constant, more) in LIMITS.items():
+            wanted = {value + more for value in constants.get(constant, ())}
+            same("wlb.h", f"{limit}, beside {constant} of the crates,", {int(found.get(limit, -1))}, wanted)
+
+
+def numbers_of(text, prefix):
+    return {name: int(value) for name, value in re.findall(rf"\b{prefix}([A-Z_]+)(?:: \w+)? = (\d+)[,;]?", text)}
+
+
+def check_statuses(_installed):
+    """The statuses and the kinds of events of the crates that export the functions are those of the header."""
+    named = numbers_of(HEADER.read_text(encoding="utf-8"), "WLB_")
+    for library in LIBRARIES:
+        for file in sorted((TOP / "crates" / library / "src").glob("*.rt")):
+            for name, value in numbers_of(file.read_text(encoding="utf-8"), "const ").items():
+                if name in named:
+                    same(f"{library}/src/{file.name}", f"the constant {name}", value, named[name])
+
+
+def check_cplusplus(installed):
+    """The header is C++, too. A C++ program links the libraries."""
+    if not shutil.which("c++"):
+        return
+    source = installed.folder / "program.cc"
+    lines = ["#include <wlb.h>", "int main() {", "wlb_hub hub = WLB_EMPTY;", "return wlb_hub_advance(&hub) - WLB_NO_HANDLE;", "}", ""]
+    source.write_text("\n".join(lines), encoding="utf-8")
+    flags = ["-std=c++11", "-Wall", "-Wextra", "-Werror", "-pedantic"]
+    ran = run(["c++", *flags, "-o", installed.folder / "program", source, *installed.pkg_config("--cflags", "--libs")])
+    ends("c++ program.cc", ran, "")
+    if ran.returncode == 0:
+        ends("the program in C++", installed.play(installed.folder / "program"), "")
+
+
+def check_names(installed):
+    """The libraries make visible what the header declares, and nothing else."""
+    for name in LIBRARIES:
+        for file, flags in [(f"lib{name}.so", ["-D"]), (f"lib{name}.a", ["-g"])]:
+            words = ["nm", *flags, "--defined-only", "--format=posix", installed.prefix / "lib" / file]
+            found = [line.split()[0] for line in run(words).stdout.splitlines() if len(line.split()) > 2]
+            same(file, "the list of visible names", sorted(found), functions_of(name))
+
+
+# ---- The programs
+
+
+def check_in_process(installed):
+    for program in builds_of(installed, EXAMPLES / "in_process.c"):
+        ends(program.name, installed.play(program), (EXAMPLES / "in_process.out").read_text(encoding="utf-8"))
+
+
+def check_browser(installed):
+    """Renderers that count under one lock lose no update, although one is killed and the broker restarts."""
+    for program in builds_of(installed, EXAMPLES / "browser.c"):
+        for renderers, rounds, is_deaf in RUNS:
+            ran = installed.play(program, renderers, rounds, *(["deaf"] if is_deaf else []))
+            name = " ".join(map(str, [program.name, renderers, rounds, *(["deaf"] if is_deaf else [])]))
+            count = (renderers - 1) * rounds + rounds // 2
+            closed = [f"renderer {renderers + 1} does not read: closed"] if is_deaf else []
+            lines = ran.stdout.splitlines()
+            generations = int(lines[-2].split()[1]) if len(lines) > 1 and lines[-2].startswith("generations: ") else 0
+            same(name, "standard error", ran.stderr, "")
+            same(name, "the status", ran.returncode, 0)
+            same(name, "whether the broker was restarted", generations >= 2, True)
+            same(name, "the rest of standard output", lines[:-2] + lines[-1:], [*closed, f"counter: {count}, expected: {count}"])
+        for words in [[], ["0", "1"], ["64", "1"], ["1", "0"], ["1", "1", "other"]]:
+            same(f"{program.name} {words}", "the status", installed.play(program, *words).returncode, 2)
+
+
+def check_edges(installed):
+    for program in builds_of(installed, TOOLS / "library_edges.c"):
+        ends(program.name, installed.play(program), "")
+
+
+def check_fuzz(installed):
+    """No bytes of a compromised tab change the locks of another partition, and no bytes end hub or client."""
+    program = installed.compile(TOOLS / "fuzz_library.c", *SANITIZERS, is_static=True)
+    for part in ["hub", "client"] if program else []:
+        ran = installed.play(program, part, installed.seed, installed.megabytes)
+        same(f"fuzz_library {part} {installed.seed}", "standard error", ran.stderr, "")
+        if ran.returncode:
+            differences.append(f"fuzz_library {part} {installed.seed} {installed.megabytes}: {ran.stdout.strip()}")
+        elif installed.is_told:
+            print(ran.stdout, end="")
+
+
+CHECKS = [check_limits, check_statuses, check_cplusplus, check_names, check_in_process, check_browser, check_edges, check_fuzz]
+
+
+def main():
+    parser = argparse.ArgumentParser(description=__doc__, formatter_class=argparse.RawDescriptionHelpFormatter)
+    parser.add_argument("archives", metavar="ARCHIVES", type=pathlib.Path, nargs="*", help="a folder of archives of `rt lib`")
+    parser.add_argument("--only", metavar="WORD", default="", help="run only the checks whose names contain this word")
+    parser.add_argument("--megabytes", metavar="N", type=float, default=10, help="the bytes that hub and client each receive")
+    parser.add_argument("--seed", metavar="SEED", type=int, default=1, help="the number from which the bytes are drawn")
+    parser.add_argument("--tell", action="store_true", help="print what the fuzzer has done")
+    given = parser.parse_args()
+    chosen = [check for check in CHECKS if given.only in check.__name__]
+    if not chosen:
+        parser.error(f"no check has {given.only!r} in its name")
+    # A signal that ends the tool also removes its folder.
+    signal.signal(signal.SIGTERM, lambda *_: sys.exit(1))
+    with tempfile.TemporaryDirectory(prefix="wlb-") as folder:
+        installed = Installed(folder, given.archives)
+        installed.megabytes, installed.seed, installed.is_told = given.megabytes, given.seed, given.tell
+        for check in chosen:
+            check(installed)
+    for difference in differences:
+        print(difference)
+    sys.exit(1 if differences else 0)
+
+
+if __name__ == "__main__":
+    main()
