@@ -2,9 +2,10 @@
 
 It installs the header and the libraries into a temporary folder by `make install`. It compiles the programs in `examples/c` and
 plays them, with and without sanitizers: `in_process` has to print the file beside it, and each run of `browser` has to lose no
-update. It compares the header's limits and statuses with the constants of the crates, the header's functions with the names that
-the shared libraries export, and compiles the header as C++. `library_edges.c` plays the edge cases of every function, and
-`fuzz_library.c` gives hub and client random and mutated bytes under the address sanitizer.
+update, also if the browser process is refused memory at random. The program in `README.md` has to run. It compares the header's
+limits and statuses with the constants of the crates, the header's functions with the names that the shared libraries export, and
+compiles the header as C++. `library_edges.c` plays the edge cases of every function, and `fuzz_library.c` gives hub and client
+random and mutated bytes under the address sanitizer.
 
 It prints each difference, and nothing if there is none. The status is 1 if there is a difference. It needs `make`, a C compiler
 `cc`, `nm` and `pkg-config`. Without a C++ compiler `c++` it leaves that part out.
@@ -67,9 +68,9 @@ class Installed:
         ran = subprocess.run(["pkg-config", *words, "wlb"], env=environment, capture_output=True, text=True, check=True)
         return ran.stdout.split()
 
-    def compile(self, source, *flags, is_static=False):
+    def compile(self, source, *flags, is_static=False, name=None):
         """Compiles a program and returns its path, or None after a difference."""
-        program = self.folder / f"{source.stem}{'-static' if is_static else ''}{'-sanitized' if flags else ''}"
+        program = self.folder / (name or f"{source.stem}{'-static' if is_static else ''}{'-sanitized' if flags else ''}")
         libraries = self.pkg_config("--cflags", "--libs")
         if is_static:
             archives = [self.prefix / "lib" / f"lib{name}.a" for name in LIBRARIES]
@@ -151,8 +152,8 @@ def check_cplusplus(installed):
     if not shutil.which("c++"):
         return
     source = installed.folder / "program.cc"
-    lines = ["#include <wlb.h>", "int main() {", "wlb_hub hub = WLB_EMPTY;", "return wlb_hub_advance(&hub) - WLB_NO_HANDLE;", "}", ""]
-    source.write_text("\n".join(lines), encoding="utf-8")
+    body = "wlb_hub hub = WLB_EMPTY;\n    return wlb_hub_advance(&hub) - WLB_NO_HANDLE;\n"
+    source.write_text(f"#include <wlb.h>\nint main() {{\n    {body}}}\n", encoding="utf-8")
     flags = ["-std=c++11", "-Wall", "-Wextra", "-Werror", "-pedantic"]
     ran = run(["c++", *flags, "-o", installed.folder / "program", source, *installed.pkg_config("--cflags", "--libs")])
     ends("c++ program.cc", ran, "")
@@ -195,6 +196,27 @@ def check_browser(installed):
             same(f"{program.name} {words}", "the status", installed.play(program, *words).returncode, 2)
 
 
+def check_refused(installed):
+    """The same if the browser process is refused memory at random."""
+    flags = [TOOLS / "refuse_malloc.c", "-Wl,--wrap=malloc,--wrap=realloc"]
+    program = installed.compile(EXAMPLES / "browser.c", *flags, is_static=True, name="browser-refused")
+    for seed in range(5) if program else []:
+        ran = run([program, "4", "12"], env={**installed.environment, "SEED": str(seed)})
+        name = f"{program.name} of seed {seed}"
+        same(name, "standard error", ran.stderr, "")
+        same(name, "the last line", ran.stdout.splitlines()[-1:], ["counter: 42, expected: 42"])
+
+
+def check_readme(installed):
+    """The program in README.md is whole."""
+    source = installed.folder / "tab.c"
+    readme = (TOP / "README.md").read_text(encoding="utf-8")
+    source.write_text(readme.partition("```c\n")[2].partition("```")[0], encoding="utf-8")
+    program = installed.compile(source)
+    if program:
+        ends("the program in README.md", installed.play(program), "tab 1 holds the lock db\n")
+
+
 def check_edges(installed):
     for program in builds_of(installed, TOOLS / "library_edges.c"):
         ends(program.name, installed.play(program), "")
@@ -212,7 +234,18 @@ def check_fuzz(installed):
             print(ran.stdout, end="")
 
 
-CHECKS = [check_limits, check_statuses, check_cplusplus, check_names, check_in_process, check_browser, check_edges, check_fuzz]
+CHECKS = [
+    check_limits,
+    check_statuses,
+    check_cplusplus,
+    check_names,
+    check_readme,
+    check_in_process,
+    check_browser,
+    check_refused,
+    check_edges,
+    check_fuzz,
+]
 
 
 def main():
