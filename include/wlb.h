@@ -110,7 +110,8 @@ void wlb_hub_free(wlb_hub *hub);
 int32_t wlb_hub_open(wlb_hub *hub, uint16_t tab, const uint8_t *own, size_t own_length);
 
 /* Opens a tab of documents with the URL `own` in frames under a top-level document with the URL `top`. The tab may have
- * WLB_PAIR_LIVE_NUMBERS live numbers. Otherwise the same as wlb_hub_open, with the same statuses. */
+ * WLB_PAIR_LIVE_NUMBERS live numbers. If both URLs have one origin, the partition is that of wlb_hub_open. Otherwise the same as
+ * wlb_hub_open, with the same statuses. */
 int32_t wlb_hub_open_pair(wlb_hub *hub, uint16_t tab, const uint8_t *top, size_t top_length, const uint8_t *own,
                           size_t own_length);
 

@@ -12,6 +12,7 @@ It prints each difference, and nothing if there is none. The status is 1 if ther
 """
 
 import argparse
+import contextlib
 import os
 import pathlib
 import re
@@ -84,7 +85,7 @@ class Installed:
 
 
 def run(words, **how):
-    """Runs a program in a session of its own. When its time is up, it ends all processes of the session."""
+    """Runs a program in a session of its own. Ends all processes of the session that are left, also when its time is up."""
     words = [str(word) for word in words]
     pipes = {"stdin": subprocess.DEVNULL, "stdout": subprocess.PIPE, "stderr": subprocess.PIPE, "text": True}
     process = subprocess.Popen(words, start_new_session=True, **pipes, **how)
@@ -94,6 +95,9 @@ def run(words, **how):
         os.killpg(process.pid, signal.SIGKILL)
         stdout, stderr = process.communicate()
         differences.append(f"{' '.join(words)}: it did not end within {SECONDS} seconds")
+    with contextlib.suppress(ProcessLookupError):
+        os.killpg(process.pid, signal.SIGKILL)
+        differences.append(f"{' '.join(words)}: a process was left")
     return subprocess.CompletedProcess(words, process.returncode, stdout, stderr)
 
 

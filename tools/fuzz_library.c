@@ -79,6 +79,8 @@ static void put_data(void) {
 static uint32_t generation, next_number;
 
 static void put_generation(void) { put32(dice(20) ? generation : generation + dice(3) - 1); }
+// A tab is at least 1.
+static void put_tab(void) { put16(dice(40) ? 1 + dice(9) : dice(65536)); }
 static void put_number(void) { put32(dice(10) ? dice(next_number + 2) : dice(2) ? next_number : UINT32_MAX - dice(3)); }
 
 static void put_command(void) {
@@ -106,7 +108,7 @@ static void put_snapshot(void) {
     uint32_t parts = 1 + dice(3), count = dice(5);
     put_generation(), put_number();
     put16(dice(parts)), put16(parts), put16(count);
-    for (uint32_t i = 0; i < count; i++) put8(1 + dice(2)), put16(dice(10)), put8(1 + dice(2)), put_name();
+    for (uint32_t i = 0; i < count; i++) put8(1 + dice(2)), put_tab(), put8(1 + dice(2)), put_name();
 }
 
 static void put_origin(void) {
@@ -127,13 +129,13 @@ static void put_body(uint32_t version, uint32_t kind) {
     case 0x110: put32(dice(3) ? generation : ++generation); break;
     case 0x111: put_generation(), put_number(), put_number(), put8(dice(30) ? 1 + dice(4) : dice(256)); break;
     case 0x112: put_snapshot(); break;
-    case 0x113: put16(dice(10)), put_post(); break;
-    case 0x114: put16(1 + dice(9)), put_origin(); break;
-    case 0x214: put16(1 + dice(9)), put_origin(), put_origin(); break;
-    case 0x120: put16(1 + dice(9)), put16(1 + dice(3)), put8(1), put8(1), put_command(); break;
+    case 0x113: put_tab(), put_post(); break;
+    case 0x114: put_tab(), put_origin(); break;
+    case 0x214: put_tab(), put_origin(), put_origin(); break;
+    case 0x120: put_tab(), put16(1 + dice(3)), put8(1), put8(1), put_command(); break;
     case 0x121: put_generation(), put16(2), put16(1), put16(1), put16(2), put16(1); break;
-    case 0x122: put16(1 + dice(9)), put8(1), put8(17), put_generation(), put_number(), put_number(), put8(2); break;
-    case 0x123: put16(1 + dice(9)); break;
+    case 0x122: put_tab(), put8(1), put8(17), put_generation(), put_number(), put_number(), put8(2); break;
+    case 0x123: put_tab(); break;
     default: put_noise(dice(40)); break;
     }
 }

@@ -263,6 +263,27 @@ static void locks(void) {
     end();
 }
 
+// Both ways of opening a tab of a top-level document lead to one partition. A frame elsewhere has another one.
+static void partitions(void) {
+    static const char *const tops[] = {URL, "https://a.test:443/x?y#z", "https://b.test/"};
+    uint32_t number, kinds[] = {WLB_NOT_AVAILABLE, WLB_NOT_AVAILABLE, WLB_GRANTED};
+    begin();
+    expect(WLB_OK, wlb_client_request(&clients[1], bytes_of("a"), 1, false, &number));
+    pass(1);
+    last_of(1, WLB_GRANTED);
+    for (uint16_t i = 0; i < 3; i++) {
+        uint16_t tab = i + 3;
+        expect(WLB_OK, wlb_client_new(&clients[tab]));
+        expect(WLB_OK, wlb_hub_open_pair(&hub, tab, bytes_of(tops[i]), strlen(tops[i]), bytes_of(URL), strlen(URL)));
+        send_down();
+        expect(WLB_OK, wlb_client_probe(&clients[tab], bytes_of("a"), 1, false, &number));
+        pass(tab);
+        last_of(tab, kinds[i]);
+        wlb_client_free(&clients[tab]);
+    }
+    end();
+}
+
 // A probe and a query that are not answered end with their generation.
 static void ended_numbers(void) {
     uint32_t probe, query, number;
@@ -362,6 +383,7 @@ int main(void) {
     bytes_from_tabs();
     bytes_from_the_hub();
     locks();
+    partitions();
     ended_numbers();
     channels();
     used_up();
