@@ -13,6 +13,7 @@ It prints each difference, and nothing if there is none. The status is 1 if ther
 
 import argparse
 import contextlib
+import itertools
 import os
 import pathlib
 import re
@@ -61,7 +62,8 @@ class Installed:
         self.prefix = self.folder / "prefix"
         words = ["make", "-s", "-C", TOP, "install", f"PREFIX={self.prefix}", f"BUILD={self.folder / 'build'}"]
         words += [f"ARCHIVES={' '.join(str(one.absolute()) for one in archives)}"] if archives else []
-        subprocess.run(words, check=True)
+        if subprocess.run(words, check=False).returncode:
+            sys.exit("check_library: `make install` failed")
         self.environment = {**os.environ, "LD_LIBRARY_PATH": str(self.prefix / "lib")}
 
     def pkg_config(self, *words):
@@ -109,8 +111,17 @@ def builds_of(installed, source):
             yield program
 
 
+def same_names(name, what, found, wanted):
+    same(name, f"the list of {what} too much", sorted(set(found) - set(wanted)), [])
+    same(name, f"the list of missing {what}", sorted(set(wanted) - set(found)), [])
+
+
 def ends(name, ran, stdout):
-    same(name, "standard output", ran.stdout, stdout)
+    """Compares the first line of the output that differs, standard error and the status."""
+    for line, (found, wanted) in enumerate(itertools.zip_longest(ran.stdout.splitlines(), stdout.splitlines()), 1):
+        if found != wanted:
+            same(name, f"line {line} of standard output", found, wanted)
+            break
     same(name, "standard error", ran.stderr, "")
     same(name, "the status", ran.returncode, 0)
 
@@ -125,7 +136,7 @@ def check_limits(installed):
         for name, value in re.findall(r"pub const (\w+): \w+ = ([\d_]+);", file.read_text(encoding="utf-8")):
             constants.setdefault(name, set()).add(int(value))
     named = re.findall(r"^#define (WLB_\w+) \d+", HEADER.read_text(encoding="utf-8"), re.MULTILINE)
-    same("wlb.h", "the list of limits", sorted(named), sorted(LIMITS))
+    same_names("wlb.h", "limits", named, LIMITS)
     source = installed.folder / "limits.c"
     lines = "".join(f'    printf("{name} %lld\\n", (long long){name});\n' for name in LIMITS)
     source.write_text(f"#include <stdio.h>\n#include <wlb.h>\nint main(void) {{\n{lines}    return 0;\n}}\n", encoding="utf-8")
@@ -171,7 +182,7 @@ def check_names(installed):
         for file, flags in [(f"lib{name}.so", ["-D"]), (f"lib{name}.a", ["-g"])]:
             words = ["nm", *flags, "--defined-only", "--format=posix", installed.prefix / "lib" / file]
             found = [line.split()[0] for line in run(words).stdout.splitlines() if len(line.split()) > 2]
-            same(file, "the list of visible names", sorted(found), functions_of(name))
+            same_names(file, "visible names", found, functions_of(name))
 
 
 # ---- The programs
