@@ -18,7 +18,8 @@
  *   Threads      At most one call at a time on a handle, from any thread. Calls on different handles may overlap.
  *   Handles      A handle is a struct of the caller, initialized by WLB_EMPTY. Its fields are private. A pointer to a handle is
  *                never NULL. A copy of the struct must not be used after a call on the original. A handle may be moved.
- *   Ownership    The caller owns all memory that it passes, and no function keeps a pointer to it.
+ *   Ownership    The caller owns all memory that it passes, and no function keeps a pointer to it. What a call writes overlaps
+ *                nothing else that the call is passed.
  *   Lengths      A pointer with a length may be NULL if the length is 0. Any other pointer is never NULL.
  *   Results      An output parameter is written only by a call that returns WLB_OK, unless the function says otherwise.
  *   Refusals     A call that returns another status than WLB_OK changes nothing, unless the function says otherwise.

@@ -148,18 +148,17 @@ def check_limits(installed):
             same("wlb.h", f"{limit}, beside {constant} of the crates,", {int(found.get(limit, -1))}, wanted)
 
 
-def numbers_of(text, prefix):
-    return {name: int(value) for name, value in re.findall(rf"\b{prefix}([A-Z_]+)(?:: \w+)? = (\d+)[,;]?", text)}
-
-
 def check_statuses(_installed):
-    """The statuses and the kinds of events of the crates that export the functions are those of the header."""
-    named = numbers_of(HEADER.read_text(encoding="utf-8"), "WLB_")
+    """The statuses and the kinds of events of the crates that export the functions are those of the header, and all of them."""
+    header = HEADER.read_text(encoding="utf-8")
+    named = {name: int(value) for name, value in re.findall(r"^(?:#define|   ) (WLB_\w+) (?:= )?(\d+)", header, re.MULTILINE)}
+    known = set()
     for library in LIBRARIES:
         for file in sorted((TOP / "crates" / library / "src").glob("*.rt")):
-            for name, value in numbers_of(file.read_text(encoding="utf-8"), "const ").items():
-                if name in named:
-                    same(f"{library}/src/{file.name}", f"the constant {name}", value, named[name])
+            for name, value in re.findall(r"const (WLB_\w+): \w+ = ([\d_]+);", file.read_text(encoding="utf-8")):
+                known.add(name)
+                same(f"{library}/src/{file.name}", f"the constant {name}", int(value), named.get(name))
+    same_names("wlb.h", "statuses and kinds of events", set(named) - set(LIMITS), known - set(LIMITS))
 
 
 def check_cplusplus(installed):
