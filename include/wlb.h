@@ -131,7 +131,7 @@ int32_t wlb_hub_close(wlb_hub *hub, uint16_t tab);
 int32_t wlb_hub_receive(wlb_hub *hub, uint16_t tab, const uint8_t *bytes, size_t length);
 
 /* Does one piece of work: tells the broker of a death, or handles the oldest frame that waits. Deaths come first. While no broker
- * is up, deaths wait, and frames for the broker are dropped; clients send them again to the next generation.
+ * is up, deaths wait, and frames for the broker are dropped; clients put them out again in the next generation.
  * WLB_OK         something was done: call again
  * WLB_IDLE       there is nothing to do
  * WLB_MEMORY     call again
@@ -151,7 +151,7 @@ int32_t wlb_hub_next_output(wlb_hub *hub, uint16_t *tab, uint8_t *out, size_t ca
 
 /* Starts the broker of the next generation with all living tabs. The first call starts the first one. A broker that is up is
  * stopped first and loses its state. Each client reports its locks to the new broker. A partition grants nothing until all its
- * living tabs have reported.
+ * living tabs have reported or are closed, and until then it drops commands: see wlb_client_resend.
  * WLB_OK
  * WLB_MEMORY               no broker is up: call again
  * WLB_GENERATIONS_USED_UP  the broker stays up
@@ -186,7 +186,7 @@ enum wlb_event_kind {
     WLB_ENTERED = 2,       /* a generation has begun. number: the generation; count: numbers that ended with the last one. They
                               are probes that got no lock and queries that get no answer: see wlb_client_item */
     WLB_GRANTED = 3,       /* the tab holds a lock. number: of its request or probe */
-    WLB_WAITING = 4,       /* a request waits. number: of the request */
+    WLB_WAITING = 4,       /* a request waits, which may be said again. number: of the request */
     WLB_NOT_AVAILABLE = 5, /* a probe got no lock (Web Locks, `ifAvailable`). number: of the probe */
     WLB_LOST = 6,          /* a query gets no answer. number: of the query */
     WLB_ANSWERED = 7,      /* a query is answered. number: of the query; count: entries of the snapshot, see wlb_client_entry */
@@ -278,7 +278,9 @@ int32_t wlb_client_abort(wlb_client *client, uint32_t number);
  * WLB_OK; WLB_NOTHING: no lock with this number is held; WLB_MEMORY, WLB_NO_HANDLE, WLB_NOT_WELCOMED. */
 int32_t wlb_client_release(wlb_client *client, uint32_t number);
 
-/* Puts out again all that the broker has not answered. Only a link that loses frames needs this call.
+/* Puts out again all that the broker has not answered. While a partition recovers after a restart, the broker drops its commands
+ * without an answer, and then the later commands of that tab. So call this when a command was not answered for some time, such as
+ * 20 milliseconds. A link that loses frames needs it, too.
  * WLB_OK, WLB_MEMORY, WLB_NO_HANDLE, WLB_NOT_WELCOMED. */
 int32_t wlb_client_resend(wlb_client *client);
 

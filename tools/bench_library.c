@@ -5,7 +5,7 @@
 //     bench_library memory                    1,024 tabs of 64 locks each. Prints the bytes that the hub takes for all locks
 //     bench_library browser TABS ROUNDS NAME  a process with a hub and one poll loop, and TABS renderers. Each requests a lock,
 //                                             waits for it and releases it, ROUNDS times. NAME is `own`, a lock a renderer, or
-//                                             `one`, a lock for all. Prints nanoseconds from the broker's start to the last end
+//                                             `one`, a lock for all. Prints nanoseconds until the last one has ended
 //     bench_library relay TABS ROUNDS         the same loop without a hub, which sends each frame back. Each child sends a frame
 //                                             of 32 bytes and waits for it, ROUNDS times. Prints nanoseconds
 //
@@ -26,7 +26,8 @@ enum {
     ROUND_LIMIT = 10000000,
     FRAME = 32,           // bytes of a frame of the relay
     PIECE = 16384,        // most bytes of one read
-    OUTPUT = 1 << 18      // most bytes that wait for a renderer
+    OUTPUT = 1 << 18,     // most bytes that wait for a renderer
+    WARM_NS = 300000000   // nanoseconds in which all children start and report
 };
 
 static _Noreturn void fail(const char *what) {
@@ -132,6 +133,8 @@ typedef struct {
 static link_of_tab links[WLB_PARTITION_TABS + 1];
 static int links_count;
 static bool has_hub;
+// A pipe that a renderer reads once it has reported. Its end is the sign to begin. A broker takes commands when all have reported.
+static int gate[2];
 
 static void send_bytes(int link, const uint8_t *bytes, size_t length) {
     for (size_t at = 0; at < length;) {
@@ -185,6 +188,10 @@ static _Noreturn void browser_child(int link, int rounds, const char *name) {
         expect(WLB_OK, wlb_client_receive(&client, piece, wait_for_bytes(link, piece, sizeof piece)));
         advance_client(&client);
         while (wlb_client_next_event(&client, &event) == WLB_OK) {
+            if (event.kind == WLB_ENTERED) {
+                send_output(&client, link);
+                if (read(gate[0], piece, 1) != 0) fail("the gate");
+            }
             if (event.kind == WLB_GRANTED) {
                 expect(WLB_OK, wlb_client_release(&client, number));
                 round++;
@@ -240,17 +247,17 @@ static void flush(int tab) {
     memmove(links[tab].output, links[tab].output + sent, links[tab].output_length);
 }
 
-// Passes bytes on until all children have ended.
-static void loop(void) {
+// Passes bytes on until all children have ended, or until a time, if it is not 0.
+static void loop(long long until) {
     static uint8_t piece[PIECE];
     struct pollfd polled[WLB_PARTITION_TABS + 1];
-    for (int living = links_count; living > 0;) {
+    for (int living = links_count; living > 0 && (until == 0 || now() < until);) {
         for (int tab = 1; tab <= links_count; tab++) {
             flush(tab);
             short events = (short)(POLLIN | (links[tab].output_length ? POLLOUT : 0));
             polled[tab] = (struct pollfd){.fd = links[tab].link, .events = events};
         }
-        if (poll(polled + 1, (nfds_t)links_count, -1) < 0 && errno != EINTR) fail("poll");
+        if (poll(polled + 1, (nfds_t)links_count, until ? 1 : -1) < 0 && errno != EINTR) fail("poll");
         for (int tab = 1; tab <= links_count; tab++) {
             if (!(polled[tab].revents & (POLLIN | POLLHUP | POLLERR))) continue;
             ssize_t got = recv(links[tab].link, piece, sizeof piece, 0);
@@ -277,6 +284,7 @@ static void start_child(int rounds, const char *name) {
     if (process == 0) {
         for (int i = 1; i < tab; i++) close(links[i].link);
         close(ends[0]);
+        close(gate[1]);
         if (has_hub) browser_child(ends[1], rounds, strcmp(name, "own") ? "one" : own);
         relay_child(ends[1], rounds);
     }
@@ -288,22 +296,20 @@ static void start_child(int rounds, const char *name) {
 
 static long long processes(int tabs, int rounds, const char *name) {
     static const uint8_t begin[FRAME] = {0};
-    struct timespec pause = {.tv_sec = 0, .tv_nsec = 100000000};
     has_hub = name != NULL;
+    if (pipe(gate)) fail("pipe");
     if (has_hub) expect(WLB_OK, wlb_hub_new(&hub));
     for (int tab = 1; tab <= tabs; tab++) {
         if (has_hub) expect(WLB_OK, wlb_hub_open(&hub, (uint16_t)tab, bytes_of("https://a.test/"), 15));
         start_child(rounds, name);
     }
-    if (has_hub) collect();
-    for (int tab = 1; tab <= tabs; tab++) flush(tab);
-    // All children are running and wait.
-    nanosleep(&pause, NULL);
-    long long start = now();
-    for (int tab = 1; tab <= tabs && !has_hub; tab++) put_output(tab, begin, sizeof begin);
     if (has_hub) expect(WLB_OK, wlb_hub_restart(&hub));
     if (has_hub) collect();
-    loop();
+    loop(now() + WARM_NS);
+    long long start = now();
+    for (int tab = 1; tab <= tabs && !has_hub; tab++) put_output(tab, begin, sizeof begin);
+    close(gate[1]);
+    loop(0);
     long long taken = now() - start;
     for (int status; wait(&status) > 0;)
         if (status) fail("a child");

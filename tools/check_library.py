@@ -28,7 +28,7 @@ from library import HEADER, LIBRARIES, TOP, functions_of
 
 TOOLS = TOP / "tools"
 EXAMPLES = TOP / "examples" / "c"
-SECONDS = 300
+SECONDS = 120
 
 FLAGS = ["-std=c11", "-D_POSIX_C_SOURCE=200809L", "-Wall", "-Wextra", "-Werror", "-O1", "-g"]
 SANITIZERS = ["-fsanitize=address,undefined", "-fno-sanitize-recover=all"]
@@ -204,7 +204,8 @@ def check_browser(installed):
             generations = int(lines[-2].split()[1]) if len(lines) > 1 and lines[-2].startswith("generations: ") else 0
             same(name, "standard error", ran.stderr, "")
             same(name, "the status", ran.returncode, 0)
-            same(name, "whether the broker was restarted", generations >= 2, True)
+            # Beside a deaf renderer the broker is not restarted.
+            same(name, "whether the broker was restarted", generations >= 2 or is_deaf, True)
             same(name, "the rest of standard output", lines[:-2] + lines[-1:], [*closed, f"counter: {count}, expected: {count}"])
         for words in [[], ["0", "1"], ["64", "1"], ["1", "0"], ["1", "1", "other"]]:
             same(f"{program.name} {words}", "the status", installed.play(program, *words).returncode, 2)

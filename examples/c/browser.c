@@ -6,7 +6,8 @@
 // Each renderer adds 1 to a counter in a file ROUNDS times: it requests one exclusive lock, reads the file, sleeps a little,
 // writes the file and releases the lock. Meanwhile the browser restarts the broker again and again. Renderer 1 stops itself in
 // its middle round, while it holds the lock and before it writes; the browser restarts the broker and kills the renderer by
-// SIGKILL. With `deaf` one more renderer sends commands and does not read the answers, and the browser closes it.
+// SIGKILL. With `deaf` one more renderer sends commands and does not read the answers, and the browser closes it. Until then it
+// does not restart the broker: that renderer would not report to the next one, and the partition would wait for it.
 //
 // At the end the counter has to be the number of rounds that renderers have finished. Exit status: 0 it is, 1 it is not, 2 wrong
 // command line, 3 a call failed.
@@ -29,6 +30,7 @@ enum {
     ROUND_LIMIT = 10000,
     PIECE = 16384,                // most bytes of one read
     OUTPUT = 4 * WLB_FRAME_BYTES, // most bytes that wait for a renderer that does not read
+    RESEND_MS = 20,               // milliseconds without an answer until a renderer sends again
     RETRY_MS = 5,                 // milliseconds until a call that was refused memory is repeated
     STARTS = 10,                  // starts of the broker, beside the one after renderer 1 has stopped
     RESTART_MS = 10,              // milliseconds between two of them
@@ -68,10 +70,19 @@ static void send_all(wlb_client *client, int link) {
     }
 }
 
-// Waits for bytes and gives them to the client. The end of the link is the end of the renderer.
+// Waits for bytes and gives them to the client. If none come for a while, the client puts out again what was not answered: after
+// a restart the broker drops commands until all tabs of the partition have reported. The end of the link ends the renderer.
 static void receive_some(wlb_client *client, int link) {
     uint8_t piece[PIECE];
     ssize_t got;
+    struct pollfd waiting = {.fd = link, .events = POLLIN};
+    int ready = poll(&waiting, 1, RESEND_MS);
+    if (ready < 0 && errno != EINTR) fail("renderer: poll");
+    if (ready <= 0) {
+        int32_t resent = wlb_client_resend(client);
+        if (resent != WLB_NOT_WELCOMED) need(resent, "wlb_client_resend");
+        return;
+    }
     do got = recv(link, piece, sizeof piece, 0);
     while (got < 0 && errno == EINTR);
     if (got < 0) fail("renderer: recv");
@@ -117,18 +128,21 @@ static _Noreturn void run_renderer(int link, int counter, int rounds, int stops_
     _exit(0);
 }
 
-// Requests a lock and aborts the request, on and on, and reads no answer.
+// Waits for a lock, and then requests another one and aborts the request, on and on, and reads no answer.
 static _Noreturn void run_deaf_renderer(int link) {
     wlb_client client = WLB_EMPTY;
-    need(wlb_client_new(&client), "wlb_client_new");
+    uint32_t number;
     wlb_event event = {0, 0, 0};
-    while (event.kind != WLB_ENTERED) {
+    need(wlb_client_new(&client), "wlb_client_new");
+    while (event.kind != WLB_GRANTED) {
+        send_all(&client, link);
         receive_some(&client, link);
-        while (event.kind != WLB_ENTERED && wlb_client_next_event(&client, &event) == WLB_OK) {}
+        while (event.kind != WLB_GRANTED && wlb_client_next_event(&client, &event) == WLB_OK)
+            if (event.kind == WLB_WELCOMED)
+                need(wlb_client_request(&client, bytes(DEAF_LOCK), strlen(DEAF_LOCK), true, &number), "wlb_client_request");
     }
     for (;;) {
-        uint32_t number;
-        need(wlb_client_request(&client, bytes(DEAF_LOCK), strlen(DEAF_LOCK), false, &number), "wlb_client_request");
+        need(wlb_client_request(&client, bytes(DEAF_LOCK), strlen(DEAF_LOCK), true, &number), "wlb_client_request");
         send_all(&client, link);
         need(wlb_client_abort(&client, number), "wlb_client_abort");
         send_all(&client, link);
@@ -150,6 +164,7 @@ typedef struct {
 static wlb_hub hub = WLB_EMPTY;
 static renderer_tab tabs[WLB_PARTITION_TABS + 1]; // by the tab's number
 static int tabs_count, living;
+static uint16_t deaf_tab; // or 0
 static uint16_t sender; // the tab whose bytes the hub has received last
 
 // Opens a tab in the hub and starts its renderer. The child closes the links of the other renderers.
@@ -280,9 +295,10 @@ static long next_start;
 static void disturb(void) {
     siginfo_t info = {0};
     bool is_stopped = tabs[1].link >= 0 && waitid(P_PID, (id_t)tabs[1].process, &info, WSTOPPED | WNOHANG) == 0 && info.si_pid;
+    bool may_restart = starts == 0 || deaf_tab == 0 || tabs[deaf_tab].link < 0;
     bool is_due = starts < STARTS && now_ms() >= next_start;
-    if (is_due) starts++;
-    if (is_stopped || is_due) is_broker_wanted = true;
+    if (may_restart && (is_stopped || is_due)) is_broker_wanted = true;
+    if (may_restart && is_due) starts++;
     if (is_broker_wanted) {
         int32_t status = wlb_hub_restart(&hub);
         // Without memory no broker is up. The next turn of the loop starts it.
@@ -334,6 +350,7 @@ int main(int argc, char **argv) {
     need(wlb_hub_new(&hub), "wlb_hub_new");
     for (int i = 1; i <= renderers; i++) open_tab(fileno(file), rounds, i == 1 ? rounds / 2 : -1, false);
     if (is_deaf) open_tab(fileno(file), 0, -1, true);
+    if (is_deaf) deaf_tab = (uint16_t)tabs_count;
     while (living > 0) {
         disturb();
         turn();
