@@ -133,7 +133,7 @@ typedef struct {
 static link_of_tab links[WLB_PARTITION_TABS + 1];
 static int links_count;
 static bool has_hub;
-// A pipe that a renderer reads once it has reported. Its end is the sign to begin. A broker takes commands when all have reported.
+// A pipe that a renderer reads once it has reported. Its end is the sign to begin: no command comes before the last report.
 static int gate[2];
 
 static void send_bytes(int link, const uint8_t *bytes, size_t length) {

@@ -436,10 +436,11 @@ static void look_at_event(const wlb_event *event) {
     }
 }
 
-// Lets the page of the client make random calls, and takes its events and its output.
+// Takes the client's events, lets its page make random calls, and takes its output.
 static void use_client(void) {
     wlb_event event;
     size_t length;
+    while (among(BIT(WLB_OK) | BIT(WLB_IDLE), wlb_client_next_event(client, &event)) == WLB_OK) look_at_event(&event);
     for (uint32_t i = dice(6); i > 0; i--) {
         uint32_t what = dice(10);
         if (what < 4)
@@ -451,7 +452,6 @@ static void use_client(void) {
         else
             among(BIT(WLB_OK) | BIT(WLB_NOT_WELCOMED), wlb_client_resend(client));
     }
-    while (among(BIT(WLB_OK) | BIT(WLB_IDLE), wlb_client_next_event(client, &event)) == WLB_OK) look_at_event(&event);
     uint32_t statuses = BIT(WLB_OK) | BIT(WLB_IDLE) | BIT(WLB_DROPPED);
     int32_t status;
     while ((status = among(statuses, wlb_client_next_output(client, frame_bytes, sizeof frame_bytes, &length))) != WLB_IDLE) {
