@@ -1,5 +1,5 @@
 // Refuses memory to a C program at random, but not to its children. Linked by -Wl,--wrap=malloc,--wrap=realloc, it stands between
-// the program, with the archives that it links, and the C library. It refuses one call of eight, after the first thousand. The
+// the program, with the archives that it links, and the C library. It refuses one call of 64, after the first thousand. The
 // environment variable SEED makes other choices.
 #include <stdbool.h>
 #include <stdint.h>
@@ -11,7 +11,7 @@ void *__real_realloc(void *old, size_t size);
 void *__wrap_malloc(size_t size);
 void *__wrap_realloc(void *old, size_t size);
 
-enum { FIRST = 1000, SHARE = 8 };
+enum { FIRST = 1000, SHARE = 64 };
 
 static pid_t program;
 static unsigned long calls;
