@@ -284,6 +284,32 @@ static void partitions(void) {
     end();
 }
 
+// A partition recovers until its last tab has reported. A request that comes before is granted after it is sent again.
+static void recovery(void) {
+    uint32_t number;
+    uint16_t tab;
+    size_t length;
+    begin();
+    open_client(3, URL);
+    send_down();
+    expect(WLB_OK, wlb_hub_restart(&hub));
+    // All hellos arrive. Tab 3 does not handle its own.
+    for (int i = 0; i < 3; i++) {
+        expect(WLB_OK, wlb_hub_next_output(&hub, &tab, frame_bytes, sizeof frame_bytes, &length));
+        expect(WLB_OK, wlb_client_receive(&clients[tab], frame_bytes, length));
+    }
+    advance_client(&clients[1]);
+    expect(WLB_OK, wlb_client_request(&clients[1], bytes_of("a"), 1, false, &number));
+    pass(1);
+    advance_client(&clients[3]);
+    pass(3);
+    expect(WLB_OK, wlb_client_resend(&clients[1]));
+    pass(1);
+    expect((int32_t)number, (int32_t)last_of(1, WLB_GRANTED).number);
+    wlb_client_free(&clients[3]);
+    end();
+}
+
 // A probe and a query that are not answered end with their generation.
 static void ended_numbers(void) {
     uint32_t probe, query, number;
@@ -384,6 +410,7 @@ int main(void) {
     bytes_from_the_hub();
     locks();
     partitions();
+    recovery();
     ended_numbers();
     channels();
     used_up();
