@@ -62,7 +62,7 @@ enum wlb_status {
     WLB_NO_HANDLE = 3,              /* the handle holds nothing: it was never created, or was freed */
     WLB_BUSY = 4,                   /* frames that arrived before wait for `advance`. No byte was taken */
     WLB_BAD_FRAME = 5,              /* bytes are no frames, or a frame must not come over this link */
-    WLB_DROPPED = 6,                /* the oldest output was dropped. The call can be repeated at once */
+    WLB_DROPPED = 6,                /* there was no output this time. The call can be repeated at once */
     WLB_NO_TAB = 7,                 /* no such tab lives */
     WLB_BAD_TEXT = 8,               /* a text is not UTF-8 */
     WLB_BAD_URL = 9,                /* a text is not a URL, or is too long */
@@ -191,7 +191,7 @@ enum wlb_event_kind {
     WLB_LOST = 6,          /* a query gets no answer. number: of the query */
     WLB_ANSWERED = 7,      /* a query is answered. number: of the query; count: entries of the snapshot, see wlb_client_entry */
     WLB_POSTED = 8,        /* a post has come. count: channels that have it in their inbox, see wlb_client_item */
-    WLB_OTHER = 9          /* a frame changed nothing that the page can see */
+    WLB_OTHER = 9          /* reserved: no event has this kind */
 };
 
 /* Event of a client. `number` and `count` are 0 if the kind does not use them. */
@@ -224,7 +224,7 @@ void wlb_client_free(wlb_client *client);
  * WLB_NO_HANDLE */
 int32_t wlb_client_receive(wlb_client *client, const uint8_t *bytes, size_t length);
 
-/* Handles the oldest frame that waits, which makes one event.
+/* Handles the oldest frame that waits, which may make an event.
  * WLB_OK         a frame was handled: call again
  * WLB_IDLE       no frame waits
  * WLB_MEMORY     call again
@@ -235,7 +235,7 @@ int32_t wlb_client_advance(wlb_client *client);
 /* Writes the oldest output, one whole frame, to `out`, and its length to `length`. The client forgets it.
  * WLB_OK
  * WLB_IDLE       there is no output
- * WLB_DROPPED    the output was dropped: its command is over, or no generation was entered. Call again
+ * WLB_DROPPED    there is nothing to send this time: no generation was entered, or a report was prepared. Call again
  * WLB_MEMORY     call again
  * WLB_SHORT_BUFFER  `capacity` is below WLB_FRAME_BYTES
  * WLB_NO_HANDLE */
@@ -288,8 +288,8 @@ int32_t wlb_client_resend(wlb_client *client);
  * WLB_OK, WLB_MEMORY, WLB_NO_HANDLE, WLB_NOT_WELCOMED, WLB_BAD_TEXT, WLB_NAME_TOO_LONG, WLB_TOO_MANY_CHANNELS. */
 int32_t wlb_client_open_channel(wlb_client *client, const uint8_t *name, size_t name_length, uint32_t *channel);
 
-/* Posts data, any bytes, to all other channels of the name in the partition. The tab's own channels have the post in their inbox
- * when the call returns, without an event. A post to other tabs may be lost with its link; nothing sends it again.
+/* Posts data, any bytes, to all other channels of the name in the partition. The tab's own other channels have the post in their
+ * inbox when the call returns, and WLB_POSTED tells of them. A post to other tabs may be lost with its link; nothing sends it again.
  * WLB_OK, WLB_MEMORY, WLB_NO_HANDLE, WLB_NOT_WELCOMED, WLB_NO_CHANNEL, WLB_CLOSED, WLB_DATA_TOO_LONG, WLB_POSTS_USED_UP. */
 int32_t wlb_client_post(wlb_client *client, uint32_t channel, const uint8_t *data, size_t length);
 

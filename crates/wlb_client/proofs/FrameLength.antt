@@ -1,5 +1,5 @@
 -- Length of a frame that the client sends.
-use Rattle.std.proofs.Common.{◌≡◌, ◌+◌, ◌≤◌, ℕ, List, [], ◌∷◌, ◌++◌, Option, Some, None, length, arith, length-append, subst, sym, ap, ◌∙◌}
+use Rattle.std.proofs.Common.{◌≡◌, ◌≤◌, ℕ, List, [], ◌∷◌, ◌++◌, Option, Some, None, length, arith, length-append, subst, sym, ap, ◌∙◌}
 use Rattle.wl_grammar.specs.declared.frame.Frame.{Frame}
 use Rattle.wl_grammar.specs.Grammar.{IsWellFormed, body, spelling, u32}
 use Rattle.wl_grammar.proofs.BodyLength.{body_length}

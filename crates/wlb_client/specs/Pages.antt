@@ -1,5 +1,5 @@
 -- Pages after calls, and events as C programs receive them.
-use Rattle.std.specs.Prelude.{◌≡◌, ◌≤◌, ◌^◌, ◌+◌, ◌-◌, ◌++◌, ℕ, List, [], ◌∷◌, Bool, true, false, nat_lt, length, take, map, Option, Some, None, option_map, slice_get, if◌then◌else◌}
+use Rattle.std.specs.Prelude.{◌≡◌, ◌≤◌, ◌^◌, ◌+◌, ◌-◌, ℕ, List, ◌∷◌, Bool, true, false, nat_lt, length, take, Option, Some, None, option_map, slice_get, if◌then◌else◌}
 use Rattle.wl_draft.specs.declared.mode.Mode.{Mode}
 use Rattle.wl_draft.specs.declared.mode.Mode.TheVariants.{Shared, Exclusive}
 use Rattle.wl_agent.specs.declared.snapshot.LockInfo.{LockInfo}

@@ -1,6 +1,5 @@
 -- Length of a frame that the hub sends.
-use Rattle.std.proofs.Common.{◌≡◌, ◌+◌, ◌≤◌, ℕ, List, [], ◌++◌, length, arith, length-append, subst, sym, ap, ◌∙◌}
-use Rattle.wl_limits.specs.declared.frames.TheConstants.{BODY_LIMIT}
+use Rattle.std.proofs.Common.{◌≡◌, ◌≤◌, ℕ, List, [], ◌++◌, length, arith, length-append, subst, sym, ap, ◌∙◌}
 use Rattle.wl_grammar.specs.declared.frame.Frame.{Frame}
 use Rattle.wl_grammar.specs.Grammar.{IsWellFormed, body, spelling, u32}
 use Rattle.wl_grammar.proofs.BodyLength.{body_length}

@@ -1,19 +1,18 @@
 -- Machine value of a handle, taken apart and made.
-use Rattle.std.proofs.Common.{◌≡◌, ℕ, List, [], ◌∷◌, ◌++◌, refl, ap, ◌∙◌, lit<}
-use mathlib.Core.Bool.{Bool, true, false, ◌&&◌}
+use Rattle.std.proofs.Common.{◌≡◌, List, [], ◌∷◌, ◌++◌, refl, ◌∙◌}
+use mathlib.Core.Bool.{Bool, true, ◌&&◌}
 use lib.Dec.{T}
 use seplogic.Ra.Ura.{Ura}
-use mir.Syntax.{ty_ptr, ty_bool}
+use mir.Syntax.{ty_ptr}
 use mir.Val.{Val, vbool, vstruct, vcons, vnil, of_list, has_ty, WT}
 use types.Logic.{Logic}
-use types.Kit.{Item, Goal, Seq, Step, step, ‵, ◌$◌, move, drop, fsplit, fjoin, fpick, fpack, feq_i, feq_l}
-use denote.RattleType.{RattleType, Valss}
+use types.Kit.{Item, Goal, Seq, Step, step, ‵, ◌$◌, drop, fsplit, fjoin, fpick, fpack, feq_i, feq_l}
+use denote.RattleType.{Valss}
 use denote.Builtin.{RawPtr, bool}
-use denote.RawPtr.{Ptr, block_ptr, null_ptr, ptr_val}
+use denote.RawPtr.{Ptr, ptr_val}
 use denote.Steps.{nothing}
 use denote.Struct.Struct.{within}
 use denote.Struct.Owning.{shape}
-use Rattle.core.proofs.cell.Inside.{Good}
 use Rattle.core.proofs.atomic.Steps.{Ptr-Good}
 use Rattle.std_alloc.proofs.ResultValues.{and_tt}
 use Rattle.std.specs.declared.option.Option.{Option}

@@ -1,4 +1,4 @@
-use Rattle.std.proofs.Common.{rules, arith, ◌≡◌, ◌≤◌, length}
+use Rattle.std.proofs.Common.{arith}
 use Rattle.wlb_client.proofs.FrameLength.{next_length}
 use Rattle.wlb_client.proofs.links.next_output.Goals as goal
 

@@ -1,15 +1,15 @@
 -- `into_raw_box` returns the box that the handle owns.
-use Rattle.std.proofs.Common.{◌≡◌, List, [], ◌∷◌, ◌++◌, refl, sym, ap, ◌∙◌, subst, lit<}
+use Rattle.std.proofs.Common.{◌≡◌, List, [], ◌∷◌, ◌++◌, refl, sym, subst, lit<}
 use mathlib.Core.Bool.{Bool, true, false}
 use seplogic.Ra.Ura.{Ura}
 use prog.Model.{Model}
 use types.Logic.{Logic}
 use contract.Running.{Running}
-use mir.Val.{Val, vptr, vbool, vcons, vnil}
+use mir.Val.{Val, vptr, vcons, vnil}
 use base.Logic.{SProp, ent, emp, id⊢, fst∗, never, never_e, via, sep}
-use base.Fml.{Fml, ftrue}
+use base.Fml.{ftrue}
 use prog.Wp.{WpFn}
-use types.Kit.{Seq, ‵, raw, prop, regoal, ◌⊛◌, at_ret, ◌$◌, ◌∵◌, !, qed, by, move, keep, drop, split, join, fsplit, fjoin, use0, use1, suffices, done, rewrite}
+use types.Kit.{‵, raw, prop, regoal, ◌⊛◌, at_ret, ◌$◌, ◌∵◌, !, qed, by, move, keep, drop, split, fsplit, fjoin, use0, use1, suffices}
 use types.Run.{stop, fld, lit, of_opd, no_more, and_then, first, branches, skips, exec, returns, returns_within, enter}
 use types.ByLocal.{alloc_all, pass_all, free_all, look_at, get, get_in, sets, env}
 use types.Part.{agg, sub, whole}
@@ -30,7 +30,6 @@ use Rattle.core.proofs.alloc.Calls.{handle_tells}
 use Rattle.core.proofs.atomic.Steps.{Ptr-Good}
 use Rattle.core.proofs.cell.Inside.{Good}
 use Rattle.core.proofs.option.Made.{Some-of, none_of}
-use Rattle.core.proofs.alloc.Shapes.{after}
 use Rattle.std_alloc.proofs.ResultValues.{and_tt}
 use Rattle.std_alloc.specs.Box.Ownership.{box_owns}
 use Rattle.std.proofs.raw_atomic.Walks.{proved_at, leaves}
@@ -44,7 +43,7 @@ use Rattle.wl_hub.specs.Hub.{HubState}
 use Rattle.wl_hub.specs.contracts.hub.Hub as hub
 use Rattle.wl_raw_box.proofs.Values.{pair_word, RawBox, al, raw_box_good, raw_box_in}
 use Rattle.wlb_hub.specs.Handle.{handle_owns}
-use Rattle.wlb_hub.proofs.Steps.{Data, word, handle_good, handle_out}
+use Rattle.wlb_hub.proofs.Steps.{word, handle_good, handle_out}
 use Rattle.wlb_hub.specs.contracts.handle.Handle as handle
 use Rattle.wlb_hub.specs.contracts.handle.Handle.into_raw_box as f
 use Rattle.wlb_hub.proofs.handle.Handle.into_raw_box.Statement.{statement}
