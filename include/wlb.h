@@ -130,7 +130,8 @@ int32_t wlb_hub_close(wlb_hub *hub, uint16_t tab);
  * WLB_NO_HANDLE, WLB_NO_TAB */
 int32_t wlb_hub_receive(wlb_hub *hub, uint16_t tab, const uint8_t *bytes, size_t length);
 
-/* Does one piece of work: tells the broker of a death, or handles the oldest frame that waits. Deaths come first. While no broker
+/* Does one piece of work: tells the broker of a death, greets a tab again whose commands came too early after a restart, or
+ * handles the oldest frame that waits. Deaths come first. Call it after wlb_hub_close, too. While no broker
  * is up, deaths wait, and frames for the broker are dropped; clients put them out again in the next generation.
  * WLB_OK         something was done: call again
  * WLB_IDLE       there is nothing to do
@@ -151,7 +152,7 @@ int32_t wlb_hub_next_output(wlb_hub *hub, uint16_t *tab, uint8_t *out, size_t ca
 
 /* Starts the broker of the next generation with all living tabs. The first call starts the first one. A broker that is up is
  * stopped first and loses its state. Each client reports its locks to the new broker. A partition grants nothing until all its
- * living tabs have reported or are closed, and until then it drops commands: see wlb_client_resend.
+ * living tabs have reported or are closed. Commands that come before are sent again by the clients.
  * WLB_OK
  * WLB_MEMORY               no broker is up: call again
  * WLB_GENERATIONS_USED_UP  the broker stays up
@@ -249,14 +250,14 @@ int32_t wlb_client_next_event(wlb_client *client, wlb_event *event);
  * WLB_OK; WLB_NOTHING: the last event has no such item; WLB_NO_HANDLE. */
 int32_t wlb_client_item(wlb_client *client, size_t index, uint32_t *number);
 
-/* Writes an entry of the last event, if it is WLB_ANSWERED, and the entry's name. Entries are counted from 0: held locks in the
+/* Writes an entry of the last event, if it is WLB_ANSWERED, and the entry's name without a NUL. Entries are counted from 0: held locks in the
  * order of granting, and then requests in the order of queueing.
  * WLB_OK; WLB_NOTHING: there is no such entry; WLB_SHORT_BUFFER: `capacity` is below WLB_NAME_BYTES; WLB_NO_HANDLE. */
 int32_t wlb_client_entry(wlb_client *client, size_t index, wlb_entry *entry, uint8_t *name, size_t capacity,
                          size_t *length);
 
 /* Requests a lock (Web Locks, "request a lock"), shared or exclusive, and writes the number of the request. Its events are
- * WLB_WAITING, or WLB_GRANTED, or one after the other.
+ * WLB_GRANTED, or WLB_WAITING and later WLB_GRANTED. After a restart WLB_WAITING may come again, and WLB_GRANTED does not.
  * WLB_OK, WLB_MEMORY, WLB_NO_HANDLE, WLB_NOT_WELCOMED, WLB_BAD_TEXT, WLB_NOT_SUPPORTED, WLB_NAME_TOO_LONG, WLB_TOO_MANY,
  * WLB_NUMBERS_USED_UP. */
 int32_t wlb_client_request(wlb_client *client, const uint8_t *name, size_t name_length, bool shared, uint32_t *number);
@@ -278,9 +279,7 @@ int32_t wlb_client_abort(wlb_client *client, uint32_t number);
  * WLB_OK; WLB_NOTHING: no lock with this number is held; WLB_MEMORY, WLB_NO_HANDLE, WLB_NOT_WELCOMED. */
 int32_t wlb_client_release(wlb_client *client, uint32_t number);
 
-/* Puts out again all that the broker has not answered. While a partition recovers after a restart, the broker drops its commands
- * without an answer, and then the later commands of that tab. So call this when a command was not answered for some time, such as
- * 20 milliseconds. A link that loses frames needs it, too.
+/* Puts out again all that the broker has not answered. Only a link that loses frames needs this call.
  * WLB_OK, WLB_MEMORY, WLB_NO_HANDLE, WLB_NOT_WELCOMED. */
 int32_t wlb_client_resend(wlb_client *client);
 
@@ -289,7 +288,8 @@ int32_t wlb_client_resend(wlb_client *client);
 int32_t wlb_client_open_channel(wlb_client *client, const uint8_t *name, size_t name_length, uint32_t *channel);
 
 /* Posts data, any bytes, to all other channels of the name in the partition. The tab's own other channels have the post in their
- * inbox when the call returns, and WLB_POSTED tells of them. A post to other tabs may be lost with its link; nothing sends it again.
+ * inbox when the call returns, and WLB_POSTED tells of them. A post to other tabs may be lost with its link. Nothing sends it
+ * again.
  * WLB_OK, WLB_MEMORY, WLB_NO_HANDLE, WLB_NOT_WELCOMED, WLB_NO_CHANNEL, WLB_CLOSED, WLB_DATA_TOO_LONG, WLB_POSTS_USED_UP. */
 int32_t wlb_client_post(wlb_client *client, uint32_t channel, const uint8_t *data, size_t length);
 

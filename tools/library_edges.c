@@ -303,7 +303,7 @@ static void recovery(void) {
     pass(1);
     advance_client(&clients[3]);
     pass(3);
-    expect(WLB_OK, wlb_client_resend(&clients[1]));
+    // The hub greets tab 1 again, whose client sends its request again.
     pass(1);
     expect((int32_t)number, (int32_t)last_of(1, WLB_GRANTED).number);
     wlb_client_free(&clients[3]);

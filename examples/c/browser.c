@@ -30,7 +30,6 @@ enum {
     ROUND_LIMIT = 10000,
     PIECE = 16384,                // most bytes of one read
     OUTPUT = 4 * WLB_FRAME_BYTES, // most bytes that wait for a renderer that does not read
-    RESEND_MS = 20,               // milliseconds without an answer until a renderer sends again
     RETRY_MS = 5,                 // milliseconds until a call that was refused memory is repeated
     STARTS = 10,                  // starts of the broker, beside the one after renderer 1 has stopped
     RESTART_MS = 10,              // milliseconds between two of them
@@ -70,19 +69,10 @@ static void send_all(wlb_client *client, int link) {
     }
 }
 
-// Waits for bytes and gives them to the client. If none come for a while, the client puts out again what was not answered: after
-// a restart the broker drops commands until all tabs of the partition have reported. The end of the link ends the renderer.
+// Waits for bytes and gives them to the client. The end of the link ends the renderer.
 static void receive_some(wlb_client *client, int link) {
     uint8_t piece[PIECE];
     ssize_t got;
-    struct pollfd waiting = {.fd = link, .events = POLLIN};
-    int ready = poll(&waiting, 1, RESEND_MS);
-    if (ready < 0 && errno != EINTR) fail("renderer: poll");
-    if (ready <= 0) {
-        int32_t resent = wlb_client_resend(client);
-        if (resent != WLB_NOT_WELCOMED) need(resent, "wlb_client_resend");
-        return;
-    }
     do got = recv(link, piece, sizeof piece, 0);
     while (got < 0 && errno == EINTR);
     if (got < 0) fail("renderer: recv");

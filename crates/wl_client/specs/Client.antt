@@ -1,5 +1,5 @@
 -- The client: a tab's locks and channels, what it has still to send, and the events for its page.
-use Rattle.std.specs.Prelude.{◌≡◌, ℕ, List, [], ◌∷◌, ◌++◌, Bool, true, false, ◌||◌, ◌&&◌, nat_lt, length, Option, Some, None, is_some, option_map, if◌then◌else◌}
+use Rattle.std.specs.Prelude.{◌≡◌, ℕ, List, [], ◌∷◌, ◌++◌, Bool, true, false, ◌||◌, ◌&&◌, ◌==◌, nat_lt, length, Option, Some, None, is_some, option_map, if◌then◌else◌}
 use Rattle.wl_grammar.specs.declared.frame.Frame.{Frame}
 use Rattle.wl_grammar.specs.declared.frame.Frame.TheVariants as frame
 use Rattle.wl_frames.specs.declared.fault.FrameFault.{FrameFault}
@@ -143,13 +143,21 @@ after_told e locks c = record c {
   events = c.events ++ (if is_visible e then Told e ∷ [] else []);
 }
 
+-- The hub greets a tab again when the broker has dropped commands of it. They are sent again.
+abbrev pub is_hello_of : ℕ → Frame → Bool
+is_hello_of g (frame.Hello h) = h.generation == g
+is_hello_of g f = false
+
 -- Posts reach the channels, and other frames the locks.
-abbrev pub after_frame : Frame → ClientState → ClientState
-after_frame (frame.Heard h) c = record c {
+abbrev pub after_delivery : Frame → ClientState → ClientState
+after_delivery (frame.Heard h) c = record c {
   channels = after_hearing (frame.Heard h) c.channels;
   events = c.events ++ heard_event (hearing_of (frame.Heard h) c.channels);
 }
-after_frame f c = after_told (arrival f c.locks) (told (delivery f c.locks).0) c
+after_delivery f c = after_told (arrival f c.locks) (told (delivery f c.locks).0) c
+
+abbrev pub after_frame : Frame → ClientState → ClientState
+after_frame f c = if is_hello_of c.locks.entered f then record c { unsent = c.unsent ++ Resend ∷ [] } else after_delivery f c
 
 abbrev pub after_first : List Frame → ClientState → ClientState
 after_first [] c = c

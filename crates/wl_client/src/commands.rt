@@ -104,9 +104,8 @@ impl Client {
         Ok(next)
     }
 
-    /// Sends the report again, if it is due, and all commands that are due. A link that loses frames needs
-    /// this call. After a restart the broker drops the commands of a partition until all its living tabs have
-    /// reported, so a command that is not answered needs it, too.
+    /// Sends the report again, if it is due, and all commands that are due. Only a link that loses
+    /// frames needs this call.
     pub fn resend(&mut self) -> Result<(), CallFault>
         ensures ok { OnOk result (self.new ≡ record self.old { unsent = self.old.unsent ++ unsent_with.Resend ∷ [] }) }
         ensures allowed { OnOk result (call_refusal None self.old ≡ None) }

@@ -2,7 +2,7 @@
 
 ghost use Rattle.std.specs.Prelude.{◌≡◌, ◌≢◌, [], Some, None, Err, IfOk, IfErr, OnOk, OnErr};
 ghost use Rattle.wl_frames.specs.declared.fault.FrameFault.{FrameFault};
-ghost use Rattle.wl_client.specs.Client.{IsReceived, advanced, has_post, is_entering, is_visible, progress_of, welcome_of};
+ghost use Rattle.wl_client.specs.Client.{IsReceived, advanced, has_post, is_entering, is_hello_of, is_visible, progress_of, welcome_of};
 ghost use Rattle.wl_client.specs.declared.fault.ReceiveFault.TheVariants as faults;
 
 use crate::client::{Client, Event, Unsent};
@@ -73,6 +73,11 @@ impl Client {
             self.handled += 1;
             return Ok(Progress::Handled);
         }
+        if is_hello_of(frame, self.locks.entered()) {
+            self.unsent.push_back_reserved(Unsent::Resend);
+            self.handled += 1;
+            return Ok(Progress::Handled);
+        }
         if let Frame::Heard(_) = frame {
             let hearing = self.channels.heard(frame)?;
             self.handled += 1;
@@ -107,6 +112,16 @@ fn welcome_of(frame: &Frame) -> Option<(u16, bool)>
         Frame::Welcome(welcome) => Some((welcome.tab, false)),
         Frame::PairWelcome(welcome) => Some((welcome.tab, true)),
         _ => None,
+    }
+}
+
+/// Returns whether the frame is a hello of this generation.
+fn is_hello_of(frame: &Frame, generation: u32) -> bool
+    ensures { result ≡ is_hello_of generation frame.now }
+{
+    match frame {
+        Frame::Hello(hello) => hello.generation == generation,
+        _ => false,
     }
 }
 

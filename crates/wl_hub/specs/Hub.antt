@@ -19,7 +19,11 @@ use Rattle.wl_hub.specs.declared.fault.OpenRefusal.{OpenRefusal}
 use Rattle.wl_hub.specs.declared.fault.OpenRefusal.TheVariants.{Origin, Tab}
 use Rattle.wl_hub.specs.declared.hub.HubStatus.{HubStatus}
 use Rattle.wl_hub.specs.declared.receiving.Progress.{Progress}
-use Rattle.wl_hub.specs.declared.receiving.Progress.TheVariants.{Idle, Told, Handled, Refused}
+use Rattle.wl_hub.specs.declared.receiving.Progress.TheVariants.{Idle, Told, Greeted, Handled, Refused}
+use Rattle.wl_hub.specs.declared.receiving.Verdict.{Verdict}
+use Rattle.wl_hub.specs.declared.receiving.Verdict.TheVariants.{Other}
+use Rattle.wl_hub.specs.Early.{verdict_of, noted, greeted_next, rest_after}
+use Rattle.wl_kernel_supervisor.specs.Supervising.{message_effect}
 use Rattle.wl_kernel.specs.declared.routes.Routed.TheVariants.{Broker, Tabs}
 use Rattle.wl_kernel_supervisor.specs.SupervisedStates.{SupervisedState, without_broker, with_kernel, after_message, frames_after_message, after_death, frames_at_death, after_stop, after_start, frames_at_start}
 
@@ -29,6 +33,8 @@ pub record HubState : Type 0 where
   pub untold : List ℕ  -- dead tabs of which the broker was not told
   pub sender : ℕ  -- the tab that sent the arrived frames
   pub arrived : List Frame  -- frames that the hub has still to handle
+  pub early : List ℕ  -- tabs whose commands the broker dropped, since their partition recovered
+  pub greetings : ℕ  -- how many of these, from the front, are to be greeted
   pub outputs : List (ℕ × Frame)  -- each with its tab, oldest first
 
 abbrev pub new_hub : HubState
@@ -38,6 +44,8 @@ new_hub = record {
   untold = [];
   sender = 0;
   arrived = [];
+  early = [];
+  greetings = 0;
   outputs = [];
 }
 
@@ -87,40 +95,59 @@ hub_closed t h =
 
 -- Events of the kernel and its broker
 
--- The supervisor after an event, and the frames that are sent.
+-- The supervisor after an event, the frames that are sent, and what the broker did with the sender's frame.
 pub record Step : Type 0 where
   pub supervised : SupervisedState
   pub sent : List (ℕ × Frame)
+  pub verdict : Verdict
 
 -- The broker takes a stamped frame, and other tabs receive a post.
 abbrev pub routed_step : Routed → SupervisedState → Step
-routed_step (Tabs heard) s = record { supervised = s; sent = heard }
-routed_step (Broker (frame.Stamped x)) s = record { supervised = after_message x s; sent = from_broker (frames_after_message x s) }
-routed_step (Broker f) s = record { supervised = s; sent = [] }
+routed_step (Tabs heard) s = record { supervised = s; sent = heard; verdict = Other }
+routed_step (Broker (frame.Stamped x)) s = record {
+  supervised = after_message x s;
+  sent = from_broker (frames_after_message x s);
+  verdict = verdict_of (message_effect x s.broker);
+}
+routed_step (Broker f) s = record { supervised = s; sent = []; verdict = Other }
 
 -- The kernel routes a tab's frame. It drops a frame that it refuses.
 abbrev pub frame_step : ℕ → Frame → SupervisedState → Step
 frame_step t f s =
-    if is_some (route_up_refusal t f s.kernel) then record { supervised = s; sent = [] } else routed_step (routed_up t f s.kernel) s
+    if is_some (route_up_refusal t f s.kernel) then record { supervised = s; sent = []; verdict = Other } else routed_step (routed_up t f s.kernel) s
 
 -- The broker hears of a death.
 abbrev pub told_step : ℕ → SupervisedState → Step
-told_step t s = record { supervised = after_death t s; sent = from_broker (frames_at_death t s) }
+told_step t s = record { supervised = after_death t s; sent = from_broker (frames_at_death t s); verdict = Other }
 
 abbrev pub stepped : Step → HubState → HubState
 stepped x h = record h { supervised = x.supervised; outputs = h.outputs ++ x.sent }
 
+-- A partition may become active when a tab joins or a death is told. Then the early tabs are to be greeted.
+abbrev pub with_verdict : Verdict → ℕ → HubState → HubState
+with_verdict v t h = let r = noted v t h.early h.greetings in record h { early = r.0; greetings = r.1 }
+
 -- The oldest arrived frame is handled.
 abbrev pub after_first : HubState → List Frame → HubState
 after_first h [] = h
-after_first h (f ∷ fs) = stepped (frame_step h.sender f h.supervised) (record h { arrived = fs })
+after_first h (f ∷ fs) =
+    let x = frame_step h.sender f h.supervised in
+    with_verdict x.verdict h.sender (stepped x (record h { arrived = fs }))
+
+-- An early tab is greeted. It then sends its commands again.
+abbrev pub after_greeting : HubState → Option ℕ → HubState
+after_greeting h None = after_first h h.arrived
+after_greeting h (Some t) =
+    let r = rest_after h.greetings h.early in
+    sends ((t, frame.Hello (record { generation = h.supervised.kernel.generation })) ∷ [])
+    (record h { early = r.0; greetings = r.1 })
 
 -- The broker hears of the oldest death that it was not told of.
 abbrev pub after_told : HubState → List ℕ → HubState
-after_told h [] = after_first h h.arrived
-after_told h (t ∷ ts) = stepped (told_step t h.supervised) (record h { untold = ts })
+after_told h [] = after_greeting h (greeted_next h.greetings h.early)
+after_told h (t ∷ ts) = record (stepped (told_step t h.supervised) (record h { untold = ts })) { greetings = length h.early }
 
--- Deaths come before frames. A death waits until a broker is up.
+-- Deaths come first, then greetings, and then frames. A death or a greeting waits until a broker is up.
 abbrev pub advanced : HubState → HubState
 advanced h = if is_some h.supervised.broker then after_told h h.untold else after_first h h.arrived
 
@@ -133,8 +160,12 @@ abbrev pub progress_at : HubState → List Frame → Progress
 progress_at h [] = Idle
 progress_at h (f ∷ fs) = handling (route_up_refusal h.sender f h.supervised.kernel)
 
+abbrev pub progress_after : HubState → Option ℕ → Progress
+progress_after h None = progress_at h h.arrived
+progress_after h (Some t) = Greeted t
+
 abbrev pub progress_from : HubState → List ℕ → Progress
-progress_from h [] = progress_at h h.arrived
+progress_from h [] = progress_after h (greeted_next h.greetings h.early)
 progress_from h (t ∷ ts) = Told t
 
 abbrev pub progress_of : HubState → Progress
@@ -149,7 +180,7 @@ hub_stopped h = record h { supervised = after_stop h.supervised }
 abbrev pub hub_started : HubState → HubState
 hub_started h =
     let ts = living_tabs h.supervised.kernel in
-    stepped (record { supervised = after_start ts h.supervised; sent = from_broker (frames_at_start ts h.supervised) }) h
+    stepped (record { supervised = after_start ts h.supervised; sent = from_broker (frames_at_start ts h.supervised); verdict = Other }) h
 
 -- A broker that is up is stopped first.
 abbrev pub hub_down : HubState → HubState

@@ -1,3 +1,4 @@
+pub mod Early
 pub mod Faults
 pub mod Hub
 pub mod Sending

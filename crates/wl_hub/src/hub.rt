@@ -7,6 +7,7 @@ ghost use Rattle.wl_hub.specs.Hub.{new_hub, status_of, page_refusal, page_opened
 ghost use Rattle.wl_hub.specs.declared.fault.OpenRefusal.TheVariants as refusals;
 ghost use Rattle.wl_hub.specs.declared.fault.CloseFault.TheVariants as faults;
 
+use crate::early::EarlyTabs;
 use crate::fault::{CloseFault, OpenRefusal};
 use crate::outputs::Outputs;
 use indexmap::IndexMap;
@@ -46,6 +47,7 @@ pub struct Hub {
     pub(crate) arrived: Vec<Frame>,
     /// The number of arrived frames that have been handled.
     pub(crate) handled: usize,
+    pub(crate) early: EarlyTabs,
     pub(crate) outputs: Outputs,
 }
 
@@ -62,6 +64,8 @@ impl Model for Hub {
       untold = h.untold.items;
       sender = h.sender;
       arrived = drop h.handled h.arrived.items;
+      early = h.early.tabs.items;
+      greetings = h.early.greetings;
       outputs = queued h.outputs;
     } };
 }
@@ -79,6 +83,7 @@ impl Hub {
             sender: 0,
             arrived: Vec::new(alloc),
             handled: 0,
+            early: EarlyTabs::new(alloc),
             outputs: Outputs::new(alloc),
         }
     }

@@ -5,6 +5,7 @@
 #![tactic(auto)]
 
 mod broker_life;
+mod early;
 pub mod fault;
 pub mod hub;
 mod outputs;

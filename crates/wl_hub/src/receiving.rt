@@ -5,7 +5,8 @@ ghost use Rattle.std.specs.Map.{lookup};
 ghost use Rattle.wl_frames.specs.declared.fault.FrameFault.{FrameFault};
 ghost use Rattle.wl_hub.specs.declared.fault.ReceiveFault.TheVariants as faults;
 ghost use Rattle.wl_kernel.specs.Routes.{route_up_refusal};
-ghost use Rattle.wl_hub.specs.Hub.{IsFed, IsReceived, advanced, after_first, frame_step, handling, progress_at, progress_of};
+ghost use Rattle.wl_hub.specs.Hub.{IsFed, IsReceived, advanced, after_first, after_greeting, frame_step, handling, progress_after, progress_at, progress_of};
+ghost use Rattle.wl_hub.specs.Early.{greeted_next, verdict_of};
 ghost use Rattle.wl_hub.specs.Stored.{queued, HasRoom};
 
 use crate::fault::ReceiveFault;
@@ -13,9 +14,11 @@ use crate::hub::Hub;
 use crate::outputs::Outputs;
 use indexmap::IndexMap;
 use std::alloc::{AllocError, Global};
-use wl_frames::{Decoded, Feed, Frame};
+use wl_broker::Dropped;
+use wl_frames::{Decoded, Feed, Frame, Hello};
 use wl_kernel::{RouteFault, Routed};
 use wl_kernel_supervisor::SupervisedBroker;
+use wl_world_messages::{Effect, Reason};
 
 /// What a call of `advance` did.
 #[derive(Clone, Copy, Debug, PartialEq, Eq)]
@@ -24,10 +27,22 @@ pub enum Progress {
     Idle,
     /// The broker was told of this tab's death.
     Told(u16),
+    /// This tab was greeted again, since its partition may have become active.
+    Greeted(u16),
     /// A frame was handled.
     Handled,
     /// A frame was dropped for this reason. The caller has to close its sender.
     Refused(RouteFault),
+}
+
+/// What the broker did with a frame of a tab.
+#[derive(Clone, Copy, Debug, PartialEq, Eq)]
+pub(crate) enum Verdict {
+    /// It dropped a command, since the tab's partition recovers.
+    Early,
+    /// The tab has joined.
+    Joined,
+    Other,
 }
 
 /// Gives a piece to a tab's decoder. Returns `None` if there is none.
@@ -70,8 +85,8 @@ impl Hub {
         Err(ReceiveFault::Frame(fault))
     }
 
-    /// Tells the broker of a death, or handles the oldest arrived frame. Deaths come first. Fails if out of
-    /// memory, and then changes nothing.
+    /// Tells the broker of a death, greets a tab whose command came too early, or handles the oldest arrived
+    /// frame, in this order. Fails if out of memory, and then changes nothing.
     pub fn advance(&mut self) -> Result<Progress, AllocError>
         ensures progress { IfOk result (λ p. p ≡ progress_of self.old) }
         ensures state { OnOk result (self.new ≡ advanced self.old) }
@@ -82,13 +97,29 @@ impl Hub {
             return self.handle_first();
         }
         let Some(tab) = self.untold.front() else {
-            return self.handle_first();
+            return self.greet_or_handle();
         };
         let tab = *tab;
         let outcome = self.supervised.tell(self.alloc, tab)?;
         let _ = self.untold.pop_front();
         self.outputs.put_outs(outcome.outs);
+        self.early.greet_all();
         Ok(Progress::Told(tab))
+    }
+
+    /// Greets the next early tab, or handles the oldest arrived frame if there is none.
+    fn greet_or_handle(&mut self) -> Result<Progress, AllocError>
+        ensures progress { IfOk result (λ p. p ≡ progress_after self.old (greeted_next self.old.greetings self.old.early)) }
+        ensures state { OnOk result (self.new ≡ after_greeting self.old (greeted_next self.old.greetings self.old.early)) }
+        ensures err { OnErr result (self.new ≡ self.old) }
+    {
+        self.outputs.make_room()?;
+        let Some(tab) = self.early.next() else {
+            return self.handle_first();
+        };
+        let generation = self.supervised.tabs().generation();
+        self.outputs.put(tab, Frame::Hello(Hello { generation }));
+        Ok(Progress::Greeted(tab))
     }
 
     /// Handles the oldest arrived frame.
@@ -98,11 +129,12 @@ impl Hub {
         ensures err { OnErr result (self.new ≡ self.old) }
     {
         self.outputs.make_room()?;
+        self.early.make_room()?;
         let Some(frame) = self.arrived.get(self.handled) else {
             return Ok(Progress::Idle);
         };
         let frame = frame.copy()?;
-        let progress = handle(
+        let (progress, verdict) = handle(
             self.alloc,
             &mut self.supervised,
             &mut self.outputs,
@@ -110,6 +142,7 @@ impl Hub {
             frame,
         )?;
         self.handled += 1;
+        self.early.note(self.sender, verdict);
         Ok(progress)
     }
 }
@@ -121,9 +154,10 @@ fn handle(
     outputs: &mut Outputs,
     tab: u16,
     frame: Frame,
-) -> Result<Progress, AllocError>
+) -> Result<(Progress, Verdict), AllocError>
     requires { HasRoom 1 outputs.old }
-    ensures progress { IfOk result (λ p. p ≡ handling (route_up_refusal tab frame supervised.old.kernel)) }
+    ensures verdict { IfOk result (λ r. r.1 ≡ (frame_step tab frame supervised.old).verdict) }
+    ensures progress { IfOk result (λ r. r.0 ≡ handling (route_up_refusal tab frame supervised.old.kernel)) }
     ensures supervised { OnOk result (supervised.new ≡ (frame_step tab frame supervised.old).supervised) }
     ensures sent { OnOk result (queued outputs.new ≡ queued outputs.old ++ (frame_step tab frame supervised.old).sent) }
     ensures err { OnErr result ((supervised.new ≡ supervised.old) × (queued outputs.new ≡ queued outputs.old)) }
@@ -134,14 +168,26 @@ fn handle(
                 unreachable!()
             };
             let outcome = supervised.take(alloc, &stamped)?;
+            let verdict = verdict_of(&outcome.said);
             outputs.put_outs(outcome.outs);
-            Ok(Progress::Handled)
+            Ok((Progress::Handled, verdict))
         }
         Ok(Routed::Tabs(heard)) => {
             outputs.put_all(heard.into_vec())?;
-            Ok(Progress::Handled)
+            Ok((Progress::Handled, Verdict::Other))
         }
         Err(RouteFault::Memory) => Err(AllocError),
-        Err(fault) => Ok(Progress::Refused(fault)),
+        Err(fault) => Ok((Progress::Refused(fault), Verdict::Other)),
+    }
+}
+
+/// Returns what an effect says of the sender.
+fn verdict_of(said: &Effect) -> Verdict
+    ensures { result ≡ verdict_of said.now }
+{
+    match said {
+        Effect::Dropped(Reason::AtBroker(Dropped::Recovering)) => Verdict::Early,
+        Effect::Joined { .. } => Verdict::Joined,
+        _ => Verdict::Other,
     }
 }

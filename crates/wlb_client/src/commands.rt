@@ -271,8 +271,8 @@ pub extern "C" fn wlb_client_release(handle: &mut Handle, alloc: Global, number:
     status
 }
 
-/// Sends the report, if it is due, and all commands that are due again. Commands that were not answered need
-/// this call: a link may have lost them, or a partition that recovers has dropped them.
+/// Sends the report, if it is due, and all commands that are due again. Only a link that loses frames
+/// needs this call.
 #[unsafe(no_mangle)]
 pub extern "C" fn wlb_client_resend(handle: &mut Handle, alloc: Global) -> i32
     ensures empty { handle.old.value ≡ None → result ≡ WLB_NO_HANDLE }

@@ -341,6 +341,30 @@ fn clients_share_a_lock(rt: HostRuntime) {
     sees(&rt, &mut one, &[Seen::Granted(4)]);
 }
 
+/// A command that comes while its partition recovers is dropped. The hub greets its tab again when another tab has reported,
+/// and the client sends the command again.
+#[test]
+fn an_early_command_is_sent_again(rt: HostRuntime) {
+    let alloc = rt.alloc();
+    let mut hub = Hub::new(alloc);
+    let mut one = Client::new(alloc);
+    let mut two = Client::new(alloc);
+    open(&rt, &mut hub, 1);
+    open(&rt, &mut hub, 2);
+    restart(&rt, &mut hub);
+    down(&rt, alloc, &mut hub, &mut one, &mut two);
+    let a = named(&rt, alloc, "a");
+    assert_eq!(&rt; request(&mut one, &a, Mode::Exclusive), Ok(0));
+    up(&rt, alloc, &mut hub, 1, &mut one);
+    down(&rt, alloc, &mut hub, &mut one, &mut two);
+    sees(&rt, &mut one, &[Seen::Welcomed(1), Seen::Entered(1)]);
+    up(&rt, alloc, &mut hub, 2, &mut two);
+    down(&rt, alloc, &mut hub, &mut one, &mut two);
+    up(&rt, alloc, &mut hub, 1, &mut one);
+    down(&rt, alloc, &mut hub, &mut one, &mut two);
+    sees(&rt, &mut one, &[Seen::Granted(0)]);
+}
+
 /// Posts reach the other channels of their name, in the same tab and in another one, and none that is closed.
 #[test]
 fn clients_hear_posts(rt: HostRuntime) {

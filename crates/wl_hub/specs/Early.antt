@@ -1,0 +1,35 @@
+-- Tabs whose commands came too early: the broker dropped them, since the tab's partition recovered.
+use Rattle.std.specs.Prelude.{◌≡◌, ℕ, ◌-◌, List, [], ◌∷◌, ◌++◌, Bool, nat_eq, ◌==◌, length, Option, Some, None, if◌then◌else◌}
+use Rattle.std.specs.List.{list_any}
+use Rattle.wl_broker.specs.declared.dropped.Dropped.TheVariants.{Recovering}
+use Rattle.wl_world_messages.specs.declared.effect.Effect.{Effect}
+use Rattle.wl_world_messages.specs.declared.effect.Effect.TheVariants as said
+use Rattle.wl_world_messages.specs.declared.effect.Reason.TheVariants as reason
+use Rattle.wl_hub.specs.declared.receiving.Verdict.{Verdict}
+use Rattle.wl_hub.specs.declared.receiving.Verdict.TheVariants.{Early, Joined, Other}
+
+-- What an effect says of the sender.
+abbrev pub verdict_of : Effect → Verdict
+verdict_of (said.Dropped (reason.AtBroker Recovering)) = Early
+verdict_of (said.Joined t) = Joined
+verdict_of e = Other
+
+-- The early tabs, and the number of those in front that are to be greeted. A tab stands there once.
+abbrev pub noted : Verdict → ℕ → List ℕ → ℕ → List ℕ × ℕ
+noted Early t ts n = (if list_any (λ x. x == t) ts then ts else ts ++ t ∷ [], n)
+noted Joined t ts n = (ts, length ts)
+noted Other t ts n = (ts, n)
+
+abbrev pub first_of : List ℕ → Option ℕ
+first_of [] = None
+first_of (t ∷ ts) = Some t
+
+abbrev pub greeted_next : ℕ → List ℕ → Option ℕ
+greeted_next n ts = if n == 0 then None else first_of ts
+
+abbrev pub after_first_of : ℕ → List ℕ → List ℕ × ℕ
+after_first_of n [] = ([], n)
+after_first_of n (t ∷ ts) = (ts, n - 1)
+
+abbrev pub rest_after : ℕ → List ℕ → List ℕ × ℕ
+rest_after n ts = if n == 0 then (ts, n) else after_first_of n ts
