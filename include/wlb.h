@@ -189,7 +189,7 @@ enum wlb_event_kind {
     WLB_GRANTED = 3,       /* the tab holds a lock. number: of its request or probe */
     WLB_WAITING = 4,       /* a request waits, which may be said again. number: of the request */
     WLB_NOT_AVAILABLE = 5, /* a probe got no lock (Web Locks, `ifAvailable`). number: of the probe */
-    WLB_LOST = 6,          /* a query gets no answer. number: of the query */
+    WLB_LOST = 6,          /* a query gets no answer, because its snapshot is too large or it was sent again. number: of the query */
     WLB_ANSWERED = 7,      /* a query is answered. number: of the query; count: entries of the snapshot, see wlb_client_entry */
     WLB_POSTED = 8,        /* a post has come. count: channels that have it in their inbox, see wlb_client_item */
     WLB_OTHER = 9          /* reserved: no event has this kind */
@@ -250,8 +250,8 @@ int32_t wlb_client_next_event(wlb_client *client, wlb_event *event);
  * WLB_OK; WLB_NOTHING: the last event has no such item; WLB_NO_HANDLE. */
 int32_t wlb_client_item(wlb_client *client, size_t index, uint32_t *number);
 
-/* Writes an entry of the last event, if it is WLB_ANSWERED, and the entry's name without a NUL. Entries are counted from 0: held locks in the
- * order of granting, and then requests in the order of queueing.
+/* Writes an entry of the last event, if it is WLB_ANSWERED, and the entry's name without a NUL. Entries are counted from 0: held
+ * locks in the order of granting, and then requests in the order of queueing.
  * WLB_OK; WLB_NOTHING: there is no such entry; WLB_SHORT_BUFFER: `capacity` is below WLB_NAME_BYTES; WLB_NO_HANDLE. */
 int32_t wlb_client_entry(wlb_client *client, size_t index, wlb_entry *entry, uint8_t *name, size_t capacity,
                          size_t *length);
