@@ -189,7 +189,7 @@ enum wlb_event_kind {
     WLB_GRANTED = 3,       /* the tab holds a lock. number: of its request or probe */
     WLB_WAITING = 4,       /* a request waits, which may be said again. number: of the request */
     WLB_NOT_AVAILABLE = 5, /* a probe got no lock (Web Locks, `ifAvailable`). number: of the probe */
-    WLB_LOST = 6,          /* a query gets no answer, because its snapshot is too large or it was sent again. number: of the query */
+    WLB_LOST = 6,          /* a query gets no answer: its snapshot is too large, or it was sent again. number: of the query */
     WLB_ANSWERED = 7,      /* a query is answered. number: of the query; count: entries of the snapshot, see wlb_client_entry */
     WLB_POSTED = 8,        /* a post has come. count: channels that have it in their inbox, see wlb_client_item */
     WLB_OTHER = 9          /* reserved: no event has this kind */
