@@ -1,5 +1,5 @@
 # Shows, measures and tests `wlb`. `make` alone lists the targets.
-.PHONY: help demo demo-processes try lib install bench soak fuzz refuse mutants test
+.PHONY: help demo demo-processes try lib install wasm bench soak fuzz refuse mutants test
 
 WLB = crates/wlb/out/wlb
 BENCH = crates/bench_core/out/bench_core
@@ -32,6 +32,9 @@ lib: $(if $(ARCHIVES),,$(HUB) $(CLIENT)) ## builds the C libraries in the folder
 
 install: lib ## installs the header and the C libraries under PREFIX
 	python3 tools/library.py --prefix $(PREFIX) install --destdir "$(DESTDIR)" $(BUILD)
+
+wasm: ## builds the WebAssembly modules in the folder `build/wasm`, after `make test` or `rt ci`
+	python3 tools/wasm.py
 
 bench: $(WLB) $(BENCH) lib ## measures scripts, the broker, lock tables, the board, lanes, processes and the C libraries
 	python3 tools/bench.py --build $(BUILD) $(WLB) $(BENCH)
