@@ -1,0 +1,83 @@
+// Several links over one MessagePort.
+
+import { listen, whole } from './transports.js';
+
+/**
+ * The links of a renderer: one for each of its documents, all over one MessagePort. What is sent over them keeps its order, as pages
+ * expect it of frames that share an event loop. `opened` is called with each link that the other side opens, and with its details, any
+ * value that can be posted. The details are those of the other side, so a host has to check them. It must not throw.
+ */
+export class LinkBundle {
+  #port;
+  #opened;
+  #ends = new Map(); // number -> end of a link: {receive, closed, kept}
+  #next = 0;
+  #isOver = false;
+
+  constructor(port, opened = null) {
+    this.#port = port;
+    this.#opened = opened;
+    listen(port, 'message', ({ data }) => this.#come(data));
+    listen(port, 'close', () => this.close());
+    port.start();
+  }
+
+  /** Opens a link. Only one side of a port may open links. */
+  open(details) {
+    const number = this.#next++;
+    this.#post(number, 'open', details);
+    return this.#link(number);
+  }
+
+  /** Ends all links and the port. */
+  close() {
+    if (this.#isOver) return;
+    this.#isOver = true;
+    this.#port.close();
+    for (const number of [...this.#ends.keys()]) this.#end(number);
+  }
+
+  /** Takes a message. One of another form ends all links: the other side is broken or hostile. */
+  #come(message) {
+    if (this.#isOver) return;
+    const [number, kind, value] = Array.isArray(message) ? message : [];
+    const end = this.#ends.get(number);
+    if (kind === 'open' && this.#opened && Number.isInteger(number) && !end) this.#opened(this.#link(number), value);
+    else if (kind === 'bytes' && value instanceof Uint8Array) end?.receive(value);
+    else if (kind === 'close') this.#end(number);
+    else this.close();
+  }
+
+  #post(...message) {
+    if (!this.#isOver) this.#port.postMessage(message);
+  }
+
+  #end(number) {
+    const end = this.#ends.get(number);
+    this.#ends.delete(number);
+    end?.closed();
+  }
+
+  #link(number) {
+    const kept = [];
+    let isEarly = false;
+    const end = { receive: bytes => kept.push(bytes), closed: () => { isEarly = true; } };
+    this.#ends.set(number, end);
+    return {
+      start(receive, closed) {
+        end.receive = receive;
+        end.closed = () => closed(null);
+        for (const bytes of kept.splice(0)) receive(bytes);
+        if (isEarly) queueMicrotask(end.closed);
+      },
+      send: bytes => {
+        if (this.#ends.get(number) === end) this.#post(number, 'bytes', whole(bytes));
+      },
+      close: () => {
+        if (this.#ends.get(number) !== end) return;
+        this.#post(number, 'close', null);
+        this.#end(number);
+      },
+    };
+  }
+}

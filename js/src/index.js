@@ -1,0 +1,10 @@
+// The package: everything of it that runs in browsers and in Node.
+
+export { compile, WlbError } from './module.js';
+export { Hub } from './hub.js';
+export { Client } from './client.js';
+export { Host } from './host.js';
+export { connect, Tab } from './tab.js';
+export { Lock, LockManager } from './locks.js';
+export { LinkBundle } from './bundle.js';
+export { connectSocket, linkPair, portLink, serveSharedWorker, sharedWorkerLink, socketLink } from './transports.js';

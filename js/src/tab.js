@@ -1,0 +1,284 @@
+// Tab: a client with its link. LockManager and BroadcastChannel stand on it.
+
+import { broadcastChannelOf } from './broadcast.js';
+import { Client } from './client.js';
+import { Splitter, commandIn, joined, originIn, takenIn } from './frames.js';
+import { lockManagerOf } from './locks.js';
+import { Tasks } from './tasks.js';
+
+/**
+ * Makes a tab over a link to a hub, and waits for the hub's welcome. `source` is `wlb_client.wasm`: its bytes, its URL, a Response, or
+ * a compiled module.
+ */
+export async function connect(link, source) {
+  const agent = new Agent(await Client.create(source), link);
+  await agent.welcomed;
+  return new Tab(agent);
+}
+
+/** The locks and channels of one tab. */
+export class Tab {
+  #agent;
+  /** What a page has as `navigator.locks`. */
+  locks;
+  /** The class BroadcastChannel of this tab. */
+  BroadcastChannel;
+
+  constructor(agent) {
+    this.#agent = agent;
+    this.locks = lockManagerOf(agent);
+    this.BroadcastChannel = broadcastChannelOf(agent);
+  }
+
+  /** Number of the tab: the `clientId` of a query. */
+  get id() { return this.#agent.tab; }
+
+  /** Origin of the tab's documents. */
+  get origin() { return this.#agent.origin; }
+
+  /** Generation of the broker, or 0 before the first one. */
+  get generation() { return this.#agent.generation; }
+
+  /** Is resolved when the link has ended: with the error, or with null. */
+  get closed() { return this.#agent.closed; }
+
+  /** Closes the link. Locks of this tab go to other tabs, so its work under them has to be over. */
+  close() { this.#agent.close(); }
+}
+
+// Milliseconds without an answer of the broker after which a tab sends again what it waits for. The pause doubles up to the last one.
+const FIRST_PAUSE = 20, LAST_PAUSE = 640;
+
+/** The proved client with its link. The functions that a number's fate is told to are called at once, and must not throw. */
+export class Agent {
+  #client;
+  #link;
+  #splitter = new Splitter();
+  #told = new Map(); // number -> function that is told what becomes of it
+  #waiting = new Set(); // numbers that are neither held nor over
+  #hasHeard = false; // of the broker of this generation, anything but its hello
+  #pause = FIRST_PAUSE;
+  #timer = null;
+  #takens = []; // [number, function] by rising number
+  #issued = 0; // commands that were put out
+  #acknowledged = 0; // commands that the broker has taken
+  #pending = []; // frames for the link
+  #inboxes = new Map(); // channel -> function that is given each post
+  #welcome;
+  #end;
+  tab = 0;
+  origin = null;
+  generation = 0;
+  isClosed = false;
+  tasks = new Tasks();
+
+  constructor(client, link) {
+    this.#client = client;
+    this.#link = link;
+    this.closed = new Promise(resolve => { this.#end = resolve; });
+    this.welcomed = new Promise((resolve, reject) => {
+      this.#welcome = resolve;
+      this.closed.then(error => reject(error ?? new Error('the link was closed')));
+    });
+    this.welcomed.catch(() => {});
+    link.start(bytes => this.#receive(bytes), error => this.#ended(error ?? null));
+  }
+
+  // ---- the link
+
+  #receive(bytes) {
+    if (this.isClosed) return;
+    try {
+      for (const frame of this.#splitter.push(bytes)) {
+        if (!this.tab) this.origin = originIn(frame);
+        this.#client.receive(frame, event => this.#tell(event));
+        const taken = takenIn(frame);
+        if (taken) this.#heard(taken);
+      }
+      this.#collect();
+    } catch (error) {
+      this.#ended(error);
+      this.#link.close();
+    }
+  }
+
+  #tell(event) {
+    switch (event.kind) {
+      case 'welcomed':
+        this.tab = event.tab;
+        return this.#welcome();
+      case 'entered':
+        this.generation = event.generation;
+        this.#hasHeard = false;
+        this.#pause = FIRST_PAUSE;
+        // The report to this generation says what became of all commands before it.
+        this.#taken(this.#issued);
+        for (const number of event.ended) this.#settle(number, 'ended');
+        return undefined;
+      case 'posted':
+        for (const channel of event.channels) this.#read(channel);
+        return undefined;
+      case 'granted':
+      case 'notAvailable':
+      case 'lost':
+      case 'answered':
+        return this.#settle(event.number, event.kind, event.entries);
+      default: return undefined;
+    }
+  }
+
+  #settle(number, kind, entries) {
+    const told = this.#told.get(number);
+    if (!told) return;
+    this.#waiting.delete(number);
+    if (kind !== 'granted') this.#told.delete(number);
+    told(kind, entries);
+  }
+
+  #heard(taken) {
+    this.#hasHeard = true;
+    this.#pause = FIRST_PAUSE;
+    clearTimeout(this.#timer);
+    this.#timer = null;
+    this.#taken(taken);
+  }
+
+  #taken(count) {
+    this.#acknowledged = Math.max(this.#acknowledged, count);
+    while (this.#takens.length && this.#takens[0][0] < this.#acknowledged) this.#takens.shift()[1]();
+  }
+
+  /** Takes the output of the client, and sends all of it at the end of this step. */
+  #collect() {
+    if (this.isClosed) return;
+    for (const frame of this.#client.outputs()) {
+      this.#issued = Math.max(this.#issued, commandIn(frame) + 1);
+      if (this.#pending.push(frame) === 1) queueMicrotask(() => this.#flush());
+    }
+    this.#arm();
+  }
+
+  /**
+   * Sends again what the broker has not answered, after a pause that becomes longer. A broker drops commands while a tab of the
+   * partition has not reported. Over a link that loses frames, reports and answers may be lost, too.
+   */
+  #arm() {
+    if (this.#timer || this.isClosed || !this.generation) return;
+    const mayBeLost = this.#link.losesFrames && (!this.#hasHeard || this.#waiting.size > 0);
+    if (!mayBeLost && this.#issued <= this.#acknowledged) return;
+    this.#timer = setTimeout(() => {
+      this.#timer = null;
+      this.#pause = Math.min(2 * this.#pause, LAST_PAUSE);
+      if (this.isClosed) return;
+      // A report is not answered, and a tab without a command would not hear whether it has come.
+      if (this.#link.losesFrames && !this.#hasHeard && this.#issued <= this.#acknowledged) this.#ping();
+      this.#client.resend();
+      this.#collect();
+    }, this.#pause);
+  }
+
+  #ping() {
+    try {
+      this.query(() => {});
+    } catch {
+      // All numbers are live. Then one of them is answered, or they are all held, and the next release is.
+    }
+  }
+
+  #flush() {
+    const frames = this.#pending;
+    this.#pending = [];
+    if (this.isClosed || !frames.length) return;
+    this.#link.send(joined(frames));
+  }
+
+  close() {
+    this.#flush();
+    this.#link.close();
+    this.#ended(null);
+  }
+
+  #ended(error) {
+    if (this.isClosed) return;
+    this.isClosed = true;
+    clearTimeout(this.#timer);
+    this.#end(error);
+    const told = [...this.#told.values()];
+    this.#told.clear();
+    for (const tell of told) tell('closed');
+    for (const [, tell] of this.#takens.splice(0)) tell();
+  }
+
+  // ---- commands
+
+  /** Requests a lock, or probes it. `told` is called with 'granted', 'notAvailable', 'ended' or 'closed'. Returns the number. */
+  ask(name, mode, isProbe, told) {
+    if (this.isClosed) {
+      told('closed');
+      return -1;
+    }
+    const number = isProbe ? this.#client.probe(name, mode) : this.#client.request(name, mode);
+    this.#told.set(number, told);
+    this.#waiting.add(number);
+    this.#collect();
+    return number;
+  }
+
+  /** Queries the locks. `told` is called with 'answered' and the entries, or with 'lost', 'ended' or 'closed'. */
+  query(told) {
+    if (this.isClosed) return told('closed');
+    const number = this.#client.query();
+    this.#told.set(number, told);
+    this.#waiting.add(number);
+    return this.#collect();
+  }
+
+  /** Aborts a request that is not granted. */
+  abort(number) {
+    this.#told.delete(number);
+    this.#waiting.delete(number);
+    if (this.isClosed) return;
+    this.#client.abort(number);
+    this.#collect();
+  }
+
+  /** Releases a lock. `then` is called when the broker has taken it: whatever comes to the broker from then on finds it done. */
+  release(number, then = () => {}) {
+    this.#told.delete(number);
+    if (this.isClosed) return then();
+    this.#client.release(number);
+    this.#collect();
+    this.#takens.push([this.#issued - 1, then]);
+    this.#taken(this.#acknowledged);
+    return undefined;
+  }
+
+  // ---- channels
+
+  openChannel(name, receive) {
+    const channel = this.#client.openChannel(name);
+    this.#inboxes.set(channel, receive);
+    this.#collect();
+    return channel;
+  }
+
+  /** Posts data, and gives it to the tab's own channels in the order of their opening. */
+  post(channel, data) {
+    this.#client.post(channel, data);
+    this.#collect();
+    for (const own of this.#inboxes.keys()) this.#read(own);
+  }
+
+  closeChannel(channel) {
+    this.#inboxes.delete(channel);
+    if (this.isClosed) return;
+    this.#client.closeChannel(channel);
+    this.#collect();
+  }
+
+  #read(channel) {
+    const receive = this.#inboxes.get(channel);
+    if (!receive) return;
+    for (let post; (post = this.#client.read(channel)) !== null;) receive(post.data);
+  }
+}
