@@ -1,5 +1,5 @@
 # Shows, measures and tests `wlb`. `make` alone lists the targets.
-.PHONY: help demo demo-processes try lib install wasm bench soak fuzz refuse mutants test
+.PHONY: help demo demo-processes try lib install wasm js-test bench soak fuzz refuse mutants test
 
 WLB = crates/wlb/out/wlb
 BENCH = crates/bench_core/out/bench_core
@@ -35,6 +35,9 @@ install: lib ## installs the header and the C libraries under PREFIX
 
 wasm: ## builds the WebAssembly modules in the folder `build/wasm`, after `make test` or `rt ci`
 	python3 tools/wasm.py
+
+js-test: ## runs the tests of the JavaScript package with the modules of `make wasm`
+	node --test js/test
 
 bench: $(WLB) $(BENCH) lib ## measures scripts, the broker, lock tables, the board, lanes, processes and the C libraries
 	python3 tools/bench.py --build $(BUILD) $(WLB) $(BENCH)
