@@ -1,5 +1,5 @@
 # Shows, measures and tests `wlb`. `make` alone lists the targets.
-.PHONY: help demo demo-processes try lib install wasm js-test bench soak fuzz refuse mutants test
+.PHONY: help demo demo-processes try lib install wasm js-test conformance bench soak fuzz refuse mutants test
 
 WLB = crates/wlb/out/wlb
 BENCH = crates/bench_core/out/bench_core
@@ -38,6 +38,11 @@ wasm: ## builds the WebAssembly modules in the folder `build/wasm`, after `make 
 
 js-test: ## runs the tests of the JavaScript package with the modules of `make wasm`
 	node --test js/test
+
+WPT ?=
+
+conformance: ## runs the web-platform-tests of the folder WPT over the JavaScript package
+	node js/conformance/run.js $(CONFORMANCE) "$(WPT)"
 
 bench: $(WLB) $(BENCH) lib ## measures scripts, the broker, lock tables, the board, lanes, processes and the C libraries
 	python3 tools/bench.py --build $(BUILD) $(WLB) $(BENCH)
