@@ -85,4 +85,4 @@ $(BENCH): crates.txt $(wildcard crates/wl_*/src/*.rt crates/wl_*/src/*/*.rt crat
 	cd crates/bench_core && rt run > /dev/null
 
 $(HUB) $(CLIENT): crates.txt $(wildcard crates/wl*/src/*.rt crates/wl*/src/*/*.rt crates/wl*/specs/*.antt)
-	cd $(dir $@).. && rt lib > /dev/null
+	python3 tools/archive.py $(patsubst lib%.a,%,$(notdir $@))

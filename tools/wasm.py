@@ -1,7 +1,6 @@
 """Makes the WebAssembly modules of `wlb`: `wlb_hub.wasm` and `wlb_client.wasm`, with the functions of `include/wlb.h`.
 
-Run it after `rt ci`, or `rt lib` in the crates below: it takes the lower crates as they were built there. For each of the two
-static libraries it
+Run it after `rt ci`: it takes the lower crates as they were built there. For each of the two static libraries it
 
 1. has `rattle build` prove the library again, with a toolchain whose `clang` also keeps the LLVM module that it is given;
 2. writes another data layout, target and processor into that module;
@@ -23,6 +22,7 @@ import subprocess
 import sys
 import tempfile
 
+from archive import kit_folder, missing, rattle_words
 from library import TOP, functions_of
 
 LIBRARIES = ["wlb_hub", "wlb_client"]
@@ -54,56 +54,6 @@ def run(*words, **how):
         sys.exit(f"wasm: `{pathlib.Path(str(words[0])).name}` has failed with status {ran.returncode}")
 
 
-def kit_folder():
-    """Returns the folder of the kit: that of its first document."""
-    said = subprocess.run(["rt", "doc"], capture_output=True, text=True, check=True).stdout
-    return pathlib.Path(said.splitlines()[0]).parent
-
-
-def listed():
-    """Returns the libraries that each crate of `crates.txt` stands on."""
-    found = {}
-    for line in (TOP / "crates.txt").read_text(encoding="utf-8").splitlines():
-        head, _, below = line.partition("#")[0].partition(":")
-        if head.strip():
-            found[head.split()[0]] = below.split()
-    return found
-
-
-def below(name, crates):
-    """Returns all libraries below a crate, each after those that it stands on."""
-    order = []
-
-    def visit(library):
-        for lower in crates.get(library, []):
-            visit(lower)
-        if library not in order:
-            order.append(library)
-
-    for library in crates[name]:
-        visit(library)
-    return order
-
-
-def rattle_words(name, kit):
-    """Returns the command that proves and compiles a static library, without the toolchain and the output."""
-    crates = listed()
-    libraries = below(name, crates)
-    words = [kit / "bin" / "rattle", "build", "--crate-name", name, TOP / "crates" / name / "src" / "lib.rt"]
-    for library in sorted({"std", *libraries} - {*crates}):
-        words += ["--extern", f"{library}={kit}/rlibs/{library}.rlib"]
-    words += ["-L", f"dependency={kit}/rlibs"]
-    for library in libraries:
-        if library not in crates:
-            continue
-        built = TOP / "crates" / library / "out" / "rlib" / f"{library}.rlib"
-        if not built.exists():
-            sys.exit(f"wasm: {library} is not built: run `rt ci`, or `rt lib` in its folder")
-        words += ["--extern", f"{library}={built}", "-L", f"dependency={built.parent}"]
-    words += ["--antt-project", kit / "rattle" / "logic" / "antt-project.json", "--logic-built", kit / "logic_built"]
-    return [*words, "--links", f"{name}=", "--crate-type", "staticlib", "--backend", "llvm", "--cpu", "x86-64"]
-
-
 def keeping_toolchain(kit, folder, kept):
     """Makes a folder that stands for the kit's toolchain. Its `clang` keeps the modules that it is given."""
     (folder / "bin").mkdir()
@@ -123,7 +73,11 @@ def llvm_module(name, kit, room, jobs):
     kept.mkdir()
     toolchain.mkdir()
     keeping_toolchain(kit, toolchain, kept)
-    words = [*rattle_words(name, kit), "--jobs", jobs, "--toolchain", toolchain, "-o", room / f"lib{name}.a"]
+    lacking = missing(name)
+    if lacking:
+        sys.exit(f"wasm: {' '.join(lacking)} not built: run `rt ci`")
+    words = [*rattle_words(name, kit), "--cpu", "x86-64", "--jobs", jobs, "--toolchain", toolchain]
+    words += ["-o", room / f"lib{name}.a"]
     log = room / "log"
     with open(log, "wb") as out:
         ran = subprocess.run([str(word) for word in words], stdout=out, stderr=out, check=False, cwd=room)
