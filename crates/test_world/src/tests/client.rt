@@ -256,6 +256,12 @@ fn up(rt: &impl Abort, alloc: Global, hub: &mut Hub, tab: u16, client: &mut Clie
     work(rt, hub);
 }
 
+/// Gives a client bytes of the hub, and handles their frames.
+fn hears(rt: &impl Abort, client: &mut Client, bytes: &[u8]) {
+    assert_eq!(rt; receive(client, bytes), Ok(()));
+    handle(rt, client);
+}
+
 /// Gives the tabs 1 and 2 all that the hub has to send.
 fn down(rt: &impl Abort, alloc: Global, hub: &mut Hub, one: &mut Client, two: &mut Client) {
     for _ in 0..CALLS {
@@ -264,14 +270,12 @@ fn down(rt: &impl Abort, alloc: Global, hub: &mut Hub, one: &mut Client, two: &m
             Err(AllocError) => hub.next_output(&mut bytes),
             answer => answer,
         };
-        let client = match answer.expect(rt, BACK) {
+        match answer.expect(rt, BACK) {
             Output::Idle => return,
-            Output::Dropped => continue,
-            Output::For(1) => &mut *one,
-            Output::For(_) => &mut *two,
-        };
-        assert_eq!(rt; receive(client, &bytes), Ok(()));
-        handle(rt, client);
+            Output::Dropped => {}
+            Output::For(1) => hears(rt, one, &bytes),
+            Output::For(_) => hears(rt, two, &bytes),
+        }
     }
     panic!(rt; "the hub has more to send");
 }
