@@ -54,8 +54,9 @@ test('nothing is granted while a listed tab has not reported', async () => {
   output(hub);
   hub.receive(1, bytes(REPORT + REQUEST));
   assert.deepEqual(output(hub), []);
-  // The command was dropped, and comes again when the last tab has reported.
+  // The command was dropped. When the last tab has reported, the hub greets tab 1 again, which sends it again.
   hub.receive(2, bytes(REPORT));
+  assert.deepEqual(output(hub), [[1, HELLO]]);
   hub.receive(1, bytes(REQUEST));
   assert.deepEqual(output(hub), [[1, GRANTED]]);
 });
