@@ -13,7 +13,7 @@ use wl_frames::Frame;
 use wl_tab::{TabChannels, TabLocks};
 use wl_world_messages::Effect;
 
-/// What a call of `advance` did.
+/// Result of `advance`.
 #[derive(Clone, Copy, Debug, PartialEq, Eq)]
 pub enum Progress {
     /// Nothing was left to do.

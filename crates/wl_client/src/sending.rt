@@ -13,7 +13,7 @@ use wl_agent::MessageFault;
 use wl_frames::{Frame, encode_into};
 use wl_tab::TabLocks;
 
-/// What a call of `next_output` did.
+/// Result of `next_output`.
 #[derive(Clone, Copy, Debug, PartialEq, Eq)]
 pub enum Output {
     /// Nothing was left to send.

@@ -8,7 +8,7 @@ use Rattle.wl_world_messages.specs.declared.effect.Reason.TheVariants as reason
 use Rattle.wl_hub.specs.declared.receiving.Verdict.{Verdict}
 use Rattle.wl_hub.specs.declared.receiving.Verdict.TheVariants.{Early, Joined, Other}
 
--- What an effect says of the sender.
+-- The broker's answer to the frame that had this effect.
 abbrev pub verdict_of : Effect → Verdict
 verdict_of (said.Dropped (reason.AtBroker Recovering)) = Early
 verdict_of (said.Joined t) = Joined

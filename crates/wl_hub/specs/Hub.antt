@@ -95,7 +95,7 @@ hub_closed t h =
 
 -- Events of the kernel and its broker
 
--- The supervisor after an event, the frames that are sent, and what the broker did with the sender's frame.
+-- The supervisor after an event, the frames that are sent, and the broker's answer to the sender's frame.
 pub record Step : Type 0 where
   pub supervised : SupervisedState
   pub sent : List (ℕ × Frame)
@@ -151,7 +151,7 @@ after_told h (t ∷ ts) = record (stepped (told_step t h.supervised) (record h {
 abbrev pub advanced : HubState → HubState
 advanced h = if is_some h.supervised.broker then after_told h h.untold else after_first h h.arrived
 
--- What a call of `advance` returns: what it did.
+-- Result of `advance`.
 abbrev pub handling : Option RouteFault → Progress
 handling None = Handled
 handling (Some f) = Refused f

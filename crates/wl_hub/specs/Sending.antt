@@ -21,7 +21,7 @@ pub record IsDue (k : KernelState) (t : ℕ) (f : Frame) : Type 0 where
   pub current : is_current k.generation f ≡ true
   pub well_formed : IsWellFormed f
 
--- What was done with the oldest frame, the bytes before and after, and the hub afterwards.
+-- Relates a hub, the result of `next_output`, the bytes before and after it, and the hub afterwards.
 abbrev pub IsNext : HubState → Output → List ℕ → List ℕ → HubState → Type 0
 IsNext h Idle before bytes after = (h.outputs ≡ []) × (bytes ≡ before) × (after ≡ h)
 IsNext h (For t) before bytes after =

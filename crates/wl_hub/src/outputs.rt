@@ -20,7 +20,7 @@ pub(crate) const SPARE: usize = 2;
 #[derive(Drop)]
 pub(crate) struct Outputs {
     pub(crate) queue: VecDeque<(u16, Frame)>,
-    /// Frames of the broker's last event, behind those of the queue.
+    /// Frames of the broker's last event. They are sent after the frames of the queue.
     rest: VecDeque<Addressed>,
 }
 

@@ -20,7 +20,7 @@ use wl_kernel::{RouteFault, Routed};
 use wl_kernel_supervisor::SupervisedBroker;
 use wl_world_messages::{Effect, Reason};
 
-/// What a call of `advance` did.
+/// Result of `advance`.
 #[derive(Clone, Copy, Debug, PartialEq, Eq)]
 pub enum Progress {
     /// Nothing was left to do.
@@ -35,7 +35,7 @@ pub enum Progress {
     Refused(RouteFault),
 }
 
-/// What the broker did with a frame of a tab.
+/// The broker's answer to a frame of a tab.
 #[derive(Clone, Copy, Debug, PartialEq, Eq)]
 pub(crate) enum Verdict {
     /// It dropped a command, since the tab's partition recovers.

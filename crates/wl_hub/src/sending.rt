@@ -8,7 +8,7 @@ use std::alloc::AllocError;
 use wl_frames::{Frame, encode_into};
 use wl_kernel::Tabs;
 
-/// What a call of `next_output` did with the oldest frame.
+/// Result of `next_output`.
 #[derive(Clone, Copy, Debug, PartialEq, Eq)]
 pub enum Output {
     /// No frame was left.

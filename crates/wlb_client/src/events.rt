@@ -33,7 +33,7 @@ pub const WLB_WAITING: u32 = 4;
 pub const WLB_NOT_AVAILABLE: u32 = 5;
 /// The query with the number is lost.
 pub const WLB_LOST: u32 = 6;
-/// The query with the number is answered. The count is that of the entries.
+/// The query with this number is answered. The count is the number of entries in its snapshot.
 pub const WLB_ANSWERED: u32 = 7;
 /// A post can be read. The items are the channels.
 pub const WLB_POSTED: u32 = 8;

@@ -218,7 +218,7 @@ fn written_for(rt: &impl Abort, alloc: Global, script: &[u8]) -> Vec<u8> {
     }
 }
 
-/// Asserts that living tabs hold the locks of a line in both worlds, and lists those of the second world.
+/// Asserts that living tabs hold the locks of a line in both worlds. Lists the locks of the second world.
 fn list_alike(
     rt: &impl Abort,
     alloc: Global,

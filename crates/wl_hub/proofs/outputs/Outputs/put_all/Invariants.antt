@@ -2,7 +2,7 @@ use Rattle.std.proofs.Common.{◌≡◌, ◌+◌, ◌≤◌, ◌++◌, []}
 use Rattle.std.specs.VecDeque.{deque_len, deque_capacity}
 use Rattle.wl_hub.proofs.outputs.Outputs.put_all.Given as goal
 
--- The frames that are left follow those of the queue, which has room for them.
+-- The remaining frames follow those of the queue. It has room for them.
 abbrev pub invariant-loop-frame : goal.invariant-loop-frame
 invariant-loop-frame l =
     (l.self.rest.items ≡ [])
