@@ -24,7 +24,7 @@ try: ## plays EXAMPLE, a script of the sim, with nothing proved
 
 PREFIX ?= /usr/local
 BUILD ?= build
-# Folders with archives that `rt lib` has made elsewhere.
+# Folders with static libraries that were built elsewhere.
 ARCHIVES ?=
 
 lib: $(if $(ARCHIVES),,$(HUB) $(CLIENT)) ## builds the C libraries in the folder `build`

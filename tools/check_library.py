@@ -265,7 +265,7 @@ CHECKS = [
 
 def main():
     parser = argparse.ArgumentParser(description=__doc__, formatter_class=argparse.RawDescriptionHelpFormatter)
-    parser.add_argument("archives", metavar="ARCHIVES", type=pathlib.Path, nargs="*", help="a folder of archives of `rt lib`")
+    parser.add_argument("archives", metavar="ARCHIVES", type=pathlib.Path, nargs="*", help="a folder with static libraries")
     parser.add_argument("--only", metavar="WORD", default="", help="run only the checks whose names contain this word")
     parser.add_argument("--megabytes", metavar="N", type=float, default=10, help="the bytes that hub and client each receive")
     parser.add_argument("--seed", metavar="SEED", type=int, default=1, help="the number from which the bytes are drawn")

@@ -1,8 +1,8 @@
 """Makes the C libraries of `wlb` from their archives, and installs them.
 
-`build` takes `libwlb_hub.a` and `libwlb_client.a`, as `rt lib` makes them, from the folders ARCHIVES. Into the folder BUILD it
+`build` takes `libwlb_hub.a` and `libwlb_client.a`, as `tools/archive.py` builds them, from the folders ARCHIVES. Into the folder BUILD it
 writes an archive of each that needs nothing but the C library, a shared library of each, and `wlb.pc` for pkg-config. An archive
-has one object: that of `rt lib` with the functions of the kit's `liblibc_c.a`, which call `malloc`. Only the functions of
+has one object: that of the static library with the functions of the kit's `liblibc_c.a`, which call `malloc`. Only the functions of
 `include/wlb.h` are visible outside of it.
 
 `install` copies the header, the libraries and `wlb.pc` to PREFIX, below DESTDIR if it is given.
@@ -114,7 +114,7 @@ def main():
     parts = parser.add_subparsers(dest="part", required=True)
     builder = parts.add_parser("build", help="make the libraries")
     builder.add_argument("build", metavar="BUILD", type=pathlib.Path, help="the folder that is written")
-    builder.add_argument("archives", metavar="ARCHIVES", type=pathlib.Path, nargs="+", help="a folder of archives of `rt lib`")
+    builder.add_argument("archives", metavar="ARCHIVES", type=pathlib.Path, nargs="+", help="a folder with static libraries")
     installer = parts.add_parser("install", help="copy what was made")
     installer.add_argument("build", metavar="BUILD", type=pathlib.Path, help="the folder that `build` has written")
     installer.add_argument("--destdir", metavar="DESTDIR", default="", help="a folder that stands for the root")
