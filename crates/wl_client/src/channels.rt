@@ -1,6 +1,6 @@
 //! Channels of the tab (HTML Standard, section 9.5, "Broadcasting to other browsing contexts").
 
-ghost use Rattle.std.specs.Prelude.{◌≡◌, length, None, IfOk, OnOk, OnErr, option_map};
+ghost use Rattle.std.specs.Prelude.{◌≡◌, ◌⊎◌, length, None, Some, IfOk, IfErr, OnOk, OnErr, option_map};
 ghost use Rattle.wl_draft.specs.Refusals.{RefusesBy, RefusesOnlyBy};
 ghost use Rattle.wl_broadcast.specs.Channels.{opened, open_refusal, read_at, first_of, inbox_at};
 ghost use Rattle.wl_tab.specs.TabChannels.{number_refusal, posting_refusal};
@@ -34,6 +34,8 @@ impl Client {
     pub fn post(&mut self, channel: usize, data: &[u8]) -> Result<(), ChannelCallFault>
         ensures ok { OnOk result (self.new ≡ after_post channel data.now self.old) }
         ensures allowed { OnOk result (channel_refusal (posting_refusal channel data.now self.old.channels) self.old ≡ None) }
+        ensures refused { IfErr result (λ e. (e ≡ faults.Memory)
+            ⊎ (channel_refusal (posting_refusal channel data.now self.old.channels) self.old ≡ Some e)) }
         ensures err { OnErr result (self.new ≡ self.old) }
     {
         if !self.is_welcomed {
