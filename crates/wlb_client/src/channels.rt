@@ -1,10 +1,14 @@
 //! Channels of the tab.
 
-ghost use Rattle.std.specs.Prelude.{◌≡◌, ◌≢◌, ◌≤◌, ℕ, [], None, Some, true, false, is_some, option_map, length, take, IfSome, if◌then◌else◌};
-ghost use Rattle.wl_broadcast.specs.Channels.{inbox_at, first_of};
-ghost use Rattle.wl_client.specs.Client.{after_post, after_close};
+ghost use Rattle.std.specs.Prelude.{◌≡◌, ◌≢◌, ◌⊎◌, ◌≤◌, ◌<◌, ℕ, [], None, Some, true, false, is_some, option_map, length, take, IfSome, if◌then◌else◌};
+ghost use Rattle.wl_broadcast.specs.Channels.{inbox_at, first_of, open_refusal};
+ghost use Rattle.wl_tab.specs.TabChannels.{number_refusal, posting_refusal};
+ghost use Rattle.wl_tab.specs.declared.channels.ChannelRefusal.TheVariants.{Fault};
+ghost use Rattle.wl_client.specs.Client.{after_post, after_close, channel_refusal, closing_refusal};
 ghost use Rattle.wlb_client.specs.Pages.{IsCopied, IsWritten, capped, on_client, opens, reads};
-ghost use Rattle.wlb_client.specs.declared.status.TheConstants.{WLB_OK, WLB_IDLE, WLB_NO_HANDLE, WLB_SHORT_BUFFER};
+ghost use Rattle.wlb_client.specs.Statuses.{channel_status};
+ghost use Rattle.wlb_client.specs.declared.status.TheConstants.{WLB_OK, WLB_IDLE, WLB_MEMORY, WLB_NO_HANDLE, WLB_BAD_TEXT, WLB_SHORT_BUFFER};
+ghost use Rattle.wlb_client.specs.declared.channels.TheConstants.{WLB_DATA_BYTES};
 
 use crate::commands::name_of;
 use crate::handle::Handle;
@@ -25,7 +29,8 @@ pub(crate) fn capped(n: usize) -> u32
 
 /// Opens a channel.
 fn open_channel(client: &mut Client, alloc: Global, name: &[u8], channel: &mut u32) -> i32
-    ensures handle { result ≢ WLB_NO_HANDLE }
+    ensures status { (result ≡ WLB_BAD_TEXT) ⊎ (result ≡ WLB_MEMORY)
+        ⊎ (result ≡ channel_status (channel_refusal (option_map Fault (open_refusal name.now client.old.channels)) client.old)) }
     ensures ok { result ≡ WLB_OK → client.new ≡ opens name.now client.old }
     ensures number { result ≡ WLB_OK → channel.new ≡ capped (length client.old.channels.objects) }
     ensures refused { result ≢ WLB_OK → client.new ≡ client.old }
@@ -46,7 +51,8 @@ fn open_channel(client: &mut Client, alloc: Global, name: &[u8], channel: &mut u
 
 /// Posts data on a channel.
 fn post(client: &mut Client, channel: u32, data: &[u8]) -> i32
-    ensures handle { result ≢ WLB_NO_HANDLE }
+    ensures status { (result ≡ WLB_MEMORY)
+        ⊎ (result ≡ channel_status (channel_refusal (posting_refusal channel data.now client.old.channels) client.old)) }
     ensures ok { result ≡ WLB_OK → client.new ≡ after_post channel data.now client.old }
     ensures refused { result ≢ WLB_OK → client.new ≡ client.old }
 {
@@ -58,7 +64,7 @@ fn post(client: &mut Client, channel: u32, data: &[u8]) -> i32
 
 /// Closes a channel.
 fn close_channel(client: &mut Client, channel: u32) -> i32
-    ensures handle { result ≢ WLB_NO_HANDLE }
+    ensures status { result ≡ channel_status (channel_refusal (closing_refusal channel client.old.channels) client.old) }
     ensures new { client.new ≡ after_close channel client.old }
 {
     match client.close_channel(channel as usize) {
@@ -84,12 +90,14 @@ fn read(
     data: &mut [u8],
     written: &mut usize,
 ) -> i32
-    ensures handle { result ≢ WLB_NO_HANDLE }
+    ensures status { (result ≡ WLB_SHORT_BUFFER) ⊎ (result ≡ WLB_IDLE)
+        ⊎ (result ≡ channel_status (channel_refusal (number_refusal channel client.old.channels) client.old)) }
     ensures ok { result ≡ WLB_OK → client.new ≡ reads channel client.old }
     ensures post { result ≡ WLB_OK → IsWritten (first_of (inbox_at client.old.channels.objects channel)) source.new data.new written.new }
     ensures idle { result ≡ WLB_IDLE → first_of (inbox_at client.old.channels.objects channel) ≡ None }
     ensures idle_state { result ≡ WLB_IDLE → client.new ≡ reads channel client.old }
     ensures refused { result ≢ WLB_OK → result ≢ WLB_IDLE → client.new ≡ client.old }
+    ensures short { result ≡ WLB_SHORT_BUFFER → length data.old < WLB_DATA_BYTES }
     ensures unwritten { result ≢ WLB_OK → (source.new ≡ source.old) × (data.new ≡ data.old) × (written.new ≡ written.old) }
 {
     if data.len() < WLB_DATA_BYTES {
@@ -116,6 +124,8 @@ pub extern "C" fn wlb_client_open_channel(
 ) -> i32
     ensures empty { handle.old.value ≡ None → result ≡ WLB_NO_HANDLE }
     ensures kept { is_some handle.new.value ≡ is_some handle.old.value }
+    ensures status { IfSome handle.old.value (λ p. (result ≡ WLB_BAD_TEXT) ⊎ (result ≡ WLB_MEMORY)
+        ⊎ (result ≡ channel_status (channel_refusal (option_map Fault (open_refusal name.now p.client.channels)) p.client))) }
     ensures ok { result ≡ WLB_OK → handle.new.value ≡ option_map (on_client (opens name.now)) handle.old.value }
     ensures number { result ≡ WLB_OK → IfSome handle.old.value (λ p. channel.new ≡ capped (length p.client.channels.objects)) }
     ensures refused { result ≢ WLB_OK → handle.new.value ≡ handle.old.value }
@@ -139,6 +149,8 @@ pub extern "C" fn wlb_client_post(
 ) -> i32
     ensures empty { handle.old.value ≡ None → result ≡ WLB_NO_HANDLE }
     ensures kept { is_some handle.new.value ≡ is_some handle.old.value }
+    ensures status { IfSome handle.old.value (λ p. (result ≡ WLB_MEMORY)
+        ⊎ (result ≡ channel_status (channel_refusal (posting_refusal channel data.now p.client.channels) p.client))) }
     ensures ok { result ≡ WLB_OK → handle.new.value ≡ option_map (on_client (after_post channel data.now)) handle.old.value }
     ensures refused { result ≢ WLB_OK → handle.new.value ≡ handle.old.value }
 {
@@ -163,12 +175,15 @@ pub extern "C" fn wlb_client_read(
 ) -> i32
     ensures empty { handle.old.value ≡ None → result ≡ WLB_NO_HANDLE }
     ensures kept { is_some handle.new.value ≡ is_some handle.old.value }
+    ensures status { IfSome handle.old.value (λ p. (result ≡ WLB_SHORT_BUFFER) ⊎ (result ≡ WLB_IDLE)
+        ⊎ (result ≡ channel_status (channel_refusal (number_refusal channel p.client.channels) p.client))) }
     ensures ok { result ≡ WLB_OK → handle.new.value ≡ option_map (on_client (reads channel)) handle.old.value }
     ensures post { result ≡ WLB_OK → IfSome handle.old.value (λ p.
         IsWritten (first_of (inbox_at p.client.channels.objects channel)) source.new data.new written.new) }
     ensures idle { result ≡ WLB_IDLE → IfSome handle.old.value (λ p. first_of (inbox_at p.client.channels.objects channel) ≡ None) }
     ensures idle_state { result ≡ WLB_IDLE → handle.new.value ≡ option_map (on_client (reads channel)) handle.old.value }
     ensures refused { result ≢ WLB_OK → result ≢ WLB_IDLE → handle.new.value ≡ handle.old.value }
+    ensures short { result ≡ WLB_SHORT_BUFFER → length data.old < WLB_DATA_BYTES }
     ensures unwritten { result ≢ WLB_OK → (source.new ≡ source.old) × (data.new ≡ data.old) × (written.new ≡ written.old) }
 {
     let Some(mut page) = taken(handle, alloc) else {
@@ -184,6 +199,8 @@ pub extern "C" fn wlb_client_read(
 pub extern "C" fn wlb_client_close_channel(handle: &mut Handle, alloc: Global, channel: u32) -> i32
     ensures empty { handle.old.value ≡ None → result ≡ WLB_NO_HANDLE }
     ensures kept { is_some handle.new.value ≡ is_some handle.old.value }
+    ensures status { IfSome handle.old.value (λ p.
+        result ≡ channel_status (channel_refusal (closing_refusal channel p.client.channels) p.client)) }
     ensures new { handle.new.value ≡ option_map (on_client (after_close channel)) handle.old.value }
 {
     let Some(mut page) = taken(handle, alloc) else {

@@ -8,7 +8,7 @@ ghost use Rattle.wl_tab.specs.declared.locks.AbortResult.TheVariants as aborts;
 ghost use Rattle.wl_client.specs.Client.{call_refusal, after_command, after_abort, after_release};
 ghost use Rattle.wl_client.specs.declared.client.Unsent.TheVariants as unsent_with;
 ghost use Rattle.wlb_client.specs.Pages.{mode_of, on_client};
-ghost use Rattle.wlb_client.specs.Statuses.{status_of_call};
+ghost use Rattle.wlb_client.specs.Statuses.{abort_status, call_status, release_status};
 ghost use Rattle.wlb_client.specs.declared.status.TheConstants.{WLB_OK, WLB_MEMORY, WLB_NO_HANDLE, WLB_BAD_TEXT, WLB_HELD, WLB_NOTHING};
 
 use crate::handle::Handle;
@@ -35,8 +35,7 @@ fn mode_of(shared: bool) -> Mode
 /// Converts a text to a name. Fails with a status.
 pub(crate) fn name_of(alloc: Global, bytes: &[u8]) -> Result<Name, i32>
     ensures ok { IfOk result (λ name. name ≡ bytes.now) }
-    ensures err { IfErr result (λ status. (status ≢ WLB_OK) × (status ≢ WLB_NO_HANDLE)) }
-    ensures reason { IfErr result (λ status. status ≢ WLB_BAD_TEXT → status ≡ WLB_MEMORY) }
+    ensures err { IfErr result (λ status. (status ≡ WLB_BAD_TEXT) ⊎ (status ≡ WLB_MEMORY)) }
 {
     let Ok(text) = std::str::from_utf8(bytes) else {
         return Err(WLB_BAD_TEXT);
@@ -49,10 +48,8 @@ pub(crate) fn name_of(alloc: Global, bytes: &[u8]) -> Result<Name, i32>
 
 /// Requests a lock.
 fn request(client: &mut Client, alloc: Global, name: &[u8], shared: bool, number: &mut u32) -> i32
-    ensures handle { result ≢ WLB_NO_HANDLE }
-    ensures allowed { result ≡ WLB_OK → call_refusal (ask_refusal client.old.locks name.now) client.old ≡ None }
-    ensures reason { result ≢ WLB_OK → result ≢ WLB_BAD_TEXT → (result ≡ WLB_MEMORY)
-        ⊎ (option_map status_of_call (call_refusal (ask_refusal client.old.locks name.now) client.old) ≡ Some result) }
+    ensures status { (result ≡ WLB_BAD_TEXT) ⊎ (result ≡ WLB_MEMORY)
+        ⊎ (result ≡ call_status (call_refusal (ask_refusal client.old.locks name.now) client.old)) }
     ensures ok { result ≡ WLB_OK → client.new ≡ after_command (asked (mode_of shared) false name.now) client.old }
     ensures number { result ≡ WLB_OK → number.new ≡ length client.old.locks.issued }
     ensures refused { result ≢ WLB_OK → client.new ≡ client.old }
@@ -73,10 +70,8 @@ fn request(client: &mut Client, alloc: Global, name: &[u8], shared: bool, number
 
 /// Requests a lock with `ifAvailable`.
 fn probe(client: &mut Client, alloc: Global, name: &[u8], shared: bool, number: &mut u32) -> i32
-    ensures handle { result ≢ WLB_NO_HANDLE }
-    ensures allowed { result ≡ WLB_OK → call_refusal (ask_refusal client.old.locks name.now) client.old ≡ None }
-    ensures reason { result ≢ WLB_OK → result ≢ WLB_BAD_TEXT → (result ≡ WLB_MEMORY)
-        ⊎ (option_map status_of_call (call_refusal (ask_refusal client.old.locks name.now) client.old) ≡ Some result) }
+    ensures status { (result ≡ WLB_BAD_TEXT) ⊎ (result ≡ WLB_MEMORY)
+        ⊎ (result ≡ call_status (call_refusal (ask_refusal client.old.locks name.now) client.old)) }
     ensures ok { result ≡ WLB_OK → client.new ≡ after_command (asked (mode_of shared) true name.now) client.old }
     ensures number { result ≡ WLB_OK → number.new ≡ length client.old.locks.issued }
     ensures refused { result ≢ WLB_OK → client.new ≡ client.old }
@@ -97,10 +92,7 @@ fn probe(client: &mut Client, alloc: Global, name: &[u8], shared: bool, number: 
 
 /// Queries the locks of the tab's partition.
 fn query(client: &mut Client, number: &mut u32) -> i32
-    ensures handle { result ≢ WLB_NO_HANDLE }
-    ensures allowed { result ≡ WLB_OK → call_refusal (query_refusal client.old.locks) client.old ≡ None }
-    ensures reason { result ≢ WLB_OK → (result ≡ WLB_MEMORY)
-        ⊎ (option_map status_of_call (call_refusal (query_refusal client.old.locks) client.old) ≡ Some result) }
+    ensures status { (result ≡ WLB_MEMORY) ⊎ (result ≡ call_status (call_refusal (query_refusal client.old.locks) client.old)) }
     ensures ok { result ≡ WLB_OK → client.new ≡ after_command queried client.old }
     ensures number { result ≡ WLB_OK → number.new ≡ length client.old.locks.issued }
     ensures refused { result ≢ WLB_OK → client.new ≡ client.old }
@@ -117,10 +109,8 @@ fn query(client: &mut Client, number: &mut u32) -> i32
 
 /// Aborts a request that is not held.
 fn abort(client: &mut Client, number: u32) -> i32
-    ensures handle { result ≢ WLB_NO_HANDLE }
+    ensures status { (result ≡ WLB_MEMORY) ⊎ (result ≡ abort_status number client.old) }
     ensures ok { result ≡ WLB_OK → client.new ≡ after_abort number client.old }
-    ensures held { result ≡ WLB_HELD → abortion number client.old.locks ≡ aborts.Held }
-    ensures nothing { result ≡ WLB_NOTHING → abortion number client.old.locks ≡ aborts.Nothing }
     ensures refused { result ≢ WLB_OK → client.new ≡ client.old }
 {
     match client.abort(number) {
@@ -133,10 +123,8 @@ fn abort(client: &mut Client, number: u32) -> i32
 
 /// Releases a held lock.
 fn release(client: &mut Client, number: u32) -> i32
-    ensures handle { result ≢ WLB_NO_HANDLE }
+    ensures status { (result ≡ WLB_MEMORY) ⊎ (result ≡ release_status number client.old) }
     ensures ok { result ≡ WLB_OK → client.new ≡ after_release number client.old }
-    ensures holding { result ≡ WLB_OK → is_holding client.old.locks number ≡ true }
-    ensures nothing { result ≡ WLB_NOTHING → is_holding client.old.locks number ≡ false }
     ensures refused { result ≢ WLB_OK → client.new ≡ client.old }
 {
     match client.release(number) {
@@ -148,7 +136,7 @@ fn release(client: &mut Client, number: u32) -> i32
 
 /// Sends the report and all commands that are due again.
 fn resend(client: &mut Client) -> i32
-    ensures handle { result ≢ WLB_NO_HANDLE }
+    ensures status { (result ≡ WLB_MEMORY) ⊎ (result ≡ call_status (call_refusal None client.old)) }
     ensures ok { result ≡ WLB_OK → client.new ≡ record client.old { unsent = client.old.unsent ++ unsent_with.Resend ∷ [] } }
     ensures refused { result ≢ WLB_OK → client.new ≡ client.old }
 {
@@ -169,9 +157,8 @@ pub extern "C" fn wlb_client_request(
 ) -> i32
     ensures empty { handle.old.value ≡ None → result ≡ WLB_NO_HANDLE }
     ensures kept { is_some handle.new.value ≡ is_some handle.old.value }
-    ensures allowed { result ≡ WLB_OK → IfSome handle.old.value (λ p. call_refusal (ask_refusal p.client.locks name.now) p.client ≡ None) }
-    ensures reason { result ≢ WLB_OK → result ≢ WLB_BAD_TEXT → IfSome handle.old.value (λ p. (result ≡ WLB_MEMORY)
-        ⊎ (option_map status_of_call (call_refusal (ask_refusal p.client.locks name.now) p.client) ≡ Some result)) }
+    ensures status { IfSome handle.old.value (λ p. (result ≡ WLB_BAD_TEXT) ⊎ (result ≡ WLB_MEMORY)
+        ⊎ (result ≡ call_status (call_refusal (ask_refusal p.client.locks name.now) p.client))) }
     ensures ok { result ≡ WLB_OK → handle.new.value
         ≡ option_map (on_client (after_command (asked (mode_of shared) false name.now))) handle.old.value }
     ensures number { result ≡ WLB_OK → IfSome handle.old.value (λ p. number.new ≡ length p.client.locks.issued) }
@@ -197,9 +184,8 @@ pub extern "C" fn wlb_client_probe(
 ) -> i32
     ensures empty { handle.old.value ≡ None → result ≡ WLB_NO_HANDLE }
     ensures kept { is_some handle.new.value ≡ is_some handle.old.value }
-    ensures allowed { result ≡ WLB_OK → IfSome handle.old.value (λ p. call_refusal (ask_refusal p.client.locks name.now) p.client ≡ None) }
-    ensures reason { result ≢ WLB_OK → result ≢ WLB_BAD_TEXT → IfSome handle.old.value (λ p. (result ≡ WLB_MEMORY)
-        ⊎ (option_map status_of_call (call_refusal (ask_refusal p.client.locks name.now) p.client) ≡ Some result)) }
+    ensures status { IfSome handle.old.value (λ p. (result ≡ WLB_BAD_TEXT) ⊎ (result ≡ WLB_MEMORY)
+        ⊎ (result ≡ call_status (call_refusal (ask_refusal p.client.locks name.now) p.client))) }
     ensures ok { result ≡ WLB_OK → handle.new.value
         ≡ option_map (on_client (after_command (asked (mode_of shared) true name.now))) handle.old.value }
     ensures number { result ≡ WLB_OK → IfSome handle.old.value (λ p. number.new ≡ length p.client.locks.issued) }
@@ -219,9 +205,7 @@ pub extern "C" fn wlb_client_probe(
 pub extern "C" fn wlb_client_query(handle: &mut Handle, alloc: Global, number: &mut u32) -> i32
     ensures empty { handle.old.value ≡ None → result ≡ WLB_NO_HANDLE }
     ensures kept { is_some handle.new.value ≡ is_some handle.old.value }
-    ensures allowed { result ≡ WLB_OK → IfSome handle.old.value (λ p. call_refusal (query_refusal p.client.locks) p.client ≡ None) }
-    ensures reason { result ≢ WLB_OK → IfSome handle.old.value (λ p. (result ≡ WLB_MEMORY)
-        ⊎ (option_map status_of_call (call_refusal (query_refusal p.client.locks) p.client) ≡ Some result)) }
+    ensures status { IfSome handle.old.value (λ p. (result ≡ WLB_MEMORY) ⊎ (result ≡ call_status (call_refusal (query_refusal p.client.locks) p.client))) }
     ensures ok { result ≡ WLB_OK → handle.new.value ≡ option_map (on_client (after_command queried)) handle.old.value }
     ensures number { result ≡ WLB_OK → IfSome handle.old.value (λ p. number.new ≡ length p.client.locks.issued) }
     ensures refused { result ≢ WLB_OK → handle.new.value ≡ handle.old.value }
@@ -240,9 +224,8 @@ pub extern "C" fn wlb_client_query(handle: &mut Handle, alloc: Global, number: &
 pub extern "C" fn wlb_client_abort(handle: &mut Handle, alloc: Global, number: u32) -> i32
     ensures empty { handle.old.value ≡ None → result ≡ WLB_NO_HANDLE }
     ensures kept { is_some handle.new.value ≡ is_some handle.old.value }
+    ensures status { IfSome handle.old.value (λ p. (result ≡ WLB_MEMORY) ⊎ (result ≡ abort_status number p.client)) }
     ensures ok { result ≡ WLB_OK → handle.new.value ≡ option_map (on_client (after_abort number)) handle.old.value }
-    ensures held { result ≡ WLB_HELD → IfSome handle.old.value (λ p. abortion number p.client.locks ≡ aborts.Held) }
-    ensures nothing { result ≡ WLB_NOTHING → IfSome handle.old.value (λ p. abortion number p.client.locks ≡ aborts.Nothing) }
     ensures refused { result ≢ WLB_OK → handle.new.value ≡ handle.old.value }
 {
     let Some(mut page) = taken(handle, alloc) else {
@@ -258,9 +241,8 @@ pub extern "C" fn wlb_client_abort(handle: &mut Handle, alloc: Global, number: u
 pub extern "C" fn wlb_client_release(handle: &mut Handle, alloc: Global, number: u32) -> i32
     ensures empty { handle.old.value ≡ None → result ≡ WLB_NO_HANDLE }
     ensures kept { is_some handle.new.value ≡ is_some handle.old.value }
+    ensures status { IfSome handle.old.value (λ p. (result ≡ WLB_MEMORY) ⊎ (result ≡ release_status number p.client)) }
     ensures ok { result ≡ WLB_OK → handle.new.value ≡ option_map (on_client (after_release number)) handle.old.value }
-    ensures holding { result ≡ WLB_OK → IfSome handle.old.value (λ p. is_holding p.client.locks number ≡ true) }
-    ensures nothing { result ≡ WLB_NOTHING → IfSome handle.old.value (λ p. is_holding p.client.locks number ≡ false) }
     ensures refused { result ≢ WLB_OK → handle.new.value ≡ handle.old.value }
 {
     let Some(mut page) = taken(handle, alloc) else {
@@ -277,6 +259,7 @@ pub extern "C" fn wlb_client_release(handle: &mut Handle, alloc: Global, number:
 pub extern "C" fn wlb_client_resend(handle: &mut Handle, alloc: Global) -> i32
     ensures empty { handle.old.value ≡ None → result ≡ WLB_NO_HANDLE }
     ensures kept { is_some handle.new.value ≡ is_some handle.old.value }
+    ensures status { IfSome handle.old.value (λ p. (result ≡ WLB_MEMORY) ⊎ (result ≡ call_status (call_refusal None p.client))) }
     ensures ok { result ≡ WLB_OK → handle.new.value
         ≡ option_map (on_client (λ c. record c { unsent = c.unsent ++ unsent_with.Resend ∷ [] })) handle.old.value }
     ensures refused { result ≢ WLB_OK → handle.new.value ≡ handle.old.value }

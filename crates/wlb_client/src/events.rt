@@ -1,8 +1,9 @@
 //! Events, and the items of the last event.
 
-ghost use Rattle.std.specs.Prelude.{◌≡◌, ◌≢◌, ◌≤◌, ◌+◌, [], None, Some, true, false, is_some, option_map, length, take, slice_get, IfSome};
+ghost use Rattle.std.specs.Prelude.{◌≡◌, ◌≢◌, ◌⊎◌, ◌≤◌, ◌+◌, [], None, Some, true, false, is_some, option_map, length, take, slice_get, IfSome};
 ghost use Rattle.wlb_client.specs.Pages.{IsTaken, IsEntryWritten, entry_of, mode_of, happening_of, happening_of_effect, happening_of_hearing, happens, item_at, entry_at, ended_number};
-ghost use Rattle.wlb_client.specs.declared.status.TheConstants.{WLB_OK, WLB_IDLE, WLB_NO_HANDLE, WLB_NOTHING};
+ghost use Rattle.wlb_client.specs.Statuses.{status_of_events, status_of_search};
+ghost use Rattle.wlb_client.specs.declared.status.TheConstants.{WLB_OK, WLB_NO_HANDLE, WLB_SHORT_BUFFER};
 ghost use Rattle.wlb_client.specs.declared.events.TheConstants.{WLB_ANSWERED};
 
 use crate::channels::capped;
@@ -122,9 +123,8 @@ fn happening_of(event: &Event) -> Happening
 
 /// Takes the oldest event. It becomes the last one.
 fn next_event(page: &mut Page, happening: &mut Happening) -> i32
-    ensures handle { result ≢ WLB_NO_HANDLE }
+    ensures status { result ≡ status_of_events page.old.client.events }
     ensures ok { result ≡ WLB_OK → IsTaken page.old page.new happening.new }
-    ensures idle { result ≡ WLB_IDLE → page.old.client.events ≡ [] }
     ensures same { result ≢ WLB_OK → page.new ≡ page.old }
     ensures unwritten { result ≢ WLB_OK → happening.new ≡ happening.old }
 {
@@ -200,9 +200,8 @@ fn entry_from(lock: &LockInfo, held: bool) -> Entry
 
 /// Writes an item of the last event.
 fn write_item(last: &Option<Event>, index: usize, number: &mut u32) -> i32
-    ensures handle { result ≢ WLB_NO_HANDLE }
+    ensures status { result ≡ status_of_search (is_some (item_at index last.now)) }
     ensures ok { result ≡ WLB_OK → item_at index last.now ≡ Some number.new }
-    ensures nothing { result ≡ WLB_NOTHING → item_at index last.now ≡ None }
     ensures unwritten { result ≢ WLB_OK → number.new ≡ number.old }
 {
     match item_at(index, last) {
@@ -222,9 +221,8 @@ fn write_entry(
     name: &mut [u8],
     written: &mut usize,
 ) -> i32
-    ensures handle { result ≢ WLB_NO_HANDLE }
+    ensures status { (result ≡ WLB_SHORT_BUFFER) ⊎ (result ≡ status_of_search (is_some (entry_at index last.now))) }
     ensures ok { result ≡ WLB_OK → IsEntryWritten (entry_at index last.now) entry.new name.new written.new }
-    ensures nothing { result ≡ WLB_NOTHING → entry_at index last.now ≡ None }
     ensures unwritten { result ≢ WLB_OK → (entry.new ≡ entry.old) × (name.new ≡ name.old) × (written.new ≡ written.old) }
 {
     let Some((lock, held)) = entry_at(index, last) else {
@@ -249,8 +247,8 @@ pub extern "C" fn wlb_client_next_event(
 ) -> i32
     ensures empty { handle.old.value ≡ None → result ≡ WLB_NO_HANDLE }
     ensures kept { is_some handle.new.value ≡ is_some handle.old.value }
+    ensures status { IfSome handle.old.value (λ p. result ≡ status_of_events p.client.events) }
     ensures ok { result ≡ WLB_OK → IfSome handle.old.value (λ old. IfSome handle.new.value (λ new. IsTaken old new happening.new)) }
-    ensures idle { result ≡ WLB_IDLE → IfSome handle.old.value (λ p. p.client.events ≡ []) }
     ensures same { result ≢ WLB_OK → handle.new.value ≡ handle.old.value }
     ensures unwritten { result ≢ WLB_OK → happening.new ≡ happening.old }
 {
@@ -272,8 +270,8 @@ pub extern "C" fn wlb_client_item(
 ) -> i32
     ensures empty { handle.old.value ≡ None → result ≡ WLB_NO_HANDLE }
     ensures same { handle.new.value ≡ handle.old.value }
+    ensures status { IfSome handle.old.value (λ p. result ≡ status_of_search (is_some (item_at index p.last))) }
     ensures ok { result ≡ WLB_OK → IfSome handle.old.value (λ p. item_at index p.last ≡ Some number.new) }
-    ensures nothing { result ≡ WLB_NOTHING → IfSome handle.old.value (λ p. item_at index p.last ≡ None) }
     ensures unwritten { result ≢ WLB_OK → number.new ≡ number.old }
 {
     let Some(page) = taken(handle, alloc) else {
@@ -297,9 +295,10 @@ pub extern "C" fn wlb_client_entry(
 ) -> i32
     ensures empty { handle.old.value ≡ None → result ≡ WLB_NO_HANDLE }
     ensures same { handle.new.value ≡ handle.old.value }
+    ensures status { IfSome handle.old.value (λ p. (result ≡ WLB_SHORT_BUFFER)
+        ⊎ (result ≡ status_of_search (is_some (entry_at index p.last)))) }
     ensures ok { result ≡ WLB_OK → IfSome handle.old.value (λ p.
         IsEntryWritten (entry_at index p.last) entry.new name.new written.new) }
-    ensures nothing { result ≡ WLB_NOTHING → IfSome handle.old.value (λ p. entry_at index p.last ≡ None) }
     ensures unwritten { result ≢ WLB_OK → (entry.new ≡ entry.old) × (name.new ≡ name.old) × (written.new ≡ written.old) }
 {
     let Some(page) = taken(handle, alloc) else {

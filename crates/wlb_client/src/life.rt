@@ -1,6 +1,6 @@
 //! Creation and end of a client.
 
-ghost use Rattle.std.specs.Prelude.{◌≡◌, IfOk, Some, None, option_map};
+ghost use Rattle.std.specs.Prelude.{◌≡◌, ◌⊎◌, IfOk, Some, None, option_map};
 ghost use Rattle.wlb_client.specs.Pages.{new_page};
 ghost use Rattle.wlb_client.specs.declared.status.TheConstants.{WLB_OK, WLB_MEMORY};
 
@@ -38,6 +38,7 @@ pub(crate) fn put(handle: &mut Handle, page: Box<Page>)
 /// Creates a client that has not been welcomed. A client that the handle holds is freed first.
 #[unsafe(no_mangle)]
 pub extern "C" fn wlb_client_new(handle: &mut Handle, alloc: Global) -> i32
+    ensures status { (result ≡ WLB_OK) ⊎ (result ≡ WLB_MEMORY) }
     ensures ok { result ≡ WLB_OK → handle.new.value ≡ Some new_page }
     ensures memory { result ≡ WLB_MEMORY → handle.new.value ≡ None }
 {

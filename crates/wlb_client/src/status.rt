@@ -4,8 +4,8 @@ ghost use Rattle.std.specs.Prelude.{◌≡◌, ◌≢◌};
 ghost use Rattle.wl_frames.specs.declared.fault.FrameFault.{FrameFault};
 ghost use Rattle.wl_frames.specs.declared.fault.FrameFault.TheVariants.{Memory};
 ghost use Rattle.wl_client.specs.declared.fault.ReceiveFault.TheVariants as receipts;
-ghost use Rattle.wlb_client.specs.Statuses.{status_of_call};
-ghost use Rattle.wlb_client.specs.declared.status.TheConstants.{WLB_OK, WLB_IDLE, WLB_MEMORY, WLB_NO_HANDLE, WLB_BUSY, WLB_BAD_FRAME, WLB_HELD, WLB_NOTHING};
+ghost use Rattle.wlb_client.specs.Statuses.{IsStatusOfBytes, status_of_call, status_of_channel, status_of_channel_call, status_of_refusal};
+ghost use Rattle.wlb_client.specs.declared.status.TheConstants.{WLB_OK, WLB_IDLE, WLB_MEMORY, WLB_BUSY, WLB_BAD_FRAME};
 
 use wl_agent::AgentFault;
 use wl_broadcast::ChannelFault;
@@ -62,7 +62,7 @@ pub(crate) fn of_receive(fault: ReceiveFault) -> i32
     ensures memory { result ≡ WLB_MEMORY → fault ≡ receipts.Frame Memory }
     ensures busy { result ≡ WLB_BUSY → fault ≡ receipts.Busy }
     ensures frame { result ≡ WLB_BAD_FRAME → (f : FrameFault) × (fault ≡ receipts.Frame f) }
-    ensures handle { result ≢ WLB_NO_HANDLE }
+    ensures listed { IsStatusOfBytes result }
 {
     match fault {
         ReceiveFault::Busy => WLB_BUSY,
@@ -75,9 +75,6 @@ pub(crate) fn of_receive(fault: ReceiveFault) -> i32
 pub(crate) fn of_call(fault: CallFault) -> i32
     ensures status { result ≡ status_of_call fault }
     ensures not_ok { result ≢ WLB_OK }
-    ensures handle { result ≢ WLB_NO_HANDLE }
-    ensures held { result ≢ WLB_HELD }
-    ensures nothing { result ≢ WLB_NOTHING }
 {
     match fault {
         CallFault::NotWelcomed => WLB_NOT_WELCOMED,
@@ -91,9 +88,9 @@ pub(crate) fn of_call(fault: CallFault) -> i32
 
 /// Returns the status of a call on a channel that failed.
 pub(crate) fn of_channel_call(fault: ChannelCallFault) -> i32
+    ensures status { result ≡ status_of_channel_call fault }
     ensures not_ok { result ≢ WLB_OK }
-    ensures handle { result ≢ WLB_NO_HANDLE }
-    ensures idle { result ≢ WLB_IDLE }
+    ensures not_idle { result ≢ WLB_IDLE }
 {
     match fault {
         ChannelCallFault::NotWelcomed => WLB_NOT_WELCOMED,
@@ -104,9 +101,9 @@ pub(crate) fn of_channel_call(fault: ChannelCallFault) -> i32
 
 /// Returns the status of a refused call on a channel.
 fn of_refusal(refusal: ChannelRefusal) -> i32
+    ensures status { result ≡ status_of_refusal refusal }
     ensures not_ok { result ≢ WLB_OK }
-    ensures handle { result ≢ WLB_NO_HANDLE }
-    ensures idle { result ≢ WLB_IDLE }
+    ensures not_idle { result ≢ WLB_IDLE }
 {
     match refusal {
         ChannelRefusal::NoChannel => WLB_NO_CHANNEL,
@@ -117,9 +114,9 @@ fn of_refusal(refusal: ChannelRefusal) -> i32
 
 /// Returns the status of a fault of the tab's channels.
 fn of_channel(fault: ChannelFault) -> i32
+    ensures status { result ≡ status_of_channel fault }
     ensures not_ok { result ≢ WLB_OK }
-    ensures handle { result ≢ WLB_NO_HANDLE }
-    ensures idle { result ≢ WLB_IDLE }
+    ensures not_idle { result ≢ WLB_IDLE }
 {
     match fault {
         ChannelFault::NameTooLong => WLB_NAME_TOO_LONG,

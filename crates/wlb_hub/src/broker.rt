@@ -4,6 +4,7 @@ ghost use Rattle.std.specs.Prelude.{◌≡◌, ◌≢◌, false, None, is_some, 
 ghost use Rattle.wl_kernel.specs.Kernel.{may_stop};
 ghost use Rattle.wl_hub.specs.Hub.{hub_down, hub_restarted, status_of};
 ghost use Rattle.wlb_hub.specs.Numbers.{capped, numbers_of};
+ghost use Rattle.wlb_hub.specs.Statuses.{IsStatusOfRestart};
 ghost use Rattle.wlb_hub.specs.declared.status.TheConstants.{WLB_OK, WLB_MEMORY, WLB_NO_HANDLE, WLB_GENERATIONS_USED_UP};
 
 use crate::handle::Handle;
@@ -47,7 +48,7 @@ fn numbers_of(status: HubStatus) -> Numbers
 
 /// Starts the broker of the next generation.
 fn restart(hub: &mut Hub) -> i32
-    ensures handle { result ≢ WLB_NO_HANDLE }
+    ensures status { IsStatusOfRestart result }
     ensures ok { result ≡ WLB_OK → hub.new ≡ hub_restarted hub.old }
     ensures memory { result ≡ WLB_MEMORY → hub.new ≡ hub_down hub.old }
     ensures used_up { result ≡ WLB_GENERATIONS_USED_UP → hub.new ≡ hub.old }
@@ -64,6 +65,7 @@ fn restart(hub: &mut Hub) -> i32
 pub extern "C" fn wlb_hub_restart(handle: &mut Handle, alloc: Global) -> i32
     ensures empty { handle.old.value ≡ None → result ≡ WLB_NO_HANDLE }
     ensures kept { is_some handle.new.value ≡ is_some handle.old.value }
+    ensures status { IfSome handle.old.value (λ h. IsStatusOfRestart result) }
     ensures ok { result ≡ WLB_OK → handle.new.value ≡ option_map hub_restarted handle.old.value }
     ensures memory { result ≡ WLB_MEMORY → handle.new.value ≡ option_map hub_down handle.old.value }
     ensures used_up { result ≡ WLB_GENERATIONS_USED_UP → handle.new.value ≡ handle.old.value }
@@ -81,6 +83,7 @@ pub extern "C" fn wlb_hub_restart(handle: &mut Handle, alloc: Global) -> i32
 #[unsafe(no_mangle)]
 pub extern "C" fn wlb_hub_status(handle: &mut Handle, alloc: Global, numbers: &mut Numbers) -> i32
     ensures empty { handle.old.value ≡ None → result ≡ WLB_NO_HANDLE }
+    ensures status { IfSome handle.old.value (λ h. result ≡ WLB_OK) }
     ensures unwritten { result ≢ WLB_OK → numbers.new ≡ numbers.old }
     ensures ok { result ≡ WLB_OK → IfSome handle.old.value (λ h. numbers.new ≡ numbers_of (status_of h)) }
     ensures same { handle.new.value ≡ handle.old.value }

@@ -1,6 +1,6 @@
 //! Creation and end of a hub.
 
-ghost use Rattle.std.specs.Prelude.{◌≡◌, IfOk, Some, None, option_map};
+ghost use Rattle.std.specs.Prelude.{◌≡◌, ◌⊎◌, IfOk, Some, None, option_map};
 ghost use Rattle.wl_hub.specs.Hub.{new_hub};
 ghost use Rattle.wlb_hub.specs.declared.status.TheConstants.{WLB_OK, WLB_MEMORY};
 
@@ -38,6 +38,7 @@ pub(crate) fn put(handle: &mut Handle, hub: Box<Hub>)
 /// Creates a hub without tabs and without a broker. A hub that the handle holds is freed first.
 #[unsafe(no_mangle)]
 pub extern "C" fn wlb_hub_new(handle: &mut Handle, alloc: Global) -> i32
+    ensures status { (result ≡ WLB_OK) ⊎ (result ≡ WLB_MEMORY) }
     ensures ok { result ≡ WLB_OK → handle.new.value ≡ Some new_hub }
     ensures memory { result ≡ WLB_MEMORY → handle.new.value ≡ None }
 {

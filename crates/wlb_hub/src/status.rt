@@ -1,9 +1,9 @@
 //! Statuses of the C interface, and their meanings for the faults of `wl_hub`.
 
-ghost use Rattle.std.specs.Prelude.{◌≡◌, ◌≢◌};
-ghost use Rattle.wlb_hub.specs.Statuses.{status_of_refusal};
+ghost use Rattle.std.specs.Prelude.{◌≡◌, ◌≢◌, ◌⊎◌};
+ghost use Rattle.wlb_hub.specs.Statuses.{IsStatusOfBytes, IsStatusOfRestart, status_of_refusal};
 ghost use Rattle.wl_hub.specs.declared.fault.CloseFault.TheVariants as closings;
-ghost use Rattle.wlb_hub.specs.declared.status.TheConstants.{WLB_OK, WLB_MEMORY, WLB_NO_HANDLE, WLB_BUSY, WLB_BAD_FRAME, WLB_NO_TAB, WLB_GENERATIONS_USED_UP};
+ghost use Rattle.wlb_hub.specs.declared.status.TheConstants.{WLB_OK, WLB_MEMORY, WLB_BUSY, WLB_BAD_FRAME, WLB_NO_TAB, WLB_GENERATIONS_USED_UP};
 ghost use Rattle.wl_frames.specs.declared.fault.FrameFault.{FrameFault};
 ghost use Rattle.wl_frames.specs.declared.fault.FrameFault.TheVariants.{Memory};
 ghost use Rattle.wl_hub.specs.declared.fault.ReceiveFault.TheVariants as receipts;
@@ -51,7 +51,6 @@ pub const WLB_SHORT_BUFFER: i32 = 27;
 pub(crate) fn of_open(refusal: OpenRefusal) -> i32
     ensures status { result ≡ status_of_refusal refusal }
     ensures not_ok { result ≢ WLB_OK }
-    ensures handle { result ≢ WLB_NO_HANDLE }
 {
     match refusal {
         OpenRefusal::Origin(OriginFault::BadUrl) => WLB_BAD_URL,
@@ -68,8 +67,7 @@ pub(crate) fn of_open(refusal: OpenRefusal) -> i32
 /// Returns the status of a tab that was not closed.
 pub(crate) fn of_close(fault: CloseFault) -> i32
     ensures not_ok { result ≢ WLB_OK }
-    ensures no_tab { result ≡ WLB_NO_TAB → fault ≡ closings.NotLiving }
-    ensures handle { result ≢ WLB_NO_HANDLE }
+    ensures no_tab { (result ≡ WLB_MEMORY) ⊎ ((result ≡ WLB_NO_TAB) × (fault ≡ closings.NotLiving)) }
 {
     match fault {
         CloseFault::NotLiving => WLB_NO_TAB,
@@ -84,7 +82,7 @@ pub(crate) fn of_receive(fault: ReceiveFault) -> i32
     ensures busy { result ≡ WLB_BUSY → fault ≡ receipts.Busy }
     ensures frame { result ≡ WLB_BAD_FRAME → (f : FrameFault) × (fault ≡ receipts.Frame f) }
     ensures no_tab { result ≡ WLB_NO_TAB → fault ≡ receipts.NoTab }
-    ensures handle { result ≢ WLB_NO_HANDLE }
+    ensures listed { IsStatusOfBytes result }
 {
     match fault {
         ReceiveFault::NoTab => WLB_NO_TAB,
@@ -99,7 +97,7 @@ pub(crate) fn of_restart(fault: RestartFault) -> i32
     ensures not_ok { result ≢ WLB_OK }
     ensures memory { result ≡ WLB_MEMORY → fault ≡ restarts.Memory }
     ensures used_up { result ≡ WLB_GENERATIONS_USED_UP → fault ≡ restarts.GenerationsUsedUp }
-    ensures handle { result ≢ WLB_NO_HANDLE }
+    ensures listed { IsStatusOfRestart result }
 {
     match fault {
         RestartFault::GenerationsUsedUp => WLB_GENERATIONS_USED_UP,

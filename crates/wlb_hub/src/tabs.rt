@@ -4,8 +4,8 @@ ghost use Rattle.std.specs.Prelude.{◌≡◌, ◌≢◌, ◌⊎◌, Some, None,
 ghost use Rattle.wl_origin.specs.Partition.{partition_of, partition_of_pair};
 ghost use Rattle.wl_kernel.specs.Kernel.{is_living};
 ghost use Rattle.wl_hub.specs.Hub.{page_opened, page_refusal, hub_closed};
-ghost use Rattle.wlb_hub.specs.Statuses.{status_of_refusal};
-ghost use Rattle.wlb_hub.specs.declared.status.TheConstants.{WLB_OK, WLB_MEMORY, WLB_NO_HANDLE, WLB_NO_TAB, WLB_BAD_TEXT};
+ghost use Rattle.wlb_hub.specs.Statuses.{close_status, open_status};
+ghost use Rattle.wlb_hub.specs.declared.status.TheConstants.{WLB_OK, WLB_MEMORY, WLB_NO_HANDLE, WLB_BAD_TEXT};
 
 use crate::handle::Handle;
 use crate::life::{put, taken};
@@ -15,10 +15,8 @@ use wl_hub::Hub;
 
 /// Opens a tab of a top-level page.
 fn open(hub: &mut Hub, tab: u16, own: &[u8]) -> i32
-    ensures handle { result ≢ WLB_NO_HANDLE }
-    ensures allowed { result ≡ WLB_OK → page_refusal tab (partition_of own.now) hub.old ≡ None }
-    ensures reason { result ≢ WLB_OK → result ≢ WLB_BAD_TEXT → (result ≡ WLB_MEMORY)
-        ⊎ (option_map status_of_refusal (page_refusal tab (partition_of own.now) hub.old) ≡ Some result) }
+    ensures status { (result ≡ WLB_BAD_TEXT) ⊎ (result ≡ WLB_MEMORY)
+        ⊎ (result ≡ open_status (page_refusal tab (partition_of own.now) hub.old)) }
     ensures ok { result ≡ WLB_OK → hub.new ≡ page_opened tab (partition_of own.now) false hub.old }
     ensures refused { result ≢ WLB_OK → hub.new ≡ hub.old }
 {
@@ -33,10 +31,8 @@ fn open(hub: &mut Hub, tab: u16, own: &[u8]) -> i32
 
 /// Opens a tab of a page under another top-level page.
 fn open_pair(hub: &mut Hub, tab: u16, top: &[u8], own: &[u8]) -> i32
-    ensures handle { result ≢ WLB_NO_HANDLE }
-    ensures allowed { result ≡ WLB_OK → page_refusal tab (partition_of_pair top.now own.now) hub.old ≡ None }
-    ensures reason { result ≢ WLB_OK → result ≢ WLB_BAD_TEXT → (result ≡ WLB_MEMORY)
-        ⊎ (option_map status_of_refusal (page_refusal tab (partition_of_pair top.now own.now) hub.old) ≡ Some result) }
+    ensures status { (result ≡ WLB_BAD_TEXT) ⊎ (result ≡ WLB_MEMORY)
+        ⊎ (result ≡ open_status (page_refusal tab (partition_of_pair top.now own.now) hub.old)) }
     ensures ok { result ≡ WLB_OK → hub.new ≡ page_opened tab (partition_of_pair top.now own.now) true hub.old }
     ensures refused { result ≢ WLB_OK → hub.new ≡ hub.old }
 {
@@ -54,9 +50,7 @@ fn open_pair(hub: &mut Hub, tab: u16, top: &[u8], own: &[u8]) -> i32
 
 /// Closes a tab.
 fn close(hub: &mut Hub, tab: u16) -> i32
-    ensures handle { result ≢ WLB_NO_HANDLE }
-    ensures living { result ≡ WLB_OK → is_living hub.old.supervised.kernel tab ≡ true }
-    ensures no_tab { result ≡ WLB_NO_TAB → is_living hub.old.supervised.kernel tab ≡ false }
+    ensures status { (result ≡ WLB_MEMORY) ⊎ (result ≡ close_status tab hub.old) }
     ensures ok { result ≡ WLB_OK → hub.new ≡ hub_closed tab hub.old }
     ensures refused { result ≢ WLB_OK → hub.new ≡ hub.old }
 {
@@ -71,9 +65,8 @@ fn close(hub: &mut Hub, tab: u16) -> i32
 pub extern "C" fn wlb_hub_open(handle: &mut Handle, alloc: Global, tab: u16, own: &[u8]) -> i32
     ensures empty { handle.old.value ≡ None → result ≡ WLB_NO_HANDLE }
     ensures kept { is_some handle.new.value ≡ is_some handle.old.value }
-    ensures allowed { result ≡ WLB_OK → IfSome handle.old.value (λ h. page_refusal tab (partition_of own.now) h ≡ None) }
-    ensures reason { result ≢ WLB_OK → result ≢ WLB_BAD_TEXT → IfSome handle.old.value (λ h. (result ≡ WLB_MEMORY)
-        ⊎ (option_map status_of_refusal (page_refusal tab (partition_of own.now) h) ≡ Some result)) }
+    ensures status { IfSome handle.old.value (λ h. (result ≡ WLB_BAD_TEXT) ⊎ (result ≡ WLB_MEMORY)
+        ⊎ (result ≡ open_status (page_refusal tab (partition_of own.now) h))) }
     ensures ok { result ≡ WLB_OK → handle.new.value ≡ option_map (page_opened tab (partition_of own.now) false) handle.old.value }
     ensures refused { result ≢ WLB_OK → handle.new.value ≡ handle.old.value }
 {
@@ -96,9 +89,8 @@ pub extern "C" fn wlb_hub_open_pair(
 ) -> i32
     ensures empty { handle.old.value ≡ None → result ≡ WLB_NO_HANDLE }
     ensures kept { is_some handle.new.value ≡ is_some handle.old.value }
-    ensures allowed { result ≡ WLB_OK → IfSome handle.old.value (λ h. page_refusal tab (partition_of_pair top.now own.now) h ≡ None) }
-    ensures reason { result ≢ WLB_OK → result ≢ WLB_BAD_TEXT → IfSome handle.old.value (λ h. (result ≡ WLB_MEMORY)
-        ⊎ (option_map status_of_refusal (page_refusal tab (partition_of_pair top.now own.now) h) ≡ Some result)) }
+    ensures status { IfSome handle.old.value (λ h. (result ≡ WLB_BAD_TEXT) ⊎ (result ≡ WLB_MEMORY)
+        ⊎ (result ≡ open_status (page_refusal tab (partition_of_pair top.now own.now) h))) }
     ensures ok { result ≡ WLB_OK → handle.new.value ≡ option_map (page_opened tab (partition_of_pair top.now own.now) true) handle.old.value }
     ensures refused { result ≢ WLB_OK → handle.new.value ≡ handle.old.value }
 {
@@ -115,8 +107,7 @@ pub extern "C" fn wlb_hub_open_pair(
 pub extern "C" fn wlb_hub_close(handle: &mut Handle, alloc: Global, tab: u16) -> i32
     ensures empty { handle.old.value ≡ None → result ≡ WLB_NO_HANDLE }
     ensures kept { is_some handle.new.value ≡ is_some handle.old.value }
-    ensures living { result ≡ WLB_OK → IfSome handle.old.value (λ h. is_living h.supervised.kernel tab ≡ true) }
-    ensures no_tab { result ≡ WLB_NO_TAB → IfSome handle.old.value (λ h. is_living h.supervised.kernel tab ≡ false) }
+    ensures status { IfSome handle.old.value (λ h. (result ≡ WLB_MEMORY) ⊎ (result ≡ close_status tab h)) }
     ensures ok { result ≡ WLB_OK → handle.new.value ≡ option_map (hub_closed tab) handle.old.value }
     ensures refused { result ≢ WLB_OK → handle.new.value ≡ handle.old.value }
 {
