@@ -5,7 +5,7 @@ plays them, with and without sanitizers: `in_process` has to print the file besi
 update, also if the browser process is refused memory at random. The program in `README.md` has to run. It compares the header's
 limits and statuses with the constants of the crates, the header's functions with the names that the shared libraries export, and
 compiles the header as C++. `library_edges.c` plays the edge cases of every function, and `fuzz_library.c` gives hub and client
-random and mutated bytes under the address sanitizer.
+random and mutated bytes under the address sanitizer. The fuzzer has to find the wrong libraries of `wrong_library.c`.
 
 It prints each difference, and nothing if there is none. The status is 1 if there is a difference. It needs `make`, a C compiler
 `cc`, `nm` and `pkg-config`. Without a C++ compiler `c++` it leaves that part out.
@@ -34,6 +34,9 @@ FLAGS = ["-std=c11", "-D_POSIX_C_SOURCE=200809L", "-Wall", "-Wextra", "-Werror",
 SANITIZERS = ["-fsanitize=address,undefined", "-fno-sanitize-recover=all"]
 # Renderers and rounds of a run of `browser`, and whether one more renderer does not read.
 RUNS = [(1, 1, False), (2, 9, False), (4, 12, False), (4, 12, True), (9, 5, True), (30, 2, False)]
+
+# Which part of the fuzzer plays over which wrong library of `wrong_library.c`, and its status. Library 0 is right.
+WRONG = [("hub", 0, 0), ("client", 0, 0), ("hub", 1, 1), ("hub", 2, 1), ("client", 3, 1)]
 
 # Each limit of the header with the constant of a crate that it repeats, and what is added to that.
 LIMITS = {
@@ -249,6 +252,16 @@ def check_fuzz(installed):
             print(ran.stdout, end="")
 
 
+def check_fuzz_finds(installed):
+    """The fuzzer finds the wrong hubs and clients of `wrong_library.c`, and no fault if none is chosen."""
+    names = ["wlb_hub_receive", "wlb_hub_next_output", "wlb_client_next_event"]
+    flags = [TOOLS / "wrong_library.c", "-Wl," + ",".join(f"--wrap={name}" for name in names)]
+    program = installed.compile(TOOLS / "fuzz_library.c", *flags, is_static=True, name="fuzz-wrong")
+    for part, wrong, status in WRONG if program else []:
+        ran = run([program, part, installed.seed, 1], env={**installed.environment, "WRONG": str(wrong)})
+        same(f"fuzz_library {part} over the wrong library {wrong}", "the status", ran.returncode, status)
+
+
 CHECKS = [
     check_limits,
     check_statuses,
@@ -260,6 +273,7 @@ CHECKS = [
     check_refused,
     check_edges,
     check_fuzz,
+    check_fuzz_finds,
 ]
 
 
