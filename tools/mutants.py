@@ -2,7 +2,7 @@
 
 A mutant of `mutants/CRATE` has the form of the edits that `rt` tries in `crates/CRATE/must-fail`, and three more
 lines. `after: TEXT` before an old text means its first occurrence behind TEXT. `refused: PATH` names the function
-whose proof has to fail. `gate: no` keeps the mutant out of the gate.
+whose proof has to fail. `gate: yes` has the gate try the mutant.
 
 `rt` tries one edit after another, each in a check of its crate. The proof of a function uses the contracts of the
 functions that it calls, never their code. So this tool copies a crate, changes each function once, and checks only
@@ -39,8 +39,6 @@ import tempfile
 ROOT = os.path.dirname(os.path.dirname(os.path.abspath(__file__)))
 MUTANTS = os.path.join(ROOT, "mutants")
 WORKERS = len(os.sched_getaffinity(0))
-# Crates that the gate leaves out: their checks take longest.
-LEFT_OUT = {"wl_process_kernel", "wl_script", "wl_world", "wl_world_messages", "wl_world_model", "wlb_command_line"}
 
 
 def text_of(path):
@@ -180,7 +178,7 @@ class Mutant:
     # The twin that has the mutant in place of the function itself.
     twin: Twin | None = None
     # Whether the gate tries it.
-    is_of_gate: bool = True
+    is_of_gate: bool = False
     # The compiler error that has to kill it, if it must not reach the prover.
     error: str = ""
 
@@ -234,7 +232,7 @@ def read_mutant(crate, name):
         elif word == "refused":
             mutant.asked.append(text)
         elif word == "gate":
-            mutant.is_of_gate = text != "no"
+            mutant.is_of_gate = text == "yes"
         elif word == "error":
             mutant.error = text
         elif word == "after":
@@ -628,7 +626,7 @@ def arguments():
     parser = argparse.ArgumentParser(description=__doc__, formatter_class=argparse.RawDescriptionHelpFormatter)
     parser.add_argument("crates", nargs="*", metavar="CRATE", help="a folder of mutants/; all of them by default")
     modes = parser.add_mutually_exclusive_group()
-    gate_help = "leave out what the gate leaves out, and use the libraries that `rt ci` left"
+    gate_help = "try the mutants of the gate alone, over the libraries that `rt ci` left"
     modes.add_argument("--gate", action="store_true", help=gate_help)
     modes.add_argument("--control", action="store_true", help="run the control alone: prove every copy without its mutants")
     modes.add_argument("--fit", action="store_true", help="try nothing: print each mutant that does not fit its file")
@@ -641,17 +639,16 @@ def arguments():
 
 def main():
     given = arguments()
-    crates = given.crates or sorted({*os.listdir(MUTANTS)} - (LEFT_OUT if given.gate else set()))
+    crates = given.crates or sorted(os.listdir(MUTANTS))
     if given.fit:
         said = unfit(crates)
         print("\n".join(said), end="\n" if said else "")
         return 1 if said else 0
     named = libraries()
+    tried = {crate: [it for it in mutants_of(crate) if it.is_of_gate or not given.gate] for crate in crates}
+    crates = sorted((crate for crate in crates if tried[crate]), key=size, reverse=True)
     build_libraries(crates, named, given.gate)
-    trials = []
-    for crate in sorted(crates, key=size, reverse=True):
-        mutants = [it for it in mutants_of(crate) if it.is_of_gate or not given.gate]
-        trials.append(Trial(crate, named, together(mutants), given.control))
+    trials = [Trial(crate, named, together(tried[crate]), given.control) for crate in crates]
     passed = failed = 0
     with concurrent.futures.ThreadPoolExecutor(WORKERS) as pool:
         for trial in concurrent.futures.as_completed([pool.submit(it.run) for it in trials]):
