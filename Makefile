@@ -75,6 +75,8 @@ test: ## the gate: proves every crate, kills mutants, runs every test and the pr
 	@python3 tools/mutants.py --gate
 	@python3 tools/refuse.py --gate
 	@python3 tools/check_program.py $(WLB)
+	@python3 tools/check_vectors.py --program $(WLB)
+	@python3 tools/chart.py --check --program $(WLB)
 	@python3 tools/check_processes.py $(WLB)
 	@python3 tools/check_library.py $(ARCHIVES)
 

@@ -4,8 +4,9 @@ It installs the header and the libraries into a temporary folder by `make instal
 plays them, with and without sanitizers: `in_process` has to print the file beside it, and each run of `browser` has to lose no
 update, also if the browser process is refused memory at random. The program in `README.md` has to run. It compares the header's
 limits and statuses with the constants of the crates, the header's functions with the names that the shared libraries export, and
-compiles the header as C++. `library_edges.c` plays the edge cases of every function, and `fuzz_library.c` gives hub and client
-random and mutated bytes under the address sanitizer. The fuzzer has to find the wrong libraries of `wrong_library.c`.
+compiles the header as C++. `check_vectors.py` plays the test vectors of the protocol through the shared libraries. `library_edges.c`
+plays the edge cases of every function, and `fuzz_library.c` gives hub and client random and mutated bytes under the address sanitizer.
+The fuzzer has to find the wrong libraries of `wrong_library.c`.
 
 It prints each difference, and nothing if there is none. The status is 1 if there is a difference. It needs `make`, a C compiler
 `cc`, `nm` and `pkg-config`. Without a C++ compiler `c++` it leaves that part out.
@@ -235,6 +236,13 @@ def check_readme(installed):
         ends("the program in README.md", installed.play(program), "tab 1 holds the lock db\n")
 
 
+def check_vectors(installed):
+    """Hub and client speak as the test vectors of the protocol say."""
+    ran = run([sys.executable, TOOLS / "check_vectors.py", "--libraries", installed.prefix / "lib"])
+    differences.extend(ran.stdout.splitlines())
+    same("check_vectors.py", "standard error", ran.stderr, "")
+
+
 def check_edges(installed):
     for program in builds_of(installed, TOOLS / "library_edges.c"):
         ends(program.name, installed.play(program), "")
@@ -271,6 +279,7 @@ CHECKS = [
     check_in_process,
     check_browser,
     check_refused,
+    check_vectors,
     check_edges,
     check_fuzz,
     check_fuzz_finds,
