@@ -271,7 +271,7 @@ int32_t wlb_client_probe(wlb_client *client, const uint8_t *name, size_t name_le
  * WLB_OK, WLB_MEMORY, WLB_NO_HANDLE, WLB_NOT_WELCOMED, WLB_TOO_MANY, WLB_NUMBERS_USED_UP. */
 int32_t wlb_client_query(wlb_client *client, uint32_t *number);
 
-/* Aborts a request or a probe that is not held (Web Locks, `signal`). The number is over and has no further event.
+/* Aborts a request that is not held (Web Locks, `signal`). The number is over and has no further event. A probe cannot be aborted.
  * WLB_OK; WLB_HELD: the lock is held; WLB_NOTHING: no such request is live; WLB_MEMORY, WLB_NO_HANDLE, WLB_NOT_WELCOMED. */
 int32_t wlb_client_abort(wlb_client *client, uint32_t number);
 
