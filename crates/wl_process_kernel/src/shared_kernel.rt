@@ -4,10 +4,11 @@
 //! locks but those of `link` and `broker`. The one exception is the Start frame, which is written
 //! under the supervisor's lock and always fits into a fresh socket.
 
-ghost use Rattle.std.specs.Prelude.{◌≡◌, ◌++◌, IfOk, OnOk, IfErr, OnErr};
+ghost use Rattle.std.specs.Prelude.{◌≡◌, [], IfOk, OnOk, IfErr, OnErr};
 ghost use Rattle.wl_grammar.specs.Grammar.{IsTab};
 ghost use Rattle.wl_kernel.specs.Routes.{IsWellRouted};
-ghost use Rattle.wl_process_rules.specs.RunningKernel.{IsSentOn, IsRefusedBy, to_broker};
+ghost use Rattle.wl_process_kernel.specs.Gathered.{left_by, gathered_after};
+ghost use Rattle.wl_process_rules.specs.RunningKernel.{IsSentOn, IsRefusedBy};
 
 mod broker_orders;
 
@@ -263,22 +264,25 @@ impl SharedKernel {
     }
 
     /// Forwards a frame that a tab sent. A post goes to the other tabs of the partition. Any other
-    /// frame is stamped and appended to `bytes`, which go to the broker.
+    /// frame is stamped and appended to `gathered`, the frames of this tab that wait to be written to
+    /// the broker. They are written before a post is forwarded.
     ///
     /// A tab that sent for an ended generation is sent a Hello of the current one.
+    #[tactic(auto, using(crate::proofs::Sending::sent_behind))]
     pub(crate) fn up<R: Wait>(
         &self,
         rt: &R,
         tab: u16,
         frame: Frame,
-        bytes: &mut Vec<u8>,
+        gathered: &mut Vec<u8>,
     ) -> Result<(), RouteFault>
-        ensures sent { OnOk result (IsSentOn tab frame bytes.old.items bytes.new.items) }
+        ensures sent { OnOk result
+            (IsSentOn tab frame (left_by frame gathered.old.items) gathered.new.items) }
         ensures refused { IfErr result (IsRefusedBy tab frame) }
-        ensures err { OnErr result (bytes.new.items ≡ bytes.old.items) }
+        ensures err { OnErr result (gathered.new.items ≡ gathered.old.items) }
     {
         let sent = self.supervisor.lock(rt).route_up(tab, frame)?;
-        self.pass_on(rt, tab, sent, bytes)?;
+        self.pass_on(rt, tab, sent, gathered)?;
         Ok(())
     }
 
@@ -288,11 +292,11 @@ impl SharedKernel {
         rt: &R,
         tab: u16,
         sent: RoutedUp,
-        bytes: &mut Vec<u8>,
+        gathered: &mut Vec<u8>,
     ) -> Result<(), AllocError>
         ensures passed { IsWellRouted sent.routed
-            → OnOk result (bytes.new.items ≡ bytes.old.items ++ to_broker sent.routed) }
-        ensures err { OnErr result (bytes.new.items ≡ bytes.old.items) }
+            → OnOk result (gathered.new.items ≡ gathered_after gathered.old.items sent.routed) }
+        ensures err { OnErr result (gathered.new.items ≡ gathered.old.items) }
     {
         let RoutedUp {
             routed,
@@ -304,17 +308,21 @@ impl SharedKernel {
                 if let Some(hello) = late_hello(&frame, current) {
                     self.put(rt, tab, partition, hello);
                 }
-                append(bytes, &frame)
+                append(gathered, &frame)
             }
             Routed::Tabs(heard) => {
-                self.put_all(rt, partition, heard.into_vec());
+                self.flush(rt, gathered);
+                self.put_all(rt, partition, heard.into_vec(), gathered.as_slice());
                 Ok(())
             }
         }
     }
 
-    /// Puts frames from this partition into the outboxes of these tabs.
-    fn put_all<R: Wait>(&self, rt: &R, partition: u16, heard: Vec<(u16, Frame)>) {
+    /// Puts posts from this partition into the outboxes of these tabs. None of the sender's frames
+    /// may wait to be written to the broker: a tab that hears the post would overtake them.
+    fn put_all<R: Wait>(&self, rt: &R, partition: u16, heard: Vec<(u16, Frame)>, _gathered: &[u8])
+        requires { _gathered.now ≡ [] }
+    {
         for (target, frame) in heard {
             self.put(rt, target, partition, frame);
         }
@@ -372,6 +380,15 @@ impl SharedKernel {
         if let Some(link) = &*self.link.lock(rt) {
             link.write_or_end(bytes);
         }
+    }
+
+    /// Writes the frames that a tab's reader has gathered, and clears them. They are lost if no broker
+    /// is up.
+    pub(crate) fn flush<R: Wait>(&self, rt: &R, gathered: &mut Vec<u8>)
+        ensures { gathered.new.items ≡ [] }
+    {
+        self.write(rt, gathered.as_slice());
+        gathered.clear();
     }
 
     /// Returns the generation of the running broker, or of the next one.

@@ -13,12 +13,12 @@ use wl_kernel::RouteFault;
 use wl_process_rules::{Load, Pace};
 use wl_workers::Uplink;
 
-/// Frames for the broker gathered by a tab's reader since its last read, and the tab's rate
+/// Frames for the broker gathered by a tab's reader since its last read or post, and the tab's rate
 /// limiter.
 #[derive(Drop)]
 pub(crate) struct UplinkBatch {
     /// Encoded frames for the broker.
-    bytes: Vec<u8>,
+    gathered: Vec<u8>,
     /// The amount of data that the tab sent, including frames for other tabs and refused frames.
     load: Load,
     pace: Pace,
@@ -29,7 +29,7 @@ pub(crate) struct UplinkBatch {
 impl UplinkBatch {
     pub(crate) fn new(alloc: Global) -> UplinkBatch {
         UplinkBatch {
-            bytes: Vec::new(alloc),
+            gathered: Vec::new(alloc),
             load: Load::NOTHING,
             pace: Pace::new(),
             sent: None,
@@ -41,10 +41,9 @@ impl UplinkBatch {
         if self.load == Load::NOTHING {
             return;
         }
-        shared.write(rt, self.bytes.as_slice());
+        shared.flush(rt, &mut self.gathered);
         let elapsed = self.since_sent(rt);
         self.pace.send(self.load, elapsed);
-        self.bytes.clear();
         self.load = Load::NOTHING;
     }
 
@@ -61,7 +60,7 @@ impl UplinkBatch {
     }
 }
 
-/// The uplink of a tab's frames. It gathers the frames for the broker until the next flush.
+/// The uplink of a tab's frames. It gathers the frames for the broker until the next flush or post.
 #[derive(Drop)]
 pub(crate) struct TabUplink<'a> {
     pub(crate) shared: &'a SharedKernel,
@@ -92,7 +91,7 @@ impl Uplink for TabUplink<'_> {
             return Err(RouteFault::Memory);
         };
         batch.load.frames = batch.load.frames.saturating_add(1);
-        self.shared.up(rt, tab, frame, &mut batch.bytes)
+        self.shared.up(rt, tab, frame, &mut batch.gathered)
     }
 }
 
