@@ -11,7 +11,7 @@ in Python and write as fast as they can.
 
 The tool prints the rates of both origins, in locks a second and as a ratio to those without a hostile tab. The goal for the
 other origin is a half. A missed goal is printed and is no fault, since no rate is promised. The hostile tab's own origin may
-wait as long as that tab lives (docs/SCRIPTS.md, "Tabs that are taken over"). So the tool kills the hostile tab two seconds
+wait as long as that tab lives (docs/SCRIPTS.md, "Compromised tabs"). So the tool kills the hostile tab two seconds
 after the end of the other origin, and then the tabs of its own origin have to end, too.
 
 The status is 1 if there is a fault: a lost addition, an honest tab or a kernel with another status than 0, a kernel that does
