@@ -1,7 +1,7 @@
 //! The broker's input, read by its lanes in turn.
 //!
-//! The lane that reads distributes the works to all lanes. A lane that reads works of its own wakes
-//! no other thread.
+//! The lane that reads distributes the works to all lanes, by their shards. A lane that reads works
+//! of its own wakes no other thread.
 
 ghost use Rattle.std.specs.Prelude.{◌≡◌, ◌<◌, ◌%◌};
 
@@ -241,10 +241,9 @@ impl<'a> Inbox<'a> {
         let mut dealt = Dealt { own: 0, others: 0 };
         let mut works = Vec::new(self.alloc);
         for frame in frames {
-            let (tab, event) = event_of(frame)?;
-            let place = usize::from(lane_of(tab, self.lanes));
-            let _lost = deal(&mut works, self.shards, event).is_err();
+            let _lost = deal(&mut works, self.shards, event_of(frame)?).is_err();
             while let Some(work) = works.pop() {
+                let place = usize::from(lane_of(&work, self.lanes));
                 let coming = self.put(rt, place, work);
                 if place == lane {
                     dealt.own = dealt.own.saturating_add(1);
@@ -277,19 +276,20 @@ fn turn_after<'a>(
     }
 }
 
-/// Returns the lane that handles a tab's messages.
-fn lane_of(tab: u16, lanes: u16) -> u16
+/// Returns the lane that takes a work. All works of a shard have one lane, so they are done in the
+/// order in which they arrived, and that lane sends all frames to the tabs of its shards.
+fn lane_of(work: &Work, lanes: u16) -> u16
     requires { 0 < lanes }
-    ensures { result ≡ tab % lanes }
+    ensures { result ≡ work.now.shard % lanes }
 {
-    tab % lanes
+    work.shard % lanes
 }
 
-/// Returns a frame's event with its tab. Fails with `Unexpected` if the frame is no event.
-fn event_of(frame: Frame) -> Result<(u16, BookEvent), ProcessFault> {
+/// Returns a frame's event. Fails with `Unexpected` if the frame is no event.
+fn event_of(frame: Frame) -> Result<BookEvent, ProcessFault> {
     match frame {
-        Frame::Stamped(stamped) => Ok((stamped.tab, BookEvent::Take(stamped))),
-        Frame::Dead(dead) => Ok((dead.tab, BookEvent::Dead(dead.tab))),
+        Frame::Stamped(stamped) => Ok(BookEvent::Take(stamped)),
+        Frame::Dead(dead) => Ok(BookEvent::Dead(dead.tab)),
         _ => Err(ProcessFault::Unexpected),
     }
 }
