@@ -33,8 +33,10 @@ lib: $(if $(ARCHIVES),,$(HUB) $(CLIENT)) ## builds the C libraries in the folder
 install: lib ## installs the header and the C libraries under PREFIX
 	python3 tools/library.py --prefix $(PREFIX) install --destdir "$(DESTDIR)" $(BUILD)
 
-wasm: ## builds the WebAssembly modules in the folder `build/wasm`, after `make test` or `rt ci`
-	python3 tools/wasm.py
+MODULES = js/dist
+
+wasm: $(if $(ARCHIVES),,$(HUB) $(CLIENT)) ## builds the WebAssembly modules of the JavaScript package in the folder `js/dist`
+	python3 tools/wasm.py $(MODULES) $(or $(ARCHIVES),$(dir $(HUB) $(CLIENT)))
 
 js-test: ## runs the tests of the JavaScript package with the modules of `make wasm`
 	node --test js/test

@@ -2,20 +2,39 @@
 
 It takes the libraries below as `rt ci` has left them in this checkout, and has `rattle build` prove the static library again. `rt
 lib` does not use these libraries: it proves all of them once more. So this tool calls `rt lib` only if `rt ci` has not left them.
+
+Beside the archive it leaves `NAME.bc`, the LLVM module that the compiler was given. `tools/wasm.py` makes the WebAssembly module of
+it. For that it names the first processor of the kit's list, for which the module has no instructions of x86-64. `rt lib` leaves no
+module.
 """
 
 import argparse
 import os
 import pathlib
+import shlex
+import shutil
 import subprocess
 import sys
+import tempfile
 
 TOP = pathlib.Path(__file__).resolve().parent.parent
+CPU = "x86-64"
+KEEPING_CLANG = """#!/bin/sh
+for word in "$@"; do
+    case $word in *.bc|*.ll) cp "$word" {kept}/ ;; esac
+done
+exec {clang} "$@"
+"""
 
 
 def rlib_of(library):
     """Returns where `rt ci` leaves a library."""
     return TOP / "crates" / library / "out" / "rlib" / f"{library}.rlib"
+
+
+def module_of(name):
+    """Returns where this tool leaves the LLVM module of a static library."""
+    return TOP / "crates" / name / "out" / f"{name}.bc"
 
 
 def missing(name):
@@ -72,6 +91,21 @@ def rattle_words(name, kit):
     return [*words, "--links", f"{name}=", "--crate-type", "staticlib", "--backend", "llvm"]
 
 
+def keeping_toolchain(kit, room):
+    """Makes a folder that stands for the kit's toolchain, and returns it. Its `clang` keeps the modules that it is given."""
+    real, folder, kept = kit / "toolchain", room / "toolchain", room / "kept"
+    (folder / "bin").mkdir(parents=True)
+    kept.mkdir()
+    (folder / "lib").symlink_to(real / "lib")
+    for file in (real / "bin").iterdir():
+        if file.name != "clang":
+            (folder / "bin" / file.name).symlink_to(file)
+    clang = folder / "bin" / "clang"
+    clang.write_text(KEEPING_CLANG.format(kept=shlex.quote(str(kept)), clang=shlex.quote(str(real / "bin" / "clang"))), encoding="utf-8")
+    clang.chmod(0o755)
+    return folder
+
+
 def build(name, jobs):
     """Builds the static library, and returns the status."""
     folder = TOP / "crates" / name
@@ -79,11 +113,18 @@ def build(name, jobs):
         return subprocess.run(["rt", "lib"], cwd=folder, stdout=subprocess.DEVNULL, check=False).returncode
     kit, archive = kit_folder(), folder / "out" / f"lib{name}.a"
     archive.parent.mkdir(exist_ok=True)
-    words = [*rattle_words(name, kit), "--jobs", jobs, "--toolchain", kit / "toolchain", "-o", archive]
-    ran = subprocess.run([str(word) for word in words], cwd=folder, capture_output=True, text=True, check=False)
-    if ran.returncode:
-        sys.stderr.write((ran.stdout + ran.stderr)[-4000:])
-    return ran.returncode
+    with tempfile.TemporaryDirectory() as place:
+        room = pathlib.Path(place)
+        words = [*rattle_words(name, kit), "--cpu", CPU, "--jobs", jobs, "--toolchain", keeping_toolchain(kit, room), "-o", archive]
+        ran = subprocess.run([str(word) for word in words], cwd=folder, capture_output=True, text=True, check=False)
+        if ran.returncode:
+            sys.stderr.write((ran.stdout + ran.stderr)[-4000:])
+            return ran.returncode
+        modules = list((room / "kept").iterdir())
+        if len(modules) != 1:
+            sys.exit(f"archive: the compiler was given {len(modules)} modules of {name}, not one: this tool does not fit the kit")
+        shutil.move(modules[0], module_of(name))
+    return 0
 
 
 def main():

@@ -1,29 +1,25 @@
 """Makes the WebAssembly modules of `wlb`: `wlb_hub.wasm` and `wlb_client.wasm`, with the functions of `include/wlb.h`.
 
-Run it after `rt ci`: it takes the lower crates as they were built there. For each of the two static libraries it
+`tools/archive.py` has proved the two static libraries, and has kept the LLVM module that the compiler was given for each. This tool
 
-1. has `rattle build` prove the library again, with a toolchain whose `clang` also keeps the LLVM module that it is given;
-2. writes another data layout, target and processor into that module;
-3. compiles it together with `js/wasm/heap64.c` and `js/wasm/helpers64.c`, and links them. The result uses 64-bit memory;
-4. writes the same module with 32-bit memory (`wlb_hub32.wasm`, `wlb_client32.wasm`), for engines that have no 64-bit memory.
-   The functions of both take the same arguments: addresses and lengths are 64-bit integers.
+1. writes another data layout, target and processor into that module;
+2. compiles it together with `js/wasm/heap64.c` and `js/wasm/helpers64.c`, and links them. The result uses 64-bit memory;
+3. writes the same module with 32-bit memory (`wlb_hub32.wasm`, `wlb_client32.wasm`) by `tools/lower.py`, for engines that have no
+   64-bit memory. The functions of both take the same arguments: addresses and lengths are 64-bit integers.
 
-The compiler and the linker are those of the kit, and step 4 is a pass of `wasm-opt` (Debian's package `binaryen`). `--keep DIR`
-keeps the LLVM modules, and `--kept DIR` begins with kept ones.
+The compiler and the linker are those of the kit.
 """
 
 import argparse
-import os
 import pathlib
 import re
-import shlex
-import shutil
 import subprocess
 import sys
 import tempfile
 
-from archive import kit_folder, missing, rattle_words
+from archive import kit_folder
 from library import TOP, functions_of
+from lower import lower
 
 LIBRARIES = ["wlb_hub", "wlb_client"]
 SOURCES = [TOP / "js" / "wasm" / "heap64.c", TOP / "js" / "wasm" / "helpers64.c"]
@@ -31,8 +27,6 @@ TARGET, CPU = "wasm64-unknown-unknown", "lime1"
 LAYOUT = "e-m:e-p:64:64-p10:8:8-p20:8:8-i64:64-i128:128-n32:64-S128-ni:1:10:20"
 HOST_EXPORTS = ["host_allocate", "host_free"]
 STACK_BYTES = 1 << 20
-LOWERING = ["--enable-memory64", "--enable-bulk-memory", "--enable-sign-ext", "--enable-mutable-globals", "--memory64-lowering"]
-LOWERING += ["--enable-nontrapping-float-to-int"]
 # Edits of the module's text: what it is, the pattern, and what takes its place.
 EDITS = [
     ("data layout", r"^target datalayout = .*$", f'target datalayout = "{LAYOUT}"'),
@@ -40,12 +34,6 @@ EDITS = [
     ("stack probes", r'"probe-stack"="inline-asm" |"stack-probe-size"="\d+" ', ""),
     ("processor", r'"target-cpu"="[\w-]+"', f'"target-cpu"="{CPU}"'),
 ]
-KEEPING_CLANG = """#!/bin/sh
-for word in "$@"; do
-    case $word in *.bc|*.ll) cp "$word" {kept}/ ;; esac
-done
-exec {clang} "$@"
-"""
 
 
 def run(*words, **how):
@@ -54,40 +42,13 @@ def run(*words, **how):
         sys.exit(f"wasm: `{pathlib.Path(str(words[0])).name}` has failed with status {ran.returncode}")
 
 
-def keeping_toolchain(kit, folder, kept):
-    """Makes a folder that stands for the kit's toolchain. Its `clang` keeps the modules that it is given."""
-    (folder / "bin").mkdir()
-    (folder / "lib").symlink_to(kit / "toolchain" / "lib")
-    for file in (kit / "toolchain" / "bin").iterdir():
-        if file.name != "clang":
-            (folder / "bin" / file.name).symlink_to(file)
-    clang = folder / "bin" / "clang"
-    real = kit / "toolchain" / "bin" / "clang"
-    clang.write_text(KEEPING_CLANG.format(kept=shlex.quote(str(kept)), clang=shlex.quote(str(real))), encoding="utf-8")
-    clang.chmod(0o755)
-
-
-def llvm_module(name, kit, room, jobs):
-    """Proves a static library, and returns the LLVM module that the compiler was given."""
-    kept, toolchain = room / "kept", room / "toolchain"
-    kept.mkdir()
-    toolchain.mkdir()
-    keeping_toolchain(kit, toolchain, kept)
-    lacking = missing(name)
-    if lacking:
-        sys.exit(f"wasm: {' '.join(lacking)} not built: run `rt ci`")
-    words = [*rattle_words(name, kit), "--cpu", "x86-64", "--jobs", jobs, "--toolchain", toolchain]
-    words += ["-o", room / f"lib{name}.a"]
-    log = room / "log"
-    with open(log, "wb") as out:
-        ran = subprocess.run([str(word) for word in words], stdout=out, stderr=out, check=False, cwd=room)
-    if ran.returncode:
-        sys.stderr.write(log.read_text(encoding="utf-8", errors="replace")[-4000:])
-        sys.exit(f"wasm: rattle has not built {name}")
-    modules = sorted(kept.iterdir())
-    if len(modules) != 1:
-        sys.exit(f"wasm: the compiler was given {len(modules)} modules of {name}, not one: this tool does not fit the kit")
-    return modules[0]
+def module_of(name, folders):
+    """Returns the LLVM module of a library, which lies beside its archive."""
+    for folder in folders:
+        module = folder / f"{name}.bc"
+        if module.is_file():
+            return module
+    sys.exit(f"wasm: no {name}.bc in {' '.join(map(str, folders))}: run `rt ci`, and then `python3 tools/archive.py {name}`")
 
 
 def retargeted(text, name):
@@ -124,36 +85,26 @@ def link(name, module, kit, room, build):
     return made
 
 
-def lower(made):
-    """Writes the module with 32-bit memory beside it."""
-    lowered = made.with_name(f"{made.stem}32.wasm")
-    if not shutil.which("wasm-opt"):
-        sys.exit(f"wasm: {lowered.name} needs `wasm-opt`: install Debian's package `binaryen`")
-    run("wasm-opt", *LOWERING, made, "-o", lowered)
-    return lowered
+def build(folders, target):
+    """Makes the modules in the folder `target`, and returns their files."""
+    kit, made = kit_folder(), []
+    target.mkdir(parents=True, exist_ok=True)
+    for name in LIBRARIES:
+        with tempfile.TemporaryDirectory() as place:
+            module = link(name, module_of(name, folders), kit, pathlib.Path(place), target)
+        lowered = target / f"{name}32.wasm"
+        lowered.write_bytes(lower(module.read_bytes()))
+        made += [module, lowered]
+    return made
 
 
 def main():
     parser = argparse.ArgumentParser(description=__doc__, formatter_class=argparse.RawDescriptionHelpFormatter)
-    folder = {"metavar": "DIR", "type": pathlib.Path}
-    parser.add_argument("--build", **folder, default=TOP / "build" / "wasm", help="folder for the modules (build/wasm)")
-    parser.add_argument("--keep", **folder, help="keep the LLVM modules in this folder")
-    parser.add_argument("--kept", **folder, help="take LLVM modules that --keep has kept")
-    parser.add_argument("--jobs", metavar="N", type=int, default=os.cpu_count(), help="jobs of rattle (all processors)")
-    parser.add_argument("libraries", metavar="LIBRARY", nargs="*", choices=[[], *LIBRARIES], help="wlb_hub, wlb_client or both")
+    parser.add_argument("build", metavar="BUILD", type=pathlib.Path, help="the folder for the modules")
+    parser.add_argument("archives", metavar="ARCHIVES", type=pathlib.Path, nargs="+", help="a folder with static libraries")
     given = parser.parse_args()
-    kit = kit_folder()
-    given.build.mkdir(parents=True, exist_ok=True)
-    for name in given.libraries or LIBRARIES:
-        with tempfile.TemporaryDirectory() as folder:
-            room = pathlib.Path(folder)
-            module = given.kept / f"{name}.bc" if given.kept else llvm_module(name, kit, room, given.jobs)
-            if given.keep:
-                given.keep.mkdir(parents=True, exist_ok=True)
-                shutil.copy(module, given.keep / f"{name}.bc")
-            made = link(name, module, kit, room, given.build)
-            for file in (made, lower(made)):
-                print(f"{file}: {file.stat().st_size} bytes")
+    for file in build(given.archives, given.build):
+        print(f"{file}: {file.stat().st_size} bytes")
 
 
 if __name__ == "__main__":

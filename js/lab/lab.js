@@ -1,14 +1,14 @@
-// Hosts and tabs for the tests and the conformance runner. WLB_MODULES names the folder of the modules; `make wasm` writes them to build/wasm.
+// Hosts and tabs for the tests and the conformance runner. WLB_MODULES names another folder of the modules than that of `make wasm`.
 
 import fs from 'node:fs';
 import path from 'node:path';
 import { fileURLToPath } from 'node:url';
 import { Host, connect, linkPair } from '../src/index.js';
 
-const folder = process.env.WLB_MODULES ?? fileURLToPath(new URL('../../build/wasm', import.meta.url));
+export const modules = process.env.WLB_MODULES ?? fileURLToPath(new URL('../dist', import.meta.url));
 
 function module(name) {
-  const file = path.join(folder, name);
+  const file = path.join(modules, name);
   if (!fs.existsSync(file)) throw new Error(`there is no ${file}: run \`make wasm\``);
   return new WebAssembly.Module(fs.readFileSync(file));
 }

@@ -1,6 +1,7 @@
 """Plays the stories of the playground in headless Chromium (Debian's package), and compares what the page shows at their ends.
 
-Run it at the top of the repository, after `make wasm`. `--screenshot FILE` keeps a picture of the story `restart`.
+Run it at the top of the repository, after `make wasm`. `--screenshot FILE` keeps a picture of the story `restart`, of the size
+`--size`: 1280,900 or for instance that of a phone, 390,844.
 """
 
 import argparse
@@ -52,6 +53,7 @@ def shown(page):
 def main():
     parser = argparse.ArgumentParser(description=__doc__, formatter_class=argparse.RawDescriptionHelpFormatter)
     parser.add_argument("--screenshot", metavar="FILE", type=pathlib.Path, help="where to keep a picture")
+    parser.add_argument("--size", metavar="WIDTH,HEIGHT", default="1280,900", help="the size of the picture")
     given = parser.parse_args()
     server = http.server.ThreadingHTTPServer(("127.0.0.1", 0), functools.partial(Quiet, directory=TOP))
     threading.Thread(target=server.serve_forever, daemon=True).start()
@@ -68,7 +70,7 @@ def main():
             print(f"{story}: the page shows {found}, not {end}")
             wrong = 1
     if given.screenshot:
-        chromium(url + "restart", "--window-size=1280,900", f"--screenshot={given.screenshot.absolute()}")
+        chromium(url + "restart", f"--window-size={given.size}", f"--screenshot={given.screenshot.absolute()}")
     print("playground: " + ("a story has ended otherwise" if wrong else f"{len(ENDS)} stories have ended as they should"))
     sys.exit(wrong)
 

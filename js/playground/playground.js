@@ -6,9 +6,10 @@ import { World } from './world.js';
 
 const $ = id => document.getElementById(id);
 const modules = {};
-for (const part of ['hub', 'client']) modules[part] = await compile(new URL(`../../build/wasm/wlb_${part}32.wasm`, import.meta.url));
+for (const part of ['hub', 'client']) modules[part] = await compile(new URL(`../dist/wlb_${part}32.wasm`, import.meta.url));
 
 const PAUSE = 1100;
+const names = new Map(); // tab -> name of a lock that was typed into its field
 let world = await World.create(modules), steps = [], timer = null;
 
 // ---- what happens
@@ -27,6 +28,7 @@ async function reset() {
   clearTimeout(timer);
   timer = null;
   steps = [];
+  names.clear();
   world = await World.create(modules);
   draw();
 }
@@ -34,8 +36,8 @@ async function reset() {
 /** Plays the next step of the story. Returns whether there was one. */
 async function step() {
   if (!steps.length) return false;
-  const [text, run, isHeld] = steps.shift();
-  $('caption').textContent = text;
+  const count = STORIES[$('story').value].steps.length, [text, run, isHeld] = steps.shift();
+  $('caption').replaceChildren(element('b', { textContent: `${count - steps.length} of ${count}` }), text);
   await run(world);
   if (!isHeld) deliverAll();
   draw();
@@ -74,6 +76,7 @@ function drawTab(number, { origin, locks, isAlive, said }) {
     const end = button(isHeld ? 'release' : 'abort', () => world.end(number, command));
     list.append(element('li', { className: isHeld ? 'held' : 'waits' }, text, ' ', end));
   }
+  if (!locks.size) list.append(element('li', { className: 'none', textContent: 'no locks' }));
   const head = element('header', {}, element('h3', { textContent: `Tab ${number}` }), element('span', { className: 'origin', textContent: origin }));
   const card = element('article', { className: isAlive ? 'tab' : 'tab dead' }, head);
   if (!isAlive) {
@@ -81,7 +84,8 @@ function drawTab(number, { origin, locks, isAlive, said }) {
     return card;
   }
   head.append(button('Send again', () => world.resend(number)), button('Kill', () => world.kill(number)));
-  const name = element('input', { type: 'text', value: 'db', ariaLabel: 'name of the lock' });
+  const name = element('input', { type: 'text', value: names.get(number) ?? 'db', ariaLabel: 'name of the lock' });
+  name.oninput = () => names.set(number, name.value);
   const ask = (text, mode, isProbe) => button(text, () => world.request(number, name.value, mode, isProbe));
   const form = element('form', { onsubmit: () => false }, name, ask('Ask', 'exclusive'), ask('Shared', 'shared'), ask('If available', 'exclusive', true));
   card.append(list, form);
@@ -96,7 +100,8 @@ function drawWire() {
   document.querySelector('#wire ol').replaceChildren(...(rows.length ? rows : [element('li', { className: 'none', textContent: 'nothing' })]));
 }
 
-const WIDTH = 120, ROW = 26, TOP = 4, HEADS = 24;
+// The columns of the chart share its width, within these limits.
+const NARROWEST = 92, WIDEST = 180, ROW = 26, TOP = 4, HEADS = 24;
 
 function svg(name, words, text = '') {
   const made = document.createElementNS('http://www.w3.org/2000/svg', name);
@@ -105,28 +110,35 @@ function svg(name, words, text = '') {
   return made;
 }
 
+/** Lines and texts of an event at the height `y`. `x` returns the place of a tab or of the broker. */
+function partsOf(event, y, x, column, width) {
+  if (event.kind === 'note') {
+    const line = svg('line', { class: 'event', x1: 0, x2: width, y1: y - 4, y2: y - 4 });
+    return [line, svg('text', { class: 'note', x: x(event.at), y }, event.text)];
+  }
+  const [from, to] = [x(event.from), x(event.to)], side = Math.sign(to - from);
+  const kind = event.kind === 'lost' ? 'lost' : event.to ? 'down' : 'up';
+  const end = event.kind === 'lost' ? (from + to) / 2 : to - 3 * side;
+  const parts = [svg('line', { class: kind, x1: from, x2: end, y1: y, y2: y })];
+  if (event.kind === 'message') {
+    const back = end - 6 * side;
+    parts.push(svg('path', { class: kind, fill: 'none', d: `M${back},${y - 4} L${end},${y} L${back},${y + 4}` }));
+  }
+  // The label stands beside the tab, where no other line goes.
+  const label = event.label.endsWith('granted') ? 'label grant' : 'label';
+  return [...parts, svg('text', { class: label, x: x(event.from || event.to) - column / 2, y: y - 5 }, event.label)];
+}
+
 function drawChart() {
-  const actors = [0, ...world.tabs.keys()], x = number => WIDTH * (actors.indexOf(number) + 0.5);
-  const width = WIDTH * actors.length, height = TOP + ROW * (world.events.length + 1);
-  const [heads, chart] = document.querySelectorAll('#chart svg'), parts = [];
+  const actors = [0, ...world.tabs.keys()], [heads, chart] = document.querySelectorAll('#chart svg');
+  const column = Math.min(WIDEST, Math.max(NARROWEST, Math.floor(chart.parentElement.clientWidth / actors.length)));
+  const width = column * actors.length, height = TOP + ROW * (world.events.length + 1);
+  const x = number => column * (actors.indexOf(number) + 0.5);
   heads.replaceChildren(...actors.map(actor => svg('text', { class: 'actor', x: x(actor), y: 16 }, nameOf(actor))));
-  for (const actor of actors) parts.push(svg('line', { class: 'life', x1: x(actor), x2: x(actor), y1: 0, y2: height }));
-  world.events.forEach((event, index) => {
-    const y = TOP + ROW * (index + 0.8);
-    if (event.kind === 'note') {
-      parts.push(svg('text', { class: 'note', x: x(event.at), y }, event.text));
-      return;
-    }
-    const [from, to] = [x(event.from), x(event.to)], side = Math.sign(to - from);
-    const kind = event.kind === 'lost' ? 'lost' : event.to ? 'down' : 'up';
-    const end = event.kind === 'lost' ? (from + to) / 2 : to - 3 * side;
-    parts.push(svg('line', { class: kind, x1: from, x2: end, y1: y, y2: y }));
-    if (event.kind === 'message') parts.push(svg('path', { class: kind, fill: 'none', d: `M${end - 6 * side},${y - 4} L${end},${y} L${end - 6 * side},${y + 4}` }));
-    // Beside the tab, where no other line goes.
-    const tab = x(event.from || event.to);
-    parts.push(svg('text', { class: event.label.endsWith('granted') ? 'label grant' : 'label', x: tab - WIDTH / 2, y: y - 5 }, event.label));
-  });
-  chart.replaceChildren(...parts);
+  chart.replaceChildren(
+    ...actors.map(actor => svg('line', { class: 'life', x1: x(actor), x2: x(actor), y1: 0, y2: height })),
+    ...world.events.flatMap((event, index) => partsOf(event, TOP + ROW * (index + 0.8), x, column, width)),
+  );
   for (const [part, high] of [[heads, HEADS], [chart, height]]) {
     part.setAttribute('width', width);
     part.setAttribute('height', high);
@@ -156,6 +168,7 @@ $('open-a').onclick = () => act(() => world.open('https://a.test/'));
 $('open-b').onclick = () => act(() => world.open('https://b.test/'));
 $('restart').onclick = () => act(() => world.restart());
 $('clear').onclick = reset;
+addEventListener('resize', drawChart);
 draw();
 
 const wanted = new URLSearchParams(location.search).get('story');

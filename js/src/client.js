@@ -1,6 +1,6 @@
 // Client: locks and channels of one tab, behind bytes.
 
-import { Part, WlbError, pieces } from './module.js';
+import { CLIENT, Part, WlbError, pieces } from './module.js';
 
 const KINDS = [null, 'welcomed', 'entered', 'granted', 'waiting', 'notAvailable', 'lost', 'answered', 'posted', 'other'];
 
@@ -12,7 +12,7 @@ export class Client {
   #part;
 
   /** Makes a client from `wlb_client.wasm`: its bytes, its URL, a Response, or a compiled module. */
-  static async create(source) { return new Client(await Part.create(source, 'client')); }
+  static async create(source = CLIENT) { return new Client(await Part.create(source, 'client')); }
 
   constructor(part) { this.#part = part; }
 

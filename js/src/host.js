@@ -2,7 +2,7 @@
 
 import { joined } from './frames.js';
 import { Hub } from './hub.js';
-import { WlbError } from './module.js';
+import { HUB, WlbError } from './module.js';
 
 /**
  * A hub whose tabs are links. Everything happens in the calls of the links: a host has no timer. `source` of `create` is
@@ -13,7 +13,7 @@ export class Host {
   #links = new Map(); // tab -> link
   #next = 1;
 
-  static async create(source) {
+  static async create(source = HUB) {
     const host = new Host(await Hub.create(source));
     host.restart();
     return host;

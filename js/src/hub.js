@@ -1,6 +1,6 @@
 // Hub: kernel and broker of all tabs, behind bytes.
 
-import { Part, WlbError, pieces } from './module.js';
+import { HUB, Part, WlbError, pieces } from './module.js';
 
 const encoder = new TextEncoder();
 
@@ -14,7 +14,7 @@ export class Hub {
   #part;
 
   /** Makes a hub from `wlb_hub.wasm`: its bytes, its URL, a Response, or a compiled module. */
-  static async create(source) { return new Hub(await Part.create(source, 'hub')); }
+  static async create(source = HUB) { return new Hub(await Part.create(source, 'hub')); }
 
   constructor(part) { this.#part = part; }
 

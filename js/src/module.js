@@ -19,12 +19,22 @@ export class WlbError extends Error {
   }
 }
 
-/** Compiles a module from its bytes, from a Response or from a URL that `fetch` takes. A compiled module is returned as it is. */
+/** The modules that come with the package. They have 32-bit memory, which all engines have. */
+export const HUB = new URL('../dist/wlb_hub32.wasm', import.meta.url), CLIENT = new URL('../dist/wlb_client32.wasm', import.meta.url);
+
+/** Compiles a module from its bytes, from a Response or from a URL. A compiled module is returned as it is. */
 export async function compile(source) {
   if (source instanceof WebAssembly.Module) return source;
-  if (typeof source === 'string' || source instanceof URL) source = await fetch(source);
+  if (typeof source === 'string' || source instanceof URL) source = await read(source);
   if (typeof Response === 'function' && source instanceof Response) source = await source.arrayBuffer();
   return WebAssembly.compile(source);
+}
+
+/** Reads a URL. The `fetch` of Node takes no files. */
+async function read(url) {
+  if (!`${url}`.startsWith('file:')) return fetch(url);
+  const { readFile } = await import('node:fs/promises');
+  return readFile(new URL(url));
 }
 
 const ADDRESS_BYTES = 8n;

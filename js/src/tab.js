@@ -4,13 +4,14 @@ import { broadcastChannelOf } from './broadcast.js';
 import { Client } from './client.js';
 import { Splitter, commandIn, joined, originIn, takenIn } from './frames.js';
 import { lockManagerOf } from './locks.js';
+import { CLIENT } from './module.js';
 import { Tasks } from './tasks.js';
 
 /**
  * Makes a tab over a link to a hub, and waits for the hub's welcome. `source` is `wlb_client.wasm`: its bytes, its URL, a Response, or
  * a compiled module.
  */
-export async function connect(link, source) {
+export async function connect(link, source = CLIENT) {
   const agent = new Agent(await Client.create(source), link);
   await agent.welcomed;
   return new Tab(agent);
@@ -192,17 +193,22 @@ export class Agent {
     this.#link.send(joined(frames));
   }
 
+  /** Ends the link. What was sent before is still sent: the link has ended when `closed` is resolved. */
   close() {
     this.#flush();
+    this.#stop();
     this.#link.close();
-    this.#ended(null);
   }
 
   #ended(error) {
+    this.#stop();
+    this.#end(error);
+  }
+
+  #stop() {
     if (this.isClosed) return;
     this.isClosed = true;
     clearTimeout(this.#timer);
-    this.#end(error);
     const told = [...this.#told.values()];
     this.#told.clear();
     for (const tell of told) tell('closed');

@@ -46,7 +46,7 @@ export interface BroadcastChannel extends EventTarget {
 
 // ---- Modules
 
-/** Bytes of a module, its URL, a Response with it, or the compiled module. */
+/** Bytes of a module, its URL, a Response with it, or the compiled module. By default it is the module that comes with the package. */
 export type ModuleSource = BufferSource | string | URL | Response | WebAssembly.Module;
 
 export function compile(source: ModuleSource): Promise<WebAssembly.Module>;
@@ -101,7 +101,7 @@ export interface HubNumbers {
 }
 
 export class Host {
-  static create(hub: ModuleSource): Promise<Host>;
+  static create(hub?: ModuleSource): Promise<Host>;
   constructor(hub: Hub);
   accept(link: Link, options: { url: string; top?: string }): number;
   close(tab: number): void;
@@ -120,12 +120,12 @@ export class Tab {
   close(): void;
 }
 
-export function connect(link: Link, client: ModuleSource): Promise<Tab>;
+export function connect(link: Link, client?: ModuleSource): Promise<Tab>;
 
 // ---- Hub and client, by their bytes
 
 export class Hub {
-  static create(hub: ModuleSource): Promise<Hub>;
+  static create(hub?: ModuleSource): Promise<Hub>;
   private constructor();
   open(tab: number, url: string): void;
   openPair(tab: number, top: string, own: string): void;
@@ -154,7 +154,7 @@ export type ClientEvent =
   | { kind: 'other' };
 
 export class Client {
-  static create(client: ModuleSource): Promise<Client>;
+  static create(client?: ModuleSource): Promise<Client>;
   private constructor();
   receive(bytes: Uint8Array, tell: (event: ClientEvent) => void): void;
   outputs(): Generator<Uint8Array, void>;
