@@ -1,5 +1,6 @@
-// The environment of a tab of the suite: a page with testharness.js, or a frame, a popup or a worker of one, in a thread of its own.
-// These are stand-ins for what the tests use of a browser, and no more. A context has a name; messages between contexts go by the runner.
+// The environment of a tab of the suite: a page with testharness.js, or a frame, a popup or a worker of one, in a thread or a process of
+// its own. These are stand-ins for what the tests use of a browser, and no more. A context has a name; messages between contexts go by
+// the runner.
 
 import fs from 'node:fs';
 import path from 'node:path';
@@ -36,7 +37,7 @@ function scriptsOf(html) {
 }
 
 export function become(context, spec) {
-  const { tab, tell, suite } = context;
+  const { tab, tell } = context, { suite } = spec;
   const fileOf = url => path.join(suite, decodeURIComponent(new URL(url).pathname));
   const task = run => setImmediate(run);
   const url = new URL(spec.url);
@@ -183,9 +184,11 @@ export function become(context, spec) {
     run(fs.readFileSync(fileOf(whole), 'utf8'), fileOf(whole));
   };
 
-  // ---- what is come by the runner
+  // ---- what comes from the runner
 
   const elements = new Map();
+  /** Tells when the broker has taken all that this tab has asked for: it answers a query behind that. */
+  const stepped = () => tab.locks.query().catch(() => {}).then(() => tell({ op: 'stepped' }));
   context.come = message => {
     switch (message.op) {
       case 'msg': return task(() => {
@@ -198,6 +201,7 @@ export function become(context, spec) {
           });
         } else if (data && data.rpc === 'granted') windowOf(from).granted(data.id);
         else fire('message', { data, source: isWorker ? null : windowOf(from), origin: message.origin });
+        if (message.isStep) task(stepped);
       });
       case 'loaded': return task(() => {
         const element = elements.get(message.ctx);

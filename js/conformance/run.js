@@ -1,28 +1,30 @@
 // Runs the web-locks and broadcastchannel folders of the web-platform-tests over this package. Each page, frame and worker of a test is
-// a tab in a thread, with a MessagePort to a host in the main thread.
+// a tab of its own: a thread with a MessagePort to a host in the main thread, or with --processes a process that `wlb kernel` has
+// started.
 //
-// usage: node js/conformance/run.js WPT [--only TEXT] [--pairs] [--restart MS] [--repeat N] [--seed N] [--timeout MS] [--quiet]
+// usage: node js/conformance/run.js WPT [--processes] [--only TEXT] [--pairs] [--restart MS] [--repeat N] [--seed N] [--timeout MS]
+//        [--quiet]
 //
 //   WPT        a checkout of the web-platform-tests, or the folder testing/web-platform/tests of a Firefox source
 //   --pairs    also run each test with tabs that have 1,024 live numbers
-//   --restart  restart the broker at random moments, so many milliseconds apart on average
+//   --restart  restart the broker at random moments, so many milliseconds apart on average; with --processes kill its process
 //
 // It prints PASS, FAIL, KNOWN or SKIP for each subtest, and the totals. The status is 1 if a subtest has failed that is not known to.
 
 import fs from 'node:fs';
 import path from 'node:path';
 import { parseArgs } from 'node:util';
-import { MessageChannel, Worker } from 'node:worker_threads';
-import { Host, LinkBundle } from '../src/index.js';
-import { clientModule, hubModule } from '../lab/lab.js';
-import { HOSTS, RUN, SKIP } from './plan.js';
+import { sleep } from '../lab/kernel.js';
+import { FOLDERS, HOSTS, RUN, SKIP } from './plan.js';
+import { Processes } from './processes.js';
+import { Threads } from './threads.js';
 
 const text = { type: 'string' }, flag = { type: 'boolean', default: false };
 const { values: options, positionals: [suite] } = parseArgs({
   allowPositionals: true,
   options: {
-    only: { ...text, default: '' }, pairs: flag, restart: text, repeat: { ...text, default: '1' }, seed: { ...text, default: '1' },
-    timeout: { ...text, default: '20000' }, quiet: flag,
+    processes: flag, only: { ...text, default: '' }, pairs: flag, restart: text, repeat: { ...text, default: '1' },
+    seed: { ...text, default: '1' }, timeout: { ...text, default: '20000' }, quiet: flag,
   },
 });
 if (!suite || !fs.existsSync(path.join(suite, 'resources/testharness.js'))) {
@@ -36,28 +38,28 @@ const random = () => {
   state = (Math.imul(state, 1664525) + 1013904223) >>> 0;
   return state / 2 ** 32;
 };
-const sleep = ms => new Promise(resolve => setTimeout(resolve, ms));
 const originOf = url => new URL(url).origin;
 
-/** One file of the suite, with a host of its own. */
+/** One file of the suite, with a host or a kernel of its own. */
 class Run {
   faults = [];
   results = [];
   restarts = 0;
   #test;
-  #arePairs;
-  #contexts = new Map(); // name -> {worker, url, top, parent, name}
+  #place;
+  #contexts = new Map(); // name -> {post, kill, url, top, parent, name}
   #queues = new Map(); // token -> {items, waiting}, of the suite's dispatcher
+  #line = []; // messages between contexts
+  #stepping = null; // the frame that takes a step
 
-  constructor(test, arePairs) {
+  constructor(test) {
     this.#test = test;
-    this.#arePairs = arePairs;
     this.finished = new Promise(resolve => { this.finish = resolve; });
   }
 
-  async run() {
+  async run(arePairs) {
     const { file, skip = [] } = this.#test;
-    this.host = await Host.create(hubModule);
+    this.#place = await (options.processes ? Processes : Threads).open(this.#test, arePairs);
     const url = `${HOSTS.own}/${file.replace(/\.js$/, '.html')}`;
     const names = skip.map(([name]) => name);
     this.#start({ ctx: 'page', as: 'page', url, file, timeout: Number(options.timeout), skip: names }, HOSTS.own, null);
@@ -67,37 +69,27 @@ class Run {
     clearTimeout(timer);
     this.isOver = true;
     if (fault) this.faults.push(fault);
-    await Promise.all([...this.#contexts.values()].map(({ worker }) => worker.terminate()));
-    for (let left = 100; this.host.status().living && left > 0; left--) await sleep(10);
-    const { living } = this.host.status();
-    if (living) this.faults.push(`${living} tabs are left`);
+    this.faults.push(...await this.#place.close());
     return this;
   }
 
   async #restart() {
     while (!this.isOver) {
       await sleep(random() * 2 * Number(options.restart));
-      if (this.isOver) return;
-      this.host.restart();
-      this.restarts++;
+      if (!this.isOver && this.#place.restart()) this.restarts++;
     }
   }
 
   /** Starts a context as a tab of its partition. */
   #start(spec, top, parent) {
-    const { port1, port2 } = new MessageChannel(), own = originOf(spec.url);
-    const accept = (link, { url }) => this.host.accept(link, { url, top: top !== own || this.#arePairs ? top : undefined });
-    new LinkBundle(port1, accept);
     const { framesAreLocal = false, framesHaveTabs = false } = this.#test;
-    const common = { hosts: HOSTS, framesAreLocal, framesHaveTabs, endsFramesBy: random() < 0.5 ? 'exit' : 'kill' };
-    const worker = new Worker(new URL('context.js', import.meta.url), {
-      workerData: { port: port2, client: clientModule, suite: path.resolve(suite), spec: { ...spec, ...common } },
-      transferList: [port2],
-    });
-    const context = { worker, url: spec.url, top, parent, name: spec.ctx };
+    const endsFramesBy = random() < 0.5 ? 'exit' : 'kill';
+    const common = { suite: path.resolve(suite), hosts: HOSTS, framesAreLocal, framesHaveTabs, endsFramesBy };
+    const context = { url: spec.url, top, parent, name: spec.ctx };
     this.#contexts.set(spec.ctx, context);
-    worker.on('message', message => this.#come(context, message));
-    worker.on('error', error => { if (!this.isOver) this.faults.push(`${spec.ctx}: ${error.stack}`); });
+    const come = message => this.#come(context, message);
+    const fail = why => { if (!this.isOver && !context.isEnding) this.faults.push(`${spec.ctx}: ${why}`); };
+    Object.assign(context, this.#place.start({ ...spec, ...common }, top, originOf(spec.url), come, fail));
   }
 
   #come(context, message) {
@@ -113,22 +105,49 @@ class Run {
         const role = as === 'popup' ? { opener: context.name } : as === 'frame' ? { parent, top: topOf } : { owner: context.name };
         return this.#start({ ...message, ...role }, top, parent);
       }
-      case 'kill': {
-        const { worker } = this.#contexts.get(message.ctx);
-        return message.how === 'exit' ? worker.postMessage({ op: 'exit' }) : worker.terminate();
-      }
-      case 'loaded':
-        return context.parent && this.#contexts.get(context.parent).worker.postMessage({ op: 'loaded', ctx: context.name });
-      case 'msg':
-        return this.#contexts.get(message.to)?.worker.postMessage({ ...message, origin: originOf(context.url) });
+      case 'kill': return this.#end(this.#contexts.get(message.ctx), message.how);
+      case 'loaded': return context.parent && this.#contexts.get(context.parent).post({ op: 'loaded', ctx: context.name });
+      case 'msg': return this.#pass(this.#contexts.get(message.to), { ...message, origin: originOf(context.url) });
+      case 'stepped': return this.#step(context);
       case 'send':
         this.#queue(message.uuid).items.push(message.data);
         return this.#hand(message.uuid);
       case 'receive':
-        this.#queue(message.uuid).waiting.push(context.worker);
+        this.#queue(message.uuid).waiting.push(context);
         return this.#hand(message.uuid);
       default: throw new Error(`a context says ${message.op}`);
     }
+  }
+
+  #end(context, how) {
+    context.isEnding = true;
+    if (how === 'exit') context.post({ op: 'exit' });
+    else context.kill();
+    if (this.#stepping === context) this.#step(context);
+  }
+
+  /**
+   * Hands a message on. Tabs of different processes have no order among them. So if a test asks for the order of what its frames do, all
+   * messages wait in one line: behind a message to a frame, until the broker has taken what that has made the frame ask for.
+   */
+  #pass(to, message) {
+    if (!to || to.isEnding) return;
+    this.#line.push([to, message]);
+    this.#advance();
+  }
+
+  #advance() {
+    while (!this.#stepping && this.#line.length) {
+      const [to, message] = this.#line.shift(), isStep = Boolean(this.#place.inStep && to.parent && !to.isEnding);
+      if (isStep) this.#stepping = to;
+      to.post({ ...message, isStep });
+    }
+  }
+
+  #step(context) {
+    if (this.#stepping !== context) return;
+    this.#stepping = null;
+    this.#advance();
   }
 
   #queue(token) {
@@ -138,7 +157,7 @@ class Run {
 
   #hand(token) {
     const { items, waiting } = this.#queue(token);
-    while (items.length && waiting.length) waiting.shift().postMessage({ op: 'received', data: items.shift() });
+    while (items.length && waiting.length) waiting.shift().post({ op: 'received', data: items.shift() });
   }
 }
 
@@ -150,9 +169,23 @@ function say(file, name, result, why = '') {
   console.log(`${result.padEnd(5)} ${file} | ${name}${why && ` | ${why.replace(/\s+/g, ' ').slice(0, 300)}`}`);
 }
 
+// Error of a query that two restarts in a row have taken away. The package has it for nothing else.
+const TAKEN_AWAY = 'OperationError';
+
+/** Causes of failures that are known, by the names of subtests. The harness ends a file with a rejection that nobody handles. */
+function knownOf(test, results) {
+  const known = new Map(test.known);
+  if (!options.restart) return known;
+  for (const [name, why] of test.knownAtRestart ?? []) known.set(name, why);
+  const lost = results.filter(({ message }) => message?.includes(TAKEN_AWAY)), unrun = results.filter(({ status }) => status === 'NOTRUN');
+  for (const { name } of lost) known.set(name, 'restarts have taken its query away');
+  if (lost.length) for (const { name } of unrun) known.set(name, 'restarts have taken the query of an earlier subtest away');
+  return known;
+}
+
 /** Prints the results of a run, and returns whether all that applies has passed. */
 function tell({ results, harness, faults }, test, label) {
-  const known = new Map([...(test.known ?? []), ...(options.restart ? test.knownAtRestart ?? [] : [])]);
+  const known = knownOf(test, results);
   let isExcused = false, hasFailed = false;
   const fail = (name, why) => {
     hasFailed = true;
@@ -175,16 +208,23 @@ function tell({ results, harness, faults }, test, label) {
   return !hasFailed;
 }
 
+/** Files of both folders that the plan does not name. */
+function unnamed() {
+  const named = new Set([...RUN.map(({ file }) => file), ...SKIP.map(([file]) => file)]);
+  const files = FOLDERS.flatMap(folder => fs.readdirSync(path.join(suite, folder)).map(name => `${folder}${name}`));
+  return files.filter(file => /\.(js|html)$/.test(file) && !named.has(file)).map(file => [file, 'the plan does not name it']);
+}
+
 let isGood = true, restarts = 0;
 for (let round = 0; round < Number(options.repeat); round++) {
   for (const test of RUN.filter(({ file }) => file.includes(options.only))) {
     for (const arePairs of options.pairs ? [false, true] : [false]) {
-      const run = await new Run(test, arePairs).run();
+      const run = await new Run(test).run(arePairs);
       restarts += run.restarts;
       isGood = tell(run, test, `${test.file}${arePairs ? ' (pairs)' : ''}`) && isGood;
     }
   }
 }
-for (const [file, why] of SKIP) if (file.includes(options.only)) say(file, '*', 'SKIP', why);
+for (const [file, why] of [...SKIP, ...unnamed()]) if (file.includes(options.only)) say(file, '*', 'SKIP', why);
 console.log([...totals].map(([result, count]) => `${result} ${count}`).join(', ') + (options.restart ? `; ${restarts} restarts` : ''));
 process.exit(isGood ? 0 : 1);

@@ -12,7 +12,6 @@ const tab = await openTab(workerData.spec.url);
 const context = {
   tab,
   openTab,
-  suite: workerData.suite,
   tell: message => parentPort.postMessage(message),
   leave() {
     bundle.close();
