@@ -1,88 +1,42 @@
-// Stress: workers that request, probe, abort and query at random, while workers are killed and the broker is restarted.
+// Stress: tabs that request, probe, abort and query at random, while tabs are killed and the broker is restarted.
 //
-// usage: node js/lab/soak.js [--seconds N] [--workers N] [--seed N] [--restart MS] [--kill MS]
+// usage: node js/lab/soak.js [--processes] [--seconds N] [--tabs N] [--seed TEXT] [--restart MS] [--kill MS] [--wrong]
 //
-// Each worker notes in shared memory what it holds, and looks at the notes of the others. An exclusive section also adds to a counter that
-// only its lock protects. The status is 1 if two holders have met, if a counter is wrong, or if a request was not granted in time.
+//   --processes  tabs are processes of `wlb kernel`, and brokers are killed. Otherwise they are threads with a host in this process
+//   --restart    milliseconds between restarts, on average
+//   --kill       milliseconds between the ends of tabs, on average
+//   --wrong      plays clients that do not wait for their locks, and clients that do not report them to the next broker
+//
+// The status is 1 if two holders have met, if a counter is wrong, if a request was not granted in time, or if a process or a tab has
+// ended otherwise than it should. With --wrong it is 1 if that was not noticed.
 
 import { parseArgs } from 'node:util';
-import { MessageChannel, Worker } from 'node:worker_threads';
-import { Host, portLink } from '../src/index.js';
-import { clientModule, hubModule } from './lab.js';
-import { NAMES, SLOTS, Board } from './soak_board.js';
+import { soakProcesses } from './soak_processes.js';
+import { soakThreads } from './soak_threads.js';
 
-const number = value => ({ type: 'string', default: value });
-const { values } = parseArgs({ options: { seconds: number('20'), workers: number('6'), seed: number('1'), restart: number('40'), kill: number('700') } });
-const options = Object.fromEntries(Object.entries(values).map(([key, value]) => [key, Number(value)]));
-
-let state = options.seed;
-const random = () => {
-  state = (Math.imul(state, 1664525) + 1013904223) >>> 0;
-  return state / 2 ** 32;
-};
-const sleep = ms => new Promise(resolve => setTimeout(resolve, ms));
-
-const host = await Host.create(hubModule), board = new Board(Board.memory());
-const workers = new Map(); // slot -> {worker, ended}
-const sums = { sections: 0, probes: 0, aborts: 0, queries: 0 }, faults = [];
-let restarts = 0, kills = 0, isOver = false, next = 0;
-
-function start() {
-  const slot = next++, { port1, port2 } = new MessageChannel();
-  host.accept(portLink(port1), { url: 'https://a.test/' });
-  board.enter(slot);
-  const worker = new Worker(new URL('soak_worker.js', import.meta.url), {
-    workerData: { slot, port: port2, client: clientModule, memory: board.memory, seed: options.seed * 1000 + slot }, transferList: [port2],
-  });
-  const ended = new Promise(resolve => worker.on('exit', resolve));
-  worker.on('message', message => {
-    if (message.fault) faults.push(`worker ${slot}: ${message.fault}`);
-    else for (const key of Object.keys(sums)) sums[key] += message[key];
-  });
-  worker.on('error', error => faults.push(`worker ${slot}: ${error.stack}`));
-  workers.set(slot, { worker, ended });
-}
-
-async function every(ms, run) {
-  while (!isOver) {
-    await sleep(random() * 2 * ms);
-    if (!isOver) run();
-  }
-}
-
-for (let n = 0; n < options.workers; n++) start();
-every(options.restart, () => {
-  host.restart();
-  restarts++;
+const text = value => ({ type: 'string', default: value }), flag = { type: 'boolean', default: false };
+const { values } = parseArgs({
+  options: { processes: flag, seconds: text('20'), tabs: text('6'), seed: text('1'), restart: text(''), kill: text('700'), wrong: flag },
 });
-every(options.kill, () => {
-  if (next >= SLOTS) return;
-  const [slot, { worker }] = [...workers][Math.floor(random() * workers.size)];
-  workers.delete(slot);
-  board.leave(slot);
-  worker.terminate();
-  kills++;
-  start();
-});
-await sleep(1000 * options.seconds);
-isOver = true;
-for (const { worker } of workers.values()) worker.postMessage('stop');
-const late = Symbol('late');
-for (const [slot, { worker, ended }] of workers) {
-  if (await Promise.race([ended, sleep(20000).then(() => late)]) === late) {
-    faults.push(`worker ${slot} waits for ever`);
-    await worker.terminate();
-  }
+const numbers = Object.fromEntries(['seconds', 'tabs', 'kill'].map(key => [key, Number(values[key])]));
+const options = { ...numbers, seed: values.seed, restart: Number(values.restart || (values.processes ? 200 : 40)), patience: 20000 };
+const soak = values.processes ? soakProcesses : soakThreads;
+
+/** Plays clients that are wrong, and returns whether that was noticed. */
+async function isNoticed(wrong) {
+  const { faults } = await soak({ ...options, wrong, patience: 3000 });
+  const met = faults.find(fault => fault.includes('have met'));
+  console.log(`${wrong} clients: ${met ?? 'not noticed'}`);
+  return met !== undefined;
 }
-for (let left = 200; host.status().living && left > 0; left--) await sleep(10);
-if (host.status().living) faults.push(`${host.status().living} tabs are left`);
-for (let name = 0; name < NAMES; name++) {
-  const [count, notes] = [board.count(name), board.notes(name)];
-  // A worker that is killed between its addition and its note makes a difference of one.
-  if (Math.abs(count - notes) > kills) faults.push(`counter ${name} is ${count} after ${notes} sections`);
+
+async function play() {
+  const { faults, sums, restarts, kills } = await soak(options);
+  if (!sums.sections) faults.push('no section has run');
+  for (const fault of faults.slice(0, 30)) console.log(fault);
+  console.log(`${Object.entries(sums).map(([key, sum]) => `${sum} ${key}`).join(', ')}; ${restarts} restarts, ${kills} killed tabs`);
+  return !faults.length;
 }
-if (board.meetings) faults.push(`${board.meetings} times two holders have met`);
-if (!sums.sections) faults.push('no section has run');
-for (const fault of faults) console.log(fault);
-console.log(`${Object.entries(sums).map(([key, sum]) => `${sum} ${key}`).join(', ')}; ${restarts} restarts, ${kills} killed workers`);
-process.exit(faults.length ? 1 : 0);
+
+const isGood = values.wrong ? [await isNoticed('hasty'), await isNoticed('forgetful')].every(Boolean) : await play();
+process.exit(isGood ? 0 : 1);

@@ -1,0 +1,110 @@
+// What the tabs of the stress do: each has some lines, which request, probe, abort and query at random.
+
+export const NAMES = 3, LINES = 3;
+
+/** Returns a function that draws a number below another one: a linear congruential generator. */
+export function dice(seed) {
+  let state = [...`${seed}`].reduce((sum, letter) => Math.imul(sum, 31) + letter.codePointAt(0), 7);
+  return below => {
+    state = (Math.imul(state, 1664525) + 1013904223) >>> 0;
+    return Math.floor(state / 2 ** 32 * below);
+  };
+}
+
+/** The most milliseconds of a section. A client that forgets its locks has to hold them when the broker is restarted. */
+export const longest = (wrong, usual) => (wrong === 'forgetful' ? 60 : usual);
+
+export const pause = milliseconds => new Promise(resolve => (milliseconds ? setTimeout(resolve, milliseconds) : setImmediate(resolve)));
+
+/**
+ * Plays the lines of a tab until `isOver()`. `section(line, name, mode)` is what they do under a lock. Returns how many there were of
+ * each kind.
+ */
+export async function play(locks, random, section, isOver) {
+  const sums = { sections: 0, probes: 0, aborts: 0, queries: 0 };
+
+  const one = async line => {
+    const name = random(NAMES), mode = random(2) ? 'shared' : 'exclusive';
+    const enter = lock => {
+      if (!lock) return undefined;
+      sums.sections++;
+      return section(line, name, mode);
+    };
+    switch (random(6)) {
+      case 0:
+        sums.probes++;
+        return locks.request(`${name}`, { mode, ifAvailable: true }, enter);
+      case 1: {
+        const aborts = new AbortController();
+        setTimeout(() => aborts.abort('late'), random(6));
+        return locks.request(`${name}`, { mode, signal: aborts.signal }, enter).catch(reason => {
+          if (reason !== 'late') throw reason;
+          sums.aborts++;
+        });
+      }
+      case 2:
+        sums.queries++;
+        return query(locks);
+      default: return locks.request(`${name}`, { mode }, enter);
+    }
+  };
+
+  await Promise.all(Array.from({ length: LINES }, async (_, line) => { while (!isOver()) await one(line); }));
+  return sums;
+}
+
+async function query(locks) {
+  const { held } = await locks.query().catch(error => {
+    if (error.name !== 'OperationError') throw error;
+    return { held: [] };
+  });
+  for (const { name, mode } of held) {
+    if (mode === 'exclusive' && held.filter(info => info.name === name).length > 1) throw new Error('a snapshot shows two holders');
+  }
+}
+
+/** The locks of a client that does not wait for its locks. */
+export function hasty(locks) {
+  return {
+    request: async (name, options, callback) => callback({ name, mode: options.mode }),
+    query: () => locks.query(),
+  };
+}
+
+const REPORT = 2, HELD = 1, HEAD = 16;
+
+/** The link of a client that does not report what it holds. */
+export function forgetful(link) {
+  return { ...link, send: bytes => link.send(withoutHeld(bytes)) };
+}
+
+/** Leaves the held locks out of all reports (docs/PROTOCOL.md). */
+function withoutHeld(bytes) {
+  const kept = [];
+  for (let at = 0; at < bytes.length;) {
+    const end = at + 4 + new DataView(bytes.buffer, bytes.byteOffset).getUint32(at), frame = bytes.subarray(at, end);
+    kept.push(...(frame[5] === REPORT ? emptied(frame) : frame));
+    at = end;
+  }
+  return Uint8Array.from(kept);
+}
+
+/** A report of version 1 without its entries of held locks. */
+function emptied(report) {
+  const entries = [];
+  for (let at = HEAD; at < report.length;) {
+    const end = at + 7 + report[at + 6];
+    if (report[at + 4] !== HELD) entries.push(report.subarray(at, end));
+    at = end;
+  }
+  const made = new Uint8Array(HEAD + entries.reduce((sum, entry) => sum + entry.length, 0)), view = new DataView(made.buffer);
+  made.set(report.subarray(0, HEAD));
+  view.setUint32(0, made.length - 4);
+  view.setUint16(HEAD - 2, entries.length);
+  let at = HEAD;
+  for (const entry of entries) {
+    made.set(entry, at);
+    at += entry.length;
+  }
+  return made;
+}
