@@ -38,7 +38,7 @@ MODULES = js/dist
 wasm: $(if $(ARCHIVES),,$(HUB) $(CLIENT)) ## builds the WebAssembly modules of the JavaScript package in the folder `js/dist`
 	python3 tools/wasm.py $(MODULES) $(or $(ARCHIVES),$(dir $(HUB) $(CLIENT)))
 
-js-test: ## runs the tests of the JavaScript package with the modules of `make wasm`
+js-test: ## runs the tests of the JavaScript package with the modules of `make wasm`, and what `make lib` and the gate have built
 	node --test js/test
 
 WPT ?=
@@ -46,15 +46,18 @@ WPT ?=
 conformance: ## runs the web-platform-tests of the folder WPT over the JavaScript package
 	node js/conformance/run.js $(CONFORMANCE) "$(WPT)"
 
-bench: $(WLB) $(BENCH) lib ## measures scripts, the broker, lock tables, the board, lanes, processes and the C libraries
+bench: $(WLB) $(BENCH) lib ## measures scripts, the broker, lock tables, the board, lanes, processes, the C libraries and JavaScript
 	python3 tools/bench.py --build $(BUILD) $(WLB) $(BENCH)
 
 MINUTES ?= 10
 SEED ?= 1
+JS_SECONDS ?= 60
 
-soak: $(WLB) ## kills brokers and tabs at random moments, for MINUTES, and then plays hostile tabs
+soak: $(WLB) ## kills brokers and tabs at random moments, for MINUTES, plays hostile tabs, and then the JavaScript package
 	python3 tools/soak.py $(MINUTES) $(SEED) $(WLB)
 	python3 tools/hostile.py $(SEED) $(WLB)
+	python3 tools/js.py $(WLB) soak.js --seconds $(JS_SECONDS) --seed $(SEED)
+	python3 tools/js.py $(WLB) soak.js --processes --seconds $(JS_SECONDS) --seed $(SEED)
 
 MEGABYTES ?= 100
 
@@ -81,6 +84,7 @@ test: ## the gate: proves every crate, kills mutants, runs every test and the pr
 	@python3 tools/chart.py --check --program $(WLB)
 	@python3 tools/check_processes.py $(WLB)
 	@python3 tools/check_library.py $(ARCHIVES)
+	@python3 tools/check_js.py $(WLB) $(or $(ARCHIVES),$(dir $(HUB) $(CLIENT)))
 
 $(WLB): crates.txt $(wildcard crates/*/src/*.rt crates/*/src/*/*.rt crates/*/specs/*.antt)
 	cd crates/wlb && rt run < stdin > /dev/null

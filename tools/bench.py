@@ -1,4 +1,4 @@
-"""Measures `wlb`: scripts, the broker, the lock tables, the board, the lanes, processes, and the C libraries.
+"""Measures `wlb`: scripts, the broker, the lock tables, the board, the lanes, processes, the C libraries, and JavaScript.
 
 BENCH is the program of the crate `bench_core`, which measures single parts. If OLDER is given, an older `wlb`, the lines of
 Reports, Waiting and Answers also say how many times as long it takes. The tool builds `relay.c`, `bare_table.c` and
@@ -64,6 +64,9 @@ each number of tabs, and the median ratio of the time to that with one tab. Its 
 renderers over socket pairs. A round sends a release and the next request, and waits for a grant. Beside them stands the same loop
 without a hub, which sends each frame back. Prints the best rates, and the median ratio. Then come the bytes that a hub allocates
 for each of 65,536 locks of 1,024 tabs, and the sizes of the stripped shared libraries.
+
+JavaScript: `js/lab/speed.js` measures locks through the JavaScript package beside the locks of browsers. Its head says what its lines
+mean. It is left out if there is no Node, or if `make wasm` has not made the modules.
 """
 
 import argparse
@@ -77,6 +80,8 @@ import struct
 import subprocess
 import tempfile
 import time
+
+import js
 
 LENGTHS = [1_000, 10_000, 100_000]
 
@@ -644,6 +649,8 @@ def main():
     sharding(program)
     idle(program)
     library(given.build)
+    if js.run(program, "speed.js"):
+        raise SystemExit("bench: speed.js has failed")
 
 
 if __name__ == "__main__":
