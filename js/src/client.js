@@ -89,7 +89,7 @@ export class Client {
     return this.#part.u32(0);
   }
 
-  /** Aborts a request or a probe that is not held. */
+  /** Aborts a request that is not held. */
   abort(number) { this.#part.must('abort', [number]); }
 
   /** Releases a lock. */

@@ -47,7 +47,8 @@ export class Tab {
   close() { this.#agent.close(); }
 }
 
-// Milliseconds without an answer of the broker after which a tab sends again what it waits for. The pause doubles up to the last one.
+// Milliseconds without an answer of the broker after which a tab sends again what it waits for. The pause doubles up to the last one,
+// and begins anew when a number is decided or a generation is entered.
 const FIRST_PAUSE = 20, LAST_PAUSE = 640;
 
 /** The proved client with its link. The functions that a number's fate is told to are called at once, and must not throw. */
@@ -131,6 +132,7 @@ export class Agent {
   #settle(number, kind, entries) {
     const told = this.#told.get(number);
     if (!told) return;
+    this.#pause = FIRST_PAUSE;
     this.#waiting.delete(number);
     if (kind !== 'granted') this.#told.delete(number);
     told(kind, entries);
@@ -138,7 +140,6 @@ export class Agent {
 
   #heard(taken) {
     this.#hasHeard = true;
-    this.#pause = FIRST_PAUSE;
     clearTimeout(this.#timer);
     this.#timer = null;
     this.#taken(taken);
