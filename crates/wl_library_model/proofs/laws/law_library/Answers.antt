@@ -1,0 +1,18 @@
+use Rattle.wl_library_model.proofs.Simulated.{is-run_of_its_events}
+use Rattle.wl_library_model.proofs.Promised.{exclusion, own, commands, fold}
+use Rattle.wl_library_model.proofs.laws.law_library.Goals as goal
+
+pub returns-clause-events : goal.returns-clause-events
+returns-clause-events c = is-run_of_its_events
+
+pub returns-clause-exclusion : goal.returns-clause-exclusion
+returns-clause-exclusion c = exclusion
+
+pub returns-clause-own : goal.returns-clause-own
+returns-clause-own c = own
+
+pub returns-clause-commands : goal.returns-clause-commands
+returns-clause-commands c = commands
+
+pub returns-clause-fold : goal.returns-clause-fold
+returns-clause-fold c = fold

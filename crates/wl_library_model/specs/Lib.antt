@@ -1,0 +1,5 @@
+pub mod Library
+pub mod Events
+pub mod Simulation
+pub mod Promises
+pub mod Rows

@@ -1,0 +1,76 @@
+-- A worked conversation: two clients, a restart and a death.
+use Rattle.std.specs.Prelude.{◌≡◌, ℕ, List, [], ◌∷◌, ◌++◌, Bool, true, false, ◌&&◌, replicate, Ok}
+use Rattle.wl_origin.specs.Order.{Pair}
+use Rattle.wl_draft.specs.declared.mode.Mode.TheVariants.{Exclusive}
+use Rattle.wl_grammar.specs.declared.frame.Hello.{Hello}
+use Rattle.wl_grammar.specs.declared.frame.Outcome.{Outcome}
+use Rattle.wl_grammar.specs.declared.frame.Outcome.TheVariants.{Granted, Waiting}
+use Rattle.wl_grammar.specs.declared.frame.Downward.{Downward}
+use Rattle.wl_grammar.specs.declared.frame.Downward.TheVariants as down
+use Rattle.wl_agent.specs.Tab.{status_of, is_held}
+use Rattle.wl_world_messages.specs.declared.message.Sender.TheVariants.{Kernel, Broker}
+use Rattle.wl_world_model.specs.declared.event.Event.{Event}
+use Rattle.wl_world_model.specs.declared.event.Event.TheVariants as event
+use Rattle.wl_world_model.specs.WorldRows.{a, p, command, report, entry, request}
+use Rattle.wl_library_model.specs.Library.{Library, Step, Opens, Closes, Restarts, HubReceives, HubAdvances, HubSends, Asks, ClientReceives, ClientAdvances, ClientSends, new_library, run_steps, client_of, lives}
+use Rattle.wl_library_model.specs.Events.{events, delivers}
+
+-- Whether the tab lives and its client holds the lock of number `k`.
+abbrev pub holds : ℕ → ℕ → List Step → Bool
+holds t k steps = let l = run_steps steps new_library in lives l t && is_held (status_of (client_of l t).locks k)
+
+-- The next `n` frames of the hub reach the client, which handles them.
+abbrev pub to_client : ℕ → ℕ → List Step
+to_client t n = replicate n HubSends ++ ClientReceives t n ∷ replicate n (ClientAdvances t)
+
+-- The client takes its next `n` items, and the hub handles the frames of its link, `m` in number.
+abbrev pub to_hub : ℕ → ℕ → ℕ → List Step
+to_hub t n m = replicate n (ClientSends t) ++ HubReceives t m ∷ replicate m HubAdvances
+
+-- A tab opens. Its client is welcomed and greeted, and its report makes it join.
+abbrev pub joins : ℕ → List Step
+joins t = Opens t (Ok p) false ∷ (to_client t 2 ++ to_hub t 2 1)
+
+abbrev pub asks : ℕ → List Step
+asks t = Asks t Exclusive false a ∷ (to_hub t 1 1 ++ to_client t 1)
+
+-- The first client holds the lock, and the second one waits.
+abbrev pub contended : List Step
+contended = Restarts ∷ (joins 1 ++ joins 2 ++ asks 1 ++ asks 2)
+
+-- The next broker greets both clients. Each reports, and the second one sends its request again.
+abbrev pub restarted : List Step
+restarted = contended ++ Restarts ∷ (to_client 1 1 ++ to_client 2 1 ++ to_hub 1 2 1 ++ to_hub 2 3 2)
+
+-- The first tab dies, the broker is told, and the second client hears that its lock is granted.
+abbrev pub bereaved : List Step
+bereaved = restarted ++ Closes 1 ∷ HubAdvances ∷ (to_client 2 1 ++ to_client 2 1)
+
+abbrev pub heard_hello : ℕ → ℕ → List Event
+heard_hello g t =
+    delivers Kernel t (down.Hello (record { generation = g })) ∷ delivers Broker t (down.Hello (record { generation = g })) ∷ event.Resend t ∷ []
+
+abbrev pub heard_answer : ℕ → ℕ → ℕ → Outcome → Event
+heard_answer g t upto o = delivers Broker t (down.Answer (record { generation = g; upto = upto; number = 0; outcome = o }))
+
+abbrev pub joining_events : ℕ → List Event
+joining_events t = event.Open t p ∷ event.Hello t ∷ (heard_hello 1 t ++ event.Deliver (report 1 t 0 []) ∷ [])
+
+abbrev pub asking_events : ℕ → Outcome → List Event
+asking_events t o = event.Ask t Exclusive a ∷ event.Deliver (command 1 t 0 request) ∷ heard_answer 1 t 1 o ∷ []
+
+abbrev pub ContendedIsThese : Type 0
+ContendedIsThese =
+    events contended
+    ≡ event.Stop ∷ event.Start [] ∷ (joining_events 1 ++ joining_events 2 ++ asking_events 1 Granted ++ asking_events 2 Waiting)
+
+abbrev pub Contended : Type 0
+Contended = (holds 1 0 contended ≡ true) × (holds 2 0 contended ≡ false)
+
+-- A held lock stays held over the restart.
+abbrev pub Restarted : Type 0
+Restarted = (holds 1 0 restarted ≡ true) × (holds 2 0 restarted ≡ false)
+
+-- A death hands the lock over.
+abbrev pub Bereaved : Type 0
+Bereaved = (holds 1 0 bereaved ≡ false) × (holds 2 0 bereaved ≡ true)

@@ -1,0 +1,24 @@
+//! Laws that hold after every list of steps.
+
+ghost use Rattle.wl_library_model.specs.Simulation.{IsRunOfItsEvents};
+ghost use Rattle.wl_library_model.specs.Promises.{CommandsInOrderForAll, ExclusionForAll, ManagerIsFoldForAll, OwnForAll};
+
+/// The laws that join the hub and its clients to the world, stated over their definitions alone.
+///
+/// - A step is a public call of the hub or of a tab's client, or something that a tab that was taken over does.
+/// - The events of a list of steps are given by a definition that maps each step to events of the world.
+pub fn law_library()
+    // The library is the world after the steps' events: it has the same kernel and broker and the same locks, and each
+    // frame on its way is a message in the world's bag, a welcome, a post, a repeated command or its answer.
+    ensures events { IsRunOfItsEvents }
+
+    // If clients of living honest tabs of one partition hold two different locks of one name, both are shared.
+    ensures exclusion { ExclusionForAll }
+    // Each held lock was requested by its tab, whose client has neither released nor aborted it.
+    ensures own { OwnForAll }
+
+    // The commands of an honest tab's client are taken in order, each once.
+    ensures commands { CommandsInOrderForAll }
+    // While a generation is up, its broker's locks in a partition are the draft's commands folded over the taken list.
+    ensures fold { ManagerIsFoldForAll }
+{}

@@ -1,0 +1,11 @@
+//! Worked conversation, computed on the machine's definition.
+
+ghost use Rattle.wl_library_model.specs.Rows.{Bereaved, Contended, ContendedIsThese, Restarted};
+
+/// Results of a conversation of two clients.
+pub fn law_rows()
+    ensures events { ContendedIsThese }
+    ensures contended { Contended }
+    ensures restarted { Restarted }
+    ensures bereaved { Bereaved }
+{}
