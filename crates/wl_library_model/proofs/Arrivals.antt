@@ -1,12 +1,12 @@
 -- A client handles a frame of the hub.
-use Rattle.std.proofs.Common.{◌≡◌, ◌⊎◌, inl, inr, ⊎_elim, ℕ, zero, suc, ◌+◌, ◌<◌, ◌≤◌, Bool, true, false, cond, not, ◌&&◌, ◌||◌, List, [], ◌∷◌, ◌++◌, length, map, filter, get_or, Option, Some, None, is_some, refl, sym, ap, ap₂, ◌∙◌, subst, arith}
+use Rattle.std.proofs.Common.{◌≡◌, ◌⊎◌, inl, inr, ⊎_elim, ℕ, zero, suc, ◌+◌, ◌<◌, ◌≤◌, Bool, true, false, cond, not, ◌||◌, List, [], ◌∷◌, ◌++◌, length, filter, get_or, Some, refl, sym, ap, ◌∙◌, subst, arith}
 use Rattle.std.specs.Prelude.{◌==◌, nat_lt, nat_le}
 use Rattle.std.specs.List.{range_with_len}
 use Rattle.std.specs.Bool.{⊤}
-use Rattle.std.proofs.lemmas.Bool.{cases_Bool, cases_eq, and_parts, or_cases, or_left, or_right, not-true, eqb-true, ltb-true, le-leb}
+use Rattle.std.proofs.lemmas.Bool.{cases_Bool, cases_eq, and_parts, or_cases, or_left, or_right, not-true, eqb-true, le-leb}
 use Rattle.wl_draft.specs.Membership.{In, Here, Later as Behind}
 use Rattle.wl_draft.specs.Tables.{Rises}
-use Rattle.wl_draft.proofs.Membership.{apart, either, by_test, In-nil, In-one, In-map, In-filter, In-append_cases, In-append_left, In-append_right}
+use Rattle.wl_draft.proofs.Membership.{apart, either, by_test, In-nil, In-one, In-map, In-filter, In-append_cases, In-append_right}
 use Rattle.wl_grammar.specs.declared.frame.Operation.TheVariants.{Query}
 use Rattle.wl_grammar.specs.declared.frame.Answer.{Answer}
 use Rattle.wl_grammar.specs.declared.frame.Heard.{Heard}
@@ -14,21 +14,18 @@ use Rattle.wl_grammar.specs.declared.frame.Hello.{Hello}
 use Rattle.wl_grammar.specs.declared.frame.Snapshot.{Snapshot as Part}
 use Rattle.wl_grammar.specs.declared.frame.Downward.{Downward}
 use Rattle.wl_grammar.specs.declared.frame.Downward.TheVariants as down
-use Rattle.wl_grammar.specs.declared.frame.Upward.{Upward}
 use Rattle.wl_grammar.specs.declared.frame.Upward.TheVariants as up
 use Rattle.wl_grammar.specs.declared.frame.Frame.{Frame}
 use Rattle.wl_grammar.specs.declared.frame.Frame.TheVariants as frame
 use Rattle.wl_agent.specs.declared.delivered.Delivered.{Delivered}
 use Rattle.wl_agent.specs.declared.delivered.Delivered.TheVariants as heard
 use Rattle.wl_agent.specs.declared.drop_reason.DropReason.TheVariants as unheard
-use Rattle.wl_agent.specs.Tab.{TabState, born, status_of, report_bodies, report_frames, numbers_of, due, is_due, is_report_due, is_asked, is_querying, enter_first, enter_later, enter, report_of}
+use Rattle.wl_agent.specs.Tab.{TabState, born, status_of, report_bodies, report_frames, numbers_of, due, is_due, enter_first, enter_later, enter, report_of}
 use Rattle.wl_agent.specs.Delivery.{has_entered, delivery}
 use Rattle.wl_kernel.specs.Routes.{frame_of}
-use Rattle.wl_kernel_supervisor.specs.Changes.{is_dead}
 use Rattle.wl_limits.specs.declared.tabs.TheConstants.{COMMAND_LIMIT}
 use Rattle.wl_tab.specs.Arrivals.{arrival}
 use Rattle.wl_tab.specs.Tabs.{told}
-use Rattle.wl_broadcast.specs.Channels.{after_hearing}
 use Rattle.wl_client.specs.declared.client.Unsent.TheVariants as unsent
 use Rattle.wl_client.specs.Client.{ClientState, welcome_of, after_welcome, is_entering, after_told, is_hello_of, after_delivery, after_first}
 use Rattle.wl_client.specs.Client.{after_frame as client_after_frame, advanced as client_advanced}
@@ -36,26 +33,22 @@ use Rattle.wl_world_messages.specs.declared.effect.Effect.{Effect}
 use Rattle.wl_world_messages.specs.declared.message.Sender.{Sender}
 use Rattle.wl_world_messages.specs.declared.message.Sender.TheVariants.{Kernel, Broker}
 use Rattle.wl_world_messages.specs.declared.message.Message.{Message}
-use Rattle.wl_world_messages.specs.declared.message.Message.TheVariants.{Down, Across}
+use Rattle.wl_world_messages.specs.declared.message.Message.TheVariants.{Across}
 use Rattle.wl_world_messages.specs.Messages.{is_sent, sent_all}
-use Rattle.wl_world_messages.proofs.Same.{is_sent-In, sent_all-adds}
-use Rattle.wl_world_model.specs.declared.event.Event.{Event}
+use Rattle.wl_world_messages.proofs.Same.{sent_all-adds}
 use Rattle.wl_world_model.specs.declared.event.Event.TheVariants as event
-use Rattle.wl_world_model.specs.World.{WorldState, tab_of, lives, StepResult, unchanged, if_allowed, acts, takes_frame, arrives, channels_of, becomes, resends, step_result, after_event, run}
+use Rattle.wl_world_model.specs.World.{WorldState, tab_of, lives, if_allowed, takes_frame, arrives, step_result, after_event, run}
 use Rattle.wl_world_model.specs.Sends.{stamped, command_message, report_messages, report_if_entered, report_if_due, resent}
-use Rattle.wl_world_model.specs.Holdings.{IsHonest}
-use Rattle.wl_world_model.proofs.exclusion.Invariant.{Sound, was_opened}
+use Rattle.wl_world_model.proofs.exclusion.Invariant.{was_opened}
 use Rattle.wl_world_model.proofs.exclusion.ActsWithinAGeneration.{after}
 use Rattle.wl_world_model.proofs.exclusion.HeardNumbers.{LiveCommand, same-kept, told-kept, noted-kept, answer-kept, part-kept}
 use Rattle.wl_library_model.specs.Library.{Library, Line, with_line, client_of, runs, calls}
 use Rattle.wl_library_model.specs.Events.{delivers, delivery_events, handling_events, receiving_events}
-use Rattle.wl_library_model.specs.Simulation.{is_awaited, IsSettled, IsRepeated, ComesDown, IsOnItsWayDown, IsOnItsWayUp, AreLocksOf, IsClientOf, IsLineOf, to_tab}
+use Rattle.wl_library_model.specs.Simulation.{is_awaited, IsSettled, IsRepeated, IsOnItsWayDown, AreLocksOf, IsLineOf, to_tab}
 use Rattle.wl_library_model.proofs.SentAgain.{In-is_sent}
-use Rattle.wl_library_model.proofs.Awaited.{NoneTold, told-none}
 use Rattle.wl_library_model.proofs.Later.{GoesOn, Later, delivery-heard, told-heard}
-use Rattle.wl_library_model.proofs.Happens.{Good, happens-on, happens-good}
-use Rattle.wl_library_model.proofs.Carried.{Sim, Known, HalfKnown, half-known, half-later, settled-later, stays-up, down-later, up-later, line-later, known-later}
-use Rattle.wl_library_model.proofs.Hubs.{Keeps, keeps-allowed, still-event, Still}
+use Rattle.wl_library_model.proofs.Happens.{Good, happens-on}
+use Rattle.wl_library_model.proofs.Carried.{Sim, Known, HalfKnown, half-known, half-later, settled-later, stays-up, down-later, up-later}
 use Rattle.wl_library_model.proofs.Links.{line-sim, runs-opened}
 use Rattle.wl_library_model.proofs.Moves.{marked, locks-from, Moved, moved-none, moved-on, acts-moved, acts-bag, moved-sim}
 use Rattle.wl_library_model.proofs.ChannelCalls.{KeepsAll, keeps_all-allowed, keeps_all-becomes, kept-moved, kept-sim}
@@ -335,9 +328,9 @@ module _ (l : Library) (w : WorldState) (t : ℕ) (s : Sim l w) (r : runs l t �
   handled h o = ⊎_elim
       (λ b. handled-first h ((g1 h).sent b))
       (λ b. ⊎_elim
-          (λ j. apart (In-is_sent j) b)
-          (λ j. (g2 h).sent (In-is_sent ((g1 h).moved.later.bag _ j)) ∙ ap (after_frame (frame.Hello h)) ((g1 h).unsent b))
-          o)
+      (λ j. apart (In-is_sent j) b)
+      (λ j. (g2 h).sent (In-is_sent ((g1 h).moved.later.bag _ j)) ∙ ap (after_frame (frame.Hello h)) ((g1 h).unsent b))
+      o)
       (cases_Bool (is_sent (to_tab Kernel t (down.Hello h)) w.bag))
 
   -- The hello was sent by the kernel or by the broker, or by both.

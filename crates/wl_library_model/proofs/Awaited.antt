@@ -1,26 +1,20 @@
 -- Numbers whose answer a tab waits for: a frame that arrives makes none of them awaited again.
-use Rattle.std.proofs.Common.{◌≡◌, ◌≢◌, ◌⊎◌, inl, inr, ⊎_elim, ℕ, ◌+◌, ◌<◌, ◌≤◌, Bool, true, false, cond, not, ◌&&◌, ◌||◌, List, [], ◌∷◌, ◌++◌, length, map, filter, Option, Some, None, is_some, refl, sym, ap, ◌∙◌, subst, arith, le_refl}
-use Rattle.std.specs.Prelude.{◌==◌, nat_lt}
-use Rattle.std.proofs.lemmas.Bool.{cases_Bool, and_parts, or_cases, not-true, eqb-true}
-use Rattle.wl_draft.specs.Tables.{Table, find, put, Rises, without_row}
+use Rattle.std.proofs.Common.{◌≡◌, ⊎_elim, ℕ, Bool, true, false, not, ◌&&◌, List, [], ◌∷◌, filter, Option, Some, None, is_some, refl, sym, ap, ◌∙◌}
+use Rattle.std.specs.Prelude.{◌==◌}
+use Rattle.std.proofs.lemmas.Bool.{not-true}
+use Rattle.wl_draft.specs.Tables.{Table, find, put, Rises}
 use Rattle.wl_draft.specs.Membership.{In, Here, Later}
-use Rattle.wl_draft.proofs.Membership.{apart, either, In-nil, In-one, In-cons_cases, In-head, In-map_cases, In-filter_cases}
-use Rattle.wl_draft.proofs.RisingTables.{Rises-put, Rises-filter, find-In, In-find, put-cases}
+use Rattle.wl_draft.proofs.Membership.{apart, either, In-map_cases, In-filter_cases}
+use Rattle.wl_draft.proofs.RisingTables.{find-In, In-find, put-cases}
 use Rattle.wl_grammar.specs.declared.frame.Operation.{Operation}
-use Rattle.wl_grammar.specs.declared.frame.Operation.TheVariants.{Request, Release, Abort, Query}
-use Rattle.wl_grammar.specs.declared.frame.Outcome.{Outcome}
-use Rattle.wl_grammar.specs.declared.frame.Outcome.TheVariants as outcome
-use Rattle.wl_grammar.specs.declared.frame.Answer.{Answer}
 use Rattle.wl_grammar.specs.declared.frame.Snapshot.{Snapshot as Part}
-use Rattle.wl_agent.specs.declared.drop_reason.DropReason.{DropReason}
 use Rattle.wl_agent.specs.declared.drop_reason.DropReason.TheVariants as unheard
 use Rattle.wl_agent.specs.declared.delivered.Delivered.{Delivered}
 use Rattle.wl_agent.specs.declared.delivered.Delivered.TheVariants as heard
 use Rattle.wl_agent.specs.declared.status.Status.{Status}
 use Rattle.wl_agent.specs.declared.status.Status.TheVariants.{Asked, Held, Querying, Whole, Lost}
-use Rattle.wl_agent.specs.SnapshotParts.{PartsState, with_part, is_whole, snapshot_of}
-use Rattle.wl_agent.specs.Tab.{TabState, status_of, operation_of, is_issued, is_query, is_asked, is_querying, ended, is_asked_probe, unless_asked, carried}
-use Rattle.wl_agent.specs.Delivery.{becomes, told_asked, told_lock, told_end, told_asked_query, told_query, told_command, told_by_answer, parts_refusal, asking_refusal, part_refusal, parts_of, with_part_come, after_answer, after_part}
+use Rattle.wl_agent.specs.Tab.{TabState, status_of, operation_of, is_issued, is_query, ended, is_asked_probe, unless_asked, carried}
+use Rattle.wl_agent.specs.Delivery.{becomes, asking_refusal, part_refusal, parts_of, with_part_come, after_answer, after_part}
 use Rattle.wl_tab.specs.Tabs.{is_told, told}
 use Rattle.wl_world_model.proofs.Tables.{each_found}
 use Rattle.wl_world_model.proofs.exclusion.HeardNumbers.{find-filter}

@@ -1,5 +1,5 @@
 -- A frame does the same to a tab's locks, whatever the tab has heard of the commands that the broker has counted.
-use Rattle.std.proofs.Common.{◌≡◌, ◌⊎◌, inl, inr, ⊎_elim, ℕ, ◌+◌, ◌<◌, ◌≤◌, Bool, true, false, cond, not, ◌&&◌, ◌||◌, List, length, Option, Some, None, is_some, refl, sym, ap, ◌∙◌, subst, arith}
+use Rattle.std.proofs.Common.{◌≡◌, ⊎_elim, ℕ, ◌+◌, ◌≤◌, Bool, true, false, cond, Option, Some, is_some, refl, sym, ap, ◌∙◌, subst, arith}
 use Rattle.std.specs.Prelude.{◌==◌, nat_lt}
 use Rattle.std.proofs.lemmas.Bool.{cases_Bool, and_parts, eqb-true, le-ltb}
 use Rattle.wl_draft.proofs.Membership.{apart, either}
@@ -20,7 +20,7 @@ use Rattle.wl_agent.specs.declared.drop_reason.DropReason.TheVariants as unheard
 use Rattle.wl_agent.specs.declared.status.Status.{Status}
 use Rattle.wl_agent.specs.declared.status.Status.TheVariants.{Asked, Held, Querying}
 use Rattle.wl_agent.specs.Tab.{TabState, report_frames, status_of, operation_of, is_issued, ended, enter_first, enter_later, enter, report_of}
-use Rattle.wl_agent.specs.Delivery.{acknowledged_by, noted, becomes, told_asked, told_lock, told_end, told_asked_query, told_query, told_command, told_by_answer, part_refusal, parts_of, with_part_come, after_answer, after_part, has_entered, delivery}
+use Rattle.wl_agent.specs.Delivery.{acknowledged_by, noted, becomes, told_lock, told_end, told_query, told_command, told_by_answer, part_refusal, parts_of, with_part_come, after_answer, after_part, has_entered, delivery}
 use Rattle.wl_kernel.specs.Routes.{frame_of}
 use Rattle.wl_tab.specs.Tabs.{told}
 use Rattle.wl_library_model.specs.Simulation.{is_awaited, IsRepeated, AreLocksOf}

@@ -1,6 +1,6 @@
 -- Frames and clients stay those of a later world.
-use Rattle.std.proofs.Common.{◌≡◌, ◌⊎◌, inl, inr, ⊎_elim, ℕ, ◌<◌, ◌≤◌, Bool, true, false, cond, List, [], ◌∷◌, length, Option, Some, None, refl, sym, ap, ◌∙◌, subst, arith}
-use Rattle.std.specs.Prelude.{◌==◌, nat_le}
+use Rattle.std.proofs.Common.{◌≡◌, ◌⊎◌, inl, inr, ⊎_elim, ℕ, ◌<◌, ◌≤◌, true, false, cond, length, sym, ap, ◌∙◌, subst, arith}
+use Rattle.std.specs.Prelude.{◌==◌}
 use Rattle.std.proofs.lemmas.Bool.{cases_Bool, false_from_ne_true, eqb-true}
 use Rattle.wl_draft.specs.Membership.{In}
 use Rattle.wl_draft.proofs.Membership.{apart, either}
@@ -9,13 +9,12 @@ use Rattle.wl_grammar.specs.declared.frame.Frame.TheVariants as frame
 use Rattle.wl_grammar.specs.declared.frame.Command.{Command}
 use Rattle.wl_grammar.specs.declared.frame.Answer.{Answer}
 use Rattle.wl_grammar.specs.declared.frame.Upward.{Upward}
-use Rattle.wl_agent.specs.Tab.{TabState, status_of, report_bodies, is_due}
-use Rattle.wl_world_model.specs.World.{WorldState, tab_of, partition_of}
+use Rattle.wl_agent.specs.Tab.{TabState, report_bodies, is_due}
+use Rattle.wl_world_model.specs.World.{WorldState, tab_of}
 use Rattle.wl_world_model.specs.Sends.{stamped, command_message}
-use Rattle.wl_world_model.specs.Holdings.{IsHonest}
-use Rattle.wl_world_model.proofs.exclusion.Invariant.{Sound, was_opened, up_message}
+use Rattle.wl_world_model.proofs.exclusion.Invariant.{was_opened, up_message}
 use Rattle.wl_library_model.specs.Library.{Library, Line}
-use Rattle.wl_library_model.specs.Simulation.{is_awaited, IsSettled, IsRepeat, IsRepeated, GoesUp, ComesDown, IsOnItsWayDown, IsOnItsWayUp, IsClientOf, IsLineOf, IsHubOf}
+use Rattle.wl_library_model.specs.Simulation.{IsSettled, IsRepeat, IsRepeated, GoesUp, ComesDown, IsOnItsWayDown, IsOnItsWayUp, IsClientOf, IsLineOf, IsHubOf}
 use Rattle.wl_library_model.proofs.Later.{GoesOn, Later}
 use Rattle.wl_library_model.proofs.Happens.{Good}
 

@@ -1,9 +1,6 @@
 -- Calls on a client's channels, and items for its page, which change no lock.
-use Rattle.std.proofs.Common.{◌≡◌, ◌⊎◌, inl, inr, ⊎_elim, ℕ, Bool, true, false, cond, not, ◌&&◌, List, [], ◌∷◌, ◌++◌, Option, Some, None, option_map, is_some, refl, sym, ap, ◌∙◌, subst}
-use Rattle.std.specs.Prelude.{◌==◌}
-use Rattle.std.proofs.lemmas.Bool.{cases_Bool, and_parts}
-use Rattle.wl_draft.specs.Membership.{In, Here, Later as Behind}
-use Rattle.wl_draft.proofs.Membership.{apart, either, by_test, In-nil, In-one, In-append_cases}
+use Rattle.std.proofs.Common.{◌≡◌, ⊎_elim, ℕ, Bool, true, false, cond, ◌&&◌, List, [], ◌∷◌, ◌++◌, Option, Some, option_map, is_some, refl, sym, ap, subst}
+use Rattle.wl_draft.proofs.Membership.{either, In-one, In-append_cases}
 use Rattle.wl_grammar.specs.declared.frame.Frame.{Frame}
 use Rattle.wl_broadcast.specs.Channels.{ChannelState, name_at, is_open_at, closed_at, post_frame, opened, open_refusal, read_at}
 use Rattle.wl_tab.specs.declared.channels.ChannelRefusal.{ChannelRefusal}
@@ -16,16 +13,14 @@ use Rattle.wl_client.specs.Faults.{of_channel}
 use Rattle.wl_world_messages.specs.declared.message.Message.{Message}
 use Rattle.wl_world_model.specs.declared.event.Event.{Event}
 use Rattle.wl_world_model.specs.declared.event.Event.TheVariants as event
-use Rattle.wl_world_model.specs.World.{WorldState, tab_of, lives, StepResult, unchanged, if_allowed, becomes, step_result, after_event, run}
-use Rattle.wl_world_model.specs.Holdings.{IsHonest}
+use Rattle.wl_world_model.specs.World.{WorldState, tab_of, StepResult, unchanged, if_allowed, becomes, step_result, after_event, run}
 use Rattle.wl_world_model.proofs.exclusion.Invariant.{was_opened}
-use Rattle.wl_world_model.proofs.exclusion.ActsWithinAGeneration.{after}
 use Rattle.wl_library_model.specs.Library.{Library, Line, with_line, client_of, runs, calls, unless, resends, opens_channel, posts, reads, takes_event}
 use Rattle.wl_library_model.specs.Events.{call_events}
-use Rattle.wl_library_model.specs.Simulation.{IsOnItsWayUp, IsClientOf, IsLineOf}
-use Rattle.wl_library_model.proofs.Happens.{Good, happens-on, happens-good}
-use Rattle.wl_library_model.proofs.Carried.{Sim, Known, line-later, known-later}
-use Rattle.wl_library_model.proofs.Hubs.{Keeps, keeps-allowed, still-event, Still}
+use Rattle.wl_library_model.specs.Simulation.{IsOnItsWayUp, IsLineOf}
+use Rattle.wl_library_model.proofs.Happens.{Good}
+use Rattle.wl_library_model.proofs.Carried.{Sim, line-later, known-later}
+use Rattle.wl_library_model.proofs.Hubs.{still-event}
 use Rattle.wl_library_model.proofs.Links.{line-sim, runs-opened}
 use Rattle.wl_library_model.proofs.Moves.{Moved, moved-sim, call-sim}
 

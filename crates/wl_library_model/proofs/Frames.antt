@@ -1,13 +1,12 @@
 -- The hub handles a frame of a tab.
-use Rattle.std.proofs.Common.{◌≡◌, ◌⊎◌, inl, inr, ⊎_elim, ℕ, ◌+◌, ◌<◌, ◌≤◌, Bool, true, false, cond, not, ◌&&◌, ◌||◌, List, [], ◌∷◌, ◌++◌, length, map, Option, Some, None, is_some, refl, sym, ap, ◌∙◌, subst, arith, suc}
+use Rattle.std.proofs.Common.{◌≡◌, ◌⊎◌, inl, inr, ⊎_elim, ℕ, ◌<◌, ◌≤◌, true, false, cond, not, ◌&&◌, ◌||◌, List, [], ◌∷◌, ◌++◌, length, map, Option, Some, None, is_some, refl, sym, ap, ◌∙◌, subst, arith}
 use Rattle.std.specs.Prelude.{⊤}
-use Rattle.std.specs.Prelude.{◌==◌, nat_lt, nat_le}
+use Rattle.std.specs.Prelude.{◌==◌, nat_lt}
 use Rattle.std.specs.List.{list_any}
-use Rattle.std.proofs.lemmas.Bool.{cases_Bool, and_parts, and_from, not-true, not-false, or_parts, ltb-true, ltb-false}
+use Rattle.std.proofs.lemmas.Bool.{cases_Bool, and_from, not-false, ltb-false}
 use Rattle.wl_draft.specs.Locks.{live}
 use Rattle.wl_draft.specs.Membership.{In, Here, Later as Behind}
-use Rattle.wl_draft.proofs.Membership.{apart, either, by_test, In-nil, In-one, In-cons_cases, In-append_cases, In-map_cases}
-use Rattle.wl_grammar.specs.declared.frame.Operation.{Operation}
+use Rattle.wl_draft.proofs.Membership.{apart, either, by_test, In-nil, In-one, In-append_cases, In-map_cases}
 use Rattle.wl_grammar.specs.declared.frame.Command.{Command}
 use Rattle.wl_grammar.specs.declared.frame.Answer.{Answer}
 use Rattle.wl_grammar.specs.declared.frame.Addressed.{Addressed}
@@ -18,14 +17,14 @@ use Rattle.wl_grammar.specs.declared.frame.Upward.TheVariants as up
 use Rattle.wl_grammar.specs.declared.frame.Downward.TheVariants as down
 use Rattle.wl_grammar.specs.declared.frame.Frame.{Frame}
 use Rattle.wl_grammar.specs.declared.frame.Frame.TheVariants as frame
-use Rattle.wl_broker.specs.declared.dropped.Dropped.TheVariants.{OldGeneration, LaterGeneration, NotJoined, Recovering, OutOfTurn, DeadTab, Misplaced, TooMany}
-use Rattle.wl_broker.specs.Broker.{BrokerState, Taking, Drops, Does, seat_of, is_joined, is_dead as is_named_dead, next_of, limit_of, is_active, is_misplaced, is_lock, manager_of, later_answer, perform, take_command, taking}
+use Rattle.wl_broker.specs.declared.dropped.Dropped.TheVariants.{OldGeneration, LaterGeneration, NotJoined, Recovering, OutOfTurn, DeadTab, Misplaced}
+use Rattle.wl_broker.specs.Broker.{BrokerState, Taking, Drops, Does, seat_of, is_joined, is_dead as is_named_dead, next_of, is_active, is_misplaced, later_answer, take_command, taking}
 use Rattle.wl_limits.specs.declared.tabs.TheConstants.{LAST_NUMBER}
-use Rattle.wl_agent.specs.Tab.{TabState, status_of}
+use Rattle.wl_agent.specs.Tab.{TabState}
 use Rattle.wl_kernel.specs.Kernel.{KernelState, is_opened, is_living, partition_number}
 use Rattle.wl_kernel.specs.Routes.{frame_of, is_from_tab, route_up_refusal, tab_refusal, routed_up, hearers, heard_of}
 use Rattle.wl_kernel.specs.declared.fault.RouteFault.TheVariants.{NoTab, DeadTab as DeadLink, WrongKind}
-use Rattle.wl_kernel_supervisor.specs.Changes.{Change, no_change, taking_change, message_change}
+use Rattle.wl_kernel_supervisor.specs.Changes.{Change, taking_change, message_change}
 use Rattle.wl_kernel_supervisor.specs.SupervisedStates.{SupervisedState, changed, frames_of}
 use Rattle.wl_kernel.specs.declared.routes.Routed.TheVariants.{Tabs}
 use Rattle.wl_world_messages.specs.declared.effect.Effect.{Effect}
@@ -33,30 +32,29 @@ use Rattle.wl_world_messages.specs.declared.effect.Effect.TheVariants as said
 use Rattle.wl_world_messages.specs.declared.effect.Reason.TheVariants as reason
 use Rattle.wl_kernel_supervisor.specs.Supervising.{message_effect}
 use Rattle.wl_hub.specs.Early.{verdict_of, noted, greeted_next}
-use Rattle.wl_hub.specs.Hub.{HubState, Step, stepped, frame_step, routed_step, with_verdict, after_first, after_greeting, after_told, advanced}
+use Rattle.wl_hub.specs.Hub.{HubState, stepped, routed_step, with_verdict, after_first, after_greeting, after_told, advanced}
 use Rattle.wl_hub.specs.Hub.{from_broker as hub_sends}
 use Rattle.wl_world_messages.specs.declared.message.Message.{Message}
-use Rattle.wl_world_messages.specs.declared.message.Message.TheVariants.{Up, Down}
-use Rattle.wl_world_messages.specs.Messages.{is_sent, sent_all}
+use Rattle.wl_world_messages.specs.declared.message.Message.TheVariants.{Up}
+use Rattle.wl_world_messages.specs.Messages.{is_sent}
 use Rattle.wl_world_messages.proofs.Same.{sent_all-adds, is_sent-In}
-use Rattle.wl_world_model.specs.declared.event.Event.{Event}
 use Rattle.wl_world_model.specs.declared.event.Event.TheVariants as event
 use Rattle.wl_world_model.specs.declared.event.Forged.{Forged}
 use Rattle.wl_world_model.specs.declared.event.Forged.TheVariants as forged
-use Rattle.wl_world_model.specs.World.{WorldState, tab_of, lives, is_corrupt, StepResult, unchanged, if_allowed, supervised, arrives, forges, step_result, after_event, run}
+use Rattle.wl_world_model.specs.World.{WorldState, tab_of, lives, is_corrupt, unchanged, if_allowed, supervised, arrives, forges, step_result, after_event, run}
 use Rattle.wl_world_model.specs.Sends.{stamped, forgery}
 use Rattle.wl_world_model.specs.Holdings.{IsHonest}
 use Rattle.wl_world_model.proofs.AtBroker.{with_broker}
-use Rattle.wl_world_model.proofs.exclusion.Invariant.{Sound, generation, limit_in, was_opened, has_joined, broker_of}
+use Rattle.wl_world_model.proofs.exclusion.Invariant.{Sound, generation, broker_of}
 use Rattle.wl_world_model.proofs.exclusion.ActsWithinAGeneration.{after}
 use Rattle.wl_library_model.specs.Library.{Library, with_hub, is_taken}
 use Rattle.wl_library_model.specs.Events.{forging, upward_events, frame_events, first_events, greeting_events, telling_events, advance_events}
-use Rattle.wl_library_model.specs.Simulation.{IsRepeat, IsRepeated, GoesUp, ComesDown, IsOnItsWayDown, IsOnItsWayUp, IsHubOf}
+use Rattle.wl_library_model.specs.Simulation.{IsRepeat, IsRepeated, ComesDown, IsOnItsWayUp, IsHubOf}
 use Rattle.wl_library_model.proofs.SentAgain.{In-is_sent}
-use Rattle.wl_library_model.proofs.Later.{Later, SeatsFit}
+use Rattle.wl_library_model.proofs.Later.{SeatsFit}
 use Rattle.wl_library_model.proofs.Happens.{Good, run-later}
 use Rattle.wl_library_model.proofs.Carried.{Sim, down-later, up-later}
-use Rattle.wl_library_model.proofs.Hubs.{Still, Keeps, keeps-allowed, still-event, hub-moves, same-hub, pair-first, changing, change-sim, supervised-same, still-same, greet-sim, greeted-in, tell-sim}
+use Rattle.wl_library_model.proofs.Hubs.{Still, Keeps, keeps-allowed, still-event, hub-moves, pair-first, changing, change-sim, supervised-same, still-same, greet-sim, greeted-in, tell-sim}
 
 -- A repeated command
 

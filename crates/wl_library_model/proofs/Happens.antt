@@ -1,10 +1,9 @@
 -- Each event of the world leads to a later world.
-use Rattle.std.proofs.Common.{◌≡◌, ◌⊎◌, inl, inr, ⊎_elim, ℕ, suc, ◌+◌, ◌<◌, ◌≤◌, Bool, true, false, not, ◌&&◌, ◌||◌, List, [], ◌∷◌, ◌++◌, length, map, Option, Some, None, is_some, refl, sym, ap, ◌∙◌, subst, arith, le_refl}
+use Rattle.std.proofs.Common.{◌≡◌, ℕ, suc, ◌+◌, ◌<◌, ◌≤◌, true, false, not, ◌&&◌, ◌||◌, List, [], ◌∷◌, map, Option, Some, None, is_some, refl, sym, ◌∙◌, subst, arith, le_refl}
 use Rattle.std.specs.Prelude.{⊤}
 use Rattle.std.specs.Prelude.{◌==◌, nat_lt, nat_le}
-use Rattle.std.proofs.lemmas.Bool.{and_parts, not-true, not-false, or_parts, ltb-true, ltb-false}
+use Rattle.std.proofs.lemmas.Bool.{not-false, ltb-true, ltb-false}
 use Rattle.wl_draft.specs.Locks.{Locks}
-use Rattle.wl_draft.specs.Tables.{find, put, Rises}
 use Rattle.wl_draft.specs.Membership.{In}
 use Rattle.wl_draft.proofs.Membership.{apart, either, In-nil}
 use Rattle.wl_grammar.specs.declared.frame.Operation.{Operation}
@@ -21,15 +20,14 @@ use Rattle.wl_broker_reports.specs.ReportParts.{Told, Partial, at_once, in_part,
 use Rattle.wl_broker_reports.proofs.KeptParts.{with_told-base}
 use Rattle.wl_broker.specs.declared.seat.Seat.{Seat}
 use Rattle.wl_broker.specs.declared.seat.Seat.TheVariants.{Joined, Dead}
-use Rattle.wl_broker.specs.declared.dropped.Dropped.{Dropped}
 use Rattle.wl_broker.specs.declared.dropped.Dropped.TheVariants.{OldGeneration, LaterGeneration, NotJoined, Recovering, OutOfTurn, DeadTab, AlreadyJoined, HeldByNewcomer, BadReport, Misplaced, TooMany, PartTwice}
-use Rattle.wl_broker.specs.Broker.{BrokerState, Taking, Drops, Does, hello_to, hellos, started, seat_of, partial_of, is_joined, is_dead, next_of, next_in, limit_of, limit_in, is_active, is_misplaced, is_listed, listed_at, is_lock, place_of, with_seat, settled_at, newly_at, grants_to, answer_to, manager_of, drafted, first_answer, later_answer, perform, take_command, keeping, join, join_if, take_report_part, take_inner, taking, buried_at, death_step}
-use Rattle.wl_draft.specs.Locks.{live, restored, without}
+use Rattle.wl_broker.specs.Broker.{BrokerState, Taking, Drops, Does, hello_to, hellos, started, seat_of, partial_of, is_joined, is_dead, next_of, next_in, limit_of, is_active, is_misplaced, is_listed, listed_at, is_lock, place_of, with_seat, settled_at, manager_of, later_answer, perform, take_command, keeping, join, join_if, take_report_part, take_inner, taking, buried_at, death_step}
+use Rattle.wl_draft.specs.Locks.{live}
 use Rattle.wl_broadcast.specs.Channels.{open_refusal as channel_refusal, opened as channel_opened, post_refusal, posted, is_own as is_own_channel, read_at, closed_at, after_hearing}
 use Rattle.wl_agent.specs.declared.delivered.Delivered.{Delivered}
 use Rattle.wl_agent.specs.declared.status.Status.TheVariants.{Asked, Querying}
 use Rattle.wl_agent.specs.SnapshotParts.{no_parts}
-use Rattle.wl_agent.specs.Tab.{TabState, asked, queried, aborted, released}
+use Rattle.wl_agent.specs.Tab.{TabState}
 use Rattle.wl_agent.specs.Delivery.{has_entered, delivery}
 use Rattle.wl_kernel.specs.Kernel.{is_opened, start_refusal, placed}
 use Rattle.wl_kernel.specs.Routes.{frame_of}
@@ -39,19 +37,19 @@ use Rattle.wl_world_messages.specs.declared.message.Sender.{Sender}
 use Rattle.wl_world_messages.specs.declared.message.Sender.TheVariants.{Kernel}
 use Rattle.wl_world_messages.specs.declared.message.Message.{Message}
 use Rattle.wl_world_messages.specs.declared.message.Message.TheVariants.{Up, Down, Across}
-use Rattle.wl_world_messages.specs.Messages.{is_sent, sent_all}
+use Rattle.wl_world_messages.specs.Messages.{is_sent}
 use Rattle.wl_world_messages.proofs.Same.{is_sent-In, sent_all-keeps}
 use Rattle.wl_world_model.specs.declared.event.Event.{Event}
 use Rattle.wl_world_model.specs.declared.event.Event.TheVariants as event
-use Rattle.wl_world_model.specs.World.{WorldState, empty_world, tab_of, channels_of, lives, is_corrupt, opens_channel, post_of, posts, reads, closes, StepResult, unchanged, if_allowed, from_broker, acts, becomes, takes_frame, arrives_at_broker, arrives, tells, stops, starts, greets, step_result, after_event, run}
+use Rattle.wl_world_model.specs.World.{WorldState, empty_world, tab_of, channels_of, lives, is_corrupt, opens_channel, post_of, posts, reads, closes, from_broker, becomes, takes_frame, arrives_at_broker, arrives, tells, stops, starts, greets, step_result, after_event, run}
 use Rattle.wl_world_model.specs.Sends.{report_if_entered, resent, to_hearers, forgery}
 use Rattle.wl_world_model.specs.Holdings.{IsHonest}
 use Rattle.wl_world_model.proofs.AtBroker.{with_broker, broker_does, follows, buries, begins}
-use Rattle.wl_world_model.proofs.exclusion.Invariant.{Sound, generation, limit, broker_of, has_joined, was_opened, IsSaid, up_message, down_message}
+use Rattle.wl_world_model.proofs.exclusion.Invariant.{Sound, generation, limit, broker_of, has_joined, up_message, down_message}
 use Rattle.wl_world_model.proofs.exclusion.ActsWithinAGeneration.{after}
 use Rattle.wl_world_model.proofs.exclusion.Entering.{limit-le}
 use Rattle.wl_world_model.proofs.exclusion.HeardNumbers.{noted-kept, answer-kept, part-kept}
-use Rattle.wl_world_model.proofs.exclusion.ToldParts.{IsPartOf, body-told}
+use Rattle.wl_world_model.proofs.exclusion.ToldParts.{body-told}
 use Rattle.wl_world_model.proofs.exclusion.TakenSeats.{each_seat}
 use Rattle.wl_world_model.proofs.exclusion.SoundRuns.{happens-sound}
 use Rattle.wl_library_model.proofs.Awaited.{told-none}

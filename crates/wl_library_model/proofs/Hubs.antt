@@ -1,54 +1,34 @@
 -- Steps of the hub: the broker takes a frame of a tab or a death, and the hub greets tabs.
-use Rattle.std.proofs.Common.{◌≡◌, ◌⊎◌, inl, inr, ⊎_elim, ℕ, ◌+◌, ◌<◌, ◌≤◌, ◌-◌, Bool, true, false, cond, not, ◌&&◌, ◌||◌, List, [], ◌∷◌, ◌++◌, length, map, Option, Some, None, is_some, refl, sym, ap, ap₂, ◌∙◌, subst, arith}
-use Rattle.std.specs.Prelude.{◌==◌, nat_lt, nat_le}
-use Rattle.std.specs.List.{list_any}
-use Rattle.std.proofs.lemmas.Bool.{cases_Bool, and_parts, and_from, not-true, not-false, or_parts, ltb-false}
-use Rattle.wl_draft.specs.Locks.{live}
+use Rattle.std.proofs.Common.{◌≡◌, inl, inr, ⊎_elim, ℕ, Bool, true, false, cond, not, List, [], ◌∷◌, ◌++◌, length, map, Option, Some, None, is_some, refl, sym, ap, ◌∙◌, subst}
+use Rattle.std.specs.Prelude.{◌==◌}
+use Rattle.std.proofs.lemmas.Bool.{cases_Bool, and_from}
 use Rattle.wl_draft.specs.Membership.{In, Here, Later as Behind}
-use Rattle.wl_draft.proofs.Membership.{apart, either, by_test, In-nil, In-one, In-cons_cases, In-append_left, In-append_right, In-append_cases, In-map, In-map_cases}
-use Rattle.wl_grammar.specs.declared.frame.Operation.{Operation}
-use Rattle.wl_grammar.specs.declared.frame.Outcome.{Outcome}
-use Rattle.wl_grammar.specs.declared.frame.Command.{Command}
-use Rattle.wl_grammar.specs.declared.frame.Answer.{Answer}
+use Rattle.wl_draft.proofs.Membership.{apart, either, by_test, In-nil, In-one, In-append_left, In-append_cases, In-map, In-map_cases}
 use Rattle.wl_grammar.specs.declared.frame.Addressed.{Addressed}
-use Rattle.wl_grammar.specs.declared.frame.Stamped.{Stamped}
-use Rattle.wl_grammar.specs.declared.frame.Heard.{Heard}
-use Rattle.wl_grammar.specs.declared.frame.Upward.{Upward}
-use Rattle.wl_grammar.specs.declared.frame.Upward.TheVariants as up
 use Rattle.wl_grammar.specs.declared.frame.Downward.{Downward}
 use Rattle.wl_grammar.specs.declared.frame.Downward.TheVariants as down
 use Rattle.wl_grammar.specs.declared.frame.Frame.{Frame}
 use Rattle.wl_grammar.specs.declared.frame.Frame.TheVariants as frame
-use Rattle.wl_broker.specs.declared.dropped.Dropped.TheVariants.{OldGeneration, LaterGeneration, NotJoined, Recovering, OutOfTurn, DeadTab, Misplaced, TooMany}
-use Rattle.wl_broker.specs.Broker.{BrokerState, Taking, Drops, Does, hello_to, seat_of, is_joined, is_dead as is_named_dead, next_of, limit_of, is_active, is_misplaced, is_lock, manager_of, later_answer, perform, take_command, taking}
-use Rattle.wl_limits.specs.declared.tabs.TheConstants.{LAST_NUMBER}
-use Rattle.wl_kernel.specs.Kernel.{KernelState, is_opened, is_living, stopped, living_tabs}
-use Rattle.wl_kernel.specs.Routes.{frame_of, route_up_refusal, tab_refusal, routed_up, hearers, heard_of}
-use Rattle.wl_kernel.specs.declared.fault.RouteFault.TheVariants.{NoTab, DeadTab as DeadLink, WrongKind}
-use Rattle.wl_kernel_supervisor.specs.Changes.{Change, is_dead, taking_change, message_change, death_change, stop_change, start_change}
-use Rattle.wl_kernel_supervisor.specs.SupervisedStates.{SupervisedState, changed, frames_of, after_message, frames_after_message, after_death, frames_at_death, after_stop, after_start, frames_at_start}
-use Rattle.wl_hub.specs.Early.{noted, first_of, greeted_next, after_first_of, rest_after}
-use Rattle.wl_hub.specs.Hub.{HubState, Step, stepped, told_step, frame_step, routed_step, with_verdict, after_first, after_greeting, after_told, advanced, hub_stopped, hub_started, hub_down, hub_restarted}
-use Rattle.wl_hub.specs.Hub.{from_broker as hub_sends, sends as hub_puts}
+use Rattle.wl_broker.specs.Broker.{BrokerState, hello_to}
+use Rattle.wl_kernel.specs.Kernel.{KernelState, is_opened, stopped, living_tabs}
+use Rattle.wl_kernel.specs.Routes.{frame_of}
+use Rattle.wl_kernel_supervisor.specs.Changes.{Change, death_change, stop_change, start_change}
+use Rattle.wl_kernel_supervisor.specs.SupervisedStates.{SupervisedState, changed, frames_of}
+use Rattle.wl_hub.specs.Early.{first_of, greeted_next, after_first_of, rest_after}
+use Rattle.wl_hub.specs.Hub.{HubState, stepped, told_step, after_greeting, after_told, hub_stopped, hub_started, hub_down, hub_restarted}
+use Rattle.wl_hub.specs.Hub.{from_broker as hub_sends}
 use Rattle.wl_world_messages.specs.declared.message.Sender.TheVariants.{Kernel, Broker}
 use Rattle.wl_world_messages.specs.declared.message.Message.{Message}
-use Rattle.wl_world_messages.specs.declared.message.Message.TheVariants.{Up, Down}
-use Rattle.wl_world_messages.specs.Messages.{is_sent, sent_all}
-use Rattle.wl_world_messages.proofs.Same.{sent_all-adds, sent_all-keeps}
+use Rattle.wl_world_messages.specs.declared.message.Message.TheVariants.{Down}
+use Rattle.wl_world_messages.proofs.Same.{sent_all-adds}
 use Rattle.wl_world_model.specs.declared.event.Event.{Event}
 use Rattle.wl_world_model.specs.declared.event.Event.TheVariants as event
-use Rattle.wl_world_model.specs.declared.event.Forged.{Forged}
-use Rattle.wl_world_model.specs.declared.event.Forged.TheVariants as forged
-use Rattle.wl_world_model.specs.World.{WorldState, tab_of, lives, is_corrupt, StepResult, unchanged, if_allowed, from_broker, supervised, arrives, greets, tells, stops, starts, forges, step_result, after_event, run}
-use Rattle.wl_world_model.specs.Sends.{stamped, forgery}
+use Rattle.wl_world_model.specs.World.{WorldState, tab_of, lives, StepResult, unchanged, if_allowed, from_broker, supervised, greets, step_result, after_event, run}
 use Rattle.wl_world_model.specs.Holdings.{IsHonest}
-use Rattle.wl_world_model.proofs.exclusion.Invariant.{Sound, generation, was_opened}
 use Rattle.wl_world_model.proofs.exclusion.ActsWithinAGeneration.{after}
-use Rattle.wl_library_model.specs.Library.{Library, Line, with_hub, is_taken}
-use Rattle.wl_library_model.specs.Library.{lives as lives_in}
-use Rattle.wl_library_model.specs.Events.{forging, upward_events, frame_events, first_events, greeting_events, telling_events, advance_events, restart_events}
-use Rattle.wl_library_model.specs.Simulation.{is_awaited, IsSettled, IsRepeat, IsRepeated, GoesUp, ComesDown, IsOnItsWayDown, IsOnItsWayUp, IsHubOf, IsLineOf}
-use Rattle.wl_library_model.proofs.SentAgain.{In-is_sent}
+use Rattle.wl_library_model.specs.Library.{Library, with_hub}
+use Rattle.wl_library_model.specs.Events.{restart_events}
+use Rattle.wl_library_model.specs.Simulation.{ComesDown, IsOnItsWayDown, IsOnItsWayUp, IsHubOf}
 use Rattle.wl_library_model.proofs.Later.{Later, later-same}
 use Rattle.wl_library_model.proofs.Happens.{Good, happens-on, happens-good}
 use Rattle.wl_library_model.proofs.Carried.{Sim, down-later, up-later, line-later, known-later}

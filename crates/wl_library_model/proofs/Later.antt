@@ -1,14 +1,13 @@
 -- What every event keeps: messages stay in the bag, tabs stay opened and dead, and a tab goes on.
-use Rattle.std.proofs.Common.{◌≡◌, ◌≢◌, ◌⊎◌, inl, inr, ⊎_elim, ℕ, suc, ◌+◌, ◌<◌, ◌≤◌, Bool, true, false, not, ◌&&◌, List, [], ◌∷◌, ◌++◌, length, length-append, map, Option, Some, None, is_some, refl, sym, ap, ◌∙◌, subst, arith, le_refl}
+use Rattle.std.proofs.Common.{◌≡◌, ⊎_elim, ℕ, ◌+◌, ◌<◌, ◌≤◌, Bool, true, false, not, ◌&&◌, List, [], ◌∷◌, length, length-append, map, is_some, refl, sym, ap, ◌∙◌, subst, arith, le_refl}
 use Rattle.std.specs.Prelude.{◌==◌, nat_lt}
 use Rattle.std.proofs.lemmas.Bool.{cases_Bool, and_parts, and_from, not-true, ltb-true}
 use Rattle.wl_origin.specs.Order.{Pair}
-use Rattle.wl_draft.specs.Tables.{Table, find, put, Rises, without_row}
+use Rattle.wl_draft.specs.Tables.{Rises}
 use Rattle.wl_draft.specs.Membership.{In}
 use Rattle.wl_draft.proofs.Membership.{apart, either, In-nil}
 use Rattle.wl_draft.proofs.RisingTables.{Rises-filter}
 use Rattle.wl_grammar.specs.declared.frame.Operation.{Operation}
-use Rattle.wl_grammar.specs.declared.frame.Operation.TheVariants.{Request, Release, Abort, Query}
 use Rattle.wl_grammar.specs.declared.frame.Downward.{Downward}
 use Rattle.wl_grammar.specs.declared.frame.Downward.TheVariants as down
 use Rattle.wl_broker.specs.Broker.{BrokerState, next_of}
@@ -31,11 +30,11 @@ use Rattle.wl_world_model.proofs.Tables.{each_found}
 use Rattle.wl_world_model.proofs.exclusion.Invariant.{Sound, broker_of, has_joined, was_opened}
 use Rattle.wl_world_model.proofs.exclusion.ActsWithinAGeneration.{after, each_tab}
 use Rattle.wl_world_model.proofs.exclusion.Corrupting.{honest-before}
-use Rattle.wl_world_model.proofs.exclusion.HeardNumbers.{noted-kept, answer-kept, part-kept, carried-rises}
+use Rattle.wl_world_model.proofs.exclusion.HeardNumbers.{answer-kept, part-kept, carried-rises}
 use Rattle.wl_world_model.proofs.exclusion.OpenedTabs.{each_opened, ended-opened, ended-lives, ended-number}
 use Rattle.wl_world_model.proofs.exclusion.OpeningAndKilling.{not_opened}
 use Rattle.wl_library_model.specs.Simulation.{is_awaited}
-use Rattle.wl_library_model.proofs.Awaited.{Fewer, NoneTold, filtered-fewer, carried-fewer, answer-fewer, part-fewer, told-fewer, told-none, none_told-put, none_told-filter}
+use Rattle.wl_library_model.proofs.Awaited.{Fewer, NoneTold, filtered-fewer, carried-fewer, answer-fewer, part-fewer, none_told-put, none_told-filter}
 
 -- A tab issues commands, takes answers, or enters a later generation.
 pub record GoesOn (a b : TabState) : Type 0 where

@@ -1,33 +1,28 @@
 -- Steps that change no world: frames move along the links, and clients make frames of their unsent items.
-use Rattle.std.proofs.Common.{◌≡◌, ◌⊎◌, inl, inr, ⊎_elim, ℕ, zero, suc, ◌<◌, Bool, true, false, cond, not, ◌&&◌, List, [], ◌∷◌, ◌++◌, length, take, drop, map, Option, Some, None, is_some, refl, sym, ap, ◌∙◌, subst, arith, le_refl}
-use Rattle.std.specs.Prelude.{◌==◌, nat_lt}
+use Rattle.std.proofs.Common.{◌≡◌, inl, inr, ⊎_elim, ℕ, zero, suc, ◌<◌, true, cond, not, ◌&&◌, List, [], ◌∷◌, ◌++◌, take, drop, Option, Some, None, refl, sym, ap, ◌∙◌, subst, arith, le_refl}
+use Rattle.std.specs.Prelude.{◌==◌}
 use Rattle.std.specs.List.{list_any}
 use Rattle.std.proofs.lemmas.Bool.{cases_Bool, and_parts, not-true, eqb-false, ltb-true}
 use Rattle.wl_draft.specs.Membership.{In, Here, Later as Behind}
-use Rattle.wl_draft.proofs.Membership.{apart, either, by_test, In-nil, In-one, In-cons_cases, In-append_cases, In-map_cases}
+use Rattle.wl_draft.proofs.Membership.{apart, either, In-nil, In-one, In-cons_cases, In-append_cases, In-map_cases}
 use Rattle.wl_grammar.specs.declared.frame.Frame.{Frame}
-use Rattle.wl_grammar.specs.declared.frame.Frame.TheVariants as frame
 use Rattle.wl_grammar.specs.declared.frame.Upward.{Upward}
 use Rattle.wl_grammar.specs.declared.frame.Upward.TheVariants as up
-use Rattle.wl_agent.specs.declared.fault.MessageFault.{MessageFault}
 use Rattle.wl_agent.specs.declared.fault.MessageFault.TheVariants.{NotEntered, NoSuchNumber}
 use Rattle.wl_agent.specs.Tab.{TabState, is_issued, operation_of, command_frame, message_refusal, report_bodies, report_frames, upward_frame, is_report_due}
 use Rattle.wl_client.specs.declared.client.Unsent.{Unsent}
 use Rattle.wl_client.specs.declared.client.Unsent.TheVariants as unsent
 use Rattle.wl_client.specs.Client.{ClientState}
-use Rattle.wl_client.specs.Sending.{after_item}
 use Rattle.wl_hub.specs.Hub.{HubState}
-use Rattle.wl_kernel.specs.Kernel.{is_opened}
-use Rattle.wl_world_model.specs.World.{WorldState, tab_of, lives, is_corrupt}
+use Rattle.wl_world_model.specs.World.{WorldState, tab_of, lives}
 use Rattle.wl_world_model.specs.Holdings.{IsHonest}
 use Rattle.wl_world_model.specs.Sends.{stamped}
 use Rattle.wl_world_model.proofs.exclusion.Invariant.{was_opened}
 use Rattle.wl_world_model.proofs.exclusion.CoverExcludes.{living_opened}
-use Rattle.wl_library_model.specs.Library.{Library, Line, with_line, with_hub, client_of, is_taken, runs, hub_fed, hub_receives, hub_sends_from, hub_drops_from, calls, client_fed, client_receives, unless_refused, item_frame, Sending, sending_item, sending_due, sending_report, sending, followed_by, client_sends, client_skips, forges}
+use Rattle.wl_library_model.specs.Library.{Library, Line, with_line, with_hub, client_of, is_taken, runs, hub_fed, hub_receives, hub_sends_from, hub_drops_from, client_fed, client_receives, unless_refused, Sending, sending_item, sending_due, sending_report, sending, followed_by, client_sends, client_skips, forges}
 use Rattle.wl_library_model.specs.Library.{lives as lives_in}
-use Rattle.wl_library_model.specs.Simulation.{IsSettled, IsRepeat, GoesUp, IsOnItsWayDown, IsOnItsWayUp, AreLocksOf, IsClientOf, IsLineOf, IsHubOf}
+use Rattle.wl_library_model.specs.Simulation.{IsRepeat, IsOnItsWayDown, IsOnItsWayUp, AreLocksOf, IsClientOf, IsLineOf, IsHubOf}
 use Rattle.wl_library_model.proofs.Carried.{Sim, Known, each_line}
-use Rattle.wl_library_model.proofs.Hubs.{same-hub}
 
 -- Lists
 
@@ -176,9 +171,9 @@ report-fine : (w : WorldState) (t : ℕ) (c : ClientState) → was_opened w t �
 report-fine w t c o n i f =
     either (λ zs. In f zs → IsOnItsWayUp w t f) (is_report_due c.locks) (report_frames c.locks) []
     (λ d j. ⊎_elim
-        (λ y. go c.locks (i.welcomed y) (positive c.locks (and_parts _ _ d).0) j)
-        (λ y. absurd (eqb-false c.locks.entered 0 (not-true _ (and_parts _ _ d).0) (i.unentered y)))
-        (cases_Bool c.is_welcomed))
+    (λ y. go c.locks (i.welcomed y) (positive c.locks (and_parts _ _ d).0) j)
+    (λ y. absurd (eqb-false c.locks.entered 0 (not-true _ (and_parts _ _ d).0) (i.unentered y)))
+    (cases_Bool c.is_welcomed))
     (λ _ j. absurd (In-nil j))
   where
     positive : (a : TabState) → not (a.entered == 0) ≡ true → 0 < a.entered

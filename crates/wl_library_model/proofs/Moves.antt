@@ -1,51 +1,43 @@
 -- Events that change one tab, and calls of its client.
-use Rattle.std.proofs.Common.{◌≡◌, ◌⊎◌, inl, inr, ⊎_elim, ℕ, ◌+◌, ◌<◌, ◌≤◌, Bool, true, false, cond, not, ◌&&◌, List, [], ◌∷◌, ◌++◌, length, length-append, get_or, Option, Some, None, option_map, is_some, refl, sym, ap, ap₂, ◌∙◌, subst, arith}
+use Rattle.std.proofs.Common.{◌≡◌, inl, inr, ⊎_elim, ℕ, ◌<◌, ◌≤◌, Bool, true, false, cond, not, ◌&&◌, List, [], ◌∷◌, ◌++◌, length, length-append, get_or, Option, Some, None, option_map, is_some, refl, sym, ap, ap₂, ◌∙◌, subst, arith}
 use Rattle.std.specs.Prelude.{◌==◌}
-use Rattle.std.specs.List.{list_any}
-use Rattle.std.proofs.lemmas.Bool.{cases_Bool, cases_eq, cases_lt, and_parts, and_from, eqb-true, eqb-false}
-use Rattle.std.proofs.lemmas.List.{get_or_append_left, get_or_push}
-use Rattle.wl_draft.specs.Membership.{In, Here, Later as Behind}
+use Rattle.std.proofs.lemmas.Bool.{cases_eq, cases_lt, and_parts, eqb-true, eqb-false}
+use Rattle.std.proofs.lemmas.List.{get_or_append_left}
+use Rattle.wl_draft.specs.Membership.{In, Here}
 use Rattle.wl_draft.specs.Tables.{Rises}
 use Rattle.wl_draft.specs.declared.mode.Mode.{Mode}
-use Rattle.wl_draft.proofs.Membership.{apart, either, by_test, In-nil, In-one, In-append_cases}
+use Rattle.wl_draft.proofs.Membership.{apart, either, by_test, In-one, In-append_cases}
 use Rattle.wl_draft.proofs.TableLemmas.{find-put_same, find-put_other}
 use Rattle.wl_grammar.specs.declared.frame.Frame.{Frame}
 use Rattle.wl_grammar.specs.declared.frame.Operation.{Operation}
 use Rattle.wl_grammar.specs.declared.frame.Operation.TheVariants.{Request, Release, Abort, Query}
 use Rattle.wl_grammar.specs.declared.frame.Upward.TheVariants as up
 use Rattle.wl_agent.specs.declared.fault.AgentFault.{AgentFault}
-use Rattle.wl_agent.specs.declared.status.Status.{Status}
 use Rattle.wl_agent.specs.declared.status.Status.TheVariants.{Asked, Querying}
 use Rattle.wl_agent.specs.SnapshotParts.{no_parts}
-use Rattle.wl_grammar.specs.declared.frame.Report.{Report}
-use Rattle.wl_grammar.specs.declared.frame.Upward.{Upward}
 use Rattle.wl_agent.specs.Tab.{TabState, report_bodies, status_of, is_asked, issue, finish, asked, queried, aborted, released, ask_refusal, query_refusal}
 use Rattle.wl_agent.specs.Tokens.{is_pending, is_holding}
 use Rattle.wl_tab.specs.Tabs.{tab_in}
-use Rattle.wl_client.specs.declared.client.Unsent.{Unsent}
 use Rattle.wl_client.specs.declared.client.Unsent.TheVariants as unsent
-use Rattle.wl_client.specs.declared.fault.CallFault.{CallFault}
 use Rattle.wl_client.specs.declared.fault.CallFault.TheVariants.{NotWelcomed, Agent}
-use Rattle.wl_client.specs.Client.{ClientState, call_refusal, after_command, after_abort, after_release}
+use Rattle.wl_client.specs.Client.{ClientState, call_refusal, after_command}
 use Rattle.wl_hub.specs.Hub.{HubState}
 use Rattle.wl_world_messages.specs.declared.message.Message.{Message}
-use Rattle.wl_world_messages.specs.Messages.{sent_all}
 use Rattle.wl_world_messages.proofs.Same.{sent_all-adds}
 use Rattle.wl_world_model.specs.declared.event.Event.{Event}
 use Rattle.wl_world_model.specs.declared.event.Event.TheVariants as event
-use Rattle.wl_world_model.specs.World.{WorldState, tab_of, lives, partition_of, StepResult, unchanged, if_allowed, acts, issues_command, asks, queries, aborts, releases, step_result, after_event, run}
+use Rattle.wl_world_model.specs.World.{WorldState, tab_of, lives, StepResult, if_allowed, acts, issues_command, asks, queries, aborts, releases, step_result, after_event, run}
 use Rattle.wl_world_model.specs.Sends.{stamped, command_message, issued_messages}
-use Rattle.wl_world_model.specs.Holdings.{IsHonest, asking}
+use Rattle.wl_world_model.specs.Holdings.{asking}
 use Rattle.wl_world_model.proofs.exclusion.Invariant.{was_opened}
 use Rattle.wl_world_model.proofs.exclusion.ActsWithinAGeneration.{after}
 use Rattle.wl_library_model.specs.Library.{Library, Line, with_line, client_of, runs, calls}
 use Rattle.wl_library_model.specs.Library.{asks as client_asks, queries as client_queries, aborts as client_aborts, releases as client_releases}
 use Rattle.wl_library_model.specs.Events.{call_events}
-use Rattle.wl_library_model.specs.Simulation.{IsSettled, IsOnItsWayUp, AreLocksOf, IsClientOf, IsLineOf, IsHubOf}
+use Rattle.wl_library_model.specs.Simulation.{AreLocksOf, IsLineOf, IsHubOf}
 use Rattle.wl_library_model.proofs.Later.{GoesOn, Later, later-on, later-same, issue-goes, finish-goes}
 use Rattle.wl_library_model.proofs.Happens.{Good, happens-on, happens-good}
 use Rattle.wl_library_model.proofs.Carried.{Sim, Known, settled-later, stays-up, each_other, down-later, up-later, line-later, known-later}
-use Rattle.wl_library_model.proofs.Hubs.{Still}
 use Rattle.wl_library_model.proofs.Links.{line-sim, runs-opened}
 
 -- The tab becomes `y`, and nothing else changes beside channels and messages.
@@ -191,10 +183,10 @@ issued-known w v t F o g x opened y k sent kernel =
     record {
       commands = λ lt n l. let lt' = subst (λ z. 0 < z) y.entered lt in ⊎_elim
           (λ m. ⊎_elim
-              (λ i. inl (subst (λ z. In (stamped v.kernel t (up.Command (record { generation = z; number = n; operation = get_or (F a).issued n Query }))) v.bag) (sym y.entered)
-              (subst (λ z. In (stamped v.kernel t (up.Command (record { generation = a.entered; number = n; operation = z }))) v.bag) (sym (old-operation F o a n y m)) (stays-up w v x t opened _ i))))
-              (λ r. inr (settled-later a (F a) n y.goes (g.fit.low t) y.entered r))
-              (k.commands lt' n m))
+          (λ i. inl (subst (λ z. In (stamped v.kernel t (up.Command (record { generation = z; number = n; operation = get_or (F a).issued n Query }))) v.bag) (sym y.entered)
+          (subst (λ z. In (stamped v.kernel t (up.Command (record { generation = a.entered; number = n; operation = z }))) v.bag) (sym (old-operation F o a n y m)) (stays-up w v x t opened _ i))))
+          (λ r. inr (settled-later a (F a) n y.goes (g.fit.low t) y.entered r))
+          (k.commands lt' n m))
           (λ m. inl (subst (λ z. In (command_message z t (F a) n) v.bag) (sym kernel) (subst (λ z. In (command_message w.kernel t (F a) z) v.bag) (last-number F o a n y m l) (sent lt))))
           (cases_lt n (length a.issued));
       report = λ lt u i. stays-up w v x t opened u (k.report (subst (λ z. 0 < z) y.entered lt) u (subst (λ z. In u (report_bodies a.in_parts z)) y.report (subst (λ z. In u (report_bodies z (F a).report)) y.in_parts i)));

@@ -1,41 +1,37 @@
 -- Openings and deaths of tabs, and tabs that are taken over.
-use Rattle.std.proofs.Common.{◌≡◌, ◌≢◌, ◌⊎◌, inl, inr, ⊎_elim, ℕ, ◌<◌, Bool, true, false, cond, not, ◌&&◌, List, [], ◌∷◌, ◌++◌, Option, Some, None, option_map, is_some, Result, Ok, Err, refl, sym, ap, ◌∙◌, subst, arith}
+use Rattle.std.proofs.Common.{◌≡◌, inl, inr, ⊎_elim, ℕ, Bool, true, false, cond, not, [], ◌∷◌, ◌++◌, Option, Some, None, option_map, is_some, Result, Ok, Err, refl, sym, ap, ◌∙◌, subst, arith}
 use Rattle.std.specs.Prelude.{◌==◌}
-use Rattle.std.proofs.lemmas.Bool.{cases_Bool, cases_eq, eqb-false}
+use Rattle.std.proofs.lemmas.Bool.{cases_eq, eqb-false}
 use Rattle.wl_origin.specs.Order.{Pair}
 use Rattle.wl_origin.specs.declared.fault.OriginFault.{OriginFault}
-use Rattle.wl_draft.specs.Membership.{In, Here, Later as Behind}
+use Rattle.wl_draft.specs.Membership.{In}
 use Rattle.wl_draft.proofs.Membership.{apart, either, by_test, In-nil, In-one, In-cons_cases, In-append_cases}
 use Rattle.wl_grammar.specs.declared.frame.Frame.{Frame}
 use Rattle.wl_grammar.specs.declared.frame.Frame.TheVariants as frame
-use Rattle.wl_grammar.specs.declared.frame.Downward.TheVariants as down
-use Rattle.wl_broker.specs.Broker.{BrokerState}
-use Rattle.wl_draft.specs.Tables.{find, put}
 use Rattle.wl_draft.proofs.TableLemmas.{find-put_same, find-put_other}
-use Rattle.wl_agent.specs.Tab.{TabState, born}
+use Rattle.wl_agent.specs.Tab.{born}
 use Rattle.wl_kernel.specs.declared.fault.OpenFault.{OpenFault}
-use Rattle.wl_kernel.specs.Kernel.{KernelState, is_opened, is_living, open_refusal, opened, killed, lives as lives_in}
+use Rattle.wl_kernel.specs.Kernel.{KernelState, is_living, open_refusal, opened, killed, lives as lives_in}
 use Rattle.std.specs.Prelude.{nat_eq}
 use Rattle.indexmap.specs.IndexMap.{swap_remove_entry}
 use Rattle.wl_broker.specs.Broker.{hello_to}
 use Rattle.wl_world_messages.specs.declared.message.Sender.TheVariants.{Kernel}
 use Rattle.wl_world_messages.specs.declared.message.Message.TheVariants.{Down}
 use Rattle.wl_kernel.specs.Welcome.{texts_of, welcome}
-use Rattle.wl_kernel_supervisor.specs.SupervisedStates.{SupervisedState}
 use Rattle.wl_limits.specs.declared.tabs.TheConstants.{COMMAND_LIMIT}
 use Rattle.wl_tab.specs.Tabs.{tab_in}
 use Rattle.wl_hub.specs.declared.fault.OpenRefusal.TheVariants.{Tab}
-use Rattle.wl_hub.specs.Hub.{HubState, greeting, hub_opened, page_refusal, page_opened, without_sender, hub_closed}
+use Rattle.wl_hub.specs.Hub.{HubState, greeting, hub_opened, page_refusal, without_sender, hub_closed}
 use Rattle.wl_world_model.specs.declared.event.Event.{Event}
 use Rattle.wl_world_model.specs.declared.event.Event.TheVariants as event
-use Rattle.wl_world_model.specs.World.{WorldState, tab_of, lives, StepResult, unchanged, if_allowed, with_kernel, with_rows, opens_as, kills, taken_over, corrupts, step_result, after_event, run}
+use Rattle.wl_world_model.specs.World.{WorldState, tab_of, lives, StepResult, unchanged, if_allowed, with_kernel, with_rows, taken_over, step_result, after_event, run}
 use Rattle.wl_world_model.specs.Holdings.{IsHonest}
 use Rattle.wl_world_model.proofs.exclusion.Invariant.{was_opened}
 use Rattle.wl_world_model.proofs.exclusion.ActsWithinAGeneration.{after}
 use Rattle.wl_world_model.proofs.exclusion.CoverExcludes.{living_opened}
 use Rattle.wl_world_model.proofs.exclusion.OpenedTabs.{each_opened}
 use Rattle.wl_world_model.proofs.exclusion.OpeningAndKilling.{not_opened}
-use Rattle.wl_library_model.specs.Library.{Library, Line, new_line, with_line, with_hub, opens, closes, takes_over}
+use Rattle.wl_library_model.specs.Library.{Library, new_line, with_line, with_hub, opens, closes, takes_over}
 use Rattle.wl_library_model.specs.Events.{opening_events}
 use Rattle.wl_library_model.specs.Simulation.{ComesDown, IsOnItsWayDown, IsOnItsWayUp, IsHubOf, IsLineOf}
 use Rattle.wl_library_model.proofs.Later.{Later, later-on}
@@ -109,9 +105,9 @@ module _ (l : Library) (w : WorldState) (t : ℕ) (p : Pair) (i : Bool) (s : Sim
     outputs = λ u f j. ⊎_elim
         (λ a. down-later w end end-later u f (s.hub.outputs u f a))
         (λ a. ⊎_elim
-            (λ b. let e = pair-first u t f _ b in subst (λ z. IsOnItsWayDown end z f) (sym e.0) (subst (IsOnItsWayDown end t) (sym e.1) (inr (welcome-comes i refl))))
-            (λ b. greeting-comes u f b)
-            (In-cons_cases a))
+        (λ b. let e = pair-first u t f _ b in subst (λ z. IsOnItsWayDown end z f) (sym e.0) (subst (IsOnItsWayDown end t) (sym e.1) (inr (welcome-comes i refl))))
+        (λ b. greeting-comes u f b)
+        (In-cons_cases a))
         (In-append_cases l.hub.outputs ((t, welcome t (texts_of p i).top (texts_of p i).own) ∷ greeting t l.hub.supervised) j);
     arrived = λ y f j. up-later w end s.good end-later l.hub.sender f (s.hub.arrived (end-later.honest l.hub.sender y) f j);
     early = λ u j. (end-later.opened u (s.hub.early u j)).0;

@@ -1,10 +1,8 @@
 -- The laws of the world, said of the library.
-use Rattle.std.proofs.Common.{◌≡◌, ◌⊎◌, ℕ, ◌<◌, true, false, List, length, drop, Option, Some, refl, sym, ap, ◌∙◌, subst}
+use Rattle.std.proofs.Common.{◌≡◌, ℕ, ◌<◌, true, false, length, drop, sym, ap, ◌∙◌, subst}
 use Rattle.std.specs.List.{list_any}
 use Rattle.std.specs.Prelude.{◌==◌}
-use Rattle.wl_draft.specs.declared.mode.Mode.TheVariants.{Shared}
-use Rattle.wl_broker.specs.Broker.{BrokerState}
-use Rattle.wl_agent.specs.Tab.{TabState, operation_of, name_of, mode_of, status_of}
+use Rattle.wl_agent.specs.Tab.{operation_of, name_of, mode_of, status_of}
 use Rattle.wl_kernel.specs.Kernel.{KernelState}
 use Rattle.wl_kernel.specs.Kernel.{tab_of as opened_tab}
 use Rattle.wl_world_model.specs.World.{WorldState, empty_world, run, tab_of, lives as lives_in}
@@ -14,10 +12,10 @@ use Rattle.wl_world_model.specs.Orders.{picked, of_partition, of_tab, commands_o
 use Rattle.wl_world_model.proofs.exclusion.CoverExcludes.{Sound-exclusion}
 use Rattle.wl_world_model.proofs.own.AskedByEvents.{run-own}
 use Rattle.wl_world_model.proofs.order.EventsInOrder.{commands-in_order, manager-is_fold}
-use Rattle.wl_library_model.specs.Library.{Library, Step, new_library, run_steps, client_of}
+use Rattle.wl_library_model.specs.Library.{Library, new_library, run_steps, client_of}
 use Rattle.wl_library_model.specs.Events.{events}
 use Rattle.wl_library_model.specs.Simulation.{AreLocksOf}
-use Rattle.wl_library_model.specs.Promises.{IsHolding, IsHonest, name_at, mode_at, partition_at, ExclusionForAll, OwnForAll, CommandsInOrderForAll, ManagerIsFoldForAll}
+use Rattle.wl_library_model.specs.Promises.{IsHolding, IsHonest, partition_at, ExclusionForAll, OwnForAll, CommandsInOrderForAll, ManagerIsFoldForAll}
 use Rattle.wl_library_model.proofs.Carried.{Sim}
 use Rattle.wl_library_model.proofs.Simulated.{run-sim}
 

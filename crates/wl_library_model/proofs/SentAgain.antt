@@ -1,5 +1,5 @@
 -- A message in the bag compares equal to itself, so it was sent.
-use Rattle.std.proofs.Common.{◌≡◌, ℕ, Bool, true, false, ◌&&◌, List, [], ◌∷◌, refl}
+use Rattle.std.proofs.Common.{◌≡◌, ℕ, Bool, true, false, List, [], ◌∷◌, refl}
 use mathlib.Core.Bool.{beq}
 use Rattle.std.specs.Prelude.{◌==◌, bytes_eq}
 use Rattle.std.specs.Cmp.Lexicographic.{pointwise}
@@ -29,13 +29,7 @@ use Rattle.wl_grammar.specs.declared.frame.SnapshotEntry.{SnapshotEntry}
 use Rattle.wl_grammar.specs.contracts.frame.SnapshotEntryPartialEq.TheImpl as row
 use Rattle.wl_grammar.specs.declared.frame.Snapshot.{Snapshot}
 use Rattle.wl_grammar.specs.contracts.frame.SnapshotPartialEq.TheImpl as snapshot
-use Rattle.wl_grammar.specs.declared.frame.Hello.{Hello}
-use Rattle.wl_grammar.specs.contracts.frame.HelloPartialEq.TheImpl as hello
 use Rattle.wl_grammar.specs.declared.frame.Heard.{Heard}
-use Rattle.wl_grammar.specs.declared.frame.Stamped.{Stamped}
-use Rattle.wl_grammar.specs.contracts.frame.StampedPartialEq.TheImpl as stamped
-use Rattle.wl_grammar.specs.declared.frame.Addressed.{Addressed}
-use Rattle.wl_grammar.specs.contracts.frame.AddressedPartialEq.TheImpl as addressed
 use Rattle.wl_grammar.specs.declared.frame.Upward.{Upward}
 use Rattle.wl_grammar.specs.declared.frame.Upward.TheVariants as up
 use Rattle.wl_grammar.specs.contracts.frame.UpwardPartialEq.TheImpl as upward

@@ -1,13 +1,13 @@
 -- After every list of steps the library is the world after the steps' events.
-use Rattle.std.proofs.Common.{◌≡◌, ℕ, List, [], ◌∷◌, ◌++◌, false, refl, sym, ap, subst, arith}
+use Rattle.std.proofs.Common.{◌≡◌, List, [], ◌∷◌, ◌++◌, refl, sym, subst, arith}
 use Rattle.wl_draft.proofs.Membership.{apart, In-nil}
 use Rattle.wl_world_model.specs.declared.event.Event.{Event}
 use Rattle.wl_world_model.specs.World.{WorldState, empty_world, after_event, run}
 use Rattle.wl_world_model.proofs.exclusion.SoundRuns.{run-sound}
 use Rattle.wl_library_model.specs.Library.{Library, Step, Opens, Closes, Restarts, Stops, HubReceives, HubAdvances, HubSends, HubDrops, Asks, Queries, Aborts, Releases, Resends, OpensChannel, Posts, Reads, ClosesChannel, TakesEvent, ClientReceives, ClientAdvances, ClientSends, ClientSkips, TakesOver, Forges, new_library, step, run_steps}
 use Rattle.wl_library_model.specs.Events.{events_of, events_from, events}
-use Rattle.wl_library_model.specs.Simulation.{IsSame, IsRunOfItsEvents}
-use Rattle.wl_library_model.proofs.Happens.{Good, empty-fit}
+use Rattle.wl_library_model.specs.Simulation.{IsRunOfItsEvents}
+use Rattle.wl_library_model.proofs.Happens.{empty-fit}
 use Rattle.wl_library_model.proofs.Carried.{Sim}
 use Rattle.wl_library_model.proofs.Hubs.{restart-sim, stop-sim}
 use Rattle.wl_library_model.proofs.Frames.{advance-sim}

@@ -1,5 +1,5 @@
 -- The events of the world model that each step of the library is.
-use Rattle.std.specs.Prelude.{ℕ, List, [], ◌∷◌, ◌++◌, Bool, true, false, ◌&&◌, ◌||◌, not, Option, Some, None, is_some, Result, Ok, Err, if◌then◌else◌}
+use Rattle.std.specs.Prelude.{ℕ, List, [], ◌∷◌, ◌++◌, Bool, ◌&&◌, ◌||◌, not, Option, Some, None, is_some, Result, Ok, Err, if◌then◌else◌}
 use Rattle.wl_origin.specs.Order.{Pair}
 use Rattle.wl_origin.specs.declared.fault.OriginFault.{OriginFault}
 use Rattle.wl_grammar.specs.declared.frame.Frame.{Frame}
@@ -11,19 +11,18 @@ use Rattle.wl_grammar.specs.declared.frame.Downward.TheVariants as down
 use Rattle.wl_kernel.specs.Kernel.{KernelState, living_tabs}
 use Rattle.wl_kernel.specs.Routes.{route_up_refusal}
 use Rattle.wl_hub.specs.Early.{greeted_next}
-use Rattle.wl_hub.specs.Hub.{HubState, page_refusal}
+use Rattle.wl_hub.specs.Hub.{page_refusal}
 use Rattle.wl_client.specs.Client.{ClientState, is_hello_of}
 use Rattle.wl_world_messages.specs.declared.message.Sender.{Sender}
 use Rattle.wl_world_messages.specs.declared.message.Sender.TheVariants.{Kernel, Broker}
-use Rattle.wl_world_messages.specs.declared.message.Message.{Message}
-use Rattle.wl_world_messages.specs.declared.message.Message.TheVariants.{Up, Down, Across}
+use Rattle.wl_world_messages.specs.declared.message.Message.TheVariants.{Down, Across}
 use Rattle.wl_world_model.specs.declared.event.Event.{Event}
 use Rattle.wl_world_model.specs.declared.event.Event.TheVariants as event
 use Rattle.wl_world_model.specs.declared.event.Forged.{Forged}
 use Rattle.wl_world_model.specs.declared.event.Forged.TheVariants as forged
 use Rattle.wl_world_model.specs.Sends.{stamped}
 use Rattle.wl_world_model.specs.Holdings.{asking}
-use Rattle.wl_library_model.specs.Library.{Library, Line, Step, Opens, Closes, Restarts, Stops, HubReceives, HubAdvances, HubSends, HubDrops, Asks, Queries, Aborts, Releases, Resends, OpensChannel, Posts, Reads, ClosesChannel, TakesEvent, ClientReceives, ClientAdvances, ClientSends, ClientSkips, TakesOver, Forges, new_library, client_of, is_taken, runs, step}
+use Rattle.wl_library_model.specs.Library.{Library, Step, Opens, Closes, Restarts, Stops, HubReceives, HubAdvances, HubSends, HubDrops, Asks, Queries, Aborts, Releases, Resends, OpensChannel, Posts, Reads, ClosesChannel, TakesEvent, ClientReceives, ClientAdvances, ClientSends, ClientSkips, TakesOver, Forges, new_library, client_of, is_taken, runs, step}
 
 -- Steps of the hub
 

@@ -1,5 +1,5 @@
 -- A program that links the library, as one state machine: a hub, the clients of its tabs, and the links between them.
-use Rattle.std.specs.Prelude.{ℕ, List, [], ◌∷◌, ◌++◌, Bool, true, false, not, ◌&&◌, ◌==◌, length, take, drop, option_map, Option, Some, None, is_some, Result, Ok, Err, if◌then◌else◌}
+use Rattle.std.specs.Prelude.{ℕ, List, [], ◌∷◌, ◌++◌, Bool, not, ◌&&◌, ◌==◌, take, drop, option_map, Option, Some, None, is_some, Result, if◌then◌else◌}
 use Rattle.std.specs.List.{list_any}
 use Rattle.wl_origin.specs.Order.{Pair}
 use Rattle.wl_origin.specs.declared.fault.OriginFault.{OriginFault}

@@ -1,5 +1,5 @@
 -- What the laws of the world say of the library: exclusion, own locks, the order of commands, and separate partitions.
-use Rattle.std.specs.Prelude.{◌≡◌, ◌⊎◌, ℕ, ◌<◌, List, [], ◌∷◌, ◌++◌, Bool, true, false, length, drop, Option, Some, None}
+use Rattle.std.specs.Prelude.{◌≡◌, ℕ, ◌<◌, List, true, false, length, drop, Option, Some}
 use Rattle.wl_origin.specs.Order.{Pair}
 use Rattle.wl_draft.specs.declared.mode.Mode.{Mode}
 use Rattle.wl_draft.specs.declared.mode.Mode.TheVariants.{Shared}
@@ -7,7 +7,6 @@ use Rattle.wl_agent.specs.declared.status.Status.TheVariants.{Held}
 use Rattle.wl_agent.specs.Tab.{status_of, operation_of, mode_of, name_of}
 use Rattle.wl_broker.specs.Broker.{BrokerState, manager_of}
 use Rattle.wl_kernel.specs.Kernel.{tab_of as opened_tab}
-use Rattle.wl_world_model.specs.World.{empty_world, run, tab_of}
 use Rattle.wl_world_model.specs.Holdings.{partition_in, Differ, WasAsked, NotEnded}
 use Rattle.wl_world_model.specs.Orders.{picked, of_partition, of_tab, commands_of, base_of, numbered, managed, IsPrefix}
 use Rattle.wl_library_model.specs.Library.{Library, Step, new_library, run_steps, client_of, lives, is_taken}

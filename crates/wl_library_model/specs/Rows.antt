@@ -1,18 +1,15 @@
 -- A worked conversation: two clients, a restart and a death.
 use Rattle.std.specs.Prelude.{◌≡◌, ℕ, List, [], ◌∷◌, ◌++◌, Bool, true, false, ◌&&◌, replicate, Ok}
-use Rattle.wl_origin.specs.Order.{Pair}
 use Rattle.wl_draft.specs.declared.mode.Mode.TheVariants.{Exclusive}
-use Rattle.wl_grammar.specs.declared.frame.Hello.{Hello}
 use Rattle.wl_grammar.specs.declared.frame.Outcome.{Outcome}
 use Rattle.wl_grammar.specs.declared.frame.Outcome.TheVariants.{Granted, Waiting}
-use Rattle.wl_grammar.specs.declared.frame.Downward.{Downward}
 use Rattle.wl_grammar.specs.declared.frame.Downward.TheVariants as down
 use Rattle.wl_agent.specs.Tab.{status_of, is_held}
 use Rattle.wl_world_messages.specs.declared.message.Sender.TheVariants.{Kernel, Broker}
 use Rattle.wl_world_model.specs.declared.event.Event.{Event}
 use Rattle.wl_world_model.specs.declared.event.Event.TheVariants as event
-use Rattle.wl_world_model.specs.WorldRows.{a, p, command, report, entry, request}
-use Rattle.wl_library_model.specs.Library.{Library, Step, Opens, Closes, Restarts, HubReceives, HubAdvances, HubSends, Asks, ClientReceives, ClientAdvances, ClientSends, new_library, run_steps, client_of, lives}
+use Rattle.wl_world_model.specs.WorldRows.{a, p, command, report, request}
+use Rattle.wl_library_model.specs.Library.{Step, Opens, Closes, Restarts, HubReceives, HubAdvances, HubSends, Asks, ClientReceives, ClientAdvances, ClientSends, new_library, run_steps, client_of, lives}
 use Rattle.wl_library_model.specs.Events.{events, delivers}
 
 -- Whether the tab lives and its client holds the lock of number `k`.

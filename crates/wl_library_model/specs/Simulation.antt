@@ -1,5 +1,5 @@
 -- The library and the world after the events of its steps: the same kernel, broker and locks.
-use Rattle.std.specs.Prelude.{◌≡◌, ◌⊎◌, ℕ, ◌<◌, ◌≤◌, List, Bool, true, false, ◌||◌, length, Option, Some, None, ⊤}
+use Rattle.std.specs.Prelude.{◌≡◌, ◌⊎◌, ℕ, ◌<◌, ◌≤◌, List, Bool, true, false, ◌||◌, length, Option, ⊤}
 use Rattle.wl_grammar.specs.declared.frame.Command.{Command}
 use Rattle.wl_grammar.specs.declared.frame.Answer.{Answer}
 use Rattle.wl_grammar.specs.declared.frame.Frame.{Frame}
@@ -16,7 +16,7 @@ use Rattle.wl_kernel_supervisor.specs.Changes.{is_dead}
 use Rattle.wl_world_messages.specs.declared.message.Sender.{Sender}
 use Rattle.wl_world_messages.specs.declared.message.Sender.TheVariants.{Kernel, Broker}
 use Rattle.wl_world_messages.specs.declared.message.Message.{Message}
-use Rattle.wl_world_messages.specs.declared.message.Message.TheVariants.{Up, Down, Across}
+use Rattle.wl_world_messages.specs.declared.message.Message.TheVariants.{Down}
 use Rattle.wl_client.specs.declared.client.Unsent.TheVariants as unsent
 use Rattle.wl_client.specs.Client.{ClientState}
 use Rattle.wl_hub.specs.Hub.{HubState}
