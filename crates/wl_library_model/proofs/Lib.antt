@@ -13,4 +13,5 @@ pub mod ChannelCalls
 pub mod Blind
 pub mod Arrivals
 pub mod Simulated
+pub mod AskedBySteps
 pub mod Promised

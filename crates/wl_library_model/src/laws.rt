@@ -1,7 +1,7 @@
 //! Laws that hold after every list of steps.
 
 ghost use Rattle.wl_library_model.specs.Simulation.{IsRunOfItsEvents};
-ghost use Rattle.wl_library_model.specs.Promises.{CommandsInOrderForAll, ExclusionForAll, ManagerIsFoldForAll, OwnForAll};
+ghost use Rattle.wl_library_model.specs.Promises.{ApartForAll, CommandsInOrderForAll, ExclusionForAll, ManagerIsFoldForAll, OwnForAll};
 
 /// The laws that join the hub and its clients to the world, stated over their definitions alone.
 ///
@@ -21,4 +21,7 @@ pub fn law_library()
     ensures commands { CommandsInOrderForAll }
     // While a generation is up, its broker's locks in a partition are the draft's commands folded over the taken list.
     ensures fold { ManagerIsFoldForAll }
+
+    // The locks of a partition are those that the events about that partition alone make.
+    ensures apart { ApartForAll }
 {}

@@ -1,5 +1,5 @@
 use Rattle.wl_library_model.proofs.Simulated.{is-run_of_its_events}
-use Rattle.wl_library_model.proofs.Promised.{exclusion, own, commands, fold}
+use Rattle.wl_library_model.proofs.Promised.{exclusion, own, commands, fold, apart}
 use Rattle.wl_library_model.proofs.laws.law_library.Goals as goal
 
 pub returns-clause-events : goal.returns-clause-events
@@ -16,3 +16,6 @@ returns-clause-commands c = commands
 
 pub returns-clause-fold : goal.returns-clause-fold
 returns-clause-fold c = fold
+
+pub returns-clause-apart : goal.returns-clause-apart
+returns-clause-apart c = apart
