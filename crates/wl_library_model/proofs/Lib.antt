@@ -15,3 +15,4 @@ pub mod Arrivals
 pub mod Simulated
 pub mod AskedBySteps
 pub mod Promised
+pub mod CallsAreSteps

@@ -3,3 +3,4 @@ pub mod Events
 pub mod Simulation
 pub mod Promises
 pub mod Rows
+pub mod Calls

@@ -1,5 +1,6 @@
 //! Laws that hold after every list of steps.
 
+ghost use Rattle.wl_library_model.specs.Calls.{ClientOutputIsStep, HubOutputIsStep, PiecesAreFrames};
 ghost use Rattle.wl_library_model.specs.Simulation.{IsRunOfItsEvents};
 ghost use Rattle.wl_library_model.specs.Promises.{ApartForAll, CommandsInOrderForAll, ExclusionForAll, ManagerIsFoldForAll, OwnForAll};
 
@@ -24,4 +25,14 @@ pub fn law_library()
 
     // The locks of a partition are those that the events about that partition alone make.
     ensures apart { ApartForAll }
+{}
+
+/// The calls whose contracts are relations. The contracts of all other calls cite the definitions of their steps.
+pub fn law_calls()
+    // Sending the hub's next frame is `HubSends` or `HubDrops`.
+    ensures hub_output { HubOutputIsStep }
+    // Sending the client's next item is `ClientSends` or `ClientSkips`.
+    ensures client_output { ClientOutputIsStep }
+    // Bytes that are cut anywhere arrive as the next frames on their way.
+    ensures pieces { PiecesAreFrames }
 {}
