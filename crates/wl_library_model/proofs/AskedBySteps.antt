@@ -1,16 +1,15 @@
 -- Each event that requests a lock is of a step that requests it.
-use Rattle.std.proofs.Common.{◌≡◌, ◌⊎◌, inl, inr, ⊎_elim, ℕ, ◌<◌, Bool, true, false, cond, not, ◌&&◌, ◌||◌, List, [], ◌∷◌, ◌++◌, length, Option, Some, None, is_some, Result, Ok, Err, refl, sym, ap, ap₂, ◌∙◌, subst}
+use Rattle.std.proofs.Common.{◌≡◌, ◌⊎◌, inl, inr, ⊎_elim, ℕ, Bool, true, false, cond, not, ◌&&◌, ◌||◌, List, [], ◌∷◌, ◌++◌, length, Option, Some, None, is_some, Result, Ok, Err, refl, sym, ap, ap₂, ◌∙◌, subst}
 use Rattle.std.specs.List.{list_any}
 use Rattle.std.specs.Prelude.{◌==◌}
 use Rattle.wl_origin.specs.Order.{Pair}
 use Rattle.wl_origin.specs.declared.fault.OriginFault.{OriginFault}
-use Rattle.std.proofs.lemmas.Bool.{cases_Bool, and_parts, or_right}
+use Rattle.std.proofs.lemmas.Bool.{and_parts, or_right}
 use Rattle.wl_draft.specs.declared.mode.Mode.{Mode}
-use Rattle.wl_draft.proofs.Membership.{apart, either, by_test}
+use Rattle.wl_draft.proofs.Membership.{apart, either}
 use Rattle.wl_grammar.specs.declared.frame.Frame.{Frame}
 use Rattle.wl_grammar.specs.declared.frame.Frame.TheVariants as frame
 use Rattle.wl_grammar.specs.declared.frame.Operation.{Operation}
-use Rattle.wl_grammar.specs.declared.frame.Operation.TheVariants.{Request}
 use Rattle.wl_agent.specs.Tab.{ask_refusal, asked}
 use Rattle.wl_kernel.specs.Kernel.{KernelState}
 use Rattle.wl_kernel.specs.Routes.{route_up_refusal}
@@ -20,10 +19,10 @@ use Rattle.wl_client.specs.Client.{ClientState, call_refusal, after_command, is_
 use Rattle.wl_world_model.specs.declared.event.Event.{Event}
 use Rattle.wl_world_model.specs.declared.event.Event.TheVariants as event
 use Rattle.wl_world_model.specs.declared.event.Forged.{Forged}
-use Rattle.wl_world_model.specs.World.{WorldState, empty_world, tab_of, after_event, run}
+use Rattle.wl_world_model.specs.World.{empty_world, after_event, run}
 use Rattle.wl_world_model.specs.Holdings.{asking, WasAsked}
-use Rattle.wl_library_model.specs.Library.{Library, Line, with_line, Step, Opens, Closes, Restarts, Stops, HubReceives, HubAdvances, HubSends, HubDrops, Asks, Queries, Aborts, Releases, Resends, OpensChannel, Posts, Reads, ClosesChannel, TakesEvent, ClientReceives, ClientAdvances, ClientSends, ClientSkips, TakesOver, Forges, new_library, client_of, is_taken, runs, asks, unless, step, run_steps}
-use Rattle.wl_library_model.specs.Events.{opening_events, forging, frame_events, first_events, greeting_events, telling_events, advance_events, call_events, delivery_events, handling_events, receiving_events, events_of, events_from, events}
+use Rattle.wl_library_model.specs.Library.{Library, Line, with_line, Step, Opens, Closes, Restarts, Stops, HubReceives, HubAdvances, HubSends, HubDrops, Asks, Queries, Aborts, Releases, Resends, OpensChannel, Posts, Reads, ClosesChannel, TakesEvent, ClientReceives, ClientAdvances, ClientSends, ClientSkips, TakesOver, Forges, new_library, client_of, is_taken, runs, asks, step, run_steps}
+use Rattle.wl_library_model.specs.Events.{opening_events, forging, frame_events, first_events, greeting_events, telling_events, advance_events, call_events, delivery_events, handling_events, events_of, events_from, events}
 use Rattle.wl_library_model.specs.Promises.{WasAskedBy}
 use Rattle.wl_library_model.proofs.Carried.{Sim}
 use Rattle.wl_library_model.proofs.Simulated.{step-sim, run-sim}

@@ -1,11 +1,10 @@
 -- The relations in the contracts of hub and client are those of the steps.
-use Rattle.std.proofs.Common.{◌≡◌, ◌≢◌, ◌⊎◌, inl, inr, ℕ, List, [], ◌∷◌, ◌++◌, append_assoc, length, take, drop, Option, Some, None, refl, sym, ap, ap₂, ◌∙◌, subst, arith}
+use Rattle.std.proofs.Common.{◌≡◌, ◌≢◌, ◌⊎◌, inl, inr, ℕ, List, [], ◌∷◌, ◌++◌, append_assoc, length, take, drop, Option, Some, None, refl, sym, ap, ap₂, ◌∙◌, arith}
 use Rattle.std.specs.List.{flat_map, AllByRecursion}
 use Rattle.std.specs.Int.{w32}
 use Rattle.wl_grammar.specs.declared.frame.Frame.{Frame}
 use Rattle.wl_grammar.specs.Grammar.{IsWellFormed, body, spelling}
 use Rattle.wl_grammar.proofs.BodyLength.{body_length}
-use Rattle.wl_frames.specs.Stream.{Feeding, Takes}
 use Rattle.wl_frames.specs.Reading.{number_at}
 use Rattle.wl_frames.proofs.Apart.{apart}
 use Rattle.wl_frames.proofs.Fields.{u32_form}
@@ -17,12 +16,9 @@ use Rattle.wl_client.specs.declared.sending.Output.{Output as ClientOutput}
 use Rattle.wl_client.specs.declared.sending.Output.TheVariants as client_output
 use Rattle.wl_client.specs.Client.{ClientState}
 use Rattle.wl_client.specs.Sending.{SendsFrame, SendsUnless, SendsItem, SendsDue, SendsNext}
-use Rattle.wl_hub.specs.declared.sending.Output.{Output as HubOutput}
 use Rattle.wl_hub.specs.declared.sending.Output.TheVariants as hub_output
-use Rattle.wl_hub.specs.Hub.{HubState}
-use Rattle.wl_hub.specs.Sending.{IsNext as IsNextOfHub}
 use Rattle.wl_library_model.specs.Library.{unless_refused, Sending, sending_item, sending_due, sending_report}
-use Rattle.wl_library_model.specs.Calls.{IsAppended, TakesOutput, HubOutputIsStep, SendsOrSkips, ClientOutputIsStep, PiecesAreFrames}
+use Rattle.wl_library_model.specs.Calls.{IsAppended, HubOutputIsStep, ClientOutputIsStep, PiecesAreFrames}
 
 pub hub-output : HubOutputIsStep
 hub-output h new hub_output.Idle before after n = inl n

@@ -1,12 +1,12 @@
 -- The hub handles a frame of a tab.
-use Rattle.std.proofs.Common.{◌≡◌, ◌⊎◌, inl, inr, ⊎_elim, ℕ, ◌<◌, ◌≤◌, true, false, cond, not, ◌&&◌, ◌||◌, List, [], ◌∷◌, ◌++◌, length, map, Option, Some, None, is_some, refl, sym, ap, ◌∙◌, subst, arith}
+use Rattle.std.proofs.Common.{◌≡◌, ◌≢◌, ◌⊎◌, inl, inr, ⊎_elim, ℕ, ◌<◌, ◌≤◌, true, false, cond, not, ◌&&◌, ◌||◌, List, [], ◌∷◌, ◌++◌, length, map, Option, Some, None, is_some, refl, sym, ap, ◌∙◌, subst, arith}
 use Rattle.std.specs.Prelude.{⊤}
 use Rattle.std.specs.Prelude.{◌==◌, nat_lt}
 use Rattle.std.specs.List.{list_any}
-use Rattle.std.proofs.lemmas.Bool.{cases_Bool, and_from, not-false, ltb-false}
+use Rattle.std.proofs.lemmas.Bool.{cases_Bool, and_from, not-false, ltb-false, eq-eqb, not-true}
 use Rattle.wl_draft.specs.Locks.{live}
 use Rattle.wl_draft.specs.Membership.{In, Here, Later as Behind}
-use Rattle.wl_draft.proofs.Membership.{apart, either, by_test, In-nil, In-one, In-append_cases, In-map_cases}
+use Rattle.wl_draft.proofs.Membership.{apart, either, by_test, In-nil, In-one, In-append_cases, In-map_cases, In-filter_cases}
 use Rattle.wl_grammar.specs.declared.frame.Command.{Command}
 use Rattle.wl_grammar.specs.declared.frame.Answer.{Answer}
 use Rattle.wl_grammar.specs.declared.frame.Addressed.{Addressed}
@@ -21,8 +21,9 @@ use Rattle.wl_broker.specs.declared.dropped.Dropped.TheVariants.{OldGeneration, 
 use Rattle.wl_broker.specs.Broker.{BrokerState, Taking, Drops, Does, seat_of, is_joined, is_dead as is_named_dead, next_of, is_active, is_misplaced, later_answer, take_command, taking}
 use Rattle.wl_limits.specs.declared.tabs.TheConstants.{LAST_NUMBER}
 use Rattle.wl_agent.specs.Tab.{TabState}
-use Rattle.wl_kernel.specs.Kernel.{KernelState, is_opened, is_living, partition_number}
-use Rattle.wl_kernel.specs.Routes.{frame_of, is_from_tab, route_up_refusal, tab_refusal, routed_up, hearers, heard_of}
+use Rattle.wl_kernel.specs.Kernel.{KernelState, is_opened, is_living, partition_number, OpenedTab, living_of}
+use Rattle.wl_kernel.specs.Kernel.{tab_of as tab_of_kernel}
+use Rattle.wl_kernel.specs.Routes.{frame_of, is_from_tab, route_up_refusal, tab_refusal, routed_up, hearers, heard_of, hearers_beside}
 use Rattle.wl_kernel.specs.declared.fault.RouteFault.TheVariants.{NoTab, DeadTab as DeadLink, WrongKind}
 use Rattle.wl_kernel_supervisor.specs.Changes.{Change, taking_change, message_change}
 use Rattle.wl_kernel_supervisor.specs.SupervisedStates.{SupervisedState, changed, frames_of}
@@ -253,16 +254,24 @@ opened-if k t =
     (λ o. either (λ z. is_some z ≡ false → (is_opened k t ≡ true) × (is_living k t ≡ true)) (is_living k t) None (Some DeadLink) (λ y _. (o, y)) (λ _ e. apart refl e))
     (λ _ e. apart refl e)
 
+-- A tab does not hear its own posts from the hub.
+hearers-others : (k : KernelState) (t n : ℕ) → In n (hearers t k) → t ≢ n
+hearers-others k t n = go (tab_of_kernel k t)
+  where
+    go : (o : Option OpenedTab) → In n (hearers_beside k t o) → t ≢ n
+    go None i = absurd (In-nil i)
+    go (Some o) i = λ e. apart (eq-eqb n t (sym e)) (not-true _ (In-filter_cases (λ m. not (m == t)) (living_of k o.partition) i).1)
+
 -- The hub sends a post to other tabs.
-posted-hub : (w : WorldState) (h : HubState) (t : ℕ) (p : Post) (ns : List ℕ) → IsHubOf w h → IsHubOf w (record h { outputs = h.outputs ++ map (λ n. (n, heard_of t p)) ns })
-posted-hub w h t p ns i = record {
+posted-hub : (w : WorldState) (h : HubState) (t : ℕ) (p : Post) (ns : List ℕ) → ((n : ℕ) → In n ns → t ≢ n) → IsHubOf w h → IsHubOf w (record h { outputs = h.outputs ++ map (λ n. (n, heard_of t p)) ns })
+posted-hub w h t p ns others i = record {
   kernel = i.kernel;
   broker = i.broker;
   outputs = λ n f j. ⊎_elim
       (λ a. i.outputs n f a)
       (λ a. let m = In-map_cases (λ (x : ℕ). (x, heard_of t p)) ns a in
       let e = pair-first n m.0 f (heard_of t p) m.2 in
-      inr (subst (ComesDown w n) (sym e.1) tt))
+      inr (subst (ComesDown w n) (sym e.1) (λ same. others m.0 m.1 (same ∙ e.0))))
       (In-append_cases h.outputs (map (λ n. (n, heard_of t p)) ns) j);
   arrived = i.arrived;
   early = i.early;
@@ -283,8 +292,8 @@ routed-sim l w (frame.ReportPart r) h s i n from =
 routed-sim l w (frame.Post p) h s i n from =
     by_test (λ b. Sim (with_hub (record h { outputs = h.outputs ++ map (λ m. (m, heard_of h.sender p)) (hearers h.sender h.supervised.kernel) }) l) (run (forging b h.sender (forged.Post p)) w)) (is_taken l h.sender)
     (λ _. hub-moves l w (after_event w (event.Forge h.sender (forged.Post p))) _ s (forge-still w h.sender (forged.Post p) s.good)
-    (posted-hub (after_event w (event.Forge h.sender (forged.Post p))) h h.sender p (hearers h.sender h.supervised.kernel) (forge-hub w h.sender (forged.Post p) h s.good i)))
-    (λ _. hub-moves l w w _ s (still-same w s.good) (posted-hub w h h.sender p (hearers h.sender h.supervised.kernel) i))
+    (posted-hub (after_event w (event.Forge h.sender (forged.Post p))) h h.sender p (hearers h.sender h.supervised.kernel) (hearers-others h.supervised.kernel h.sender) (forge-hub w h.sender (forged.Post p) h s.good i)))
+    (λ _. hub-moves l w w _ s (still-same w s.good) (posted-hub w h h.sender p (hearers h.sender h.supervised.kernel) (hearers-others h.supervised.kernel h.sender) i))
 routed-sim l w f h s i n from = apart refl n
 
 -- A frame that the kernel refuses is dropped.

@@ -16,3 +16,5 @@ pub mod Simulated
 pub mod AskedBySteps
 pub mod Promised
 pub mod CallsAreSteps
+pub mod ChannelSteps
+pub mod ChannelRuns

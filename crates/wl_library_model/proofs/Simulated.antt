@@ -54,7 +54,7 @@ steps-sim (x ∷ xs) l w s =
     subst (Sim (run_steps xs (step x l))) (sym (run-append (events_of l x) (events_from (step x l) xs) w))
     (steps-sim xs (step x l) (run (events_of l x) w) (step-sim l w x s))
 
-empty-sim : Sim new_library empty_world
+pub empty-sim : Sim new_library empty_world
 empty-sim = record {
   good = record { sound = run-sound []; fit = empty-fit };
   hub = record { kernel = refl; broker = refl; outputs = λ t f j. absurd (In-nil j); arrived = λ y f j. absurd (In-nil j); early = λ t j. absurd (In-nil j) };

@@ -4,3 +4,4 @@ pub mod Simulation
 pub mod Promises
 pub mod Rows
 pub mod Calls
+pub mod Channels

@@ -1,5 +1,5 @@
 -- The library and the world after the events of its steps: the same kernel, broker and locks.
-use Rattle.std.specs.Prelude.{◌≡◌, ◌⊎◌, ℕ, ◌<◌, ◌≤◌, List, Bool, true, false, ◌||◌, length, Option, ⊤}
+use Rattle.std.specs.Prelude.{◌≡◌, ◌≢◌, ◌⊎◌, ℕ, ◌<◌, ◌≤◌, List, Bool, true, false, ◌||◌, length, Option, ⊤}
 use Rattle.wl_grammar.specs.declared.frame.Command.{Command}
 use Rattle.wl_grammar.specs.declared.frame.Answer.{Answer}
 use Rattle.wl_grammar.specs.declared.frame.Frame.{Frame}
@@ -60,12 +60,12 @@ GoesUp w t f = ⊥
 abbrev pub to_tab : Sender → ℕ → Downward → Message
 to_tab sender t x = Down sender (record { tab = t; inner = x })
 
--- The frame for a tab is in the world's bag, is its welcome, or answers a repeat.
+-- The frame for a tab is in the world's bag, is its welcome, answers a repeat, or is a post of another tab.
 abbrev pub ComesDown : WorldState → ℕ → Frame → Type 0
 ComesDown w t (frame.Hello h) = In (to_tab Kernel t (down.Hello h)) w.bag ⊎ In (to_tab Broker t (down.Hello h)) w.bag
 ComesDown w t (frame.Answer x) = In (to_tab Broker t (down.Answer x)) w.bag ⊎ ((is_opened w.kernel t ≡ true) × IsRepeated (tab_of w t) x)
 ComesDown w t (frame.Snapshot x) = In (to_tab Broker t (down.Snapshot x)) w.bag
-ComesDown w t (frame.Heard h) = ⊤
+ComesDown w t (frame.Heard h) = h.source ≢ t
 ComesDown w t (frame.Welcome x) = (is_opened w.kernel t ≡ true) × (x.tab ≡ t) × ((tab_of w t).in_parts ≡ false)
 ComesDown w t (frame.PairWelcome x) = (is_opened w.kernel t ≡ true) × (x.tab ≡ t) × ((tab_of w t).in_parts ≡ true)
 ComesDown w t f = ⊥

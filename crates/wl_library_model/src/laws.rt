@@ -1,6 +1,7 @@
 //! Laws that hold after every list of steps.
 
 ghost use Rattle.wl_library_model.specs.Calls.{ClientOutputIsStep, HubOutputIsStep, PiecesAreFrames};
+ghost use Rattle.wl_library_model.specs.Channels.{ChannelsAreCalls, HeardRising, HeardTillClosed};
 ghost use Rattle.wl_library_model.specs.Simulation.{IsRunOfItsEvents};
 ghost use Rattle.wl_library_model.specs.Promises.{ApartForAll, CommandsInOrderForAll, ExclusionForAll, ManagerIsFoldForAll, OwnForAll};
 
@@ -25,6 +26,13 @@ pub fn law_library()
 
     // The locks of a partition are those that the events about that partition alone make.
     ensures apart { ApartForAll }
+
+    // A client's channels are what the calls on them make, and each post that the hub hands on is of another tab.
+    ensures channels { ChannelsAreCalls }
+    // A channel object takes posts of one source with strictly rising numbers.
+    ensures rising { HeardRising }
+    // A closed channel object takes no posts.
+    ensures closed { HeardTillClosed }
 {}
 
 /// The calls whose contracts are relations. The contracts of all other calls cite the definitions of their steps.

@@ -1,4 +1,5 @@
 use Rattle.wl_library_model.proofs.Simulated.{is-run_of_its_events}
+use Rattle.wl_library_model.proofs.ChannelRuns.{channels-are_calls, heard-rising, heard-till_closed}
 use Rattle.wl_library_model.proofs.Promised.{exclusion, own, commands, fold, apart}
 use Rattle.wl_library_model.proofs.laws.law_library.Goals as goal
 
@@ -19,3 +20,12 @@ returns-clause-fold c = fold
 
 pub returns-clause-apart : goal.returns-clause-apart
 returns-clause-apart c = apart
+
+pub returns-clause-channels : goal.returns-clause-channels
+returns-clause-channels c = channels-are_calls
+
+pub returns-clause-rising : goal.returns-clause-rising
+returns-clause-rising c = heard-rising
+
+pub returns-clause-closed : goal.returns-clause-closed
+returns-clause-closed c = heard-till_closed
