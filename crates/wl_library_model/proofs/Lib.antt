@@ -18,3 +18,4 @@ pub mod Promised
 pub mod CallsAreSteps
 pub mod ChannelSteps
 pub mod ChannelRuns
+pub mod PostsTraced

@@ -26,12 +26,12 @@ use Rattle.wl_library_model.proofs.Carried.{Sim, Known, each_line}
 
 -- Lists
 
-In-take : {X : Type 0} {x : X} (n : ℕ) (xs : List X) → In x (take n xs) → In x xs
+pub In-take : {X : Type 0} {x : X} (n : ℕ) (xs : List X) → In x (take n xs) → In x xs
 In-take zero xs i = absurd (In-nil i)
 In-take (suc n) [] i = absurd (In-nil i)
 In-take (suc n) (y ∷ ys) i = ⊎_elim (λ e. subst (λ z. In z (y ∷ ys)) (sym e) Here) (λ j. Behind (In-take n ys j)) (In-cons_cases i)
 
-In-drop : {X : Type 0} {x : X} (n : ℕ) (xs : List X) → In x (drop n xs) → In x xs
+pub In-drop : {X : Type 0} {x : X} (n : ℕ) (xs : List X) → In x (drop n xs) → In x xs
 In-drop zero xs i = i
 In-drop (suc n) [] i = absurd (In-nil i)
 In-drop (suc n) (y ∷ ys) i = Behind (In-drop n ys i)

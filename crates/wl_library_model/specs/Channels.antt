@@ -1,12 +1,16 @@
 -- Channels of the library: the calls that reach the channels of a tab's client, and the posts that its objects take.
-use Rattle.std.specs.Prelude.{◌≡◌, ℕ, ◌<◌, List, [], ◌∷◌, ◌++◌, true, false, length, ◌&&◌, ◌==◌, if◌then◌else◌}
+use Rattle.std.specs.Prelude.{◌≡◌, ℕ, ◌<◌, List, [], ◌∷◌, ◌++◌, true, false, not, length, is_some, ◌&&◌, ◌==◌, if◌then◌else◌}
 use Rattle.wl_grammar.specs.declared.frame.Frame.{Frame}
 use Rattle.wl_grammar.specs.declared.frame.Frame.TheVariants as frame
-use Rattle.wl_broadcast.specs.Channels.{no_channels, is_open_at}
+use Rattle.wl_grammar.specs.declared.frame.Heard.{Heard}
+use Rattle.wl_draft.specs.Membership.{In}
+use Rattle.wl_kernel.specs.Routes.{hearers}
+use Rattle.wl_tab.specs.TabChannels.{posting_refusal}
+use Rattle.wl_broadcast.specs.Channels.{no_channels, is_open_at, name_at}
 use Rattle.wl_broadcast.specs.Heard.{Call, HearsOthers, RisesFrom, of_source, takes_in, after}
 use Rattle.wl_broadcast.specs.Heard.{Opens as OpensOne, Posts as PostsOn, Hears, Reads as ReadsFrom, Closes as ClosesOne}
-use Rattle.wl_client.specs.Client.{ClientState}
-use Rattle.wl_library_model.specs.Library.{Library, Step, OpensChannel, Posts, Reads, ClosesChannel, ClientAdvances, new_library, client_of, runs, step, run_steps}
+use Rattle.wl_client.specs.Client.{ClientState, channel_refusal}
+use Rattle.wl_library_model.specs.Library.{Library, Step, HubAdvances, is_taken, OpensChannel, Posts, Reads, ClosesChannel, ClientAdvances, new_library, client_of, runs, step, run_steps}
 
 -- A call of the client of tab `u`, as a call on the channels of tab `t`.
 abbrev pub called_by : ℕ → ℕ → Library → Call → List Call
@@ -56,3 +60,32 @@ HeardTillClosed =
     (before later : List Step) (t k : ℕ) → let l = run_steps before new_library in
     k < length (client_of l t).channels.objects → is_open_at (client_of l t).channels.objects k ≡ false →
     takes_in k (channel_calls_from t l later) (client_of l t).channels ≡ []
+
+-- Where posts come from
+
+-- By one of the steps, the client of tab `s` posted these bytes under this number, on an object of this name.
+pub record WasPostedBy (steps : List Step) (s number : ℕ) (name bytes : List ℕ) : Type 0 where
+  pub before : List Step
+  pub later : List Step
+  pub object : ℕ
+  pub split : steps ≡ before ++ Posts s object bytes ∷ later
+  pub named : name_at (client_of (run_steps before new_library) s).channels.objects object ≡ name
+  pub numbered : (client_of (run_steps before new_library) s).channels.posts ≡ number
+  pub accepted :
+      let c = client_of (run_steps before new_library) s in
+      runs (run_steps before new_library) s && not (is_some (channel_refusal (posting_refusal object bytes c.channels) c)) ≡ true
+
+-- At one of the steps the hub sent a post of tab `s` on to the other living tabs of its partition, and `t` was one.
+pub record WasRouted (steps : List Step) (t s : ℕ) : Type 0 where
+  pub before : List Step
+  pub later : List Step
+  pub split : steps ≡ before ++ HubAdvances ∷ later
+  pub hears : In t (hearers s (run_steps before new_library).hub.supervised.kernel)
+
+-- The hub handed the post on from its source's partition. An honest source's client has made it.
+pub record IsPostHeard (steps : List Step) (l : Library) (t : ℕ) (h : Heard) : Type 0 where
+  pub routed : WasRouted steps t h.source
+  pub posted : is_taken l h.source ≡ false → WasPostedBy steps h.source h.number h.channel h.bytes
+
+abbrev pub HeardArePosts : Type 0
+HeardArePosts = (steps : List Step) (t : ℕ) (h : Heard) → In (Hears h) (channel_calls t steps) → IsPostHeard steps (run_steps steps new_library) t h

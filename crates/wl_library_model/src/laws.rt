@@ -1,7 +1,7 @@
 //! Laws that hold after every list of steps.
 
 ghost use Rattle.wl_library_model.specs.Calls.{ClientOutputIsStep, HubOutputIsStep, PiecesAreFrames};
-ghost use Rattle.wl_library_model.specs.Channels.{ChannelsAreCalls, HeardRising, HeardTillClosed};
+ghost use Rattle.wl_library_model.specs.Channels.{ChannelsAreCalls, HeardArePosts, HeardRising, HeardTillClosed};
 ghost use Rattle.wl_library_model.specs.Simulation.{IsRunOfItsEvents};
 ghost use Rattle.wl_library_model.specs.Promises.{ApartForAll, CommandsInOrderForAll, ExclusionForAll, ManagerIsFoldForAll, OwnForAll};
 
@@ -29,6 +29,9 @@ pub fn law_library()
 
     // A client's channels are what the calls on them make, and each post that the hub hands on is of another tab.
     ensures channels { ChannelsAreCalls }
+    // Each post that reaches a client was handed on by the hub, to a tab of its source's partition, and an honest source has
+    // posted it.
+    ensures heard { HeardArePosts }
     // A channel object takes posts of one source with strictly rising numbers.
     ensures rising { HeardRising }
     // A closed channel object takes no posts.

@@ -1,3 +1,4 @@
+use Rattle.wl_library_model.proofs.PostsTraced.{heard-are_posts}
 use Rattle.wl_library_model.proofs.Simulated.{is-run_of_its_events}
 use Rattle.wl_library_model.proofs.ChannelRuns.{channels-are_calls, heard-rising, heard-till_closed}
 use Rattle.wl_library_model.proofs.Promised.{exclusion, own, commands, fold, apart}
@@ -23,6 +24,9 @@ returns-clause-apart c = apart
 
 pub returns-clause-channels : goal.returns-clause-channels
 returns-clause-channels c = channels-are_calls
+
+pub returns-clause-heard : goal.returns-clause-heard
+returns-clause-heard c = heard-are_posts
 
 pub returns-clause-rising : goal.returns-clause-rising
 returns-clause-rising c = heard-rising
