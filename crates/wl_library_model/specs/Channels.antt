@@ -48,7 +48,9 @@ pub record HasChannelsOf (steps : List Step) (t : ℕ) (c : ClientState) : Type 
   pub others : HearsOthers t (channel_calls t steps)
 
 abbrev pub ChannelsAreCalls : Type 0
-ChannelsAreCalls = (steps : List Step) (t : ℕ) → (client_of (run_steps steps new_library) t).is_welcomed ≡ true → HasChannelsOf steps t (client_of (run_steps steps new_library) t)
+ChannelsAreCalls =
+    (steps : List Step) (t : ℕ) → let c = client_of (run_steps steps new_library) t in
+    c.is_welcomed ≡ true → HasChannelsOf steps t c
 
 -- The numbers of the posts that an object takes of one source strictly rise.
 abbrev pub HeardRising : Type 0
@@ -88,4 +90,6 @@ pub record IsPostHeard (steps : List Step) (l : Library) (t : ℕ) (h : Heard) :
   pub posted : is_taken l h.source ≡ false → WasPostedBy steps h.source h.number h.channel h.bytes
 
 abbrev pub HeardArePosts : Type 0
-HeardArePosts = (steps : List Step) (t : ℕ) (h : Heard) → In (Hears h) (channel_calls t steps) → IsPostHeard steps (run_steps steps new_library) t h
+HeardArePosts =
+    (steps : List Step) (t : ℕ) (h : Heard) →
+    In (Hears h) (channel_calls t steps) → IsPostHeard steps (run_steps steps new_library) t h

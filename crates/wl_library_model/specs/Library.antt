@@ -88,7 +88,8 @@ hub_sends_from (o ∷ os) l =
     let x = l.lines o.0 in
     with_line o.0 (record x { down = x.down ++ o.1 ∷ [] }) (with_hub (record l.hub { outputs = os }) l)
 
--- `Hub::next_output`, which drops the oldest frame for a tab.
+-- `Hub::next_output`, which drops the oldest frame for a tab. The hub drops only frames that are not due; the machine may
+-- drop any.
 abbrev pub hub_drops_from : List (ℕ × Frame) → Library → Library
 hub_drops_from [] l = l
 hub_drops_from (o ∷ os) l = with_hub (record l.hub { outputs = os }) l
@@ -183,7 +184,7 @@ abbrev pub client_sends : ℕ → Library → Library
 client_sends t l =
     if runs l t then (let x = l.lines t in let s = sending x.client in with_line t (record x { client = s.client; up = followed_by x.up s.frame }) l) else l
 
--- The frame is dropped.
+-- The frame is dropped. The client drops only a frame that it may not send; the machine may drop any.
 abbrev pub client_skips : ℕ → Library → Library
 client_skips t l = calls t (λ c. (sending c).client) l
 

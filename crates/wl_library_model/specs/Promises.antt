@@ -41,7 +41,8 @@ partition_at l t = partition_in (opened_tab l.hub.supervised.kernel t)
 -- Two different locks of one name, held by clients of honest tabs of one partition, are both shared.
 abbrev pub Exclusion : Library → Type 0
 Exclusion l =
-    (t k u j : ℕ) → IsHonest l t → IsHonest l u → IsHolding l t k → IsHolding l u j → Differ t k u j → partition_at l t ≡ partition_at l u →
+    (t k u j : ℕ) → IsHonest l t → IsHonest l u → IsHolding l t k → IsHolding l u j → Differ t k u j →
+    partition_at l t ≡ partition_at l u →
     name_at l t k ≡ name_at l u j → (mode_at l t k ≡ Shared) × (mode_at l u j ≡ Shared)
 
 -- One of the steps requested a lock, and by it the client issued exactly the command `o` as its number `k`.

@@ -1,16 +1,20 @@
--- A worked conversation: two clients, a restart and a death.
+-- A worked conversation: two clients, a restart, a death, and a post.
 use Rattle.std.specs.Prelude.{◌≡◌, ℕ, List, [], ◌∷◌, ◌++◌, Bool, true, false, ◌&&◌, replicate, Ok}
 use Rattle.wl_draft.specs.declared.mode.Mode.TheVariants.{Exclusive}
 use Rattle.wl_grammar.specs.declared.frame.Outcome.{Outcome}
 use Rattle.wl_grammar.specs.declared.frame.Outcome.TheVariants.{Granted, Waiting}
 use Rattle.wl_grammar.specs.declared.frame.Downward.TheVariants as down
+use Rattle.wl_broadcast.specs.Channels.{no_channels}
+use Rattle.wl_broadcast.specs.Heard.{Hears, takes_in}
+use Rattle.wl_broadcast.specs.Heard.{Opens as OpensOne, Posts as PostsOn}
 use Rattle.wl_agent.specs.Tab.{status_of, is_held}
 use Rattle.wl_world_messages.specs.declared.message.Sender.TheVariants.{Kernel, Broker}
 use Rattle.wl_world_model.specs.declared.event.Event.{Event}
 use Rattle.wl_world_model.specs.declared.event.Event.TheVariants as event
 use Rattle.wl_world_model.specs.WorldRows.{a, p, command, report, request}
-use Rattle.wl_library_model.specs.Library.{Step, Opens, Closes, Restarts, HubReceives, HubAdvances, HubSends, Asks, ClientReceives, ClientAdvances, ClientSends, new_library, run_steps, client_of, lives}
+use Rattle.wl_library_model.specs.Library.{Step, Opens, Closes, Restarts, HubReceives, HubAdvances, HubSends, Asks, OpensChannel, Posts, ClientReceives, ClientAdvances, ClientSends, new_library, run_steps, client_of, lives}
 use Rattle.wl_library_model.specs.Events.{events, delivers}
+use Rattle.wl_library_model.specs.Channels.{channel_calls}
 
 -- Whether the tab lives and its client holds the lock of number `k`.
 abbrev pub holds : ℕ → ℕ → List Step → Bool
@@ -71,3 +75,16 @@ Restarted = (holds 1 0 restarted ≡ true) × (holds 2 0 restarted ≡ false)
 -- A death hands the lock over.
 abbrev pub Bereaved : Type 0
 Bereaved = (holds 1 0 bereaved ≡ false) × (holds 2 0 bereaved ≡ true)
+
+-- The first client posts a byte on a channel of both, and the second one hears it.
+abbrev pub talked : List Step
+talked =
+    Restarts
+    ∷ (joins 1 ++ joins 2 ++ OpensChannel 1 a ∷ OpensChannel 2 a ∷ Posts 1 0 (120 ∷ []) ∷ (to_hub 1 1 1 ++ to_client 2 1))
+
+-- The post reaches the second client alone, whose object takes it.
+abbrev pub Talked : Type 0
+Talked =
+    (channel_calls 2 talked ≡ OpensOne a ∷ Hears (record { source = 1; number = 0; channel = a; bytes = 120 ∷ [] }) ∷ [])
+    × (channel_calls 1 talked ≡ OpensOne a ∷ PostsOn 0 (120 ∷ []) ∷ [])
+    × (takes_in 0 (channel_calls 2 talked) (no_channels 2) ≡ record { source = 1; number = 0; bytes = 120 ∷ [] } ∷ [])

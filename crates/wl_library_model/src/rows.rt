@@ -1,6 +1,6 @@
 //! Worked conversation, computed on the machine's definition.
 
-ghost use Rattle.wl_library_model.specs.Rows.{Bereaved, Contended, ContendedIsThese, Restarted};
+ghost use Rattle.wl_library_model.specs.Rows.{Bereaved, Contended, ContendedIsThese, Restarted, Talked};
 
 /// Results of a conversation of two clients.
 pub fn law_rows()
@@ -8,4 +8,5 @@ pub fn law_rows()
     ensures contended { Contended }
     ensures restarted { Restarted }
     ensures bereaved { Bereaved }
+    ensures talked { Talked }
 {}

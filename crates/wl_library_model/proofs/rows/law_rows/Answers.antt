@@ -27,3 +27,7 @@ returns-clause-restarted c = (refl, refl)
 pub returns-clause-bereaved : goal.returns-clause-bereaved
 unfolding is_grantable newly_granted settle queued probed released aborted ended restored is_active place_of is_misplaced settled_at newly_at join join_if with_told take_report_part perform take_command taking death_step with_part snapshot_of issue ended_number finish report_of enter_first enter_later report_bodies due noted becomes_status delivery arrival told step events_of
 returns-clause-bereaved c = (refl, refl)
+
+pub returns-clause-talked : goal.returns-clause-talked
+unfolding is_grantable newly_granted settle queued probed released aborted ended restored is_active place_of is_misplaced settled_at newly_at join join_if with_told take_report_part perform take_command taking death_step with_part snapshot_of issue ended_number finish report_of enter_first enter_later report_bodies due noted becomes_status delivery arrival told step events_of
+returns-clause-talked c = (refl, refl, refl)
