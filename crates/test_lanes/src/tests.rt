@@ -1,9 +1,10 @@
-//! Modules: steps of one lane, lanes on threads over shards, ends of a lane, and the lanes of the broker's process.
+//! Modules: steps of one lane, lanes on threads over shards, ends of a lane, and the lanes of the broker's process and their order.
 
 mod events;
 mod lane_ends;
 mod lanes;
 mod process_lanes;
+mod process_order;
 mod runs;
 mod shards;
 mod steps;

@@ -16,32 +16,45 @@ use std::rt::Clock;
 use std::sync::Wait;
 use std::thread::Threads;
 use test_support::retry::BACK;
-use wl_frames::{Frame, Sequence, Start};
+use wl_frames::{Dead, Frame, Sequence, Start};
 use wl_locked::BookEvent;
 use wl_process::append;
 use wl_process_broker::run_generation;
 
-/// Count of the broker's lanes. Tab 2 belongs to lane 0, and tab 1 to lane 1.
+/// Count of the broker's lanes. Over an even number of shards tab 2, alone in its partition, belongs to lane 0, and tab 1 to lane 1.
 const LANES: u16 = 2;
 
-/// Returns the bytes of a Start frame without tabs, and of a report of each of these tabs.
-fn conversation(alloc: Global, tabs: &[u16]) -> Result<Vec<u8>, AllocError> {
+/// Returns the bytes of a Start frame without tabs.
+pub(super) fn start(alloc: Global) -> Result<Vec<u8>, AllocError> {
     let mut bytes = Vec::new(alloc);
     let start = Start {
         generation: 1,
         list: Sequence::new(Vec::new(alloc)),
     };
     append(&mut bytes, &Frame::Start(start))?;
+    Ok(bytes)
+}
+
+/// Appends the bytes of an event.
+pub(super) fn append_event(bytes: &mut Vec<u8>, event: BookEvent) -> Result<(), AllocError> {
+    let frame = match event {
+        BookEvent::Take(stamped) => Frame::Stamped(stamped),
+        BookEvent::Dead(tab) => Frame::Dead(Dead { tab }),
+    };
+    append(bytes, &frame)
+}
+
+/// Returns the bytes of a Start frame without tabs, and of a report of each of these tabs.
+fn conversation(alloc: Global, tabs: &[u16]) -> Result<Vec<u8>, AllocError> {
+    let mut bytes = start(alloc)?;
     for tab in tabs {
-        if let BookEvent::Take(stamped) = report(alloc, *tab, *tab) {
-            append(&mut bytes, &Frame::Stamped(stamped))?;
-        }
+        append_event(&mut bytes, report(alloc, *tab, *tab))?;
     }
     Ok(bytes)
 }
 
 /// Returns a link that these bytes come over, and its other end.
-fn link_with<R: Net>(rt: &R, bytes: &[u8]) -> io::Result<(UnixStream, UnixStream)> {
+pub(super) fn link_with<R: Net>(rt: &R, bytes: &[u8]) -> io::Result<(UnixStream, UnixStream)> {
     let (link, mut kernel) = UnixStream::pair(rt)?;
     kernel.write_all(bytes)?;
     Ok((link, kernel))
@@ -77,11 +90,11 @@ fn runs_gated<R: Threads + Wait + Clock + Net + Abort + Sync>(rt: &R, alloc: Glo
     }
 }
 
-/// The lanes run at the same time over one shard and over two.
+/// The lanes run at the same time over two shards and over four.
 #[test]
 fn two_lanes_of_a_process_at_the_same_time(rt: HostRuntime) {
-    runs_gated(&rt, rt.alloc(), 1);
     runs_gated(&rt, rt.alloc(), 2);
+    runs_gated(&rt, rt.alloc(), 4);
 }
 
 /// Runs a broker of two lanes. One lane uses up the generation's only step while the link stays open.
