@@ -1,5 +1,6 @@
 //! Clients of a kernel that speak bytes alone.
 
+use std::alloc::AllocError;
 use std::io;
 use std::io::{ErrorKind, Read, Write};
 use std::os::unix::net::UnixStream;
@@ -35,6 +36,45 @@ pub(crate) fn expect(link: &UnixStream, bytes: &[u8]) -> io::Result<()> {
         return Err(ErrorKind::InvalidData.into());
     }
     Ok(())
+}
+
+/// Appends a frame of a kind, with numbers and then bytes.
+pub(crate) fn put_frame(
+    out: &mut Vec<u8>,
+    kind: u8,
+    numbers: &[u32],
+    bytes: &[u8],
+) -> Result<(), AllocError> {
+    let len = numbers.len().wrapping_mul(4).wrapping_add(bytes.len());
+    let len = u32::try_from(len).unwrap_or(0).wrapping_add(2);
+    out.extend_from_slice(&len.to_be_bytes())?;
+    out.extend_from_slice(&[1, kind])?;
+    for number in numbers {
+        out.extend_from_slice(&number.to_be_bytes())?;
+    }
+    out.extend_from_slice(bytes)
+}
+
+/// Appends a report without entries.
+pub(crate) fn put_report(out: &mut Vec<u8>, generation: u32, base: u32) -> Result<(), AllocError> {
+    put_frame(out, 2, &[generation, base], &[0, 0])
+}
+
+/// Appends a probe for the exclusive lock `f`.
+pub(crate) fn put_probe(out: &mut Vec<u8>, generation: u32, number: u32) -> Result<(), AllocError> {
+    put_frame(out, 1, &[generation, number], &[1, 2, 1, 1, b'f'])
+}
+
+/// Appends a release (2) or an abort (3) of a number.
+pub(crate) fn put_end(
+    out: &mut Vec<u8>,
+    generation: u32,
+    number: u32,
+    operation: u8,
+    of: u32,
+) -> Result<(), AllocError> {
+    let [a, b, c, d] = of.to_be_bytes();
+    put_frame(out, 1, &[generation, number], &[operation, a, b, c, d])
 }
 
 /// Requests a lock, and waits for its grant.

@@ -1,5 +1,6 @@
 //! Hostile tabs that forge frames, or send bytes that are no frame. They speak bytes alone.
 
+use crate::foreign::{put_end, put_frame, put_probe, put_report};
 use std::alloc::{AllocError, Global};
 use std::io;
 use std::io::{Read, Write};
@@ -31,40 +32,6 @@ pub(crate) static OTHER_COUNTER: &str = "OTHER_COUNTER";
 /// Frame of an unknown kind, and a length that no frame has.
 const GARBAGE: [u8; 10] = [0, 0, 0, 2, 1, 99, 0xFF, 0xFF, 0xFF, 0xFF];
 
-/// Appends a frame of a kind, with numbers and then bytes.
-fn put_frame(out: &mut Vec<u8>, kind: u8, numbers: &[u32], bytes: &[u8]) -> Result<(), AllocError> {
-    let len = numbers.len().wrapping_mul(4).wrapping_add(bytes.len());
-    let len = u32::try_from(len).unwrap_or(0).wrapping_add(2);
-    out.extend_from_slice(&len.to_be_bytes())?;
-    out.extend_from_slice(&[1, kind])?;
-    for number in numbers {
-        out.extend_from_slice(&number.to_be_bytes())?;
-    }
-    out.extend_from_slice(bytes)
-}
-
-/// Appends a report without entries.
-fn put_report(out: &mut Vec<u8>, generation: u32, base: u32) -> Result<(), AllocError> {
-    put_frame(out, 2, &[generation, base], &[0, 0])
-}
-
-/// Appends a probe for the exclusive lock `f`.
-fn put_probe(out: &mut Vec<u8>, generation: u32, number: u32) -> Result<(), AllocError> {
-    put_frame(out, 1, &[generation, number], &[1, 2, 1, 1, b'f'])
-}
-
-/// Appends a release (2) or an abort (3) of a number.
-fn put_end(
-    out: &mut Vec<u8>,
-    generation: u32,
-    number: u32,
-    operation: u8,
-    of: u32,
-) -> Result<(), AllocError> {
-    let [a, b, c, d] = of.to_be_bytes();
-    put_frame(out, 1, &[generation, number], &[operation, a, b, c, d])
-}
-
 /// Appends a probe and its release in turn, and out of turn a release and an abort of the honest tabs' numbers.
 fn put_turn(out: &mut Vec<u8>, number: u32) -> Result<(), AllocError> {
     let next = number.wrapping_add(1);
@@ -95,7 +62,7 @@ fn are_over<R: Host>(rt: &R, directory: &str, counter: &str) -> io::Result<bool>
 }
 
 /// Ends a link, and reads the bytes that still come: a link with unread bytes would end as a fault.
-fn leave(link: &UnixStream) -> io::Result<()> {
+pub(crate) fn leave(link: &UnixStream) -> io::Result<()> {
     link.shutdown(Shutdown::Both)?;
     let mut buffer = [0; 4096];
     let mut reader = link;

@@ -9,6 +9,8 @@ mod hostile;
 #[cfg(test)]
 mod links;
 #[cfg(test)]
+mod order;
+#[cfg(test)]
 mod running;
 #[cfg(test)]
 mod stage;

@@ -94,7 +94,7 @@ fn are_answered(link: &UnixStream) -> io::Result<bool> {
     Ok((next.wrapping_sub(1), others) == (REQUESTS, 1))
 }
 
-/// Starts a broker of two lanes, lets lane 1 serve once, and then makes it busy.
+/// Starts a broker of two lanes and two shards, lets lane 1 serve once, and then makes it busy.
 fn make_busy(alloc: Global, link: &UnixStream) -> io::Result<bool> {
     let mut out = link;
     out.write_all(&START)?;
@@ -122,7 +122,7 @@ fn a_busy_lane_leaves_no_other_waiting(rt: HostRuntime) {
     let (answered, ran) = thread::join(
         &rt,
         || accept_broker(alloc, &listener),
-        move || run_broker(rt, alloc, socket, 2, 1, 65_536),
+        move || run_broker(rt, alloc, socket, 2, 2, 65_536),
     );
     fs::remove_file(&rt, socket).expect(&rt, "the socket goes");
     assert_eq!(&rt; answered.ok(), Some(true));

@@ -1,6 +1,6 @@
 //! Work of the program, by the words of a process.
 
-use crate::{foreign, hostile};
+use crate::{foreign, hostile, order};
 use std::io;
 use wl_process::{Host, ProcessFault};
 use wl_process_broker::run_broker;
@@ -89,6 +89,8 @@ fn be_stranger<R: Host>(rt: &R, socket: &str, script: &str) -> Option<io::Result
         "GARBAGE" => Some(hostile::rave(rt, socket)),
         "TALKER" => Some(hostile::talk(rt, socket, directory)),
         "CLAIMER" => Some(hostile::claim(rt, socket, directory)),
+        "POSTER" => Some(order::request_and_post(rt, socket)),
+        "PROBER" => Some(order::hear_and_probe(rt, socket)),
         _ => None,
     }
 }

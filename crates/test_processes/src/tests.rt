@@ -254,6 +254,28 @@ fn hostile_tabs_take_no_lock(rt: HostRuntime) {
     assert_eq!(&rt; other.as_str(), ROUNDS_OF_TWO, "of {OTHER_COUNTER}");
 }
 
+/// Plays a tab that requests and releases a lock, each with a post behind it, and one that probes the lock when it hears the post.
+fn post_and_probe(rt: &HostRuntime, name: &str, lanes: &str, shards: &str) -> io::Result<Played> {
+    let script = "start\nopen https://a.test/ DIR/POSTER\nopen https://a.test/ DIR/PROBER\njoin\n";
+    let stage = Stage::new(rt, name, script)?;
+    let played = stage.play_over(rt, lanes, shards, "65536")?;
+    stage.clear(rt)?;
+    Ok(played)
+}
+
+/// No post overtakes a request or a release before it on its link.
+#[test]
+fn a_post_comes_behind_the_commands_before_it(rt: HostRuntime) {
+    let played = post_and_probe(&rt, "posts", "1", "1").expect(&rt, "a play");
+    played.tells(&rt, &["ended 1 0\n", "ended 2 0\n"]);
+}
+
+#[test]
+fn a_post_comes_behind_them_over_four_lanes(rt: HostRuntime) {
+    let played = post_and_probe(&rt, "posts_over_four", "4", "2").expect(&rt, "a play");
+    played.tells(&rt, &["ended 1 0\n", "ended 2 0\n"]);
+}
+
 /// Snapshots of a tab that holds a lock and has another request, of tab 1 and of tab 2.
 static HELD_BY_ONE: &str =
     "{\"held\":[{\"clientId\":\"1\",\"mode\":\"exclusive\",\"name\":\"f\"}],\"pending\":[{\"clientId\":\"1\",\"mode\":\"shared\",\"name\":\"f\"}]}\n";
