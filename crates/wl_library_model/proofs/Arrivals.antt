@@ -74,7 +74,7 @@ deliver-moved w s t x g y l = acts-moved w t (after_frame (frame_of x) (tab_of w
 undelivered-moved : (w : WorldState) (s : Sender) (t : ℕ) (x : Downward) → Good w → is_sent (to_tab s t x) w.bag ≡ false → Moved w (after_event w (delivers s t x)) t (tab_of w t)
 undelivered-moved w s t x g n = subst (λ v. Moved w v t (tab_of w t)) (sym (undelivered w s t x n)) (moved-none w t g)
 
--- What the bag has of the tab stays the same if its tab stays in its generation.
+-- A tab that stays in its generation keeps its report and its commands in the bag.
 kept-known : (w v : WorldState) (t : ℕ) (b : TabState) (G : ℕ → Type 0) → Good w → Later w v → was_opened w t ≡ true → LiveCommand (tab_of w t) b G → GoesOn (tab_of w t) b → Known w t (tab_of w t) → Known v t b
 kept-known w v t b G g x o c goes k = record {
   commands = λ lt n l. ⊎_elim

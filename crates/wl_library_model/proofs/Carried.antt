@@ -1,4 +1,4 @@
--- Frames and clients stay those of a later world.
+-- Frames and clients that fit a world also fit each later world.
 use Rattle.std.proofs.Common.{◌≡◌, ◌⊎◌, inl, inr, ⊎_elim, ℕ, ◌<◌, ◌≤◌, true, false, cond, length, sym, ap, ◌∙◌, subst, arith}
 use Rattle.std.specs.Prelude.{◌==◌}
 use Rattle.std.proofs.lemmas.Bool.{cases_Bool, false_from_ne_true, eqb-true}
@@ -95,7 +95,7 @@ each_line P t y lines now all u = either (P u) (u == t) y (lines u) (λ e. subst
 pub each_other : (P : ℕ → Line → Type 0) (t : ℕ) (y : Line) (lines : ℕ → Line) → P t y → ((u : ℕ) → (u == t) ≡ false → P u (lines u)) → (u : ℕ) → P u (cond (u == t) y (lines u))
 each_other P t y lines now others u = either (P u) (u == t) y (lines u) (λ e. subst (λ z. P z y) (sym (eqb-true u t e)) now) (λ e. others u e)
 
--- What an honest tab has sent
+-- Frames sent by an honest tab
 
 -- Once the tab has entered a generation, its report and each of its commands that is not settled are in the bag.
 pub record Known (w : WorldState) (t : ℕ) (a : TabState) : Type 0 where

@@ -114,7 +114,7 @@ idle-change w (Some b) e g t p c h r =
     let f = subst (λ z. SeatsFit w (broker_of (record w { broker = z }))) e g.fit.seats in
     idle-taking w t w.kernel b _ (repeat-harmless w b s f t p c h (g.fit.low t) r)
 
--- What the hub notes of the sender
+-- Early tabs
 
 noted-in : (e : Effect) (t : ℕ) (ts : List ℕ) (n u : ℕ) → In u (noted (verdict_of e) t ts n).0 → In u ts ⊎ (u ≡ t)
 noted-in (said.Dropped (reason.AtBroker Recovering)) t ts n u =
@@ -277,7 +277,7 @@ posted-hub w h t p ns others i = record {
   early = i.early;
 }
 
--- The frame of a living tab, which is the sender of those that have arrived.
+-- The hub handles a frame of the living tab whose frames have arrived.
 routed-sim : (l : Library) (w : WorldState) (f : Frame) (h : HubState) → Sim l w → IsHubOf w h → is_some (route_up_refusal h.sender f h.supervised.kernel) ≡ false → (IsHonest w h.sender → IsOnItsWayUp w h.sender f)
     → Sim (with_hub (stepped (routed_step (routed_up h.sender f h.supervised.kernel) h.supervised) h) l) (run (frame_events (is_taken l h.sender) h.supervised.kernel h.sender f) w)
 routed-sim l w (frame.Command c) h s i n from =

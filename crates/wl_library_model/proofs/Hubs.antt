@@ -72,7 +72,7 @@ hub-moves l w v h s x i = record {
   known = λ t. known-later w v s.good x.later t (x.tabs t) (s.known t);
 }
 
--- A hub that differs in nothing that is told of it.
+-- A hub with the same kernel, broker and frames.
 pub same-hub : (w : WorldState) (h g : HubState) → g.supervised ≡ h.supervised → g.outputs ≡ h.outputs → g.sender ≡ h.sender → ((f : Frame) → In f g.arrived → In f h.arrived) → ((t : ℕ) → In t g.early → In t h.early) → IsHubOf w h → IsHubOf w g
 same-hub w h g s o n a e i = record {
   kernel = ap (λ z. z.kernel) s ∙ i.kernel;

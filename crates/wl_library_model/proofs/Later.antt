@@ -1,4 +1,4 @@
--- What every event keeps: messages stay in the bag, tabs stay opened and dead, and a tab goes on.
+-- Every event leads to a later world: messages stay in the bag, and tabs stay opened or dead.
 use Rattle.std.proofs.Common.{◌≡◌, ⊎_elim, ℕ, ◌+◌, ◌<◌, ◌≤◌, Bool, true, false, not, ◌&&◌, List, [], ◌∷◌, length, length-append, map, is_some, refl, sym, ap, ◌∙◌, subst, arith, le_refl}
 use Rattle.std.specs.Prelude.{◌==◌, nat_lt}
 use Rattle.std.proofs.lemmas.Bool.{cases_Bool, and_parts, and_from, not-true, ltb-true}
@@ -82,7 +82,7 @@ later-on u v w x y = record {
 abbrev pub SeatsFit : WorldState → BrokerState → Type 0
 SeatsFit w b = (t : ℕ) → IsHonest w t → has_joined b t ≡ true → (tab_of w t).report.base ≤ next_of b t
 
--- What the library needs of each world that it reaches, beside soundness.
+-- Beside soundness, each world that the library reaches has this.
 pub record Fit (w : WorldState) : Type 0 where
   pub untold : (t : ℕ) → NoneTold (tab_of w t).statuses
   pub low : (t : ℕ) → (tab_of w t).report.base ≤ length (tab_of w t).issued

@@ -64,7 +64,7 @@ moved-on u v w t x y p q = record {
   others = λ n d. q.others n d ∙ p.others n d;
 }
 
--- What an event keeps beside the tab.
+-- Kernel, broker and the tabs that were taken over are the same after an event of a tab.
 pub record Beside (w v : WorldState) : Type 0 where
   pub kernel : v.kernel ≡ w.kernel
   pub broker : v.broker ≡ w.broker

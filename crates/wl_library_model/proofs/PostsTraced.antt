@@ -89,7 +89,7 @@ posted-more past x s number name bytes p = record {
 routed-more : (past : List Step) (x : Step) (t s : ℕ) → WasRouted past t s → WasRouted (past ++ x ∷ []) t s
 routed-more past x t s p = record { before = p.before; later = p.later ++ x ∷ []; split = ap (λ z. z ++ x ∷ []) p.split ∙ append_assoc p.before (HubAdvances ∷ p.later) (x ∷ []); hears = p.hears }
 
--- Who is honest after the step was so before.
+-- A tab that is honest after the step was honest before it.
 abbrev Fewer : Library → Library → Type 0
 Fewer l m = (s : ℕ) → is_taken m s ≡ false → is_taken l s ≡ false
 

@@ -71,7 +71,7 @@ opens t page is_pair l =
 abbrev pub closes : ℕ → Library → Library
 closes t l = if lives l t then with_hub (hub_closed t l.hub) l else l
 
--- `Hub::receive`. The next `n` frames on the way from a living tab arrive, once those that arrived before are handled.
+-- `Hub::receive`. The next `n` frames of a living tab arrive. If earlier frames are not handled yet, nothing happens.
 abbrev pub hub_fed : ℕ → ℕ → List Frame → Library → Library
 hub_fed t n [] l =
     let x = l.lines t in
@@ -135,7 +135,7 @@ rest_of (e ∷ es) = es
 abbrev pub takes_event : ClientState → ClientState
 takes_event c = record c { events = rest_of c.events }
 
--- `Client::receive`. The next `n` frames on the way to the client arrive, once those that arrived before are handled.
+-- `Client::receive`. The next `n` frames for the client arrive. If earlier frames are not handled yet, nothing happens.
 abbrev pub client_fed : ℕ → List Frame → Line → Line
 client_fed n [] x = record x { client = record x.client { arrived = take n x.down }; down = drop n x.down }
 client_fed n (f ∷ fs) x = x

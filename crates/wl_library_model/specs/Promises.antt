@@ -1,4 +1,4 @@
--- What the laws of the world say of the library: exclusion, own locks, the order of commands, and separate partitions.
+-- The laws of the world, stated of the library: exclusion, own locks, the order of commands, and separate partitions.
 use Rattle.std.specs.Prelude.{◌≡◌, ℕ, ◌<◌, List, [], ◌∷◌, ◌++◌, Bool, true, false, length, drop, Option, Some}
 use Rattle.wl_origin.specs.Order.{Pair}
 use Rattle.wl_draft.specs.declared.mode.Mode.{Mode}
