@@ -76,6 +76,7 @@ mutants: ## kills the mutants of CRATES, or of all crates
 
 test: ## the gate: proves every crate, kills mutants, runs every test and the program itself
 	@python3 tools/mutants.py --fit
+	@python3 tools/definitions.py --check
 	RT_JOBS=$${RT_JOBS:-$$(nproc)} rt ci
 	@python3 tools/mutants.py --gate
 	@python3 tools/refuse.py --gate
