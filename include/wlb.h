@@ -86,6 +86,41 @@ enum wlb_status {
     WLB_SHORT_BUFFER = 27           /* a capacity is too small */
 };
 
+/* Returns the name of a status, such as "WLB_MEMORY", for messages. Returns "unknown" for any other number. */
+static inline const char *wlb_status_name(int32_t status) {
+    switch (status) {
+        case WLB_OK: return "WLB_OK";
+        case WLB_IDLE: return "WLB_IDLE";
+        case WLB_MEMORY: return "WLB_MEMORY";
+        case WLB_NO_HANDLE: return "WLB_NO_HANDLE";
+        case WLB_BUSY: return "WLB_BUSY";
+        case WLB_BAD_FRAME: return "WLB_BAD_FRAME";
+        case WLB_DROPPED: return "WLB_DROPPED";
+        case WLB_NO_TAB: return "WLB_NO_TAB";
+        case WLB_BAD_TEXT: return "WLB_BAD_TEXT";
+        case WLB_BAD_URL: return "WLB_BAD_URL";
+        case WLB_OPAQUE_ORIGIN: return "WLB_OPAQUE_ORIGIN";
+        case WLB_NUMBER_TAKEN: return "WLB_NUMBER_TAKEN";
+        case WLB_TOO_MANY_LIVING: return "WLB_TOO_MANY_LIVING";
+        case WLB_PARTITION_FULL: return "WLB_PARTITION_FULL";
+        case WLB_GENERATIONS_USED_UP: return "WLB_GENERATIONS_USED_UP";
+        case WLB_NOT_WELCOMED: return "WLB_NOT_WELCOMED";
+        case WLB_NOT_SUPPORTED: return "WLB_NOT_SUPPORTED";
+        case WLB_NAME_TOO_LONG: return "WLB_NAME_TOO_LONG";
+        case WLB_TOO_MANY: return "WLB_TOO_MANY";
+        case WLB_NUMBERS_USED_UP: return "WLB_NUMBERS_USED_UP";
+        case WLB_HELD: return "WLB_HELD";
+        case WLB_NOTHING: return "WLB_NOTHING";
+        case WLB_NO_CHANNEL: return "WLB_NO_CHANNEL";
+        case WLB_CLOSED: return "WLB_CLOSED";
+        case WLB_DATA_TOO_LONG: return "WLB_DATA_TOO_LONG";
+        case WLB_TOO_MANY_CHANNELS: return "WLB_TOO_MANY_CHANNELS";
+        case WLB_POSTS_USED_UP: return "WLB_POSTS_USED_UP";
+        case WLB_SHORT_BUFFER: return "WLB_SHORT_BUFFER";
+        default: return "unknown";
+    }
+}
+
 /* ---- Hub */
 
 /* Handle of a hub. */
@@ -130,9 +165,9 @@ int32_t wlb_hub_close(wlb_hub *hub, uint16_t tab);
  * WLB_NO_HANDLE, WLB_NO_TAB */
 int32_t wlb_hub_receive(wlb_hub *hub, uint16_t tab, const uint8_t *bytes, size_t length);
 
-/* Does one piece of work: tells the broker of a death, greets a tab again whose commands came too early after a restart, or
- * handles the oldest frame that waits. Deaths come first. Call it after wlb_hub_close, too. While no broker
- * is up, deaths wait, and frames for the broker are dropped; clients put them out again in the next generation.
+/* Does one piece of work: tells the broker of a death, greets a tab again whose commands came before its partition was active,
+ * or handles the oldest frame that waits. Deaths come first. Call it after wlb_hub_close, too. While no broker is up,
+ * deaths wait, and frames for the broker are dropped; clients put them out again in the next generation.
  * WLB_OK         something was done: call again
  * WLB_IDLE       there is nothing to do
  * WLB_MEMORY     call again

@@ -165,6 +165,21 @@ def check_statuses(_installed):
     same_names("wlb.h", "statuses and kinds of events", set(named) - set(LIMITS), known - set(LIMITS))
 
 
+def check_status_names(installed):
+    """Each status has its name. A number that is no status has none."""
+    statuses = HEADER.read_text(encoding="utf-8").partition("enum wlb_status {")[2].partition("}")[0]
+    named = re.findall(r"^    (WLB_\w+) = (\d+)", statuses, re.MULTILINE)
+    wanted = "".join(f"{name}\n" for name, _ in named) + "unknown\nunknown\n"
+    numbers = ", ".join([*(number for _, number in named), "-1", str(len(named))])
+    source = installed.folder / "status_names.c"
+    body = f"    const int numbers[] = {{{numbers}}};\n    for (size_t n = 0; n < sizeof numbers / sizeof *numbers; n++)\n"
+    body += "        puts(wlb_status_name(numbers[n]));\n    return 0;\n"
+    source.write_text(f"#include <stdio.h>\n#include <wlb.h>\nint main(void) {{\n{body}}}\n", encoding="utf-8")
+    program = installed.compile(source)
+    if program:
+        ends("status_names.c", installed.play(program), wanted)
+
+
 def check_cplusplus(installed):
     """The header is C++, too. A C++ program links the libraries."""
     if not shutil.which("c++"):
@@ -273,6 +288,7 @@ def check_fuzz_finds(installed):
 CHECKS = [
     check_limits,
     check_statuses,
+    check_status_names,
     check_cplusplus,
     check_names,
     check_readme,

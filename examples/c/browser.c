@@ -49,7 +49,7 @@ static const uint8_t *bytes(const char *text) { return (const uint8_t *)text; }
 
 static void need(int32_t status, const char *call) {
     if (status == WLB_OK) return;
-    fprintf(stderr, "%s returned %d\n", call, (int)status);
+    fprintf(stderr, "%s returned %s\n", call, wlb_status_name(status));
     _exit(3);
 }
 

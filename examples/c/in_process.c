@@ -21,7 +21,7 @@ static uint8_t frame[WLB_FRAME_BYTES];
 
 static void check(int32_t wanted, int32_t status, const char *call) {
     if (status == wanted) return;
-    printf("%s returned %d, not %d\n", call, (int)status, (int)wanted);
+    printf("%s returned %s, not %s\n", call, wlb_status_name(status), wlb_status_name(wanted));
     exit(1);
 }
 
