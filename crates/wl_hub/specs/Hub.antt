@@ -19,13 +19,13 @@ use Rattle.wl_hub.specs.declared.fault.OpenRefusal.{OpenRefusal}
 use Rattle.wl_hub.specs.declared.fault.OpenRefusal.TheVariants.{Origin, Tab}
 use Rattle.wl_hub.specs.declared.hub.HubStatus.{HubStatus}
 use Rattle.wl_hub.specs.declared.receiving.Progress.{Progress}
-use Rattle.wl_hub.specs.declared.receiving.Progress.TheVariants.{Idle, Told, Greeted, Handled, Refused}
+use Rattle.wl_hub.specs.declared.receiving.Progress.TheVariants.{Idle, Told, Greeted, Postponed, Handled, Refused}
 use Rattle.wl_hub.specs.declared.receiving.Verdict.{Verdict}
 use Rattle.wl_hub.specs.declared.receiving.Verdict.TheVariants.{Other}
-use Rattle.wl_hub.specs.Early.{verdict_of, noted, greeted_next, rest_after}
+use Rattle.wl_hub.specs.Early.{verdict_of, noted, greeted_next, rest_after, postponed}
 use Rattle.wl_kernel_supervisor.specs.Supervising.{message_effect}
 use Rattle.wl_kernel.specs.declared.routes.Routed.TheVariants.{Broker, Tabs}
-use Rattle.wl_kernel_supervisor.specs.SupervisedStates.{SupervisedState, without_broker, with_kernel, after_message, frames_after_message, after_death, frames_at_death, after_stop, after_start, frames_at_start}
+use Rattle.wl_kernel_supervisor.specs.SupervisedStates.{SupervisedState, is_active_for, without_broker, with_kernel, after_message, frames_after_message, after_death, frames_at_death, after_stop, after_start, frames_at_start}
 
 pub record HubState : Type 0 where
   pub supervised : SupervisedState
@@ -34,7 +34,7 @@ pub record HubState : Type 0 where
   pub sender : ℕ  -- the tab that sent the arrived frames
   pub arrived : List Frame  -- frames that the hub has still to handle
   pub early : List ℕ  -- tabs whose commands the broker dropped, since their partition recovered
-  pub greetings : ℕ  -- how many of these, from the front, are to be greeted
+  pub greetings : ℕ  -- how many of these, from the front, may be due for a greeting
   pub outputs : List (ℕ × Frame)  -- each with its tab, oldest first
 
 abbrev pub new_hub : HubState
@@ -107,7 +107,7 @@ routed_step (Tabs heard) s = record { supervised = s; sent = heard; verdict = Ot
 routed_step (Broker (frame.Stamped x)) s = record {
   supervised = after_message x s;
   sent = from_broker (frames_after_message x s);
-  verdict = verdict_of (message_effect x s.broker);
+  verdict = verdict_of (is_active_for x.tab (after_message x s)) (message_effect x s.broker);
 }
 routed_step (Broker f) s = record { supervised = s; sent = []; verdict = Other }
 
@@ -123,7 +123,7 @@ told_step t s = record { supervised = after_death t s; sent = from_broker (frame
 abbrev pub stepped : Step → HubState → HubState
 stepped x h = record h { supervised = x.supervised; outputs = h.outputs ++ x.sent }
 
--- A partition may become active when a tab joins or a death is told. Then the early tabs are to be greeted.
+-- A partition may become active when a tab joins or a death is told. Then the early tabs of active partitions are greeted.
 abbrev pub with_verdict : Verdict → ℕ → HubState → HubState
 with_verdict v t h = let r = noted v t h.early h.greetings in record h { early = r.0; greetings = r.1 }
 
@@ -134,13 +134,21 @@ after_first h (f ∷ fs) =
     let x = frame_step h.sender f h.supervised in
     with_verdict x.verdict h.sender (stepped x (record h { arrived = fs }))
 
--- An early tab is greeted. It then sends its commands again.
-abbrev pub after_greeting : HubState → Option ℕ → HubState
-after_greeting h None = after_first h h.arrived
-after_greeting h (Some t) =
+-- An early tab is greeted.
+abbrev pub greeted : ℕ → HubState → HubState
+greeted t h =
     let r = rest_after h.greetings h.early in
     sends ((t, frame.Hello (record { generation = h.supervised.kernel.generation })) ∷ [])
     (record h { early = r.0; greetings = r.1 })
+
+abbrev pub postponing : HubState → HubState
+postponing h = let r = postponed h.greetings h.early in record h { early = r.0; greetings = r.1 }
+
+-- The next early tab is greeted if its partition is active, and then sends its commands again. Otherwise it stays early.
+abbrev pub after_greeting : HubState → Option ℕ → HubState
+after_greeting h None = after_first h h.arrived
+after_greeting h (Some t) =
+    if is_active_for t h.supervised then greeted t h else postponing h
 
 -- The broker hears of the oldest death that it was not told of.
 abbrev pub after_told : HubState → List ℕ → HubState
@@ -162,7 +170,7 @@ progress_at h (f ∷ fs) = handling (route_up_refusal h.sender f h.supervised.ke
 
 abbrev pub progress_after : HubState → Option ℕ → Progress
 progress_after h None = progress_at h h.arrived
-progress_after h (Some t) = Greeted t
+progress_after h (Some t) = if is_active_for t h.supervised then Greeted t else Postponed t
 
 abbrev pub progress_from : HubState → List ℕ → Progress
 progress_from h [] = progress_after h (greeted_next h.greetings h.early)

@@ -2,18 +2,18 @@
 
 ghost use Rattle.std.specs.Prelude.{◌≡◌, ◌<◌, [], length, OnOk};
 ghost use Rattle.std.specs.VecDeque.{deque_len, deque_capacity};
-ghost use Rattle.wl_hub.specs.Early.{greeted_next, noted, rest_after};
+ghost use Rattle.wl_hub.specs.Early.{greeted_next, noted, postponed, rest_after};
 
 use crate::receiving::Verdict;
 use std::alloc::{AllocError, Global};
 use std::collections::VecDeque;
 
-/// Tabs whose commands came too early. A partition may have become active when a tab joins or a death is told,
-/// so these tabs are then greeted again.
+/// Tabs whose commands came too early. A partition may become active when a tab joins or a death is told. Then the
+/// tabs of active partitions are greeted again.
 #[derive(Drop)]
 pub(crate) struct EarlyTabs {
     pub(crate) tabs: VecDeque<u16>,
-    /// The number of tabs in front that are to be greeted.
+    /// The number of tabs in front whose greetings may be due.
     pub(crate) greetings: usize,
 }
 
@@ -52,12 +52,12 @@ impl EarlyTabs {
                 }
                 self.tabs.push_back_reserved(tab);
             }
-            Verdict::Joined => self.greet_all(),
+            Verdict::Active => self.greet_all(),
             Verdict::Other => {}
         }
     }
 
-    /// Lets all tabs be greeted.
+    /// Lets all tabs whose partitions are active be greeted.
     pub(crate) fn greet_all(&mut self)
         ensures tabs { self.new.tabs.items ≡ self.old.tabs.items }
         ensures greetings { self.new.greetings ≡ length self.old.tabs.items }
@@ -65,19 +65,39 @@ impl EarlyTabs {
         self.greetings = self.tabs.len();
     }
 
-    /// Removes and returns the next tab that is to be greeted.
-    pub(crate) fn next(&mut self) -> Option<u16>
-        ensures tab { result ≡ greeted_next self.old.greetings self.old.tabs.items }
-        ensures tabs { self.new.tabs.items ≡ (rest_after self.old.greetings self.old.tabs.items).0 }
-        ensures greetings { self.new.greetings ≡ (rest_after self.old.greetings self.old.tabs.items).1 }
+    /// Returns the next tab whose greeting may be due.
+    pub(crate) fn first(&self) -> Option<u16>
+        ensures { result ≡ greeted_next self.now.greetings self.now.tabs.items }
     {
         if self.greetings == 0 {
             return None;
         }
-        let Some(tab) = self.tabs.pop_front() else {
-            return None;
+        self.tabs.front().copied()
+    }
+
+    /// Removes the tab that `first` returns.
+    pub(crate) fn remove_first(&mut self)
+        ensures tabs { self.new.tabs.items ≡ (rest_after self.old.greetings self.old.tabs.items).0 }
+        ensures greetings { self.new.greetings ≡ (rest_after self.old.greetings self.old.tabs.items).1 }
+    {
+        if self.greetings == 0 {
+            return;
+        }
+        let Some(_tab) = self.tabs.pop_front() else {
+            return;
         };
         self.greetings -= 1;
-        Some(tab)
+    }
+
+    /// Moves the tab that `first` returns to the end, since its partition still recovers.
+    pub(crate) fn postpone_first(&mut self)
+        ensures tabs { self.new.tabs.items ≡ (postponed self.old.greetings self.old.tabs.items).0 }
+        ensures greetings { self.new.greetings ≡ (postponed self.old.greetings self.old.tabs.items).1 }
+    {
+        if self.greetings == 0 || self.tabs.is_empty() {
+            return;
+        }
+        self.tabs.rotate_left(1);
+        self.greetings -= 1;
     }
 }

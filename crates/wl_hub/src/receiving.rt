@@ -27,8 +27,10 @@ pub enum Progress {
     Idle,
     /// The broker was told of this tab's death.
     Told(u16),
-    /// This tab was greeted again, since its partition may have become active.
+    /// This tab was greeted again, since its command came too early and its partition is now active.
     Greeted(u16),
+    /// The command of this tab came too early, and its partition still recovers.
+    Postponed(u16),
     /// A frame was handled.
     Handled,
     /// A frame was dropped for this reason. The caller has to close its sender.
@@ -40,8 +42,8 @@ pub enum Progress {
 pub(crate) enum Verdict {
     /// It dropped a command, since the tab's partition recovers.
     Early,
-    /// The tab has joined.
-    Joined,
+    /// The tab has joined, and its partition is active.
+    Active,
     Other,
 }
 
@@ -85,8 +87,8 @@ impl Hub {
         Err(ReceiveFault::Frame(fault))
     }
 
-    /// Tells the broker of a death, greets a tab whose command came too early, or handles the oldest arrived
-    /// frame, in this order. Fails if out of memory, and then changes nothing.
+    /// Tells the broker of a death, greets or postpones a tab whose command came too early, or handles the
+    /// oldest arrived frame, in this order. Fails if out of memory, and then changes nothing.
     pub fn advance(&mut self) -> Result<Progress, AllocError>
         ensures progress { IfOk result (λ p. p ≡ progress_of self.old) }
         ensures state { OnOk result (self.new ≡ advanced self.old) }
@@ -107,16 +109,21 @@ impl Hub {
         Ok(Progress::Told(tab))
     }
 
-    /// Greets the next early tab, or handles the oldest arrived frame if there is none.
+    /// Greets or postpones the next early tab, or handles the oldest arrived frame if there is none.
     fn greet_or_handle(&mut self) -> Result<Progress, AllocError>
         ensures progress { IfOk result (λ p. p ≡ progress_after self.old (greeted_next self.old.greetings self.old.early)) }
         ensures state { OnOk result (self.new ≡ after_greeting self.old (greeted_next self.old.greetings self.old.early)) }
         ensures err { OnErr result (self.new ≡ self.old) }
     {
         self.outputs.make_room()?;
-        let Some(tab) = self.early.next() else {
+        let Some(tab) = self.early.first() else {
             return self.handle_first();
         };
+        if !self.supervised.is_active_for(tab) {
+            self.early.postpone_first();
+            return Ok(Progress::Postponed(tab));
+        }
+        self.early.remove_first();
         let generation = self.supervised.tabs().generation();
         self.outputs.put(tab, Frame::Hello(Hello { generation }));
         Ok(Progress::Greeted(tab))
@@ -168,7 +175,7 @@ fn handle(
                 unreachable!()
             };
             let outcome = supervised.take(alloc, &stamped)?;
-            let verdict = verdict_of(&outcome.said);
+            let verdict = verdict_of(&outcome.said, supervised.is_active_for(stamped.tab));
             outputs.put_outs(outcome.outs);
             Ok((Progress::Handled, verdict))
         }
@@ -181,13 +188,13 @@ fn handle(
     }
 }
 
-/// Returns what an effect says of the sender.
-fn verdict_of(said: &Effect) -> Verdict
-    ensures { result ≡ verdict_of said.now }
+/// Returns what an effect says of the sender, given whether the sender's partition is now active.
+fn verdict_of(said: &Effect, is_active: bool) -> Verdict
+    ensures { result ≡ verdict_of is_active said.now }
 {
     match said {
         Effect::Dropped(Reason::AtBroker(Dropped::Recovering)) => Verdict::Early,
-        Effect::Joined { .. } => Verdict::Joined,
+        Effect::Joined { .. } if is_active => Verdict::Active,
         _ => Verdict::Other,
     }
 }

@@ -1,9 +1,9 @@
 -- States of the supervisor with its broker: the kernel, and the broker that is up.
-use Rattle.std.specs.Prelude.{ℕ, List, [], Option, Some, None, if◌then◌else◌}
+use Rattle.std.specs.Prelude.{ℕ, List, [], Bool, false, ◌&&◌, Option, Some, None, if◌then◌else◌}
 use Rattle.wl_grammar.specs.declared.frame.Stamped.{Stamped}
 use Rattle.wl_grammar.specs.declared.frame.Addressed.{Addressed}
-use Rattle.wl_broker.specs.Broker.{BrokerState}
-use Rattle.wl_kernel.specs.Kernel.{KernelState}
+use Rattle.wl_broker.specs.Broker.{BrokerState, is_active}
+use Rattle.wl_kernel.specs.Kernel.{KernelState, is_opened, partition_number}
 use Rattle.wl_kernel_supervisor.specs.Changes.{Change, start_change, stop_change, message_change, death_change}
 
 pub record SupervisedState : Type 0 where
@@ -18,6 +18,15 @@ with_broker k b = record { kernel = k; broker = Some b }
 
 abbrev pub with_kernel : KernelState → SupervisedState → SupervisedState
 with_kernel k s = record { kernel = k; broker = s.broker }
+
+-- A broker is up and grants locks in the partition with this number.
+abbrev pub is_active_at : ℕ → Option BrokerState → Bool
+is_active_at p None = false
+is_active_at p (Some b) = is_active b p
+
+-- A broker is up and grants locks in the tab's partition.
+abbrev pub is_active_for : ℕ → SupervisedState → Bool
+is_active_for t s = is_opened s.kernel t && is_active_at (partition_number s.kernel t) s.broker
 
 -- The state after a change.
 abbrev pub changed : Change → SupervisedState → SupervisedState

@@ -5,7 +5,7 @@ ghost use Rattle.wl_draft.specs.Refusals.{RefusesBy};
 ghost use Rattle.wl_kernel.specs.Kernel.{no_tabs, number_for, open_refusal, opened, is_living, killed};
 ghost use Rattle.wl_world_messages.specs.declared.effect.Effect.TheVariants as said;
 ghost use Rattle.wl_kernel_supervisor.specs.Supervising.{kill_effect, stop_effect, start_effect, message_effect, death_effect, taken_said};
-ghost use Rattle.wl_kernel_supervisor.specs.SupervisedStates.{without_broker, with_kernel, after_stop, after_start, frames_at_start, after_message, frames_after_message, after_death, frames_at_death};
+ghost use Rattle.wl_kernel_supervisor.specs.SupervisedStates.{without_broker, with_kernel, is_active_for, after_stop, after_start, frames_at_start, after_message, frames_after_message, after_death, frames_at_death};
 ghost use Rattle.wl_limits.specs.declared.brokers.TheConstants.{LAST_GENERATION};
 
 use std::alloc::{AllocError, Global};
@@ -66,6 +66,20 @@ impl SupervisedBroker {
         ensures { result ≡ is_some self.now.broker }
     {
         self.supervisor.is_up()
+    }
+
+    /// Returns whether a broker is up and grants locks in the tab's partition: each of the partition's tabs that it
+    /// started with has joined or died.
+    pub fn is_active_for(&self, tab: u16) -> bool
+        ensures { result ≡ is_active_for tab self.now }
+    {
+        let Some(partition) = self.supervisor.tabs().partition_number(tab) else {
+            return false;
+        };
+        match &self.broker {
+            Some(broker) => broker.is_active(partition),
+            None => false,
+        }
     }
 
     /// Opens a tab and returns the number of its partition.

@@ -14,6 +14,7 @@ use Rattle.wl_agent.specs.Tab.{ask_refusal, asked}
 use Rattle.wl_kernel.specs.Kernel.{KernelState}
 use Rattle.wl_kernel.specs.Routes.{route_up_refusal}
 use Rattle.wl_hub.specs.Early.{greeted_next}
+use Rattle.wl_kernel_supervisor.specs.SupervisedStates.{is_active_for}
 use Rattle.wl_hub.specs.Hub.{page_refusal}
 use Rattle.wl_client.specs.Client.{ClientState, call_refusal, after_command, is_hello_of}
 use Rattle.wl_world_model.specs.declared.event.Event.{Event}
@@ -92,7 +93,7 @@ first-none l (f ∷ fs) =
 
 greeting-none : (l : Library) (o : Option ℕ) → None-asks (greeting_events l o)
 greeting-none l None = first-none l l.hub.arrived
-greeting-none l (Some t) = refl
+greeting-none l (Some t) = either None-asks (is_active_for t l.hub.supervised) (event.Hello t ∷ []) [] (λ _. refl) (λ _. refl)
 
 telling-none : (l : Library) (ts : List ℕ) → None-asks (telling_events l ts)
 telling-none l [] = greeting-none l (greeted_next l.hub.greetings l.hub.early)

@@ -26,14 +26,14 @@ use Rattle.wl_kernel.specs.Kernel.{tab_of as tab_of_kernel}
 use Rattle.wl_kernel.specs.Routes.{frame_of, is_from_tab, route_up_refusal, tab_refusal, routed_up, hearers, heard_of, hearers_beside}
 use Rattle.wl_kernel.specs.declared.fault.RouteFault.TheVariants.{NoTab, DeadTab as DeadLink, WrongKind}
 use Rattle.wl_kernel_supervisor.specs.Changes.{Change, taking_change, message_change}
-use Rattle.wl_kernel_supervisor.specs.SupervisedStates.{SupervisedState, changed, frames_of}
+use Rattle.wl_kernel_supervisor.specs.SupervisedStates.{SupervisedState, is_active_for, changed, frames_of}
 use Rattle.wl_kernel.specs.declared.routes.Routed.TheVariants.{Tabs}
 use Rattle.wl_world_messages.specs.declared.effect.Effect.{Effect}
 use Rattle.wl_world_messages.specs.declared.effect.Effect.TheVariants as said
 use Rattle.wl_world_messages.specs.declared.effect.Reason.TheVariants as reason
 use Rattle.wl_kernel_supervisor.specs.Supervising.{message_effect}
 use Rattle.wl_hub.specs.Early.{verdict_of, noted, greeted_next}
-use Rattle.wl_hub.specs.Hub.{HubState, stepped, routed_step, with_verdict, after_first, after_greeting, after_told, advanced}
+use Rattle.wl_hub.specs.Hub.{HubState, stepped, routed_step, with_verdict, after_first, greeted, postponing, after_greeting, after_told, advanced}
 use Rattle.wl_hub.specs.Hub.{from_broker as hub_sends}
 use Rattle.wl_world_messages.specs.declared.message.Message.{Message}
 use Rattle.wl_world_messages.specs.declared.message.Message.TheVariants.{Up}
@@ -55,7 +55,7 @@ use Rattle.wl_library_model.proofs.SentAgain.{In-is_sent}
 use Rattle.wl_library_model.proofs.Later.{SeatsFit}
 use Rattle.wl_library_model.proofs.Happens.{Good, run-later}
 use Rattle.wl_library_model.proofs.Carried.{Sim, down-later, up-later}
-use Rattle.wl_library_model.proofs.Hubs.{Still, Keeps, keeps-allowed, still-event, hub-moves, pair-first, changing, change-sim, supervised-same, still-same, greet-sim, greeted-in, tell-sim}
+use Rattle.wl_library_model.proofs.Hubs.{Still, Keeps, keeps-allowed, still-event, hub-moves, pair-first, changing, change-sim, supervised-same, still-same, postpone-sim, greet-sim, greeted-in, tell-sim}
 
 -- A repeated command
 
@@ -116,19 +116,20 @@ idle-change w (Some b) e g t p c h r =
 
 -- Early tabs
 
-noted-in : (e : Effect) (t : ℕ) (ts : List ℕ) (n u : ℕ) → In u (noted (verdict_of e) t ts n).0 → In u ts ⊎ (u ≡ t)
-noted-in (said.Dropped (reason.AtBroker Recovering)) t ts n u =
+noted-in : (a : Bool) (e : Effect) (t : ℕ) (ts : List ℕ) (n u : ℕ) → In u (noted (verdict_of a e) t ts n).0 → In u ts ⊎ (u ≡ t)
+noted-in a (said.Dropped (reason.AtBroker Recovering)) t ts n u =
     either (λ zs. In u zs → In u ts ⊎ (u ≡ t)) (list_any (λ x. x == t) ts) ts (ts ++ t ∷ [])
     (λ _ i. inl i)
     (λ _ i. ⊎_elim (λ a. inl a) (λ a. inr (In-one a)) (In-append_cases ts (t ∷ []) i))
-noted-in (said.Joined m) t ts n u = λ i. inl i
-noted-in e t ts n u = λ i. inl i
+noted-in true (said.Joined m) t ts n u = λ i. inl i
+noted-in false (said.Joined m) t ts n u = λ i. inl i
+noted-in a e t ts n u = λ i. inl i
 
 -- The early tabs after a frame of tab `t`.
 routed-early : (t : ℕ) (f : Frame) (h : HubState) (u : ℕ) → let x = routed_step (routed_up t f h.supervised.kernel) h.supervised in In u (with_verdict x.verdict t (stepped x h)).early → In u h.early ⊎ (u ≡ t)
-routed-early t (frame.Command c) h u = noted-in (message_effect (record { tab = t; partition = partition_number h.supervised.kernel t; inner = up.Command c }) h.supervised.broker) t h.early h.greetings u
-routed-early t (frame.Report r) h u = noted-in (message_effect (record { tab = t; partition = partition_number h.supervised.kernel t; inner = up.Report r }) h.supervised.broker) t h.early h.greetings u
-routed-early t (frame.ReportPart r) h u = noted-in (message_effect (record { tab = t; partition = partition_number h.supervised.kernel t; inner = up.ReportPart r }) h.supervised.broker) t h.early h.greetings u
+routed-early t (frame.Command c) h u = noted-in _ (message_effect (record { tab = t; partition = partition_number h.supervised.kernel t; inner = up.Command c }) h.supervised.broker) t h.early h.greetings u
+routed-early t (frame.Report r) h u = noted-in _ (message_effect (record { tab = t; partition = partition_number h.supervised.kernel t; inner = up.Report r }) h.supervised.broker) t h.early h.greetings u
+routed-early t (frame.ReportPart r) h u = noted-in _ (message_effect (record { tab = t; partition = partition_number h.supervised.kernel t; inner = up.ReportPart r }) h.supervised.broker) t h.early h.greetings u
 routed-early t (frame.Post p) h u = λ i. inl i
 routed-early t f h u = λ i. inl i
 
@@ -337,7 +338,10 @@ first-sim l w (f ∷ fs) s e =
 
 greeting-sim : (l : Library) (w : WorldState) (o : Option ℕ) → Sim l w → is_some w.broker ≡ true → ((t : ℕ) → o ≡ Some t → is_opened w.kernel t ≡ true) → Sim (with_hub (after_greeting l.hub o) l) (run (greeting_events l o) w)
 greeting-sim l w None s u f = first-sim l w l.hub.arrived s refl
-greeting-sim l w (Some t) s u f = greet-sim l w t s u (f t refl)
+greeting-sim l w (Some t) s u f =
+    by_test (λ b. Sim (with_hub (cond b (greeted t l.hub) (postponing l.hub)) l) (run (cond b (event.Hello t ∷ []) []) w)) (is_active_for t l.hub.supervised)
+    (λ _. greet-sim l w t s u (f t refl))
+    (λ _. postpone-sim l w s)
 
 telling-sim : (l : Library) (w : WorldState) (ts : List ℕ) → Sim l w → is_some w.broker ≡ true → Sim (with_hub (after_told l.hub ts) l) (run (telling_events l ts) w)
 telling-sim l w [] s u = greeting-sim l w (greeted_next l.hub.greetings l.hub.early) s u (λ t e. s.hub.early t (greeted-in l.hub.greetings l.hub.early t e))

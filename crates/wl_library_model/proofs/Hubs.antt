@@ -14,8 +14,8 @@ use Rattle.wl_kernel.specs.Kernel.{KernelState, is_opened, stopped, living_tabs}
 use Rattle.wl_kernel.specs.Routes.{frame_of}
 use Rattle.wl_kernel_supervisor.specs.Changes.{Change, death_change, stop_change, start_change}
 use Rattle.wl_kernel_supervisor.specs.SupervisedStates.{SupervisedState, changed, frames_of}
-use Rattle.wl_hub.specs.Early.{first_of, greeted_next, after_first_of, rest_after}
-use Rattle.wl_hub.specs.Hub.{HubState, stepped, told_step, after_greeting, after_told, hub_stopped, hub_started, hub_down, hub_restarted}
+use Rattle.wl_hub.specs.Early.{first_of, greeted_next, after_first_of, rest_after, postponed_first, postponed}
+use Rattle.wl_hub.specs.Hub.{HubState, stepped, told_step, greeted, postponing, after_told, hub_stopped, hub_started, hub_down, hub_restarted}
 use Rattle.wl_hub.specs.Hub.{from_broker as hub_sends}
 use Rattle.wl_world_messages.specs.declared.message.Sender.TheVariants.{Kernel, Broker}
 use Rattle.wl_world_messages.specs.declared.message.Message.{Message}
@@ -293,13 +293,29 @@ greeted-in n ts t = either (λ o. o ≡ Some t → In t ts) (n == 0) None (first
     none-some : (t : ℕ) → None ≡ Some t → ⊥
     none-some t e = cc
 
-pub greet-sim : (l : Library) (w : WorldState) (t : ℕ) → Sim l w → is_some w.broker ≡ true → is_opened w.kernel t ≡ true → Sim (with_hub (after_greeting l.hub (Some t)) l) (after_event w (event.Hello t))
+postponed-in : (n : ℕ) (ts : List ℕ) (u : ℕ) → In u (postponed n ts).0 → In u ts
+postponed-in n ts u = either (λ (r : List ℕ × ℕ). In u r.0 → In u ts) (n == 0) (ts, n) (postponed_first n ts) (λ _ i. i) (λ _. moved ts)
+  where
+    moved : (ts : List ℕ) → In u (postponed_first n ts).0 → In u ts
+    moved [] i = i
+    moved (t ∷ ts) i = ⊎_elim (λ a. Behind a) (λ b. subst (λ z. In z (t ∷ ts)) (sym (In-one b)) Here) (In-append_cases ts (t ∷ []) i)
+
+pub postpone-sim : (l : Library) (w : WorldState) → Sim l w → Sim (with_hub (postponing l.hub) l) w
+postpone-sim l w s = record {
+  good = s.good;
+  hub = same-hub w l.hub (postponing l.hub) refl refl refl (λ f j. j) (postponed-in l.hub.greetings l.hub.early) s.hub;
+  lines = s.lines;
+  taken = s.taken;
+  known = s.known;
+}
+
+pub greet-sim : (l : Library) (w : WorldState) (t : ℕ) → Sim l w → is_some w.broker ≡ true → is_opened w.kernel t ≡ true → Sim (with_hub (greeted t l.hub) l) (after_event w (event.Hello t))
 greet-sim l w t s u o =
     let v = after_event w (event.Hello t) in
     let x = greet-still w t s.good in
     let k = greet-kernel w t in
     let i = s.hub in
-    hub-moves l w v (after_greeting l.hub (Some t)) s x (record {
+    hub-moves l w v (greeted t l.hub) s x (record {
       kernel = i.kernel ∙ sym k.0;
       broker = i.broker ∙ sym k.1;
       outputs = λ n f j. ⊎_elim

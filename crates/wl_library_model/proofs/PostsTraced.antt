@@ -29,14 +29,14 @@ use Rattle.wl_broadcast.specs.Channels.{name_at, post_frame, open_refusal, opene
 use Rattle.wl_kernel.specs.Routes.{frame_of, route_up_refusal, routed_up, hearers, heard_of}
 use Rattle.wl_kernel.specs.Welcome.{texts_of, welcome}
 use Rattle.wl_kernel.specs.declared.routes.Routed.TheVariants.{Tabs}
-use Rattle.wl_kernel_supervisor.specs.SupervisedStates.{SupervisedState}
+use Rattle.wl_kernel_supervisor.specs.SupervisedStates.{SupervisedState, is_active_for}
 use Rattle.wl_tab.specs.TabChannels.{number_refusal, posting_refusal}
 use Rattle.wl_client.specs.declared.client.Unsent.{Unsent}
 use Rattle.wl_client.specs.declared.client.Unsent.TheVariants as unsent
 use Rattle.wl_client.specs.Client.{ClientState, call_refusal, channel_refusal, after_command, after_abort, after_release, with_channels, after_post, after_close, is_entering, after_told as client_after_told, is_hello_of, after_delivery, after_welcome, welcome_of, after_first as client_after_first}
 use Rattle.wl_client.specs.Client.{after_frame as client_after_frame, advanced as client_advanced}
 use Rattle.wl_hub.specs.Early.{greeted_next}
-use Rattle.wl_hub.specs.Hub.{HubState, stepped, routed_step, with_verdict, after_first, after_greeting, after_told, advanced, greeting, hub_opened, page_refusal, without_sender, hub_closed, hub_stopped, hub_started, hub_down}
+use Rattle.wl_hub.specs.Hub.{HubState, stepped, routed_step, with_verdict, after_first, greeted, postponing, after_greeting, after_told, advanced, greeting, hub_opened, page_refusal, without_sender, hub_closed, hub_stopped, hub_started, hub_down}
 use Rattle.wl_hub.specs.Hub.{from_broker as hub_sends}
 use Rattle.wl_world_model.specs.World.{WorldState, empty_world, run, taken_over}
 use Rattle.wl_library_model.specs.Library.{Library, Line, Step, Opens, Closes, Restarts, Stops, HubReceives, HubAdvances, HubSends, HubDrops, Asks, Queries, Aborts, Releases, Resends, OpensChannel, Posts, Reads, ClosesChannel, TakesEvent, ClientReceives, ClientAdvances, ClientSends, ClientSkips, TakesOver, Forges, new_library, new_line, with_line, with_hub, client_of, is_taken, runs, unless, asks, queries, aborts, releases, resends, opens_channel, posts, reads, takes_event, calls, closes, opens, hub_fed, hub_receives, hub_sends_from, hub_drops_from, client_fed, client_receives, client_sends, takes_over, forges, followed_by, Sending, unless_refused, sending_item, sending_due, sending_report, sending, step, run_steps}
@@ -218,8 +218,10 @@ first-hub past l m (f ∷ fs) is e y =
 greeting-hub : (past : List Step) (l m : Library) (o : Option ℕ) → l ≡ run_steps past new_library → HubTraced (past ++ HubAdvances ∷ []) m l.hub → HubTraced (past ++ HubAdvances ∷ []) m (after_greeting l.hub o)
 greeting-hub past l m None is y = first-hub past l m l.hub.arrived is refl y
 greeting-hub past l m (Some t) is y =
-    more-outs (past ++ HubAdvances ∷ []) m l.hub (after_greeting l.hub (Some t)) ((t, frame.Hello (record { generation = l.hub.supervised.kernel.generation })) ∷ []) refl refl (λ f i. i)
-    (λ n f i. subst (HeardOf (past ++ HubAdvances ∷ []) m n) (sym (pair-first n t f _ (In-one i)).1) tt) y
+    by_test (λ b. HubTraced (past ++ HubAdvances ∷ []) m (cond b (greeted t l.hub) (postponing l.hub))) (is_active_for t l.hub.supervised)
+    (λ _. more-outs (past ++ HubAdvances ∷ []) m l.hub (greeted t l.hub) ((t, frame.Hello (record { generation = l.hub.supervised.kernel.generation })) ∷ []) refl refl (λ f i. i)
+    (λ n f i. subst (HeardOf (past ++ HubAdvances ∷ []) m n) (sym (pair-first n t f _ (In-one i)).1) tt) y)
+    (λ _. more-outs (past ++ HubAdvances ∷ []) m l.hub (postponing l.hub) [] refl refl (λ f i. i) (none-new (past ++ HubAdvances ∷ []) m) y)
 
 telling-hub : (past : List Step) (l m : Library) (ts : List ℕ) → l ≡ run_steps past new_library → HubTraced (past ++ HubAdvances ∷ []) m l.hub → HubTraced (past ++ HubAdvances ∷ []) m (after_told l.hub ts)
 telling-hub past l m [] is y = greeting-hub past l m (greeted_next l.hub.greetings l.hub.early) is y

@@ -10,6 +10,7 @@ use Rattle.wl_grammar.specs.declared.frame.Downward.{Downward}
 use Rattle.wl_grammar.specs.declared.frame.Downward.TheVariants as down
 use Rattle.wl_kernel.specs.Kernel.{KernelState, living_tabs}
 use Rattle.wl_kernel.specs.Routes.{route_up_refusal}
+use Rattle.wl_kernel_supervisor.specs.SupervisedStates.{is_active_for}
 use Rattle.wl_hub.specs.Early.{greeted_next}
 use Rattle.wl_hub.specs.Hub.{page_refusal}
 use Rattle.wl_client.specs.Client.{ClientState, is_hello_of}
@@ -56,9 +57,10 @@ first_events l (f ∷ fs) =
     let h = l.hub in
     if is_some (route_up_refusal h.sender f h.supervised.kernel) then [] else frame_events (is_taken l h.sender) h.supervised.kernel h.sender f
 
+-- An early tab is greeted if its partition is active.
 abbrev pub greeting_events : Library → Option ℕ → List Event
 greeting_events l None = first_events l l.hub.arrived
-greeting_events l (Some t) = event.Hello t ∷ []
+greeting_events l (Some t) = if is_active_for t l.hub.supervised then event.Hello t ∷ [] else []
 
 abbrev pub telling_events : Library → List ℕ → List Event
 telling_events l [] = greeting_events l (greeted_next l.hub.greetings l.hub.early)

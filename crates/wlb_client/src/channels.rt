@@ -1,6 +1,7 @@
 //! Channels of the tab.
 
 ghost use Rattle.std.specs.Prelude.{◌≡◌, ◌≢◌, ◌⊎◌, ◌≤◌, ◌<◌, ℕ, [], None, Some, true, false, is_some, option_map, length, take, IfSome, if◌then◌else◌};
+ghost use Rattle.std.specs.Str.{IsUtf8};
 ghost use Rattle.wl_broadcast.specs.Channels.{inbox_at, first_of, open_refusal};
 ghost use Rattle.wl_tab.specs.TabChannels.{number_refusal, posting_refusal};
 ghost use Rattle.wl_tab.specs.declared.channels.ChannelRefusal.TheVariants.{Fault};
@@ -29,8 +30,9 @@ pub(crate) fn capped(n: usize) -> u32
 
 /// Opens a channel.
 fn open_channel(client: &mut Client, alloc: Global, name: &[u8], channel: &mut u32) -> i32
-    ensures status { (result ≡ WLB_BAD_TEXT) ⊎ (result ≡ WLB_MEMORY)
+    ensures status { ((result ≡ WLB_BAD_TEXT) × ¬ (IsUtf8 name.now)) ⊎ (result ≡ WLB_MEMORY)
         ⊎ (result ≡ channel_status (channel_refusal (option_map Fault (open_refusal name.now client.old.channels)) client.old)) }
+    ensures text { ¬ (IsUtf8 name.now) → result ≡ WLB_BAD_TEXT }
     ensures ok { result ≡ WLB_OK → client.new ≡ opens name.now client.old }
     ensures number { result ≡ WLB_OK → channel.new ≡ capped (length client.old.channels.objects) }
     ensures refused { result ≢ WLB_OK → client.new ≡ client.old }
@@ -124,8 +126,9 @@ pub extern "C" fn wlb_client_open_channel(
 ) -> i32
     ensures empty { handle.old.value ≡ None → result ≡ WLB_NO_HANDLE }
     ensures kept { is_some handle.new.value ≡ is_some handle.old.value }
-    ensures status { IfSome handle.old.value (λ p. (result ≡ WLB_BAD_TEXT) ⊎ (result ≡ WLB_MEMORY)
+    ensures status { IfSome handle.old.value (λ p. ((result ≡ WLB_BAD_TEXT) × ¬ (IsUtf8 name.now)) ⊎ (result ≡ WLB_MEMORY)
         ⊎ (result ≡ channel_status (channel_refusal (option_map Fault (open_refusal name.now p.client.channels)) p.client))) }
+    ensures text { is_some handle.old.value ≡ true → ¬ (IsUtf8 name.now) → result ≡ WLB_BAD_TEXT }
     ensures ok { result ≡ WLB_OK → handle.new.value ≡ option_map (on_client (opens name.now)) handle.old.value }
     ensures number { result ≡ WLB_OK → IfSome handle.old.value (λ p. channel.new ≡ capped (length p.client.channels.objects)) }
     ensures refused { result ≢ WLB_OK → handle.new.value ≡ handle.old.value }

@@ -1,6 +1,7 @@
 //! Commands of the tab.
 
-ghost use Rattle.std.specs.Prelude.{◌≡◌, ◌≢◌, ◌⊎◌, ◌++◌, [], ◌∷◌, true, false, Some, None, is_some, option_map, length, IfSome, IfOk, IfErr};
+ghost use Rattle.std.specs.Prelude.{◌≡◌, ◌≢◌, ◌⊎◌, ◌++◌, [], ◌∷◌, true, false, Some, None, is_some, option_map, length, IfSome, IfOk, IfErr, Err};
+ghost use Rattle.std.specs.Str.{IsUtf8};
 ghost use Rattle.wl_agent.specs.Tab.{asked, queried, ask_refusal, query_refusal};
 ghost use Rattle.wl_agent.specs.Tokens.{is_holding};
 ghost use Rattle.wl_tab.specs.TabTokens.{abortion};
@@ -35,7 +36,8 @@ fn mode_of(shared: bool) -> Mode
 /// Converts a text to a name. Fails with a status.
 pub(crate) fn name_of(alloc: Global, bytes: &[u8]) -> Result<Name, i32>
     ensures ok { IfOk result (λ name. name ≡ bytes.now) }
-    ensures err { IfErr result (λ status. (status ≡ WLB_BAD_TEXT) ⊎ (status ≡ WLB_MEMORY)) }
+    ensures err { IfErr result (λ status. ((status ≡ WLB_BAD_TEXT) × ¬ (IsUtf8 bytes.now)) ⊎ (status ≡ WLB_MEMORY)) }
+    ensures text { ¬ (IsUtf8 bytes.now) → result ≡ Err WLB_BAD_TEXT }
 {
     let Ok(text) = std::str::from_utf8(bytes) else {
         return Err(WLB_BAD_TEXT);
@@ -48,8 +50,9 @@ pub(crate) fn name_of(alloc: Global, bytes: &[u8]) -> Result<Name, i32>
 
 /// Requests a lock.
 fn request(client: &mut Client, alloc: Global, name: &[u8], shared: bool, number: &mut u32) -> i32
-    ensures status { (result ≡ WLB_BAD_TEXT) ⊎ (result ≡ WLB_MEMORY)
+    ensures status { ((result ≡ WLB_BAD_TEXT) × ¬ (IsUtf8 name.now)) ⊎ (result ≡ WLB_MEMORY)
         ⊎ (result ≡ call_status (call_refusal (ask_refusal client.old.locks name.now) client.old)) }
+    ensures text { ¬ (IsUtf8 name.now) → result ≡ WLB_BAD_TEXT }
     ensures ok { result ≡ WLB_OK → client.new ≡ after_command (asked (mode_of shared) false name.now) client.old }
     ensures number { result ≡ WLB_OK → number.new ≡ length client.old.locks.issued }
     ensures refused { result ≢ WLB_OK → client.new ≡ client.old }
@@ -70,8 +73,9 @@ fn request(client: &mut Client, alloc: Global, name: &[u8], shared: bool, number
 
 /// Requests a lock with `ifAvailable`.
 fn probe(client: &mut Client, alloc: Global, name: &[u8], shared: bool, number: &mut u32) -> i32
-    ensures status { (result ≡ WLB_BAD_TEXT) ⊎ (result ≡ WLB_MEMORY)
+    ensures status { ((result ≡ WLB_BAD_TEXT) × ¬ (IsUtf8 name.now)) ⊎ (result ≡ WLB_MEMORY)
         ⊎ (result ≡ call_status (call_refusal (ask_refusal client.old.locks name.now) client.old)) }
+    ensures text { ¬ (IsUtf8 name.now) → result ≡ WLB_BAD_TEXT }
     ensures ok { result ≡ WLB_OK → client.new ≡ after_command (asked (mode_of shared) true name.now) client.old }
     ensures number { result ≡ WLB_OK → number.new ≡ length client.old.locks.issued }
     ensures refused { result ≢ WLB_OK → client.new ≡ client.old }
@@ -157,8 +161,9 @@ pub extern "C" fn wlb_client_request(
 ) -> i32
     ensures empty { handle.old.value ≡ None → result ≡ WLB_NO_HANDLE }
     ensures kept { is_some handle.new.value ≡ is_some handle.old.value }
-    ensures status { IfSome handle.old.value (λ p. (result ≡ WLB_BAD_TEXT) ⊎ (result ≡ WLB_MEMORY)
+    ensures status { IfSome handle.old.value (λ p. ((result ≡ WLB_BAD_TEXT) × ¬ (IsUtf8 name.now)) ⊎ (result ≡ WLB_MEMORY)
         ⊎ (result ≡ call_status (call_refusal (ask_refusal p.client.locks name.now) p.client))) }
+    ensures text { is_some handle.old.value ≡ true → ¬ (IsUtf8 name.now) → result ≡ WLB_BAD_TEXT }
     ensures ok { result ≡ WLB_OK → handle.new.value
         ≡ option_map (on_client (after_command (asked (mode_of shared) false name.now))) handle.old.value }
     ensures number { result ≡ WLB_OK → IfSome handle.old.value (λ p. number.new ≡ length p.client.locks.issued) }
@@ -184,8 +189,9 @@ pub extern "C" fn wlb_client_probe(
 ) -> i32
     ensures empty { handle.old.value ≡ None → result ≡ WLB_NO_HANDLE }
     ensures kept { is_some handle.new.value ≡ is_some handle.old.value }
-    ensures status { IfSome handle.old.value (λ p. (result ≡ WLB_BAD_TEXT) ⊎ (result ≡ WLB_MEMORY)
+    ensures status { IfSome handle.old.value (λ p. ((result ≡ WLB_BAD_TEXT) × ¬ (IsUtf8 name.now)) ⊎ (result ≡ WLB_MEMORY)
         ⊎ (result ≡ call_status (call_refusal (ask_refusal p.client.locks name.now) p.client))) }
+    ensures text { is_some handle.old.value ≡ true → ¬ (IsUtf8 name.now) → result ≡ WLB_BAD_TEXT }
     ensures ok { result ≡ WLB_OK → handle.new.value
         ≡ option_map (on_client (after_command (asked (mode_of shared) true name.now))) handle.old.value }
     ensures number { result ≡ WLB_OK → IfSome handle.old.value (λ p. number.new ≡ length p.client.locks.issued) }

@@ -48,7 +48,8 @@ fn advance(hub: &mut Hub) -> i32
 {
     match hub.advance() {
         Ok(Progress::Idle) => WLB_IDLE,
-        Ok(Progress::Told(_) | Progress::Greeted(_) | Progress::Handled) => WLB_OK,
+        Ok(Progress::Told(_) | Progress::Greeted(_) | Progress::Postponed(_) | Progress::Handled) =>
+            WLB_OK,
         Ok(Progress::Refused(_)) => WLB_BAD_FRAME,
         Err(_) => WLB_MEMORY,
     }

@@ -1,6 +1,7 @@
 //! Openings and deaths of tabs.
 
 ghost use Rattle.std.specs.Prelude.{◌≡◌, ◌≢◌, ◌⊎◌, Some, None, false, true, is_some, option_map, IfSome};
+ghost use Rattle.std.specs.Str.{IsUtf8};
 ghost use Rattle.wl_origin.specs.Partition.{partition_of, partition_of_pair};
 ghost use Rattle.wl_kernel.specs.Kernel.{is_living};
 ghost use Rattle.wl_hub.specs.Hub.{page_opened, page_refusal, hub_closed};
@@ -15,8 +16,9 @@ use wl_hub::Hub;
 
 /// Opens a tab of a top-level page.
 fn open(hub: &mut Hub, tab: u16, own: &[u8]) -> i32
-    ensures status { (result ≡ WLB_BAD_TEXT) ⊎ (result ≡ WLB_MEMORY)
+    ensures status { ((result ≡ WLB_BAD_TEXT) × ¬ (IsUtf8 own.now)) ⊎ (result ≡ WLB_MEMORY)
         ⊎ (result ≡ open_status (page_refusal tab (partition_of own.now) hub.old)) }
+    ensures text { ¬ (IsUtf8 own.now) → result ≡ WLB_BAD_TEXT }
     ensures ok { result ≡ WLB_OK → hub.new ≡ page_opened tab (partition_of own.now) false hub.old }
     ensures refused { result ≢ WLB_OK → hub.new ≡ hub.old }
 {
@@ -31,8 +33,9 @@ fn open(hub: &mut Hub, tab: u16, own: &[u8]) -> i32
 
 /// Opens a tab of a page under another top-level page.
 fn open_pair(hub: &mut Hub, tab: u16, top: &[u8], own: &[u8]) -> i32
-    ensures status { (result ≡ WLB_BAD_TEXT) ⊎ (result ≡ WLB_MEMORY)
+    ensures status { ((result ≡ WLB_BAD_TEXT) × ¬ (IsUtf8 top.now × IsUtf8 own.now)) ⊎ (result ≡ WLB_MEMORY)
         ⊎ (result ≡ open_status (page_refusal tab (partition_of_pair top.now own.now) hub.old)) }
+    ensures text { ¬ (IsUtf8 top.now × IsUtf8 own.now) → result ≡ WLB_BAD_TEXT }
     ensures ok { result ≡ WLB_OK → hub.new ≡ page_opened tab (partition_of_pair top.now own.now) true hub.old }
     ensures refused { result ≢ WLB_OK → hub.new ≡ hub.old }
 {
@@ -65,8 +68,9 @@ fn close(hub: &mut Hub, tab: u16) -> i32
 pub extern "C" fn wlb_hub_open(handle: &mut Handle, alloc: Global, tab: u16, own: &[u8]) -> i32
     ensures empty { handle.old.value ≡ None → result ≡ WLB_NO_HANDLE }
     ensures kept { is_some handle.new.value ≡ is_some handle.old.value }
-    ensures status { IfSome handle.old.value (λ h. (result ≡ WLB_BAD_TEXT) ⊎ (result ≡ WLB_MEMORY)
+    ensures status { IfSome handle.old.value (λ h. ((result ≡ WLB_BAD_TEXT) × ¬ (IsUtf8 own.now)) ⊎ (result ≡ WLB_MEMORY)
         ⊎ (result ≡ open_status (page_refusal tab (partition_of own.now) h))) }
+    ensures text { is_some handle.old.value ≡ true → ¬ (IsUtf8 own.now) → result ≡ WLB_BAD_TEXT }
     ensures ok { result ≡ WLB_OK → handle.new.value ≡ option_map (page_opened tab (partition_of own.now) false) handle.old.value }
     ensures refused { result ≢ WLB_OK → handle.new.value ≡ handle.old.value }
 {
@@ -89,8 +93,9 @@ pub extern "C" fn wlb_hub_open_pair(
 ) -> i32
     ensures empty { handle.old.value ≡ None → result ≡ WLB_NO_HANDLE }
     ensures kept { is_some handle.new.value ≡ is_some handle.old.value }
-    ensures status { IfSome handle.old.value (λ h. (result ≡ WLB_BAD_TEXT) ⊎ (result ≡ WLB_MEMORY)
+    ensures status { IfSome handle.old.value (λ h. ((result ≡ WLB_BAD_TEXT) × ¬ (IsUtf8 top.now × IsUtf8 own.now)) ⊎ (result ≡ WLB_MEMORY)
         ⊎ (result ≡ open_status (page_refusal tab (partition_of_pair top.now own.now) h))) }
+    ensures text { is_some handle.old.value ≡ true → ¬ (IsUtf8 top.now × IsUtf8 own.now) → result ≡ WLB_BAD_TEXT }
     ensures ok { result ≡ WLB_OK → handle.new.value ≡ option_map (page_opened tab (partition_of_pair top.now own.now) true) handle.old.value }
     ensures refused { result ≢ WLB_OK → handle.new.value ≡ handle.old.value }
 {
