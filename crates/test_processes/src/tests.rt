@@ -313,6 +313,19 @@ fn many_locks(alloc: Global, count: u32) -> Result<String, AllocError> {
     Ok(script)
 }
 
+/// Line of the kernel. It may come within the tab's line, which is longer than one write.
+const KILLED: &str = "killed 1\n";
+
+/// Returns a text without the first occurrence of a line.
+fn without(alloc: Global, text: &str, line: &str) -> Result<String, AllocError> {
+    let Some((before, behind)) = text.split_once(line) else {
+        return String::from_str(alloc, text);
+    };
+    let mut rest = String::from_str(alloc, before)?;
+    rest.push_str(behind)?;
+    Ok(rest)
+}
+
 /// A tab that reports in parts holds more locks than a report has entries, over two stops of the broker. The tab that holds the
 /// gate is killed after the stops.
 #[test]
@@ -324,15 +337,10 @@ fn a_tab_with_many_locks_keeps_them(rt: HostRuntime) {
     let ended = play_with(&rt, "many", script, many.as_str(), "GATE", gate);
     let (played, _counter) = ended.expect(&rt, "a play");
     let held = "{\"clientId\":\"2\",\"mode\":\"exclusive\",\"name\":\"";
-    assert_eq!(&rt; played.text.matches(held).count(), 71, "{}", played.text);
-    let lines = [
-        "\"pending\":[]",
-        "up 1\n",
-        "up 2\n",
-        "up 3\n",
-        "killed 1\n",
-        "ended 2 0\n",
-    ];
+    let answer = without(rt.alloc(), played.text.as_str(), KILLED).expect(&rt, "memory");
+    assert_eq!(&rt; answer.matches(held).count(), 71, "{}", played.text);
+    assert!(&rt; answer.contains("\"pending\":[]"), "{}", played.text);
+    let lines = ["up 1\n", "up 2\n", "up 3\n", KILLED, "ended 2 0\n"];
     played.tells(&rt, &lines);
 }
 
