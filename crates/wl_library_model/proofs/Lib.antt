@@ -19,3 +19,10 @@ pub mod CallsAreSteps
 pub mod ChannelSteps
 pub mod ChannelRuns
 pub mod PostsTraced
+pub mod ProgressPlaces
+pub mod ProgressBroker
+pub mod ProgressHub
+pub mod ProgressLinks
+pub mod ProgressFrames
+pub mod ProgressRequests
+pub mod ProgressJoins

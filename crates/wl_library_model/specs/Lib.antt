@@ -5,3 +5,4 @@ pub mod Promises
 pub mod Rows
 pub mod Calls
 pub mod Channels
+pub mod Progress

@@ -5,4 +5,5 @@
 #![tactic(auto)]
 
 pub mod laws;
+pub mod progress;
 pub mod rows;

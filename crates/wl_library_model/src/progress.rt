@@ -1,0 +1,16 @@
+//! Laws that something happens, once what is on its way was delivered.
+
+ghost use Rattle.wl_library_model.specs.Progress.{NewTabsJoin, RequestsAreGranted};
+
+/// What deliveries bring about, after every list of steps.
+///
+/// A delivery is a list of steps of the hub and of one client, with no step of another client in between.
+pub fn law_progress()
+    // In an active partition, the client of a tab that has joined requests a lock. No request waits for the name, and no
+    // held lock of the name conflicts. Once the request has reached the hub and the answer has reached the client, the
+    // client holds the lock, whatever else was on its way to it.
+    ensures granted { RequestsAreGranted }
+    // A tab that opens under a running broker has joined once its greeting has reached its client and the client's report
+    // has reached the hub.
+    ensures joined { NewTabsJoin }
+{}
