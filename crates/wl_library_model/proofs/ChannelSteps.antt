@@ -155,7 +155,7 @@ number-is k c = ⊎_elim
     (λ _. ap (λ z. is_some (cond z None (Some Closed))) n ∙ ap not (sym n)) (λ _. ap not (sym n)))
     (cases_Bool (is_open_at c.objects k))
 
-posting-is : (k : ℕ) (bytes : List ℕ) (c : ChannelState) → is_some (posting_refusal k bytes c) ≡ is_some (post_refusal c.tab k bytes c)
+pub posting-is : (k : ℕ) (bytes : List ℕ) (c : ChannelState) → is_some (posting_refusal k bytes c) ≡ is_some (post_refusal c.tab k bytes c)
 posting-is k bytes c = ⊎_elim
     (λ y. or-later (number_refusal k c) (number-is k c ∙ ap not y) ∙ faulted (post_refusal c.tab k bytes c))
     (λ n. or-first (number_refusal k c) (number-is k c ∙ ap not n) ∙ sym (foreign n))

@@ -26,3 +26,9 @@ pub mod ProgressLinks
 pub mod ProgressFrames
 pub mod ProgressRequests
 pub mod ProgressJoins
+pub mod Traces
+pub mod TimelyKernels
+pub mod TimelyHubs
+pub mod TimelyWorlds
+pub mod TimelySteps
+pub mod TimelyChannels

@@ -6,3 +6,4 @@ pub mod Rows
 pub mod Calls
 pub mod Channels
 pub mod Progress
+pub mod Timely

@@ -7,3 +7,4 @@
 pub mod laws;
 pub mod progress;
 pub mod rows;
+pub mod timely;
