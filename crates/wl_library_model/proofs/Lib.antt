@@ -26,6 +26,7 @@ pub mod ProgressLinks
 pub mod ProgressFrames
 pub mod ProgressRequests
 pub mod ProgressJoins
+pub mod ProgressServed
 pub mod Traces
 pub mod TimelyKernels
 pub mod TimelyHubs

@@ -1,16 +1,16 @@
 -- The broker grants a free request at once, and a newcomer joins with its first report.
-use Rattle.std.proofs.Common.{◌≡◌, ◌≢◌, ⊎_elim, ℕ, ◌+◌, ◌≤◌, Bool, true, false, cond, not, ◌&&◌, List, [], ◌∷◌, ◌++◌, Option, Some, None, refl, sym, ap, ◌∙◌, subst, le_refl}
+use Rattle.std.proofs.Common.{◌≡◌, ◌≢◌, ⊎_elim, ℕ, ◌+◌, ◌<◌, ◌≤◌, Bool, true, false, cond, not, ◌&&◌, List, [], ◌∷◌, ◌++◌, Option, Some, None, refl, sym, ap, ◌∙◌, subst, le_refl, arith}
 use Rattle.std.specs.Prelude.{◌==◌, bytes_eq, nat_le}
-use Rattle.std.proofs.lemmas.Bool.{or_parts, or_cases, or_left, or_right, and_right}
+use Rattle.std.proofs.lemmas.Bool.{or_parts, or_cases, or_left, or_right, and_right, ne_eqb}
 use Rattle.std.proofs.lemmas.List.Elements.{filter-append}
 use Rattle.std.proofs.lemmas.Slice.Eq.{bytes_eq-Decides}
 use Rattle.wl_limits.specs.declared.tabs.TheConstants.{LAST_NUMBER, LIVE_LIMIT, LIVE_LIMIT_IN_PARTS}
 use Rattle.wl_draft.specs.declared.mode.Mode.{Mode}
 use Rattle.wl_draft.specs.declared.row.Row.{Row}
-use Rattle.wl_draft.specs.Locks.{Locks, no_locks, is_named, is_free, is_grantable, granted, newly_granted, settle, settle_if, has_pair, live, queued, row_of, without, restored}
+use Rattle.wl_draft.specs.Locks.{Locks, no_locks, is_named, is_free, is_grantable, granted, newly_granted, settle, settle_if, has_pair, count_of, live, queued, row_of, without, restored}
 use Rattle.wl_draft.specs.Settling.{named}
-use Rattle.wl_draft.specs.Membership.{In, Here}
-use Rattle.wl_draft.proofs.Membership.{apart, In-append_right, In-filter_cases, list_all-In, all-In}
+use Rattle.wl_draft.specs.Membership.{In, Here, Later as Behind}
+use Rattle.wl_draft.proofs.Membership.{apart, either, In-nil, In-append_right, In-filter_cases, list_all-In, all-In}
 use Rattle.wl_draft.proofs.Settled.{grantable_parts, settle-SettlesByName}
 use Rattle.wl_draft.proofs.TableLemmas.{at-put_same, find-put_same}
 use Rattle.wl_grammar.specs.declared.frame.Operation.TheVariants.{Request}
@@ -20,10 +20,11 @@ use Rattle.wl_grammar.specs.declared.frame.Stamped.{Stamped}
 use Rattle.wl_grammar.specs.declared.frame.Upward.{Upward}
 use Rattle.wl_grammar.specs.declared.frame.Upward.TheVariants as up
 use Rattle.wl_grammar.specs.Generation.{generation_of}
-use Rattle.wl_broker_reports.specs.ReportParts.{Told, Whole, fits, has_part, with_told}
+use Rattle.wl_broker_reports.specs.ReportParts.{Told, fits, has_part, with_told}
 use Rattle.wl_broker.specs.declared.seat.Seat.{Seat}
 use Rattle.wl_broker.specs.declared.seat.Seat.TheVariants.{Joined, Dead}
 use Rattle.wl_broker.specs.Broker.{BrokerState, Taking, Does, seat_of, partial_of, listed_at, is_listed, manager_of, is_joined, is_dead, next_of, limit_of, is_active, is_misplaced, answer_of, with_seat, settled_at, newly_at, grants_to, join, join_if, take_report_part, perform, take_inner, taking}
+use Rattle.wl_broker.proofs.Clients.{Own, Stands, Own-append, settle-Stands}
 use Rattle.wl_broker.proofs.Drops.{inner_taken, told_taken, command_taken}
 use Rattle.wl_world_model.proofs.exclusion.TakenSeats.{still}
 use Rattle.wl_world_model.proofs.order.Standings.{has_pair-from, first-lock}
@@ -121,20 +122,39 @@ taking-grants b t p n mode name j placed a next last room e =
 
 -- Newcomers
 
+-- No lock and no request is the tab's.
+abbrev pub HasNone : ℕ → Locks → Type 0
+HasNone t m = Stands (λ u. u ≢ t) m
+
 -- The broker knows nothing of the tab.
 pub record IsStranger (b : BrokerState) (t : ℕ) : Type 0 where
   pub listed : listed_at t b.listed ≡ None
   pub seat : seat_of b t ≡ None
   pub partial : partial_of b t ≡ None
+  pub locks : (p : ℕ) → HasNone t (manager_of b p)
 
--- The tab gets a seat with no command taken.
-pub record Joins (b : BrokerState) (t : ℕ) (o : Taking) : Type 0 where
+-- The tab gets a seat with no command taken, and has fewer locks than its limit.
+pub record Joins (b : BrokerState) (t p : ℕ) (o : Taking) : Type 0 where
   pub broker : BrokerState
   pub outs : List Addressed
   pub does : o ≡ Does broker outs
-  pub partition : ℕ
   pub limit : ℕ
-  pub seat : seat_of broker t ≡ Some (Joined partition 0 limit)
+  pub seat : seat_of broker t ≡ Some (Joined p 0 limit)
+  pub few : live (manager_of broker p) t < limit
+
+count-none : (t : ℕ) (rows : List Row) → Own (λ u. u ≢ t) rows → count_of t rows ≡ 0
+count-none t [] h = refl
+count-none t (r ∷ rs) h = rw (ne_eqb r.client t (h r Here), count-none t rs (λ x i. h x (Behind i))) refl
+
+live-none : (t : ℕ) (m : Locks) → HasNone t m → live m t ≡ 0
+live-none t m h = rw (count-none t m.held h.0, count-none t m.waiting h.1) refl
+
+settled-none : (t : ℕ) (now : Bool) (m : Locks) → HasNone t m → HasNone t (settle_if now m)
+settled-none t now m h = either (HasNone t) now (settle m) m (λ _. settle-Stands (λ u. u ≢ t) m h) (λ _. h)
+
+restored-none : (t : ℕ) (m : Locks) → HasNone t m → HasNone t (restored t [] m)
+unfolding restored
+restored-none t m h = (Own-append (λ u. u ≢ t) m.held [] h.0 (λ r i. absurd (In-nil i)), Own-append (λ u. u ≢ t) m.waiting [] h.1 (λ r i. absurd (In-nil i)))
 
 -- An empty report is its only part.
 abbrev only_part : ℕ → Told
@@ -148,46 +168,55 @@ settled-seat : (b : BrokerState) (t p : ℕ) (seat : Seat) (m : Locks) → seat_
 unfolding settled_at
 settled-seat b t p seat m = find-put_same t seat b.seats
 
-join-joins : (b : BrokerState) (t p : ℕ) (r : Whole) → r.base ≡ 0 → Joins b t (join b t p r)
+settled-locks : (b : BrokerState) (p : ℕ) (m : Locks) → manager_of (settled_at b p m) p ≡ settle_if (is_active b p) m
+unfolding settled_at
+settled-locks b p m = at-put_same no_locks p (settle_if (is_active b p) m) b.managers
+
+join-joins : (b : BrokerState) (t p limit : ℕ) → IsStranger b t → 0 < limit → Joins b t p (join b t p (record { base = 0; entries = []; limit = limit }))
 unfolding join
-join-joins b t p r e = record {
-  broker = _;
-  outs = _;
-  does = refl;
-  partition = p;
-  limit = r.limit;
-  seat = settled-seat b t p (Joined p r.base r.limit) (restored t r.entries (manager_of b p)) ∙ ap (λ n. Some (Joined p n r.limit)) e;
-}
+join-joins b t p limit s positive =
+    let seated = with_seat t (Joined p 0 limit) b in
+    let m = restored t [] (manager_of b p) in
+    record {
+      broker = _;
+      outs = _;
+      does = refl;
+      limit = limit;
+      seat = settled-seat b t p (Joined p 0 limit) m;
+      few = subst (λ n. n < limit)
+          (sym (ap (λ z. live z t) (settled-locks seated p m) ∙ live-none t (settle_if (is_active seated p) m) (settled-none t (is_active seated p) m (restored-none t (manager_of b p) (s.locks p)))))
+          positive;
+    }
 
-whole_part : (b : BrokerState) (t p limit : ℕ) → Joins b t (join_if b t p (with_told p (only_part limit) None))
+whole_part : (b : BrokerState) (t p limit : ℕ) → IsStranger b t → 0 < limit → Joins b t p (join_if b t p (with_told p (only_part limit) None))
 unfolding join_if with_told
-whole_part b t p limit = join-joins b t p (record { base = 0; entries = []; limit = limit }) refl
+whole_part b t p limit s positive = join-joins b t p limit s positive
 
-part-joins : (b : BrokerState) (t p limit : ℕ) → IsStranger b t → Joins b t (take_report_part b t p (only_part limit))
-part-joins b t p limit s =
+part-joins : (b : BrokerState) (t p limit : ℕ) → IsStranger b t → 0 < limit → Joins b t p (take_report_part b t p (only_part limit))
+part-joins b t p limit s positive =
     let x = only_part limit in
-    subst (Joins b t)
+    subst (Joins b t p)
     (sym (told_taken b t p x (ap is_joined s.seat) (and_right (not (is_listed (listed_at t b.listed))) false refl) (ap (λ o. not (true && fits x o)) s.partial) (ap (has_part x) s.partial)
     ∙ ap (λ o. join_if b t p (with_told p x o)) s.partial))
-    (whole_part b t p limit)
+    (whole_part b t p limit s positive)
 
 -- The empty report of a tab, in one frame or as its only part.
 abbrev pub empty_report : Bool → ℕ → Upward
 empty_report true g = up.ReportPart (record { generation = g; base = 0; part = 0; parts = 1; entries = [] })
 empty_report false g = up.Report (record { generation = g; base = 0; entries = [] })
 
-inner-joins : (b : BrokerState) (t p : ℕ) (i : Bool) (g : ℕ) → IsStranger b t → Joins b t (take_inner b t p (empty_report i g))
-inner-joins b t p true g s = part-joins b t p LIVE_LIMIT_IN_PARTS s
-inner-joins b t p false g s = part-joins b t p LIVE_LIMIT s
+inner-joins : (b : BrokerState) (t p : ℕ) (i : Bool) (g : ℕ) → IsStranger b t → Joins b t p (take_inner b t p (empty_report i g))
+inner-joins b t p true g s = part-joins b t p LIVE_LIMIT_IN_PARTS s (omega arith)
+inner-joins b t p false g s = part-joins b t p LIVE_LIMIT s (omega arith)
 
 report-generation : (i : Bool) (g : ℕ) → generation_of (empty_report i g) ≡ g
 report-generation true g = refl
 report-generation false g = refl
 
-pub newcomer-joins : (b : BrokerState) (t p : ℕ) (i : Bool) → IsStranger b t → Joins b t (taking b (record { tab = t; partition = p; inner = empty_report i b.generation }))
+pub newcomer-joins : (b : BrokerState) (t p : ℕ) (i : Bool) → IsStranger b t → Joins b t p (taking b (record { tab = t; partition = p; inner = empty_report i b.generation }))
 newcomer-joins b t p i s =
     let g = report-generation i b.generation in
-    subst (Joins b t)
+    subst (Joins b t p)
     (sym (inner_taken b (record { tab = t; partition = p; inner = empty_report i b.generation })
     (subst (λ n. b.generation ≤ n) (sym g) (le_refl b.generation)) (subst (λ n. n ≤ b.generation) (sym g) (le_refl b.generation)) (ap is_dead s.seat) (stranger-placed b t p s)))
     (inner-joins b t p i b.generation s)

@@ -4,6 +4,7 @@ use Rattle.std.specs.Prelude.{◌==◌}
 use Rattle.std.specs.List.{list_any}
 use Rattle.std.proofs.lemmas.Bool.{cases_Bool, and_from, and_parts, eqb-true, ne_eqb, eq-eqb, lt-ltb}
 use Rattle.wl_origin.specs.Order.{Pair}
+use Rattle.wl_draft.specs.Locks.{live}
 use Rattle.wl_draft.specs.Tables.{Table, find}
 use Rattle.wl_draft.specs.Membership.{In, Here, Later as Behind}
 use Rattle.wl_draft.proofs.Membership.{apart, either, list_any-In}
@@ -12,7 +13,7 @@ use Rattle.wl_grammar.specs.declared.frame.Frame.{Frame}
 use Rattle.wl_grammar.specs.declared.frame.Frame.TheVariants as frame
 use Rattle.wl_broker.specs.declared.seat.Seat.{Seat}
 use Rattle.wl_broker.specs.declared.seat.Seat.TheVariants.{Joined, Dead}
-use Rattle.wl_broker.specs.Broker.{BrokerState, is_joined, next_in, listed_at, taking}
+use Rattle.wl_broker.specs.Broker.{BrokerState, manager_of, is_joined, next_in, limit_in, limit_of, listed_at, taking}
 use Rattle.wl_agent.specs.declared.delivered.Delivered.{Delivered}
 use Rattle.wl_agent.specs.declared.delivered.Delivered.TheVariants as heard_as
 use Rattle.wl_agent.specs.declared.drop_reason.DropReason.TheVariants as unheard
@@ -36,12 +37,12 @@ use Rattle.wl_world_model.proofs.exclusion.Invariant.{broker_in}
 use Rattle.wl_world_model.proofs.exclusion.OpenedTabs.{each_opened}
 use Rattle.wl_world_model.proofs.exclusion.OpeningAndKilling.{not_opened}
 use Rattle.wl_world_model.proofs.exclusion.CoverExcludes.{living_opened}
-use Rattle.wl_world_model.proofs.apart.OnePartition.{Fits, Seated}
+use Rattle.wl_world_model.proofs.apart.OnePartition.{Fits, Seated, manager_of-Stands}
 use Rattle.wl_world_model.proofs.apart.ToldApart.{FitsUp, Orderly}
 use Rattle.wl_world_model.proofs.apart.ToldApart.{opened as opened_at}
 use Rattle.wl_world_model.proofs.apart.RunsApart.{reached}
 use Rattle.wl_world_model.specs.Apart.{is_in}
-use Rattle.wl_library_model.specs.Library.{Library, Line, Opens, HubReceives, HubAdvances, ClientSends, new_line, new_library, with_line, with_hub, is_taken, runs, sending, followed_by, step, run_steps}
+use Rattle.wl_library_model.specs.Library.{Library, Line, client_of, Opens, HubReceives, HubAdvances, ClientSends, new_line, new_library, with_line, with_hub, is_taken, runs, sending, followed_by, step, run_steps}
 use Rattle.wl_library_model.specs.Events.{events}
 use Rattle.wl_library_model.specs.Simulation.{IsOnItsWayDown}
 use Rattle.wl_library_model.specs.Rows.{to_hub}
@@ -77,6 +78,9 @@ stranger-from g f b t n h = record {
   listed = listed-none g t b.listed n (λ x i. (h.listed x i).left);
   seat = find-none g t b.seats n (λ x i. seated-opened g f x.0 x.1 (h.seats x i));
   partial = find-none g t b.partial n h.partial;
+  locks = λ p. let s = manager_of-Stands g f b p h in (
+      (λ r i e. apart (ap g (sym e) ∙ (s.0 r i).left) n),
+      (λ r i e. apart (ap g (sym e) ∙ (s.1 r i).left) n));
 }
 
 opened-same : (k : KernelState) (t : ℕ) → opened_at k t ≡ is_opened k t
@@ -112,7 +116,7 @@ abbrev hello : ℕ → Frame
 hello g = frame.Hello (record { generation = g })
 
 -- The locks of a tab that has entered its first generation.
-abbrev first : ℕ → Bool → ℕ → TabState
+abbrev pub first : ℕ → Bool → ℕ → TabState
 first t i g = told (enter_first g (born i t COMMAND_LIMIT))
 
 hello-delivery : (t : ℕ) (i : Bool) (g : ℕ) → 0 < g → delivery (hello g) (born i t COMMAND_LIMIT) ≡ (enter_first g (born i t COMMAND_LIMIT), heard_as.Entered (report_frames (enter_first g (born i t COMMAND_LIMIT))))
@@ -147,7 +151,7 @@ first-due : (t : ℕ) (i : Bool) (g : ℕ) → 0 < g → is_report_due (first t 
 unfolding told enter_first
 first-due t i g lt = ap (λ b. not b && true) (ne_eqb g 0 (λ e. let z : g ≡ 0 = e in let l : 0 < g = lt in omega arith))
 
-first-issued : (t : ℕ) (i : Bool) (g : ℕ) → (first t i g).issued ≡ []
+pub first-issued : (t : ℕ) (i : Bool) (g : ℕ) → (first t i g).issued ≡ []
 unfolding told enter_first
 first-issued t i g = refl
 
@@ -314,7 +318,7 @@ module _ (l : Library) (w : WorldState) (s : Sim l w) (t : ℕ) (p : Pair) (i : 
       ∙ (ap (run_steps (HubAdvances ∷ [])) at5
       ∙ advances-hub l5)))
 
-  joins : Joins b t (taking b (record { tab = t; partition = partition_number (opened t p k) t; inner = empty_report i g }))
+  joins : Joins b t (partition_number (opened t p k) t) (taking b (record { tab = t; partition = partition_number (opened t p k) t; inner = empty_report i g }))
   joins = newcomer-joins b t (partition_number (opened t p k) t) i stranger
 
   supervised6 : l6.hub.supervised ≡ record { kernel = opened t p k; broker = Some joins.broker }
@@ -344,7 +348,12 @@ module _ (l : Library) (w : WorldState) (s : Sim l w) (t : ℕ) (p : Pair) (i : 
       joined = ap is_joined joins.seat;
       taken = ap next_in joins.seat ∙ (ap length (sym (first-issued t i g)) ∙ ap (λ z. length z.client.locks.issued) (sym line6));
     };
+    room = subst (λ z. live (manager_of joins.broker (partition_number z.kernel t)) t < limit_of joins.broker t) (sym supervised6)
+        (subst (λ o. live (manager_of joins.broker (partition_number (opened t p k) t)) t < limit_in o) (sym joins.seat) joins.few);
   }
+
+  pub new-locks : (client_of (joined t p i l) t).locks ≡ first t i g
+  new-locks = ap (λ z. (client_of z t).locks) told6 ∙ ap (λ z. z.client.locks) line6
 
   pub becomes-ready : IsReady (joined t p i l) t
   becomes-ready = subst (λ z. IsReady z t) (sym told6) ready

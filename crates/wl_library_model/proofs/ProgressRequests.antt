@@ -37,7 +37,7 @@ use Rattle.wl_library_model.specs.Events.{events, events_from}
 use Rattle.wl_library_model.specs.Simulation.{IsOnItsWayDown, AreLocksOf}
 use Rattle.wl_library_model.specs.Promises.{IsHolding}
 use Rattle.wl_library_model.specs.Rows.{to_hub}
-use Rattle.wl_library_model.specs.Progress.{heard, IsQuiet, IsIdle, HasJoined, place, locks_beside, IsFree, granted, RequestsAreGranted}
+use Rattle.wl_library_model.specs.Progress.{heard, IsQuiet, IsIdle, HasJoined, HasRoom, place, locks_beside, IsFree, granted, RequestsAreGranted}
 use Rattle.wl_library_model.proofs.Carried.{Sim}
 use Rattle.wl_library_model.proofs.Simulated.{steps-sim, run-sim}
 use Rattle.wl_library_model.proofs.ProgressPlaces.{Steady, well-placed, run-steady}
@@ -132,7 +132,7 @@ asked-entered a mode name = refl
 
 -- The whole
 
-module _ (l : Library) (w : WorldState) (s : Sim l w) (steady : Steady w) (t : ℕ) (mode : Mode) (name : List ℕ) (b : BrokerState) (r : runs l t ≡ true) (q : IsQuiet l t) (idle : IsIdle l) (j : HasJoined l t b)
+module _ (l : Library) (w : WorldState) (s : Sim l w) (steady : Steady w) (t : ℕ) (mode : Mode) (name : List ℕ) (b : BrokerState) (r : runs l t ≡ true) (q : IsQuiet l t) (idle : IsIdle l) (j : HasJoined l t b) (room : HasRoom l t b)
     (a : ask_refusal (client_of l t).locks name ≡ None) (f : IsFree l t b mode name) where
   abbrev c : ClientState
   c = client_of l t
@@ -191,7 +191,7 @@ module _ (l : Library) (w : WorldState) (s : Sim l w) (steady : Steady w) (t : �
   request = up.Command (record { generation = g; number = n; operation = Request mode false name })
 
   grants : Grants b t n (taking b (record { tab = t; partition = place l t; inner = request }))
-  grants = taking-grants b t (place l t) n mode name j.joined placed f.active (sym j.taken) (before-last c.locks name numbers a) (lt-leb (limit_of b t) (live (locks_beside l t b) t) f.few) f.grantable
+  grants = taking-grants b t (place l t) n mode name j.joined placed f.active (sym j.taken) (before-last c.locks name numbers a) (lt-leb (limit_of b t) (live (locks_beside l t b) t) room) f.grantable
 
   -- The request goes to the hub
 
@@ -352,4 +352,4 @@ module _ (l : Library) (w : WorldState) (s : Sim l w) (steady : Steady w) (t : �
   holds = subst (λ z. IsHolding (heard t z) t n) (sym told) holds4
 
 pub requests-are_granted : RequestsAreGranted
-requests-are_granted steps t mode name b r q idle j a f = holds (run_steps steps new_library) (run (events steps) empty_world) (run-sim steps) (run-steady (events steps)) t mode name b r q idle j a f
+requests-are_granted steps t mode name b r q idle j room a f = holds (run_steps steps new_library) (run (events steps) empty_world) (run-sim steps) (run-steady (events steps)) t mode name b r q idle j room a f

@@ -1,4 +1,4 @@
--- What is said of each post on its way to the hub and of each post on its way to a tab, kept by every step.
+-- A property of the posts on their way to the hub, and one of those on their way to a tab: each step keeps both.
 use Rattle.std.proofs.Common.{◌≡◌, ◌⊎◌, inl, inr, ⊎_elim, ℕ, Bool, true, false, cond, ◌&&◌, List, [], ◌∷◌, ◌++◌, length, drop, Option, Some, None, option_map, is_some, Ok, Err, refl, sym, ap, ◌∙◌, subst}
 use Rattle.std.specs.Prelude.{◌==◌}
 use Rattle.std.specs.Bool.{⊤}

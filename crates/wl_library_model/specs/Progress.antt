@@ -1,10 +1,11 @@
--- Something happens: a new tab joins, and a free lock is granted, once what is on its way was delivered.
-use Rattle.std.specs.Prelude.{◌≡◌, ℕ, ◌<◌, List, [], ◌∷◌, Bool, true, false, length, replicate, Some, None, Ok}
+-- Progress: a new tab joins, and a free lock is granted, once all frames on their way were delivered.
+use Rattle.std.specs.Prelude.{◌≡◌, ℕ, ◌<◌, ◌≤◌, List, [], ◌∷◌, Bool, true, false, length, replicate, Some, None, Ok}
 use Rattle.wl_origin.specs.Order.{Pair}
+use Rattle.wl_limits.specs.declared.texts.TheConstants.{NAME_LIMIT}
 use Rattle.wl_draft.specs.declared.mode.Mode.{Mode}
 use Rattle.wl_draft.specs.Locks.{Locks, is_grantable, live, row_of}
 use Rattle.wl_broker.specs.Broker.{BrokerState, seat_of, manager_of, is_joined, is_active, next_of, limit_of}
-use Rattle.wl_agent.specs.Tab.{ask_refusal}
+use Rattle.wl_agent.specs.Tab.{is_supported, ask_refusal}
 use Rattle.wl_kernel.specs.Kernel.{partition_number}
 use Rattle.wl_hub.specs.declared.receiving.Progress.TheVariants.{Idle}
 use Rattle.wl_hub.specs.Hub.{page_refusal, progress_of}
@@ -32,14 +33,14 @@ heard t l = handled t (received t (handled t (sent_out l)))
 
 -- States
 
--- The client has sent all that it had to send, and the hub has received it.
+-- The client has nothing left to send, and the hub has received all its frames.
 pub record IsQuiet (l : Library) (t : ℕ) : Type 0 where
   pub report : (client_of l t).report ≡ []
   pub due : (client_of l t).due ≡ []
   pub unsent : (client_of l t).unsent ≡ []
   pub up : (l.lines t).up ≡ []
 
--- The hub has handled all that it has received.
+-- The hub has handled all deaths, greetings and frames.
 abbrev pub IsIdle : Library → Type 0
 IsIdle l = progress_of l.hub ≡ Idle
 
@@ -56,18 +57,21 @@ place l t = partition_number l.hub.supervised.kernel t
 abbrev pub locks_beside : Library → ℕ → BrokerState → Locks
 locks_beside l t b = manager_of b (place l t)
 
--- The tab's partition is active, and the tab has fewer locks than its limit. No request waits for the name, and no held
--- lock of the name conflicts with the mode, so the tab's next request is grantable (Web Locks, "grantable").
+-- The broker has fewer locks of the tab than the tab's limit.
+abbrev pub HasRoom : Library → ℕ → BrokerState → Type 0
+HasRoom l t b = live (locks_beside l t b) t < limit_of b t
+
+-- The tab's partition is active. No request waits for the name, and no held lock of the name conflicts with the mode, so
+-- the tab's next request is grantable (Web Locks, "grantable").
 pub record IsFree (l : Library) (t : ℕ) (b : BrokerState) (mode : Mode) (name : List ℕ) : Type 0 where
   pub active : is_active b (place l t) ≡ true
-  pub few : live (locks_beside l t b) t < limit_of b t
   pub grantable :
       let m = locks_beside l t b in
       is_grantable m.held m.waiting (row_of t (length (client_of l t).locks.issued) name mode) ≡ true
 
 -- The laws
 
--- The tab's client requests a lock, its request reaches the hub, and all that is on its way to the client reaches it.
+-- The client requests a lock, the hub handles the request, and the client handles all frames on their way to it.
 abbrev pub granted : ℕ → Mode → List ℕ → Library → Library
 granted t mode name l = heard t (run_steps (Asks t mode false name ∷ to_hub t 1 1) l)
 
@@ -75,10 +79,10 @@ granted t mode name l = heard t (run_steps (Asks t mode false name ∷ to_hub t 
 abbrev pub RequestsAreGranted : Type 0
 RequestsAreGranted =
     (steps : List Step) (t : ℕ) (mode : Mode) (name : List ℕ) (b : BrokerState) → let l = run_steps steps new_library in
-    runs l t ≡ true → IsQuiet l t → IsIdle l → HasJoined l t b → ask_refusal (client_of l t).locks name ≡ None → IsFree l t b mode name →
+    runs l t ≡ true → IsQuiet l t → IsIdle l → HasJoined l t b → HasRoom l t b → ask_refusal (client_of l t).locks name ≡ None → IsFree l t b mode name →
     IsHolding (granted t mode name l) t (length (client_of l t).locks.issued)
 
--- A tab opens, its welcome and its greeting reach its client, and the client's report reaches the hub.
+-- A tab opens, its client handles the welcome and the greeting, and the hub handles the client's report.
 abbrev pub joined : ℕ → Pair → Bool → Library → Library
 joined t p is_pair l = run_steps (to_hub t 2 1) (heard t (run_steps (Opens t (Ok p) is_pair ∷ []) l))
 
@@ -88,6 +92,7 @@ pub record IsReady (l : Library) (t : ℕ) : Type 0 where
   pub quiet : IsQuiet l t
   pub broker : BrokerState
   pub joined : HasJoined l t broker
+  pub room : HasRoom l t broker
 
 -- After any steps, a tab that opens under a running broker has joined once greeting and report were delivered.
 abbrev pub NewTabsJoin : Type 0
@@ -95,3 +100,13 @@ NewTabsJoin =
     (steps : List Step) (t : ℕ) (p : Pair) (is_pair : Bool) (b : BrokerState) → let l = run_steps steps new_library in
     page_refusal t (Ok p) l.hub ≡ None → l.hub.supervised.broker ≡ Some b → IsIdle l →
     IsReady (joined t p is_pair l) t
+
+-- If the partition is active then, and the name free, the new tab's first request gives it the lock.
+abbrev pub NewTabsAreServed : Type 0
+NewTabsAreServed =
+    (steps : List Step) (t : ℕ) (p : Pair) (is_pair : Bool) (b c : BrokerState) (mode : Mode) (name : List ℕ) →
+    let l = run_steps steps new_library in
+    let m = joined t p is_pair l in
+    page_refusal t (Ok p) l.hub ≡ None → l.hub.supervised.broker ≡ Some b → IsIdle l →
+    m.hub.supervised.broker ≡ Some c → IsIdle m → is_supported name ≡ true → length name ≤ NAME_LIMIT → IsFree m t c mode name →
+    IsHolding (granted t mode name m) t 0

@@ -1,10 +1,10 @@
-//! Laws that something happens, once what is on its way was delivered.
+//! Laws of progress, once all frames on their way were delivered.
 
-ghost use Rattle.wl_library_model.specs.Progress.{NewTabsJoin, RequestsAreGranted};
+ghost use Rattle.wl_library_model.specs.Progress.{NewTabsAreServed, NewTabsJoin, RequestsAreGranted};
 
-/// What deliveries bring about, after every list of steps.
+/// Grants and joins, after every list of steps.
 ///
-/// A delivery is a list of steps of the hub and of one client, with no step of another client in between.
+/// The frames are delivered by steps of the hub and of one client, with no step of another client in between.
 pub fn law_progress()
     // In an active partition, the client of a tab that has joined requests a lock. No request waits for the name, and no
     // held lock of the name conflicts. Once the request has reached the hub and the answer has reached the client, the
@@ -13,4 +13,6 @@ pub fn law_progress()
     // A tab that opens under a running broker has joined once its greeting has reached its client and the client's report
     // has reached the hub.
     ensures joined { NewTabsJoin }
+    // If its partition is active then, its first request for a free lock gives it the lock.
+    ensures served { NewTabsAreServed }
 {}
