@@ -1,5 +1,5 @@
 # Shows, measures and tests `wlb`. `make` alone lists the targets.
-.PHONY: help demo demo-processes try lib install wasm js-test conformance bench soak fuzz refuse mutants test
+.PHONY: help demo try build demo-processes lib install wasm js-test conformance bench soak fuzz refuse mutants test
 
 WLB = crates/wlb/out/wlb
 BENCH = crates/bench_core/out/bench_core
@@ -9,18 +9,21 @@ CLIENT = crates/wlb_client/out/libwlb_client.a
 help: ## lists the targets
 	@sed -n 's/^\([a-z-]*\):.* ## \(.*\)/make \1\t\2/p' $(firstword $(MAKEFILE_LIST)) | expand -t 22
 
-EXAMPLE ?= examples/handover.sim
+# Example that `make demo` plays.
+EXAMPLE ?= examples/lock_moves_on.sim
 
-demo: $(WLB) ## plays EXAMPLE, a script of the sim or frames of the desk, step by step
-	python3 tools/demo.py $(EXAMPLE) $(WLB)
+demo: ## plays EXAMPLE, a script of the sim or frames of the desk: with the built program, else compiled in two minutes with nothing proved
+	@python3 tools/demo.py $(EXAMPLE) $$($(MAKE) -sq $(WLB) && echo $(WLB))
+
+try: ## plays EXAMPLE as `make demo` does, but always compiles it with nothing proved
+	@python3 tools/demo.py $(EXAMPLE)
+
+build: $(WLB) ## proves and builds the program, crates/wlb/out/wlb
 
 PROCESSES ?= examples/processes/counter
 
 demo-processes: $(WLB) ## plays PROCESSES, a folder with the scripts of a kernel and its tabs
 	python3 tools/demo_processes.py $(PROCESSES) $(WLB)
-
-try: ## plays EXAMPLE, a script of the sim, with nothing proved
-	cd crates/wlb && rt try -- sim < $(abspath $(EXAMPLE))
 
 PREFIX ?= /usr/local
 BUILD ?= build

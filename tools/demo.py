@@ -1,14 +1,31 @@
-"""Shows `wlb` at work on an example file.
+"""Plays an example of `wlb` step by step.
 
-A script (NAME.sim) is played line by line: each line behind `>`, and under it what `wlb sim` prints for it, up to the
-first line that is refused. Any other example has the frames for `wlb desk` as hexadecimal digits, with comments
-behind `#`: the tool prints the frames that go in and that come out, a frame a line, with their meanings.
+A script of the sim, NAME.sim, is played line by line: each line behind `>`, and under it the sim's reply, up to the
+first line that is refused. `docs/SCRIPTS.md` has the language. Any other example is a file of frames for `wlb desk`:
+hexadecimal digits, with spaces, line ends, and comments from `#` on. The tool prints the frames that go in and those
+that come out, each with its meaning. `docs/PROTOCOL.md` has the frames.
+
+Without PROGRAM the tool has `rt try` compile a program, which proves nothing: for a script the sim alone, for frames
+all of `wlb`.
+
+Output to a terminal is coloured, unless the environment has NO_COLOR. The status is that of the program's last run.
 """
 
 import argparse
+import dataclasses
+import os
+import pathlib
 import re
+import shutil
 import subprocess
 import sys
+import tempfile
+import time
+
+import archive
+import arguments
+
+TOP = pathlib.Path(__file__).resolve().parent.parent
 
 MODES = {1: "shared", 2: "exclusive"}
 STANDINGS = {1: "held", 2: "waiting"}
@@ -21,6 +38,176 @@ probe T MODE NAME | query T | abort T K | release T K | resend T | deliver mN | 
 forge T HEX | show
 """
 
+
+# ---- The program
+
+
+@dataclasses.dataclass
+class Ended:
+    """Result of one run of the program."""
+
+    stdout: bytes
+    stderr: str
+    status: int
+
+
+class Program:
+    """The program `wlb`, as it was built."""
+
+    def __init__(self, path):
+        self.path = path
+
+    def runs(self, word, inputs):
+        """Runs `wlb WORD` on each input, and returns the results."""
+        for given in inputs:
+            ran = subprocess.run([self.path, word], input=given, capture_output=True, check=False)
+            yield Ended(ran.stdout, ran.stderr.decode(), ran.returncode)
+
+
+# The sim alone compiles in little more than half of the time of `wlb`. It has the output and the statuses of `wlb sim`.
+SIM, SIM_LIBRARIES = "sim_alone", ["wl_script", "wl_frames"]
+SIM_MAIN = """//! Plays a script of the sim from standard input.
+
+use std::process::ExitCode;
+use wl_frames::device::{Sink, Source};
+use wl_script::sim::{SimFault, sim_run};
+
+fn main(rt: HostRuntime) -> ExitCode {
+    let alloc = rt.alloc();
+    let mut source = Source::new(rt.stdin());
+    let mut sink = Sink::new(rt.stdout());
+    match sim_run(alloc, &mut source, &mut sink) {
+        Ok(()) => ExitCode::SUCCESS,
+        Err(SimFault::Line(_)) => ExitCode::from(1),
+        Err(_) => ExitCode::from(3),
+    }
+}
+"""
+
+
+class Tried:
+    """The program as `rt try` compiles it, once for all inputs, with nothing proved."""
+
+    def runs(self, word, inputs):
+        """Runs the program on each input, and returns the results."""
+        with tempfile.TemporaryDirectory(prefix="wlb-demo-") as place:
+            room = pathlib.Path(place)
+            cases = room / "cases"
+            cases.mkdir()
+            for number, given in enumerate(inputs):
+                (cases / f"{number:06}").write_bytes(given)
+            folder, words = (sim_folder(room), []) if word == "sim" else (TOP / "crates" / "wlb", ["--", word])
+            # Beside the compiled program `rt try` has an interpreter, which is slow. With one step it gives up at once.
+            yield from self.results(folder, ["rt", "try", "--steps", "1", "--cases", cases, *words], len(inputs))
+
+    def results(self, folder, words, count):
+        print("`rt try` compiles the program and proves nothing; `make test` proves it.", flush=True)
+        start = time.monotonic()
+        try:
+            ran = subprocess.Popen(words, cwd=folder, stdin=subprocess.DEVNULL, stdout=subprocess.PIPE, stderr=subprocess.PIPE)
+        except FileNotFoundError:
+            sys.exit("demo: there is no command `rt`: install the Rattle kit, or give a built program as PROGRAM")
+        stdout, stderr = ended_with_clock(ran, start)
+        said = stderr.decode(errors="replace")
+        statuses = [int(status) for status in re.findall(r"^case=\d{6} run=ended status=(\d+) ", said, re.MULTILINE)]
+        outputs = re.split(rb"^== \d{6}\n", stdout, flags=re.MULTILINE)[1:]
+        if len(statuses) != count or len(outputs) != count:
+            sys.exit(f"{said}demo: `rt try` has not run the program to its end")
+        print(f"Compiled and run in {time.monotonic() - start:.0f} seconds.\n")
+        return [Ended(output, "", status) for output, status in zip(outputs, statuses)]
+
+
+def sim_folder(room):
+    """Makes a repository with the crate of the sim alone and copies of the crates below it. Returns the crate's folder."""
+    crates = {**archive.listed(), SIM: SIM_LIBRARIES}
+    used = [name for name in [*archive.below(SIM, crates), SIM] if name in crates]
+    (room / "crates.txt").write_text("".join(f"{name}: {' '.join(crates[name])}\n" for name in used), encoding="utf-8")
+    for name in used[:-1]:
+        shutil.copytree(TOP / "crates" / name / "src", room / "crates" / name / "src")
+    source = room / "crates" / SIM / "src"
+    source.mkdir(parents=True)
+    (source / "main.rt").write_text(SIM_MAIN, encoding="utf-8")
+    return source.parent
+
+
+def ended_with_clock(ran, start):
+    """Returns the output of a process at its end. Meanwhile a terminal shows the seconds."""
+    while True:
+        try:
+            said = ran.communicate(timeout=1)
+            break
+        except subprocess.TimeoutExpired:
+            if sys.stdout.isatty():
+                print(f"\r{time.monotonic() - start:.0f} seconds", end="", flush=True)
+    if sys.stdout.isatty():
+        print("\r\033[K", end="")
+    return said
+
+
+# ---- A script
+
+COLORS = {"line": "1", "comment": "36", "drop": "31", "lock": "32"}
+READING = """Behind > stands a line of the script, and under it the sim's reply. `m5 1>b` is message 5, from tab 1 to the broker; k is
+the kernel. `1#0` is tab 1's command 0, or the lock that it requests. docs/SCRIPTS.md has the language.
+"""
+
+
+def is_coloured():
+    return sys.stdout.isatty() and not os.environ.get("NO_COLOR") and os.environ.get("TERM") != "dumb"
+
+
+def painted(text, kind):
+    return f"\033[{COLORS[kind]}m{text}\033[0m" if text and kind and is_coloured() else text
+
+
+def kind_of(reply, line):
+    """Returns how a reply is coloured: a drop, a lock that is held, or neither."""
+    if reply.startswith("dropped"):
+        return "drop"
+    is_held = line == "show" and reply != "nothing held"
+    return "lock" if is_held or reply.startswith("granted") else None
+
+
+def forms_of(verb):
+    """Returns the forms of the lines that begin with this word."""
+    forms = [form.strip() for form in FORMS.replace("\n", "|").split("|")]
+    return [form for form in forms if form.split(" ")[0] == verb]
+
+
+def tell_refused(number, line):
+    """Prints a refused line, and the forms that a line with its first word has."""
+    forms = forms_of(line.split(" ")[0])
+    print(f"Line {number} is refused. " + (f"Expected: {' or '.join(forms)}" if forms else "No line begins with this word."))
+
+
+def lines_of(script):
+    """Returns the lines of a script. The text behind the last line feed is a line only if it is not empty."""
+    lines = script.read_bytes().split(b"\n")
+    return (lines if lines[-1] else lines[:-1]) or [b""]
+
+
+def play(example, program):
+    """Prints each line with what it adds to the output: the sim answers line by line, so the front of a script prints a front."""
+    lines = lines_of(example)
+    fronts = [b"\n".join(lines[:count]) for count in range(1, len(lines) + 1)]
+    printed, done = b"", None
+    for count, done in enumerate(program.runs("sim", fronts), 1):
+        if count == 1:
+            print(READING)
+        line = lines[count - 1].decode(errors="replace")
+        is_comment = not line or line.startswith("#")
+        print(painted(line, "comment") if is_comment else painted(f"> {line}", "line"))
+        for reply in done.stdout[len(printed) :].decode().splitlines():
+            print(f"    {painted(reply, kind_of(reply, line))}")
+        printed = done.stdout
+        if done.status == 1:
+            tell_refused(count, line)
+        if done.status:
+            break
+    return done
+
+
+# ---- Frames
 
 class Body:
     """The fields of a body, from left to right."""
@@ -112,67 +299,44 @@ def frames(stream):
         stream = stream[4 + length :]
 
 
-def show(title, stream):
-    print(title)
-    for frame in frames(stream):
-        print(f"  {frame.hex().upper()}")
-        print(f"    {meaning(Body(frame[4:]))}")
-
-
-def forms_of(verb):
-    """Returns the forms of the lines that begin with this word."""
-    forms = [form.strip() for form in FORMS.replace("\n", "|").split("|")]
-    return [form for form in forms if form.split(" ")[0] == verb]
-
-
-def tell_refused(number, line):
-    """Prints a refused line, and the forms that a line with its first word has."""
-    text = line.decode(errors="replace")
-    forms = forms_of(text.split(" ")[0])
-    print(f"Line {number} is refused. " + (f"Expected: {' or '.join(forms)}" if forms else "No line begins with this word."))
-
-
-def play(example, program):
-    """Prints each line with what it adds to the output. The sim answers line by line, so the front of a script prints a front."""
-    with open(example, "rb") as file:
-        lines = file.read().split(b"\n")
-    # The text behind the last line feed is a line only if it is not empty.
-    lines = lines if lines[-1] else lines[:-1]
-    printed, done = b"", None
-    for count, line in enumerate(lines or [b""], 1):
-        front = b"\n".join(lines[:count])
-        done = subprocess.run([program, "sim"], input=front, capture_output=True, check=False)
-        text = line.decode(errors="replace")
-        print(f"> {text}" if text and not text.startswith("#") else text)
-        print(done.stdout[len(printed) :].decode(), end="")
-        printed = done.stdout
-        if re.fullmatch(rb"wlb: line \d+\n", done.stderr):
-            tell_refused(count, line)
-            break
-    return done
+def bytes_of(example):
+    """Returns the bytes of a file of hexadecimal digits."""
+    try:
+        lines = example.read_text(encoding="utf-8").splitlines()
+    except UnicodeDecodeError:
+        sys.exit(f"demo: {example} is not UTF-8: expected a script NAME.sim, or hexadecimal digits with comments from # on")
+    digits = ""
+    for number, line in enumerate(lines, 1):
+        found = re.sub(r"\s", "", line.split("#")[0])
+        if re.search(r"[^0-9A-Fa-f]", found):
+            sys.exit(f"demo: {example}, line {number}: expected hexadecimal digits, spaces, and a comment from # on")
+        digits += found
+    if len(digits) % 2:
+        sys.exit(f"demo: {example}: expected an even number of hexadecimal digits")
+    return bytes.fromhex(digits)
 
 
 def converse(example, program):
-    with open(example, encoding="utf-8") as lines:
-        digits = "".join(line.split("#")[0] for line in lines)
-    given = bytes.fromhex("".join(digits.split()))
+    given = bytes_of(example)
+    [done] = program.runs("desk", [given])
     show("In:", given)
-    done = subprocess.run([program, "desk"], input=given, capture_output=True, check=False)
     show("Out:", done.stdout)
     return done
 
 
 def main():
     parser = argparse.ArgumentParser(description=__doc__, formatter_class=argparse.RawDescriptionHelpFormatter)
-    parser.add_argument("example", metavar="EXAMPLE", help="a script NAME.sim, or a file of frames")
-    parser.add_argument("program", metavar="PROGRAM", help="the program `wlb`")
+    parser.add_argument("example", metavar="EXAMPLE", type=arguments.file, help="a script NAME.sim, or a file of frames")
+    parser.add_argument("program", metavar="PROGRAM", type=arguments.program, nargs="?", help="the program `wlb`")
     given = parser.parse_args()
-    show_example = play if given.example.endswith(".sim") else converse
-    done = show_example(given.example, given.program)
+    program = Program(given.program) if given.program else Tried()
+    if given.program:
+        print(f"The program is {given.program}.")
+    done = (play if given.example.suffix == ".sim" else converse)(given.example, program)
     if done.stderr:
-        print(done.stderr.decode(), end="")
-    print(f"status {done.returncode}")
-    return done.returncode
+        print(done.stderr, end="")
+    print(f"status {done.status}")
+    return done.status
 
 
 if __name__ == "__main__":
