@@ -4,9 +4,9 @@ Tabs, kernel and broker have a lane each, and time runs down. Each line of the s
 arrow from the row in which it was sent to the row in which it came. Generations of the broker are bands, and held locks are thick
 bars on the lane of their tab. docs/SCRIPTS.md has the language.
 
-The chart is an SVG file. With `--html` it is a page by itself, in which the pointer shows the whole text of each message. `--all`
-writes the charts of the examples to docs/charts, and `--check` compares them with those of the program: it prints each chart that
-differs, and the status is 1 if there is one.
+The chart is an SVG file. With `--html` it is a page by itself, which shows the whole text of a message under the pointer or finger.
+`--all` writes the charts of the examples to docs/charts, and `--check` compares them with those of the program: it prints each chart
+that differs, and the status is 1 if there is one.
 """
 
 import argparse
@@ -248,7 +248,9 @@ def clipped(text, most):
 
 SCRIPT, LANE, ROW, HEAD, RIGHT = 316, 176, 37, 58, 178
 NOTE, EDGE, BAR, GAP = 15, 24, 10, 14
-LEAST = 980
+LEAST, TALL = 980, 1200
+# Pixels of a letter of the title, at most on average.
+LETTER = 9
 LOCKS = ["#2563eb", "#c2410c", "#7e22ce", "#0f766e", "#be123c", "#4d7c0f"]
 SITES = ["#334155", "#9a3412", "#3f6212", "#6b21a8"]
 STYLE = """
@@ -272,8 +274,9 @@ text { font: 12px system-ui, 'Segoe UI', 'DejaVu Sans', sans-serif; fill: #1f293
 .again text, .lost text { fill: #64748b }
 .drop .arrow { stroke: #dc2626; stroke-dasharray: 6 4 }
 .drop text, text.drop { fill: #b91c1c }
-.label .name { fill: #94a3b8 }
-.message:hover .arrow { stroke-width: 3 }
+.label .name { fill: #64748b }
+.message:hover .arrow, .shown .arrow { stroke-width: 3 }
+.shown text { font-weight: 600 }
 """
 ENDS = {"k": "kernel", "b": "broker"}
 LEGEND = {"": "message", "late": "overtaken by a later one", "again": "delivered again", "drop": "dropped", "lost": "not delivered"}
@@ -326,7 +329,7 @@ class Chart:
     def place_rows(self):
         """Places the rows from above, each below the comments on it."""
         steps = self.run.steps
-        self.headline = textwrap.wrap(self.run.title, int((self.width - 2 * EDGE) / 8))
+        self.headline = textwrap.wrap(self.run.title, (self.width - 2 * EDGE) // LETTER)
         self.top = EDGE + 18 * len(self.headline) + 6
         y = self.top + HEAD
         for place, step in enumerate(steps):
@@ -338,20 +341,36 @@ class Chart:
             self.rows.append(y + 16)
             y += ROW
         self.bottom = y + 6
-        self.height = self.bottom + 2 * EDGE + 8
+        # A tall chart has the names of the lanes at its foot, too.
+        self.foot = self.bottom + 8 if self.bottom > TALL else None
+        self.height = self.bottom + 2 * EDGE + 8 + (HEAD if self.foot else 0)
 
     def end(self, row):
         return self.bottom if row is None else self.rows[row]
 
     def svg(self):
+        title = tag("title", html.escape(self.run.title))
+        return self.drawing(0, self.height, [title, *self.body(), *self.title(), *self.heads(self.top), *self.heads(self.foot)])
+
+    def page(self):
+        """Returns the page: the title as text, the names of the lanes, which stay at the top, and the chart below them."""
+        cut = self.top + HEAD - 16
+        heads = self.drawing(self.top - 4, cut, [tag("style", STYLE), *self.heads(self.top)])
+        body = self.drawing(cut, self.height, [*self.body(), *self.heads(self.foot)])
+        return PAGE.format(title=html.escape(self.run.title), heads=heads, body=body)
+
+    def drawing(self, top, bottom, parts):
+        """Returns the part of the drawing between two heights."""
+        size = {"width": self.width, "height": round(bottom - top), "viewBox": f"0 {round(top)} {self.width} {round(bottom - top)}"}
+        return tag("svg", "\n" + "\n".join(parts) + "\n", xmlns="http://www.w3.org/2000/svg", **size) + "\n"
+
+    def body(self):
+        """Returns all parts but the title and the names of the lanes."""
         drawn = [*self.bands(), *self.lives(), *self.bars(), *self.crosses(), *self.acts()]
         lines, labels = self.messages()
-        words = [*self.heads(), *self.words(), *self.legend()]
-        size = {"width": self.width, "height": round(self.height), "viewBox": f"0 0 {self.width} {round(self.height)}"}
-        back = tag("rect", width="100%", height="100%", fill="#fff", rx=8)
+        back = tag("rect", width="100%", height=round(self.height), fill="#fff", rx=8)
         markers = tag("defs", "".join(self.marker(name, color) for name, color in MARKERS.items()))
-        body = "\n".join([tag("style", STYLE), markers, back, *drawn, *lines, *labels, *words])
-        return tag("svg", f"\n{tag('title', html.escape(self.run.title))}\n{body}\n", xmlns="http://www.w3.org/2000/svg", **size) + "\n"
+        return [tag("style", STYLE), markers, back, *drawn, *lines, *labels, *self.words(), *self.legend()]
 
     @staticmethod
     def marker(name, color):
@@ -393,10 +412,13 @@ class Chart:
     def cross(x, y):
         return tag("path", d=f"M{x - 6} {y - 6} L{x + 6} {y + 6} M{x - 6} {y + 6} L{x + 6} {y - 6}", class_="cross")
 
-    def heads(self):
+    def heads(self, y):
+        """Draws the names of the lanes at a height, if there is one."""
         names = [(tab.number, f"tab {tab.number}", tab.origin, self.sites[tab.origin]) for tab in self.run.tabs.values()]
         for name, head, site, color in [*names, ("k", "kernel", "", "#334155"), ("b", "broker", "", "#334155")]:
-            x, y = self.lanes[name], self.top
+            if y is None:
+                return
+            x = self.lanes[name]
             yield tag("rect", x=x - 62, y=y, width=124, height=38, rx=6, fill="#fff", stroke=color, stroke_width=1.5)
             yield text_at(x, y + (16 if site else 23), head, class_="head", text_anchor="middle")
             if site:
@@ -535,9 +557,11 @@ class Chart:
 
     # Words
 
-    def words(self):
+    def title(self):
         for place, text in enumerate(self.headline):
             yield text_at(EDGE, EDGE + 8 + 18 * place, text, class_="title")
+
+    def words(self):
         for y, text in self.notes:
             yield text_at(EDGE, y + 6, text, class_="note")
         for row, step in enumerate(self.run.steps):
@@ -549,7 +573,7 @@ class Chart:
                 yield text_at(EDGE, y + 14, clipped(" · ".join(replies), 46), class_="reply drop" if is_drop else "reply")
 
     def legend(self):
-        y, x = self.bottom + EDGE + 6, EDGE
+        y, x = self.height - EDGE - 2, EDGE
         for kind, text in LEGEND.items():
             line = line_at(x, y, x + 34, y, class_="arrow", marker_end=f"url(#to{kind})")
             yield tag("g", line + text_at(x + 42, y + 4, text), class_=f"message {kind}".strip())
@@ -563,19 +587,43 @@ class Chart:
 PAGE = """<!doctype html>
 <html lang="en">
 <meta charset="utf-8">
-<meta name="viewport" content="width=device-width">
+<meta name="viewport" content="width=device-width, initial-scale=1">
 <title>{title}</title>
 <style>
-body {{ margin: 2rem; background: #f8fafc }}
-svg {{ border-radius: 8px; box-shadow: 0 1px 6px #0002 }}
+html, body {{ margin: 0; height: 100%; background: #fff; color: #1f2937; font: 16px/1.4 system-ui, sans-serif }}
+body {{ display: flex; flex-direction: column }}
+h1 {{ margin: 0; padding: .7rem 1.5rem; font-size: 1.05rem }}
+main {{ flex: 1; overflow: auto; border-top: 1px solid #cbd5e1 }}
+main svg {{ display: block; margin: 0 }}
+.heads {{ position: sticky; top: 0; width: max-content; background: #ffffffe6 }}
+.message {{ cursor: pointer }}
+output {{ min-height: 2.8em; padding: .5rem 1.5rem; border-top: 1px solid #cbd5e1; white-space: pre-wrap; overflow-wrap: anywhere }}
+@media (max-width: 600px) {{ h1 {{ padding: .5rem .8rem; font-size: .95rem }} output {{ padding: .5rem .8rem; font-size: .9rem }} }}
 </style>
-{svg}</html>
+<h1>{title}</h1>
+<main tabindex="0" aria-label="sequence chart">
+<div class="heads">
+{heads}</div>
+{body}</main>
+<output>Point at a message, or tap it, to read all of it.</output>
+<script>
+const output = document.querySelector('output');
+const textOf = part => part?.querySelector(':scope > title')?.textContent;
+function show(event) {{
+  const text = textOf(event.target.closest('g')) ?? textOf(event.target.closest('text'));
+  if (!text) return;
+  output.textContent = text;
+  for (const part of document.querySelectorAll('.message')) part.classList.toggle('shown', textOf(part) === text);
+}}
+for (const name of ['pointerover', 'click']) document.addEventListener(name, show);
+</script>
+</html>
 """
 
 
 def chart_of(program, script, is_page=False):
     chart = Chart(Run(*steps_of(program, script.read_text(encoding="utf-8"))))
-    return PAGE.format(title=html.escape(chart.run.title), svg=chart.svg()) if is_page else chart.svg()
+    return chart.page() if is_page else chart.svg()
 
 
 def write_all(program):
