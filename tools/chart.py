@@ -595,7 +595,7 @@ body {{ display: flex; flex-direction: column }}
 h1 {{ margin: 0; padding: .7rem 1.5rem; font-size: 1.05rem }}
 main {{ flex: 1; overflow: auto; border-top: 1px solid #cbd5e1 }}
 main svg {{ display: block; margin: 0 }}
-.heads {{ position: sticky; top: 0; width: max-content; background: #ffffffe6 }}
+.heads {{ position: sticky; top: 0; width: max-content; background: #fff }}
 .message {{ cursor: pointer }}
 output {{ min-height: 2.8em; padding: .5rem 1.5rem; border-top: 1px solid #cbd5e1; white-space: pre-wrap; overflow-wrap: anywhere }}
 @media (max-width: 600px) {{ h1 {{ padding: .5rem .8rem; font-size: .95rem }} output {{ padding: .5rem .8rem; font-size: .9rem }} }}
