@@ -17,6 +17,8 @@ import subprocess
 import sys
 import tempfile
 
+import argument_types
+
 TOP = pathlib.Path(__file__).resolve().parent.parent
 CPU = "x86-64"
 KEEPING_CLANG = """#!/bin/sh
@@ -45,6 +47,7 @@ def missing(name):
 
 def kit_folder():
     """Returns the folder of the kit: that of its first document."""
+    argument_types.need_command("rt", "the Rattle kit has it")
     said = subprocess.run(["rt", "doc"], capture_output=True, text=True, check=True).stdout
     return pathlib.Path(said.splitlines()[0]).parent
 
@@ -110,6 +113,7 @@ def build(name, jobs):
     """Builds the static library, and returns the status."""
     folder = TOP / "crates" / name
     if missing(name):
+        argument_types.need_command("rt", "the Rattle kit has it")
         return subprocess.run(["rt", "lib"], cwd=folder, stdout=subprocess.DEVNULL, check=False).returncode
     kit, archive = kit_folder(), folder / "out" / f"lib{name}.a"
     archive.parent.mkdir(exist_ok=True)
@@ -130,7 +134,7 @@ def build(name, jobs):
 def main():
     parser = argparse.ArgumentParser(description=__doc__, formatter_class=argparse.RawDescriptionHelpFormatter)
     parser.add_argument("name", choices=["wlb_hub", "wlb_client"], help="the library")
-    parser.add_argument("--jobs", metavar="N", type=int, default=os.cpu_count(), help="jobs of rattle (all processors)")
+    parser.add_argument("--jobs", metavar="N", type=argument_types.number(1), default=os.cpu_count(), help="jobs of rattle (all processors)")
     given = parser.parse_args()
     sys.exit(build(given.name, given.jobs))
 

@@ -81,7 +81,10 @@ import subprocess
 import tempfile
 import time
 
+import argument_types
 import js
+
+BENCH = argument_types.executable("`rt run` in crates/bench_core builds crates/bench_core/out/bench_core")
 
 LENGTHS = [1_000, 10_000, 100_000]
 
@@ -630,10 +633,10 @@ def library(folder):
 
 def main():
     parser = argparse.ArgumentParser(description=__doc__, formatter_class=argparse.RawDescriptionHelpFormatter)
-    parser.add_argument("program", metavar="WLB", help="the program `wlb`")
-    parser.add_argument("bench", metavar="BENCH", help="the program `bench_core`")
-    parser.add_argument("older", metavar="OLDER", nargs="?", help="an older `wlb`")
-    parser.add_argument("--build", metavar="BUILD", default="build", help="the folder that `make lib` has written")
+    parser.add_argument("program", metavar="WLB", type=argument_types.program, help="the program `wlb`")
+    parser.add_argument("bench", metavar="BENCH", type=BENCH, help="the program `bench_core`")
+    parser.add_argument("older", metavar="OLDER", type=argument_types.program, nargs="?", help="an older `wlb`")
+    parser.add_argument("--build", metavar="BUILD", type=argument_types.folder, default="build", help="the folder that `make lib` has written")
     given = parser.parse_args()
     program, bench = given.program, given.bench
     programs = [program, given.older] if given.older else [program]

@@ -18,6 +18,9 @@ import subprocess
 import sys
 import textwrap
 
+import argument_types
+from demo import expected_after
+
 TOP = pathlib.Path(__file__).resolve().parent.parent
 CHARTS = TOP / "docs" / "charts"
 EXAMPLES = sorted((TOP / "examples").glob("*.sim"))
@@ -88,8 +91,11 @@ class Generation:
     stop: int | None = None
 
 
-def printed(program, lines):
-    ran = subprocess.run([str(program), "sim"], input="\n".join(lines).encode(), capture_output=True, check=False)
+def printed(program, script, lines):
+    """Returns what the front of a script prints. Ends the tool if the last line is refused."""
+    ran = subprocess.run([program, "sim"], input="\n".join(lines).encode(), capture_output=True, check=False)
+    if ran.returncode == 1:
+        sys.exit(f"chart: {script}, line {len(lines)} is refused. {expected_after(lines[-1])}")
     if ran.returncode:
         sys.exit(f"chart: {ran.stderr.decode().strip()}")
     return ran.stdout.decode().splitlines()
@@ -100,14 +106,17 @@ def steps_of(program, script):
 
     The replies of a line are what its front prints beyond the front before it.
     """
-    lines = script.splitlines()
+    try:
+        lines = script.read_text(encoding="utf-8").splitlines()
+    except UnicodeDecodeError:
+        sys.exit(f"chart: {script} is no script of the sim: it is not UTF-8")
     front = next((place for place, line in enumerate(lines) if not line.startswith("#")), len(lines))
     title, steps, comments, before = " ".join(map(comment, lines[:front])), [], [], 0
     for count, line in enumerate(lines[front:], front + 1):
         if line.startswith("#"):
             comments.append(comment(line))
         elif line:
-            out = printed(program, lines[:count])
+            out = printed(program, script, lines[:count])
             steps.append(Step(comments, line, out[before:]))
             comments, before = [], len(out)
     return title, steps
@@ -622,7 +631,7 @@ for (const name of ['pointerover', 'click']) document.addEventListener(name, sho
 
 
 def chart_of(program, script, is_page=False):
-    chart = Chart(Run(*steps_of(program, script.read_text(encoding="utf-8"))))
+    chart = Chart(Run(*steps_of(program, script)))
     return chart.page() if is_page else chart.svg()
 
 
@@ -644,19 +653,15 @@ def check_all(program):
 
 def main():
     parser = argparse.ArgumentParser(description=__doc__, formatter_class=argparse.RawDescriptionHelpFormatter)
-    parser.add_argument("script", metavar="SCRIPT", type=pathlib.Path, nargs="?", help="a script of the sim")
+    parser.add_argument("script", metavar="SCRIPT", type=argument_types.file, nargs="?", help="a script of the sim")
     parser.add_argument("--html", action="store_true", help="make a page")
-    parser.add_argument("--output", metavar="FILE", type=pathlib.Path, help="the file that is written, instead of standard output")
-    parser.add_argument("--program", metavar="PROGRAM", type=pathlib.Path, default=PROGRAM, help="the program `wlb`")
+    parser.add_argument("--output", metavar="FILE", type=argument_types.new_file, help="the file that is written, instead of standard output")
+    parser.add_argument("--program", metavar="PROGRAM", type=argument_types.program, default=str(PROGRAM), help="the program `wlb`")
     parser.add_argument("--all", action="store_true", help="write the charts of the examples to docs/charts")
     parser.add_argument("--check", action="store_true", help="compare docs/charts with the charts of the examples")
     given = parser.parse_args()
     if sum([given.script is not None, given.all, given.check]) != 1:
         parser.error("give a SCRIPT, --all or --check")
-    if not given.program.is_file():
-        parser.error(f"there is no program {given.program}: `make crates/wlb/out/wlb` builds it, and --program names another one")
-    if given.script and not given.script.is_file():
-        parser.error(f"there is no script {given.script}")
     if given.check:
         sys.exit(check_all(given.program))
     if given.all:

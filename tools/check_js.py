@@ -20,6 +20,7 @@ import subprocess
 import sys
 import tempfile
 
+import argument_types
 import library
 import wasm
 from js import OLDEST, TOP, left_out, node_version
@@ -50,8 +51,8 @@ def play(environment):
 
 def main():
     parser = argparse.ArgumentParser(description=__doc__, formatter_class=argparse.RawDescriptionHelpFormatter)
-    parser.add_argument("program", metavar="PROGRAM", type=pathlib.Path, help="the program `wlb`")
-    parser.add_argument("archives", metavar="ARCHIVES", type=pathlib.Path, nargs="+", help="a folder with static libraries")
+    parser.add_argument("program", metavar="PROGRAM", type=argument_types.program, help="the program `wlb`")
+    parser.add_argument("archives", metavar="ARCHIVES", type=argument_types.folder, nargs="+", help="a folder with static libraries")
     given = parser.parse_args()
     if node_version() < OLDEST:
         left_out(f"nothing is tested: there is no `node` of version {OLDEST} or later")
@@ -63,7 +64,7 @@ def main():
         modules, libraries = pathlib.Path(place, "modules"), pathlib.Path(place, "libraries")
         wasm.build(given.archives, modules)
         library.build_all(given.archives, libraries, pathlib.Path("/usr/local"))
-        environment = {"WLB_MODULES": str(modules), "WLB_LIBRARIES": str(libraries), "WLB_PROGRAM": str(given.program.absolute())}
+        environment = {"WLB_MODULES": str(modules), "WLB_LIBRARIES": str(libraries), "WLB_PROGRAM": os.path.abspath(given.program)}
         return play(environment)
 
 

@@ -24,6 +24,7 @@ import subprocess
 import sys
 import tempfile
 
+import argument_types
 from checks import differences, same
 from library import HEADER, LIBRARIES, TOP, functions_of
 
@@ -304,12 +305,14 @@ CHECKS = [
 
 def main():
     parser = argparse.ArgumentParser(description=__doc__, formatter_class=argparse.RawDescriptionHelpFormatter)
-    parser.add_argument("archives", metavar="ARCHIVES", type=pathlib.Path, nargs="*", help="a folder with static libraries")
+    parser.add_argument("archives", metavar="ARCHIVES", type=argument_types.folder, nargs="*", help="a folder with static libraries")
     parser.add_argument("--only", metavar="WORD", default="", help="run only the checks whose names contain this word")
-    parser.add_argument("--megabytes", metavar="N", type=float, default=10, help="the bytes that hub and client each receive")
-    parser.add_argument("--seed", metavar="SEED", type=int, default=1, help="the number from which the bytes are drawn")
+    parser.add_argument("--megabytes", metavar="N", type=argument_types.amount, default=10, help="the bytes that hub and client each receive")
+    parser.add_argument("--seed", metavar="SEED", type=argument_types.number(0), default=1, help="the number from which the bytes are drawn")
     parser.add_argument("--tell", action="store_true", help="print what the fuzzer has done")
     given = parser.parse_args()
+    for name in ("cc", "pkg-config"):
+        argument_types.need_command(name, "install a C compiler and pkg-config")
     chosen = [check for check in CHECKS if given.only in check.__name__]
     if not chosen:
         parser.error(f"no check has {given.only!r} in its name")

@@ -15,11 +15,13 @@ missing. It prints each difference. The status is 1 if there is one.
 import argparse
 import ctypes
 import json
+import os
 import pathlib
 import re
 import struct
 import sys
 
+import argument_types
 from checks import Ended, differences, same
 from demo import Body, frames, meaning
 from fuzz import Fault, frames_of
@@ -515,21 +517,26 @@ def play(vectors, program, libraries):
 
 def main():
     parser = argparse.ArgumentParser(description=__doc__, formatter_class=argparse.RawDescriptionHelpFormatter)
-    parser.add_argument("--program", metavar="PROGRAM", type=pathlib.Path, help="play what a desk plays, with this program `wlb`")
-    parser.add_argument("--libraries", metavar="FOLDER", type=pathlib.Path, help="play tabs and hubs, with the C libraries of this folder")
-    parser.add_argument("--vectors", metavar="FILE", type=pathlib.Path, default=VECTORS, help="the file of vectors")
+    parser.add_argument("--program", metavar="PROGRAM", type=argument_types.program, help="play what a desk plays, with this program `wlb`")
+    parser.add_argument("--libraries", metavar="FOLDER", type=argument_types.folder, help="play tabs and hubs, with the C libraries of this folder")
+    parser.add_argument("--vectors", metavar="FILE", type=argument_types.file, default=VECTORS, help="the file of vectors")
     given = parser.parse_args()
     program, libraries = given.program, given.libraries
     if not (program or libraries):
         program, libraries = TOP / "crates" / "wlb" / "out" / "wlb", TOP / "build"
         if not program.is_file():
-            print("check_vectors: frames and brokers are left out: `make crates/wlb/out/wlb` builds the program")
+            print("check_vectors: frames and brokers are left out: `make build` builds the program")
             program = None
         if not (libraries / "libwlb_client.so").exists():
             print("check_vectors: tabs and hubs are left out: `make lib` builds the libraries")
             libraries = None
-    vectors = json.loads(given.vectors.read_text(encoding="utf-8"))
-    play(vectors, program and str(program.absolute()), libraries and libraries.absolute())
+    if libraries and not (libraries / "libwlb_client.so").exists():
+        parser.error(f"the folder {libraries} has no libwlb_client.so: `make lib` writes it to the folder `build`")
+    try:
+        vectors = json.loads(given.vectors.read_text(encoding="utf-8"))
+    except ValueError as error:
+        sys.exit(f"check_vectors: {given.vectors} is no JSON in UTF-8: {error}")
+    play(vectors, program and os.path.abspath(program), libraries and libraries.absolute())
     for difference in differences:
         print(difference)
     sys.exit(1 if differences else 0)

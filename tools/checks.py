@@ -5,6 +5,8 @@ import os
 import subprocess
 import sys
 
+import argument_types
+
 SECONDS = 60
 
 differences = []
@@ -51,7 +53,7 @@ def ends(name, ended, stdout, stderr, status):
 def main_of(description, *checks):
     """Runs the checks on the program of the command line, and prints each difference. The status is 1 if there is one."""
     parser = argparse.ArgumentParser(description=description, formatter_class=argparse.RawDescriptionHelpFormatter)
-    parser.add_argument("program", metavar="PROGRAM", help="the program `wlb`")
+    parser.add_argument("program", metavar="PROGRAM", type=argument_types.program, help="the program `wlb`")
     parser.add_argument("--only", metavar="WORD", default="", help="run only the checks whose names contain this word")
     given = parser.parse_args()
     chosen = [check for check in checks if given.only in check.__name__]

@@ -23,7 +23,7 @@ import tempfile
 import time
 
 import archive
-import arguments
+import argument_types
 
 TOP = pathlib.Path(__file__).resolve().parent.parent
 
@@ -90,31 +90,39 @@ class Tried:
 
     def runs(self, word, inputs):
         """Runs the program on each input, and returns the results."""
+        argument_types.need_command("rt", "install the Rattle kit, or give a built program as PROGRAM")
+        print("`rt try` compiles the program and proves nothing; `make test` proves it.", flush=True)
+        start, results = time.monotonic(), None
         with tempfile.TemporaryDirectory(prefix="wlb-demo-") as place:
             room = pathlib.Path(place)
             cases = room / "cases"
             cases.mkdir()
             for number, given in enumerate(inputs):
                 (cases / f"{number:06}").write_bytes(given)
-            folder, words = (sim_folder(room), []) if word == "sim" else (TOP / "crates" / "wlb", ["--", word])
-            # Beside the compiled program `rt try` has an interpreter, which is slow. With one step it gives up at once.
-            yield from self.results(folder, ["rt", "try", "--steps", "1", "--cases", cases, *words], len(inputs))
-
-    def results(self, folder, words, count):
-        print("`rt try` compiles the program and proves nothing; `make test` proves it.", flush=True)
-        start = time.monotonic()
-        try:
-            ran = subprocess.Popen(words, cwd=folder, stdin=subprocess.DEVNULL, stdout=subprocess.PIPE, stderr=subprocess.PIPE)
-        except FileNotFoundError:
-            sys.exit("demo: there is no command `rt`: install the Rattle kit, or give a built program as PROGRAM")
-        stdout, stderr = ended_with_clock(ran, start)
-        said = stderr.decode(errors="replace")
-        statuses = [int(status) for status in re.findall(r"^case=\d{6} run=ended status=(\d+) ", said, re.MULTILINE)]
-        outputs = re.split(rb"^== \d{6}\n", stdout, flags=re.MULTILINE)[1:]
-        if len(statuses) != count or len(outputs) != count:
-            sys.exit(f"{said}demo: `rt try` has not run the program to its end")
+            if word == "sim":
+                results, said = tried(sim_folder(room), cases, [], len(inputs))
+                if not results:
+                    print(f"{said}The sim alone does not compile, so `rt try` compiles all of wlb.", flush=True)
+            if not results:
+                results, said = tried(TOP / "crates" / "wlb", cases, ["--", word], len(inputs))
+        if not results:
+            sys.exit(f"{said}demo: `rt try` has not compiled and run crates/wlb")
         print(f"Compiled and run in {time.monotonic() - start:.0f} seconds.\n")
-        return [Ended(output, "", status) for output, status in zip(outputs, statuses)]
+        return results
+
+
+def tried(folder, cases, words, count):
+    """Returns the results of a crate's program for all cases, or None, and what `rt try` says."""
+    # Beside the compiled program `rt try` has an interpreter, which is slow. With one step it gives up at once.
+    words = ["rt", "try", "--steps", "1", "--cases", cases, *words]
+    ran = subprocess.Popen(words, cwd=folder, stdin=subprocess.DEVNULL, stdout=subprocess.PIPE, stderr=subprocess.PIPE)
+    stdout, stderr = ended_with_clock(ran)
+    said = stderr.decode(errors="replace")
+    statuses = [int(status) for status in re.findall(r"^case=\d{6} run=ended status=(\d+) ", said, re.MULTILINE)]
+    outputs = re.split(rb"^== \d{6}\n", stdout, flags=re.MULTILINE)[1:]
+    if len(statuses) != count or len(outputs) != count:
+        return None, said
+    return [Ended(output, "", status) for output, status in zip(outputs, statuses)], said
 
 
 def sim_folder(room):
@@ -130,8 +138,9 @@ def sim_folder(room):
     return source.parent
 
 
-def ended_with_clock(ran, start):
+def ended_with_clock(ran):
     """Returns the output of a process at its end. Meanwhile a terminal shows the seconds."""
+    start = time.monotonic()
     while True:
         try:
             said = ran.communicate(timeout=1)
@@ -174,10 +183,15 @@ def forms_of(verb):
     return [form for form in forms if form.split(" ")[0] == verb]
 
 
-def tell_refused(number, line):
-    """Prints a refused line, and the forms that a line with its first word has."""
+def expected_after(line):
+    """Returns a sentence on the forms of lines with the first word of a refused line."""
     forms = forms_of(line.split(" ")[0])
-    print(f"Line {number} is refused. " + (f"Expected: {' or '.join(forms)}" if forms else "No line begins with this word."))
+    return f"Expected: {' or '.join(forms)}" if forms else "No line of a script begins with this word."
+
+
+def tell_refused(number, line):
+    """Prints a refused line, and what is expected."""
+    print(f"Line {number} is refused. {expected_after(line)}")
 
 
 def lines_of(script):
@@ -299,6 +313,13 @@ def frames(stream):
         stream = stream[4 + length :]
 
 
+def show(title, stream):
+    print(title)
+    for frame in frames(stream):
+        print(f"  {frame.hex().upper()}")
+        print(f"    {meaning(Body(frame[4:]))}")
+
+
 def bytes_of(example):
     """Returns the bytes of a file of hexadecimal digits."""
     try:
@@ -326,8 +347,8 @@ def converse(example, program):
 
 def main():
     parser = argparse.ArgumentParser(description=__doc__, formatter_class=argparse.RawDescriptionHelpFormatter)
-    parser.add_argument("example", metavar="EXAMPLE", type=arguments.file, help="a script NAME.sim, or a file of frames")
-    parser.add_argument("program", metavar="PROGRAM", type=arguments.program, nargs="?", help="the program `wlb`")
+    parser.add_argument("example", metavar="EXAMPLE", type=argument_types.file, help="a script NAME.sim, or a file of frames")
+    parser.add_argument("program", metavar="PROGRAM", type=argument_types.program, nargs="?", help="the program `wlb`")
     given = parser.parse_args()
     program = Program(given.program) if given.program else Tried()
     if given.program:
@@ -340,4 +361,7 @@ def main():
 
 
 if __name__ == "__main__":
-    sys.exit(main())
+    try:
+        sys.exit(main())
+    except KeyboardInterrupt:
+        sys.exit(130)

@@ -19,7 +19,10 @@ import sys
 import tempfile
 import time
 
+import argument_types
+
 SECONDS = 60
+FILES = ["KERNEL", "KERNEL.out", "COUNTER", "COUNTER.out"]
 # Seconds that the system has to remove processes. The kernel's children end before it does.
 GRACE = 2
 WORDS = ["kernel", "--dir", ".", "--lanes", "2", "--shards", "1", "--limit", "65536", "KERNEL"]
@@ -119,10 +122,13 @@ def show(example, program, stage, output):
 
 def main():
     parser = argparse.ArgumentParser(description=__doc__, formatter_class=argparse.RawDescriptionHelpFormatter)
-    parser.add_argument("example", metavar="EXAMPLE", help="a folder with the scripts and the expected results")
-    parser.add_argument("program", metavar="PROGRAM", help="the program `wlb`")
+    parser.add_argument("example", metavar="EXAMPLE", type=argument_types.folder, help="a folder with the scripts and the expected results")
+    parser.add_argument("program", metavar="PROGRAM", type=argument_types.program, help="the program `wlb`")
     given = parser.parse_args()
     example, program = given.example, os.path.abspath(given.program)
+    for name in FILES:
+        if not (example / name).is_file():
+            parser.error(f"the folder {example} has no file {name}: examples/processes has folders with {', '.join(FILES)}")
     with tempfile.TemporaryDirectory(prefix="wlb-") as place, tempfile.TemporaryFile() as output:
         stage = os.path.join(place, "stage")
         shutil.copytree(example, stage)

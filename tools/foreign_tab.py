@@ -281,6 +281,8 @@ def main():
     given = parser.parse_args()
     role = role_of([given.kind, *given.words])
     if role is None:
+        if "WLB" not in os.environ:
+            parser.error("a kernel starts this file, and the environment variable WLB names the program `wlb`")
         os.execv(os.environ["WLB"], sys.argv)
     try:
         role(sys.argv[3])

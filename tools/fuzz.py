@@ -37,6 +37,8 @@ import sys
 import tempfile
 import time
 
+import argument_types
+
 SECONDS = 30
 # Bytes: the limit of peak memory, and the limit of address space, which is larger because of threads.
 ROOM = 64 << 20
@@ -665,9 +667,9 @@ def arguments():
     usage = "%(prog)s [-h] MEGABYTES SEED PROGRAM\n       %(prog)s [-h] --wrong SEED PROGRAM"
     parser = argparse.ArgumentParser(usage=usage, description=__doc__, formatter_class=argparse.RawDescriptionHelpFormatter)
     parser.add_argument("--wrong", action="store_true", help="give the cases to wrong programs")
-    parser.add_argument("megabytes", metavar="MEGABYTES", nargs="?", type=float, help="the amount of input to be accepted")
+    parser.add_argument("megabytes", metavar="MEGABYTES", nargs="?", type=argument_types.amount, help="the amount of input to be accepted")
     parser.add_argument("seed", metavar="SEED", help="the text from which the cases are drawn")
-    parser.add_argument("program", metavar="PROGRAM", help="the program `wlb`")
+    parser.add_argument("program", metavar="PROGRAM", type=argument_types.program, help="the program `wlb`")
     given = parser.parse_args()
     if given.wrong == (given.megabytes is not None):
         parser.error("give either MEGABYTES or --wrong")

@@ -36,6 +36,7 @@ import time
 
 # The wrapper starts this file by `python -I`, which leaves the file's folder out.
 sys.path.insert(0, os.path.dirname(os.path.abspath(__file__)))
+import argument_types
 import fuzz
 import soak
 
@@ -303,7 +304,7 @@ def main():
     parser = argparse.ArgumentParser(description=__doc__, formatter_class=argparse.RawDescriptionHelpFormatter)
     parser.add_argument("--wrong", action="store_true", help="play honest tabs that do not request their lock")
     parser.add_argument("seed", metavar="SEED", help="the text from which the hostile tabs' frames are drawn")
-    parser.add_argument("program", metavar="PROGRAM", help="the program `wlb`")
+    parser.add_argument("program", metavar="PROGRAM", type=argument_types.program, help="the program `wlb`")
     given = parser.parse_args()
     program = os.path.abspath(given.program)
     return show_wrong(given.seed, program) if given.wrong else compare(given.seed, program)

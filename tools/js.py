@@ -42,4 +42,8 @@ def run(program, script, *words):
 if __name__ == "__main__":
     if len(sys.argv) < 3:
         sys.exit("usage: js.py PROGRAM SCRIPT [WORD ..]")
+    if not os.access(sys.argv[1], os.X_OK) or os.path.isdir(sys.argv[1]):
+        sys.exit(f"js: there is no program {sys.argv[1]}: `make build` builds crates/wlb/out/wlb")
+    if not (TOP / "js" / "lab" / sys.argv[2]).is_file():
+        sys.exit(f"js: there is no script js/lab/{sys.argv[2]}")
     sys.exit(run(*sys.argv[1:]))

@@ -18,6 +18,8 @@ import subprocess
 import sys
 import tempfile
 
+import argument_types
+
 TOP = pathlib.Path(__file__).resolve().parent.parent
 HEADER = TOP / "include" / "wlb.h"
 LIBRARIES = ["wlb_hub", "wlb_client"]
@@ -41,6 +43,7 @@ def run(*words):
 
 def kit_archive():
     """Returns the kit's archive of functions over the C library. It lies in the folder `c` beside the kit's documents."""
+    argument_types.need_command("rt", "the Rattle kit has it")
     said = subprocess.run(["rt", "doc"], capture_output=True, text=True, check=True).stdout
     archive = pathlib.Path(said.splitlines()[0]).parent / "c" / "liblibc_c.a"
     if not archive.is_file():
@@ -53,7 +56,7 @@ def archive_of(name, folders):
         archive = folder / f"lib{name}.a"
         if archive.is_file():
             return archive
-    sys.exit(f"library: no lib{name}.a in {' '.join(map(str, folders))}")
+    sys.exit(f"library: no lib{name}.a in {' '.join(map(str, folders))}: `python3 tools/archive.py {name}` builds it")
 
 
 def functions_of(name):
@@ -85,6 +88,8 @@ def share(name, archive, build):
 
 
 def build_all(folders, build, prefix):
+    for name in ("cc", "ar", "objcopy"):
+        argument_types.need_command(name, "a C compiler and the binutils have it")
     kit = kit_archive()
     build.mkdir(parents=True, exist_ok=True)
     for name in LIBRARIES:
@@ -113,10 +118,10 @@ def main():
     parser.add_argument("--prefix", metavar="PREFIX", type=pathlib.Path, default="/usr/local", help="where to install")
     parts = parser.add_subparsers(dest="part", required=True)
     builder = parts.add_parser("build", help="make the libraries")
-    builder.add_argument("build", metavar="BUILD", type=pathlib.Path, help="the folder that is written")
-    builder.add_argument("archives", metavar="ARCHIVES", type=pathlib.Path, nargs="+", help="a folder with static libraries")
+    builder.add_argument("build", metavar="BUILD", type=argument_types.new_folder, help="the folder that is written")
+    builder.add_argument("archives", metavar="ARCHIVES", type=argument_types.folder, nargs="+", help="a folder with static libraries")
     installer = parts.add_parser("install", help="copy what was made")
-    installer.add_argument("build", metavar="BUILD", type=pathlib.Path, help="the folder that `build` has written")
+    installer.add_argument("build", metavar="BUILD", type=argument_types.folder, help="the folder that `build` has written")
     installer.add_argument("--destdir", metavar="DESTDIR", default="", help="a folder that stands for the root")
     given = parser.parse_args()
     prefix = given.prefix.absolute()

@@ -211,4 +211,7 @@ def lower(module):
 if __name__ == "__main__":
     if len(sys.argv) != 3:
         sys.exit("usage: lower.py MODULE LOWERED")
-    pathlib.Path(sys.argv[2]).write_bytes(lower(pathlib.Path(sys.argv[1]).read_bytes()))
+    try:
+        pathlib.Path(sys.argv[2]).write_bytes(lower(pathlib.Path(sys.argv[1]).read_bytes()))
+    except OSError as error:
+        sys.exit(f"lower: {error.filename}: {error.strerror}")

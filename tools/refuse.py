@@ -23,10 +23,13 @@ import subprocess
 import sys
 import tempfile
 
+import argument_types
+
 HERE = os.path.dirname(os.path.abspath(__file__))
 TOP = os.path.dirname(HERE)
 WORKERS = len(os.sched_getaffinity(0))
 SECONDS = 120
+BINARY = argument_types.executable("`rt test` in crates/NAME builds crates/NAME/out/NAME_tests")
 # Bytes of the smallest allocation that counts as large.
 LARGE = 1_000_000
 # Characters of a failed run's output that are shown.
@@ -142,13 +145,21 @@ def crates_of_tests():
     return sorted(it for it in names if it.startswith("test_") and it not in NOT_IN_GATE)
 
 
+def binary_of(crate):
+    """Returns the tests of a crate, as `rt ci` builds them."""
+    return os.path.join(TOP, "crates", crate, "out", f"{crate}_tests")
+
+
 def refuse_in_gate():
     """Refuses a sample of each test's allocations, prints the failures and a line of totals, and returns whether all passed."""
     passed = failed = refused = 0
+    for crate in crates_of_tests():
+        if not os.path.exists(binary_of(crate)):
+            sys.exit(f"refuse: there is no {binary_of(crate)}: `rt ci` builds it")
     with tempfile.TemporaryDirectory(prefix="refuse-") as place, concurrent.futures.ThreadPoolExecutor(WORKERS) as pool:
         library, begun = build(place), {}
         for crate in crates_of_tests():
-            tests = os.path.join(TOP, "crates", crate, "out", f"{crate}_tests")
+            tests = binary_of(crate)
             names = names_of(tests, [])
             for front in (*SLOW.get(crate, ()), *WITHOUT_LARGE.get(crate, ())):
                 if not any(name.startswith(front) for name in names):
@@ -175,7 +186,7 @@ def refuse_in_gate():
 def main():
     parser = argparse.ArgumentParser(description=__doc__, formatter_class=argparse.RawDescriptionHelpFormatter)
     parser.add_argument("--gate", action="store_true", help="refuse a sample for every test that `rt ci` has built")
-    parser.add_argument("tests", nargs="?", metavar="TESTS", help="a binary that `rt test` has built, crates/NAME/out/NAME_tests")
+    parser.add_argument("tests", nargs="?", metavar="TESTS", type=BINARY, help="a binary that `rt test` has built, crates/NAME/out/NAME_tests")
     parser.add_argument("words", nargs="*", metavar="WORD", help="run only the tests whose names contain one of these words")
     given = parser.parse_args()
     if given.gate == bool(given.tests):

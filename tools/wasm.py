@@ -17,6 +17,7 @@ import subprocess
 import sys
 import tempfile
 
+import argument_types
 from archive import kit_folder
 from library import TOP, functions_of
 from lower import lower
@@ -100,8 +101,8 @@ def build(folders, target):
 
 def main():
     parser = argparse.ArgumentParser(description=__doc__, formatter_class=argparse.RawDescriptionHelpFormatter)
-    parser.add_argument("build", metavar="BUILD", type=pathlib.Path, help="the folder for the modules")
-    parser.add_argument("archives", metavar="ARCHIVES", type=pathlib.Path, nargs="+", help="a folder with static libraries")
+    parser.add_argument("build", metavar="BUILD", type=argument_types.new_folder, help="the folder for the modules")
+    parser.add_argument("archives", metavar="ARCHIVES", type=argument_types.folder, nargs="+", help="a folder with static libraries")
     given = parser.parse_args()
     for file in build(given.archives, given.build):
         print(f"{file}: {file.stat().st_size} bytes")
