@@ -1,7 +1,7 @@
 // `wlb kernel` with Node processes as its tabs.
 //
 // The kernel starts its tabs and brokers by the name that it was started by. Here that is a shell script. It becomes a Node process for
-// the word `tab`, notes the process of a broker, and is the program otherwise (docs/PROCESSES.md, "A tab in another language"). Each tab
+// the word `tab`, notes the process of a broker, and is the program otherwise (docs/OPERATING.md, "Children"). Each tab
 // also has a control socket to the process that has started the kernel.
 
 import { spawn } from 'node:child_process';
