@@ -6,16 +6,21 @@ BENCH = crates/bench_core/out/bench_core
 HUB = crates/wlb_hub/out/libwlb_hub.a
 CLIENT = crates/wlb_client/out/libwlb_client.a
 
+# Ends a target if there is no such command. The second word says where it comes from.
+need = @command -v $(1) > /dev/null || { echo "make $@: there is no command $(1): $(2)" >&2; exit 1; }
+need_rt = $(call need,rt,install the Rattle kit)
+need_node = $(call need,node,install Node of version 20 or later)
+
 help: ## lists the targets
 	@sed -n 's/^\([a-z-]*\):.* ## \(.*\)/make \1\t\2/p' $(firstword $(MAKEFILE_LIST)) | expand -t 22
 
 # Example that `make demo` plays.
 EXAMPLE ?= examples/lock_moves_on.sim
 
-demo: ## plays EXAMPLE, a script of the sim or frames of the desk: with the built program, else compiled in two minutes with nothing proved
+demo: ## plays EXAMPLE, a script or frames: with the built program, or else compiled in minutes, with nothing proved
 	@python3 tools/demo.py $(EXAMPLE) $$($(MAKE) -sq $(WLB) && echo $(WLB))
 
-try: ## plays EXAMPLE as `make demo` does, but always compiles it with nothing proved
+try: ## plays EXAMPLE, always compiled with nothing proved
 	@python3 tools/demo.py $(EXAMPLE)
 
 build: $(WLB) ## proves and builds the program, crates/wlb/out/wlb
@@ -42,11 +47,13 @@ wasm: $(if $(ARCHIVES),,$(HUB) $(CLIENT)) ## builds the WebAssembly modules of t
 	python3 tools/wasm.py $(MODULES) $(or $(ARCHIVES),$(dir $(HUB) $(CLIENT)))
 
 js-test: ## runs the tests of the JavaScript package with the modules of `make wasm`, and what `make lib` and the gate have built
+	$(need_node)
 	node --test js/test
 
 WPT ?=
 
 conformance: ## runs the web-platform-tests of the folder WPT over the JavaScript package
+	$(need_node)
 	node js/conformance/run.js $(CONFORMANCE) "$(WPT)"
 
 bench: $(WLB) $(BENCH) lib ## measures scripts, the broker, lock tables, the board, lanes, processes, the C libraries and JavaScript
@@ -71,6 +78,8 @@ TESTS ?= test_tables
 WORD ?=
 
 refuse: ## runs the tests of the crate TESTS (with WORD in their names) with each allocation refused in turn
+	$(need_rt)
+	@test -d crates/$(TESTS)/src || { echo "make $@: TESTS has to name a crate of tests: there is no folder crates/$(TESTS)" >&2; exit 1; }
 	cd crates/$(TESTS) && rt test
 	python3 tools/refuse.py crates/$(TESTS)/out/$(TESTS)_tests $(WORD)
 
@@ -78,6 +87,7 @@ mutants: ## kills the mutants of CRATES, or of all crates
 	python3 tools/mutants.py $(CRATES)
 
 test: ## the gate: proves every crate, kills mutants, runs every test and the program itself
+	$(need_rt)
 	@python3 tools/mutants.py --fit
 	@python3 tools/definitions.py --check
 	RT_JOBS=$${RT_JOBS:-$$(nproc)} rt ci
@@ -91,9 +101,11 @@ test: ## the gate: proves every crate, kills mutants, runs every test and the pr
 	@python3 tools/check_js.py $(WLB) $(or $(ARCHIVES),$(dir $(HUB) $(CLIENT)))
 
 $(WLB): crates.txt $(wildcard crates/*/src/*.rt crates/*/src/*/*.rt crates/*/specs/*.antt)
+	$(need_rt)
 	cd crates/wlb && rt run < stdin > /dev/null
 
 $(BENCH): crates.txt $(wildcard crates/wl_*/src/*.rt crates/wl_*/src/*/*.rt crates/wl_*/specs/*.antt crates/bench_core/src/*.rt)
+	$(need_rt)
 	cd crates/bench_core && rt run > /dev/null
 
 $(HUB) $(CLIENT): crates.txt $(wildcard crates/wl*/src/*.rt crates/wl*/src/*/*.rt crates/wl*/specs/*.antt)
