@@ -9,7 +9,10 @@ export const modules = process.env.WLB_MODULES ?? fileURLToPath(new URL('../dist
 
 function module(name) {
   const file = path.join(modules, name);
-  if (!fs.existsSync(file)) throw new Error(`there is no ${file}: run \`make wasm\``);
+  if (!fs.existsSync(file)) {
+    console.error(`there is no ${file}: run \`make wasm\``);
+    process.exit(1);
+  }
   return new WebAssembly.Module(fs.readFileSync(file));
 }
 
