@@ -8,21 +8,31 @@ with it that each frame's bytes are those of its value. Then it plays
 - `tabs` through the C library `libwlb_client`, each whole and then byte by byte, and `frames` and `faults` once more;
 - `hubs` through the C library `libwlb_hub`.
 
+With `--client` it plays `tabs`, `frames` and `faults` through a client of yours instead. COMMAND is started for each conversation. It
+reads a line of JSON for each step: an object with the action, as a conversation has it, but all bytes as plain hexadecimal digits. It
+writes a line of JSON for each: an object with the keys `number`, `gets` and `refused` of the result, `reports` and `sends`. A key that a
+conversation would not have is left out. After bytes that are no frame, `refused` is `BAD_FRAME`.
+
 Without an option it takes the program and the libraries that this checkout has built, and says what it leaves out if one is
 missing. It prints each difference. The status is 1 if there is one.
 """
 
 import argparse
+import contextlib
 import ctypes
 import json
 import os
 import pathlib
 import re
+import shlex
+import shutil
 import struct
+import subprocess
 import sys
+import threading
 
 import argument_types
-from checks import Ended, differences, same
+from checks import SECONDS, Ended, differences, same
 from demo import Body, frames, meaning
 from fuzz import Fault, frames_of
 
@@ -299,11 +309,16 @@ def span(content):
 class Tab(Library):
     """A client, with the actions that a conversation has."""
 
-    def __init__(self, folder):
+    def __init__(self, folder, pieces=None):
         super().__init__(folder, "client")
+        self.pieces = pieces
 
-    def receives(self, texts, pieces):
-        for piece in pieces(b"".join(map(hex_of, texts))):
+    def act(self, action, value):
+        """Plays an action, and returns its result."""
+        return getattr(self, action)(value)
+
+    def receives(self, texts):
+        for piece in self.pieces(b"".join(map(hex_of, texts))):
             self.call("receive", *span(piece))
             while self.call("advance", others=["IDLE"]) == "OK":
                 pass
@@ -387,6 +402,51 @@ class Tab(Library):
         return {"held": [row for is_held, row in rows if is_held], "pending": [row for is_held, row in rows if not is_held]}
 
 
+class ForeignTab:
+    """A client behind a command that reads and writes lines of JSON."""
+
+    def __init__(self, command):
+        self.reported, self.sent = [], []
+        self.process = subprocess.Popen(shlex.split(command), stdin=subprocess.PIPE, stdout=subprocess.PIPE, text=True)
+        self.guard = threading.Timer(SECONDS, self.process.kill)
+        self.guard.start()
+
+    def act(self, action, value):
+        """Plays an action, and returns its result."""
+        with contextlib.suppress(BrokenPipeError):
+            print(json.dumps({action: plain(action, value)}), file=self.process.stdin, flush=True)
+        line = self.process.stdout.readline()
+        try:
+            reply = json.loads(line)
+            self.reported += reply.pop("reports", [])
+            self.sent += map(bytes.fromhex, reply.pop("sends", []))
+        except (ValueError, TypeError, AttributeError):
+            raise Failed(f"`{action}` is answered by {line!r}, not by an object of JSON with results, `reports` and `sends`") from None
+        return reply
+
+    def reports(self):
+        reported, self.reported = self.reported, []
+        return reported
+
+    def outputs(self):
+        sent, self.sent = self.sent, []
+        return sent
+
+    def free(self):
+        self.guard.cancel()
+        self.process.kill()
+        self.process.communicate()
+
+
+def plain(action, value):
+    """Returns the value of an action with all bytes as plain hexadecimal digits."""
+    if action == "receives":
+        return [hex_of(text).hex().upper() for text in value]
+    if action == "post":
+        return [value[0], hex_of(value[1]).hex().upper()]
+    return value
+
+
 COMMAND = b"\x01\x01"
 RESULTS = ["number", "refused", "gets"]
 ACTIONS = ["receives", "request", "probe", "query", "abort", "release", "resend", "open", "post", "read", "close"]
@@ -400,16 +460,13 @@ def byte_by_byte(stream):
     return [stream[place : place + 1] for place in range(len(stream))]
 
 
-def check_tab(folder, vector, pieces):
-    tab, numbers = Tab(folder), set()
+def check_tab(tab, vector):
+    numbers = set()
     for place, step in enumerate(vector["steps"]):
         name = f"{vector['name']}, step {place}"
         (action,) = [key for key in ACTIONS if key in step]
         for turn in range(step.get("times", 1)):
-            if action == "receives":
-                result = tab.receives(step["receives"], pieces)
-            else:
-                result = getattr(tab, action)(step[action])
+            result = tab.act(action, step[action])
             wanted = {key: step[key] for key in RESULTS if key in step}
             if "number" in wanted:
                 wanted["number"] += turn
@@ -420,7 +477,6 @@ def check_tab(folder, vector, pieces):
             sent = [frame for frame in sent if frame in wanted or not is_repeat(frame, numbers)]
         numbers |= {number_in(frame) for frame in wanted if is_command(frame)}
         same_lists(name, "what the tab sends", sent, wanted)
-    tab.free()
 
 
 def is_command(frame):
@@ -436,16 +492,35 @@ def is_repeat(frame, numbers):
     return is_command(frame) and number_in(frame) in numbers
 
 
+def check_conversation(tab, vector):
+    try:
+        check_tab(tab, vector)
+    except Failed as failed:
+        differences.append(f"{vector['name']}: {failed}")
+    tab.free()
+
+
 def check_tabs(folder, vectors):
     for vector in vectors["tabs"]:
         for pieces in [whole, byte_by_byte]:
-            try:
-                check_tab(folder, vector, pieces)
-            except Failed as failed:
-                differences.append(f"{vector['name']}: {failed}")
+            check_conversation(Tab(folder, pieces), vector)
     for vector in vectors["frames"] + vectors["faults"]:
         tab, wanted = Tab(folder), "OK" if vector.get("fault", "Truncated") == "Truncated" else "BAD_FRAME"
         same(vector["name"], "the status of the client", tab.status("receive", *span(hex_of(vector["bytes"]))), wanted)
+        tab.free()
+
+
+def check_client(command, vectors):
+    """Plays what a client plays, through a command."""
+    for vector in vectors["tabs"]:
+        check_conversation(ForeignTab(command), vector)
+    for vector in vectors["frames"] + vectors["faults"]:
+        wanted = {} if vector.get("fault", "Truncated") == "Truncated" else {"refused": "BAD_FRAME"}
+        tab = ForeignTab(command)
+        try:
+            same(vector["name"], "the result of `receives`", tab.act("receives", [vector["bytes"]]), wanted)
+        except Failed as failed:
+            differences.append(f"{vector['name']}: {failed}")
         tab.free()
 
 
@@ -519,10 +594,11 @@ def main():
     parser = argparse.ArgumentParser(description=__doc__, formatter_class=argparse.RawDescriptionHelpFormatter)
     parser.add_argument("--program", metavar="PROGRAM", type=argument_types.program, help="play what a desk plays, with this program `wlb`")
     parser.add_argument("--libraries", metavar="FOLDER", type=argument_types.folder, help="play tabs and hubs, with the C libraries of this folder")
+    parser.add_argument("--client", metavar="COMMAND", help="play tabs, frames and faults, with this client")
     parser.add_argument("--vectors", metavar="FILE", type=argument_types.file, default=VECTORS, help="the file of vectors")
     given = parser.parse_args()
     program, libraries = given.program, given.libraries
-    if not (program or libraries):
+    if not (program or libraries or given.client):
         program, libraries = TOP / "crates" / "wlb" / "out" / "wlb", TOP / "build"
         if not program.is_file():
             print("check_vectors: frames and brokers are left out: `make build` builds the program")
@@ -537,6 +613,10 @@ def main():
     except ValueError as error:
         sys.exit(f"check_vectors: {given.vectors} is no JSON in UTF-8: {error}")
     play(vectors, program and os.path.abspath(program), libraries and libraries.absolute())
+    if given.client:
+        if not shutil.which(shlex.split(given.client)[0]):
+            parser.error(f"argument --client: there is no command {shlex.split(given.client)[0]}")
+        check_client(given.client, vectors)
     for difference in differences:
         print(difference)
     sys.exit(1 if differences else 0)
