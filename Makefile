@@ -9,6 +9,7 @@ CLIENT = crates/wlb_client/out/libwlb_client.a
 # Ends a target if there is no such command. The second word says where it comes from.
 need = @command -v $(1) > /dev/null || { echo "make $@: there is no command $(1): $(2)" >&2; exit 1; }
 need_rt = $(call need,rt,install the Rattle kit)
+proving = @echo "Building $@, with a proof of each crate below it that was not proved on this machine before: all take some processor hours."
 need_node = $(call need,node,install Node of version 20 or later)
 
 help: ## lists the targets
@@ -102,11 +103,15 @@ test: ## the gate: proves every crate, kills mutants, runs every test and the pr
 
 $(WLB): crates.txt $(wildcard crates/*/src/*.rt crates/*/src/*/*.rt crates/*/specs/*.antt)
 	$(need_rt)
+	$(proving)
 	cd crates/wlb && rt run < stdin > /dev/null
 
 $(BENCH): crates.txt $(wildcard crates/wl_*/src/*.rt crates/wl_*/src/*/*.rt crates/wl_*/specs/*.antt crates/bench_core/src/*.rt)
 	$(need_rt)
+	$(proving)
 	cd crates/bench_core && rt run > /dev/null
 
 $(HUB) $(CLIENT): crates.txt $(wildcard crates/wl*/src/*.rt crates/wl*/src/*/*.rt crates/wl*/specs/*.antt)
+	$(need_rt)
+	$(proving)
 	python3 tools/archive.py $(patsubst lib%.a,%,$(notdir $@))
