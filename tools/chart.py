@@ -7,6 +7,8 @@ bars on the lane of their tab. docs/SCRIPTS.md has the language.
 The chart is an SVG file. With `--html` it is a page by itself, which shows the whole text of a message under the pointer or finger.
 `--all` writes the charts of the examples to docs/charts, and `--check` compares them with those of the program: it prints each chart
 that differs, and the status is 1 if there is one.
+
+Without a built program, the chart of one script is that of a program which `rt try` compiles, with nothing proved.
 """
 
 import argparse
@@ -14,12 +16,11 @@ import collections
 import dataclasses
 import html
 import pathlib
-import subprocess
 import sys
 import textwrap
 
 import argument_types
-from demo import expected_after
+from demo import Program, Tried, expected_after
 
 TOP = pathlib.Path(__file__).resolve().parent.parent
 CHARTS = TOP / "docs" / "charts"
@@ -91,14 +92,15 @@ class Generation:
     stop: int | None = None
 
 
-def printed(program, script, lines):
-    """Returns what the front of a script prints. Ends the tool if the last line is refused."""
-    ran = subprocess.run([program, "sim"], input="\n".join(lines).encode(), capture_output=True, check=False)
-    if ran.returncode == 1:
-        sys.exit(f"chart: {script}, line {len(lines)} is refused. {expected_after(lines[-1])}")
-    if ran.returncode:
-        sys.exit(f"chart: {ran.stderr.decode().strip()}")
-    return ran.stdout.decode().splitlines()
+def outputs_of(program, script, fronts):
+    """Yields the output of each front of a script. Ends the tool if a last line is refused."""
+    inputs = ["\n".join(front).encode() for front in fronts]
+    for front, ended in zip(fronts, program.runs("sim", inputs)):
+        if ended.status == 1:
+            sys.exit(f"chart: {script}, line {len(front)} is refused. {expected_after(front[-1])}")
+        if ended.status:
+            sys.exit(f"chart: {ended.stderr.strip() or f'the sim ends with status {ended.status}'}")
+        yield ended.stdout.decode().splitlines()
 
 
 def steps_of(program, script):
@@ -112,11 +114,13 @@ def steps_of(program, script):
         sys.exit(f"chart: {script} is no script of the sim: it is not UTF-8")
     front = next((place for place, line in enumerate(lines) if not line.startswith("#")), len(lines))
     title, steps, comments, before = " ".join(map(comment, lines[:front])), [], [], 0
-    for count, line in enumerate(lines[front:], front + 1):
+    played = [count for count, line in enumerate(lines[front:], front + 1) if line and not line.startswith("#")]
+    outputs = outputs_of(program, script, [lines[:count] for count in played])
+    for line in lines[front:]:
         if line.startswith("#"):
             comments.append(comment(line))
         elif line:
-            out = printed(program, script, lines[:count])
+            out = next(outputs)
             steps.append(Step(comments, line, out[before:]))
             comments, before = [], len(out)
     return title, steps
@@ -656,17 +660,20 @@ def main():
     parser.add_argument("script", metavar="SCRIPT", type=argument_types.file, nargs="?", help="a script of the sim")
     parser.add_argument("--html", action="store_true", help="make a page")
     parser.add_argument("--output", metavar="FILE", type=argument_types.new_file, help="the file that is written, instead of standard output")
-    parser.add_argument("--program", metavar="PROGRAM", type=argument_types.program, default=str(PROGRAM), help="the program `wlb`")
+    parser.add_argument("--program", metavar="PROGRAM", type=argument_types.program, help="the program `wlb`, instead of the built one")
     parser.add_argument("--all", action="store_true", help="write the charts of the examples to docs/charts")
     parser.add_argument("--check", action="store_true", help="compare docs/charts with the charts of the examples")
     given = parser.parse_args()
     if sum([given.script is not None, given.all, given.check]) != 1:
         parser.error("give a SCRIPT, --all or --check")
+    if given.program is None and not PROGRAM.is_file() and not given.script:
+        parser.error(f"there is no program {PROGRAM}: `make build` builds it")
+    program = Program(given.program or PROGRAM) if given.program or PROGRAM.is_file() else Tried()
     if given.check:
-        sys.exit(check_all(given.program))
+        sys.exit(check_all(program))
     if given.all:
-        return write_all(given.program)
-    made = chart_of(given.program, given.script, given.html)
+        return write_all(program)
+    made = chart_of(program, given.script, given.html)
     if given.output:
         given.output.write_text(made, encoding="utf-8")
     else:

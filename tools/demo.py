@@ -85,13 +85,18 @@ fn main(rt: HostRuntime) -> ExitCode {
 """
 
 
+def say(text, end="\n"):
+    """Says something about the tool's own work, apart from its output."""
+    print(text, end=end, file=sys.stderr, flush=True)
+
+
 class Tried:
     """The program as `rt try` compiles it, once for all inputs, with nothing proved."""
 
     def runs(self, word, inputs):
         """Runs the program on each input, and returns the results."""
         argument_types.need_command("rt", "install the Rattle kit, or give a built program as PROGRAM")
-        print("`rt try` compiles the program and proves nothing; `make test` proves it.", flush=True)
+        say("`rt try` compiles the program and proves nothing; `make test` proves it.")
         start, results = time.monotonic(), None
         with tempfile.TemporaryDirectory(prefix="wlb-demo-") as place:
             room = pathlib.Path(place)
@@ -102,12 +107,12 @@ class Tried:
             if word == "sim":
                 results, said = tried(sim_folder(room), cases, [], len(inputs))
                 if not results:
-                    print(f"{said}The sim alone does not compile, so `rt try` compiles all of wlb.", flush=True)
+                    say(f"{said}The sim alone does not compile, so `rt try` compiles all of wlb.")
             if not results:
                 results, said = tried(TOP / "crates" / "wlb", cases, ["--", word], len(inputs))
         if not results:
             sys.exit(f"{said}demo: `rt try` has not compiled and run crates/wlb")
-        print(f"Compiled and run in {time.monotonic() - start:.0f} seconds.\n")
+        say(f"Compiled and run in {time.monotonic() - start:.0f} seconds.\n")
         return results
 
 
@@ -146,10 +151,10 @@ def ended_with_clock(ran):
             said = ran.communicate(timeout=1)
             break
         except subprocess.TimeoutExpired:
-            if sys.stdout.isatty():
-                print(f"\r{time.monotonic() - start:.0f} seconds", end="", flush=True)
-    if sys.stdout.isatty():
-        print("\r\033[K", end="")
+            if sys.stderr.isatty():
+                say(f"\r{time.monotonic() - start:.0f} seconds", end="")
+    if sys.stderr.isatty():
+        say("\r\033[K", end="")
     return said
 
 
