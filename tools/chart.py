@@ -261,7 +261,7 @@ def clipped(text, most):
 
 SCRIPT, LANE, ROW, HEAD, RIGHT = 316, 176, 37, 58, 178
 NOTE, EDGE, BAR, GAP = 15, 24, 10, 14
-LEAST, TALL = 980, 1200
+LEAST, TALL = 1040, 1200
 # Pixels of a letter of the title, at most on average.
 LETTER = 9
 LOCKS = ["#2563eb", "#c2410c", "#7e22ce", "#0f766e", "#be123c", "#4d7c0f"]
@@ -313,6 +313,12 @@ def line_at(x1, y1, x2, y2, **words):
 def hollow(x, y, height, color):
     """Returns the bar of a lock that is asked."""
     return tag("rect", x=round(x, 1), y=y, width=BAR - 4, height=round(height, 1), fill="#fff", stroke=color, stroke_dasharray="3 2")
+
+
+def filled(x, y, height, color, is_shared):
+    """Returns the bar of a lock that is held, which is lighter if the lock is shared."""
+    place = {"x": round(x, 1), "y": y, "width": BAR, "height": round(height, 1), "rx": 2}
+    return tag("rect", fill="#fff", **place) + tag("rect", fill=color, fill_opacity=0.45 if is_shared else 1, stroke=color, **place)
 
 
 def labelled(message, text, x, y, side, angle=0, most=42):
@@ -464,9 +470,7 @@ class Chart:
         held = end if lock.held is None else self.rows[lock.held]
         made = [tag("title", html.escape(f"{lock.mode} {word(lock.name)}")), hollow(x + 2, asked, held - asked, color)]
         if lock.held is not None:
-            place = {"x": x, "y": held, "width": BAR, "height": round(end - held, 1), "rx": 2}
-            made.append(tag("rect", fill="#fff", **place))
-            made.append(tag("rect", fill=color, fill_opacity=0.45 if lock.mode == "shared" else 1, stroke=color, **place))
+            made.append(filled(x, held, end - held, color, lock.mode == "shared"))
             name = clipped(word(lock.name), 12)
             made.append(text_at(name_x, held + 12, name, text_anchor="end", class_="label", style=f"fill:{color}"))
         return tag("g", "".join(made))
@@ -593,8 +597,9 @@ class Chart:
             x += 60 + 6.6 * len(text)
         yield hollow(x, y - 8, 16, LOCKS[0]) + text_at(x + 16, y + 4, "lock asked")
         x += 96
-        held = tag("rect", x=round(x, 1), y=y - 8, width=BAR, height=16, rx=2, fill=LOCKS[0])
-        yield held + text_at(x + 18, y + 4, "lock held")
+        for text, is_shared in [("lock held", False), ("shared", True)]:
+            yield filled(x, y - 8, 16, LOCKS[0], is_shared) + text_at(x + 18, y + 4, text)
+            x += 34 + 6.6 * len(text)
 
 
 PAGE = """<!doctype html>
