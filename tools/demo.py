@@ -34,8 +34,8 @@ OUTCOMES = {1: "waiting", 2: "granted", 3: "gone", 4: "taken"}
 # The lines of a sim's script, as `docs/SCRIPTS.md` has them.
 FORMS = """
 open T URL | open2 T TOP URL | start | start - | start T .. | stop | hello T | kill T | tell T | ask T MODE NAME
-probe T MODE NAME | query T | abort T K | release T K | resend T | deliver mN | channel T NAME | post T C DATA | read T C | close T C | corrupt T
-forge T HEX | show
+probe T MODE NAME | query T | abort T K | release T K | resend T | deliver mN | channel T NAME | post T C DATA | read T C
+close T C | corrupt T | forge T HEX | show
 """
 
 
@@ -227,6 +227,7 @@ def play(example, program):
 
 
 # ---- Frames
+
 
 class Body:
     """The fields of a body, from left to right."""
