@@ -47,6 +47,9 @@ fn program<'a>(alloc: Global) -> Result<Command<'a>, AllocError>
 {
     Command::new(alloc, "wlb")
         .about("The lock broker of a browser's tabs")
+        .after_help(
+            "Without a command, wlb does what wlb desk does.\n\nExample: wlb sim < examples/lock_moves_on.sim",
+        )
         .subcommand(desk(alloc))?
         .subcommand(sim(alloc))?
         .subcommand(kernel(alloc)?)?
@@ -80,6 +83,7 @@ fn kernel<'a>(alloc: Global) -> Result<Command<'a>, AllocError>
         .about(
             "Runs a kernel's script, which starts and stops the broker and the tabs as processes",
         )
+        .after_help("Example: wlb kernel --dir sockets --lanes 2 --shards 2 --limit 65536 KERNEL")
         .arg(directory)?;
     with_size(alloc, kernel)?.arg(script(alloc))
 }

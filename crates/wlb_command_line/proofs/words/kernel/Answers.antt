@@ -9,8 +9,10 @@ use Rattle.wlb_command_line.proofs.words.kernel.Goals as goal
 
 pub returns : goal.returns
 returns c =
-    let named : HasGrammar (new_app (codes "kernel")) c.about.result =
-    (ap app_of_fields c.about.ensures ∙ c.new.ensures.app, ap (λ f. f.has_globals) c.about.ensures ∙ c.new.ensures.local) in
+    let named : HasGrammar (new_app (codes "kernel")) c.after_help.result = (
+      ap app_of_fields c.after_help.ensures ∙ ap app_of_fields c.about.ensures ∙ c.new.ensures.app,
+      ap (λ f. f.has_globals) c.after_help.ensures ∙ ap (λ f. f.has_globals) c.about.ensures ∙ c.new.ensures.local,
+    ) in
     let directory : HasRule (text_option (codes "dir")) c.help-directory.result =
     (ap rule_of c.help-directory.ensures ∙ c.text_option.ensures.0, ap (λ a. a.global) c.help-directory.ensures ∙ c.text_option.ensures.1) in
     let sized = c.in_ok-with_size.ensures _ (arg_added _ _ _ _ _ named directory c.in_ok-kernel.ensures) in
