@@ -19,7 +19,7 @@ help: ## lists the targets
 EXAMPLE ?= examples/lock_moves_on.sim
 
 demo: ## plays EXAMPLE, a script or frames: with the built program, or else compiled in minutes, with nothing proved
-	@python3 tools/demo.py $(EXAMPLE) $$($(MAKE) -sq $(WLB) && echo $(WLB))
+	@python3 tools/demo.py $(EXAMPLE) $$(make -sq $(WLB) && echo $(WLB))
 
 try: ## plays EXAMPLE, always compiled with nothing proved
 	@python3 tools/demo.py $(EXAMPLE)
