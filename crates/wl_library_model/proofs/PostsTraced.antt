@@ -221,7 +221,7 @@ greeting-hub past l m (Some t) is y =
     by_test (λ b. HubTraced (past ++ HubAdvances ∷ []) m (cond b (greeted t l.hub) (postponing l.hub))) (is_active_for t l.hub.supervised)
     (λ _. more-outs (past ++ HubAdvances ∷ []) m l.hub (greeted t l.hub) ((t, frame.Hello (record { generation = l.hub.supervised.kernel.generation })) ∷ []) refl refl (λ f i. i)
     (λ n f i. subst (HeardOf (past ++ HubAdvances ∷ []) m n) (sym (pair-first n t f _ (In-one i)).1) tt) y)
-    (λ _. more-outs (past ++ HubAdvances ∷ []) m l.hub (postponing l.hub) [] refl refl (λ f i. i) (none-new (past ++ HubAdvances ∷ []) m) y)
+    (λ _. more-outs (past ++ HubAdvances ∷ []) m l.hub (postponing l.hub) [] (sym (append-nil l.hub.outputs)) refl (λ f i. i) (none-new (past ++ HubAdvances ∷ []) m) y)
 
 telling-hub : (past : List Step) (l m : Library) (ts : List ℕ) → l ≡ run_steps past new_library → HubTraced (past ++ HubAdvances ∷ []) m l.hub → HubTraced (past ++ HubAdvances ∷ []) m (after_told l.hub ts)
 telling-hub past l m [] is y = greeting-hub past l m (greeted_next l.hub.greetings l.hub.early) is y

@@ -1,5 +1,5 @@
 -- The hub handles the frame of a tab once it has nothing else to do.
-use Rattle.std.proofs.Common.{◌≡◌, ℕ, true, cond, List, [], ◌∷◌, ◌++◌, Option, Some, None, is_some, refl, sym, ap, ◌∙◌}
+use Rattle.std.proofs.Common.{◌≡◌, ℕ, Bool, true, false, cond, List, [], ◌∷◌, ◌++◌, Option, Some, None, is_some, refl, sym, ap, ◌∙◌}
 use Rattle.wl_grammar.specs.declared.frame.Frame.{Frame}
 use Rattle.wl_grammar.specs.declared.frame.Addressed.{Addressed}
 use Rattle.wl_grammar.specs.declared.frame.Upward.{Upward}
@@ -12,8 +12,8 @@ use Rattle.wl_kernel.specs.declared.fault.RouteFault.{RouteFault}
 use Rattle.wl_kernel.specs.declared.fault.RouteFault.TheVariants.{NoTab, DeadTab}
 use Rattle.wl_kernel.specs.declared.routes.Routed.TheVariants.{Broker, Tabs}
 use Rattle.wl_kernel_supervisor.specs.Changes.{taking_change, message_change}
-use Rattle.wl_kernel_supervisor.specs.SupervisedStates.{SupervisedState, changed, frames_of}
-use Rattle.wl_hub.specs.declared.receiving.Progress.TheVariants.{Idle}
+use Rattle.wl_kernel_supervisor.specs.SupervisedStates.{SupervisedState, is_active_for, changed, frames_of}
+use Rattle.wl_hub.specs.declared.receiving.Progress.TheVariants.{Idle, Greeted, Postponed}
 use Rattle.wl_hub.specs.Early.{greeted_next}
 use Rattle.wl_library_model.proofs.ProgressLinks.{fed}
 use Rattle.wl_hub.specs.Hub.{HubState, from_broker, frame_step, routed_step, advanced, after_told, after_greeting, after_first, handling, progress_at, progress_after, progress_from, progress_of}
@@ -33,9 +33,13 @@ done-frames : (h : HubState) (fs : List Frame) → progress_at h fs ≡ Idle →
 done-frames h [] e = refl
 done-frames h (f ∷ fs) e = absurd (handling-busy (route_up_refusal h.sender f h.supervised.kernel) e)
 
+greeting-busy : (t : ℕ) (a : Bool) → cond a (Greeted t) (Postponed t) ≡ Idle → ⊥
+greeting-busy t true e = cc
+greeting-busy t false e = cc
+
 done-greeted : (h : HubState) (o : Option ℕ) → progress_after h o ≡ Idle → (o ≡ None) × (h.arrived ≡ [])
 done-greeted h None e = (refl, done-frames h h.arrived e)
-done-greeted h (Some t) e = cc
+done-greeted h (Some t) e = absurd (greeting-busy t (is_active_for t h.supervised) e)
 
 done-told : (h : HubState) (ts : List ℕ) → progress_from h ts ≡ Idle → (ts ≡ []) × (greeted_next h.greetings h.early ≡ None) × (h.arrived ≡ [])
 done-told h [] e = let o = done-greeted h (greeted_next h.greetings h.early) e in (refl, o.0, o.1)

@@ -10,9 +10,9 @@ use Rattle.wl_kernel.specs.Routes.{route_up_refusal, routed_up}
 use Rattle.wl_kernel.specs.declared.routes.Routed.{Routed}
 use Rattle.wl_kernel.specs.declared.routes.Routed.TheVariants.{Broker, Tabs}
 use Rattle.wl_kernel_supervisor.specs.Changes.{Change, stop_change, start_change, message_change, taking_change, death_change}
-use Rattle.wl_kernel_supervisor.specs.SupervisedStates.{SupervisedState, changed}
+use Rattle.wl_kernel_supervisor.specs.SupervisedStates.{SupervisedState, is_active_for, changed}
 use Rattle.wl_hub.specs.Early.{greeted_next}
-use Rattle.wl_hub.specs.Hub.{HubState, Step, routed_step, after_first, after_greeting, after_told, advanced, hub_stopped, hub_down, hub_restarted}
+use Rattle.wl_hub.specs.Hub.{HubState, Step, routed_step, after_first, greeted, postponing, after_greeting, after_told, advanced, hub_stopped, hub_down, hub_restarted}
 
 abbrev tabs_of : SupervisedState → List OpenedTab
 tabs_of s = s.kernel.opened
@@ -54,7 +54,7 @@ first-tabs h (f ∷ fs) =
 
 greeting-tabs : (h : HubState) (o : Option ℕ) → tabs_of (after_greeting h o).supervised ≡ tabs_of h.supervised
 greeting-tabs h None = first-tabs h h.arrived
-greeting-tabs h (Some t) = refl
+greeting-tabs h (Some t) = either (λ z. tabs_of z.supervised ≡ tabs_of h.supervised) (is_active_for t h.supervised) (greeted t h) (postponing h) (λ _. refl) (λ _. refl)
 
 told-tabs : (h : HubState) (ts : List ℕ) → tabs_of (after_told h ts).supervised ≡ tabs_of h.supervised
 told-tabs h [] = greeting-tabs h (greeted_next h.greetings h.early)

@@ -21,6 +21,7 @@ use Rattle.wl_hub.specs.Early.{greeted_next}
 use Rattle.wl_hub.specs.Hub.{page_refusal}
 use Rattle.wl_world_messages.specs.declared.message.Message.TheVariants.{Across}
 use Rattle.wl_world_model.specs.declared.event.Event.{Event}
+use Rattle.wl_kernel_supervisor.specs.SupervisedStates.{is_active_for}
 use Rattle.wl_world_model.specs.declared.event.Event.TheVariants as event
 use Rattle.wl_world_model.specs.declared.event.Forged.{Forged}
 use Rattle.wl_world_model.specs.World.{WorldState, channels_of, lives, run}
@@ -69,7 +70,7 @@ silent-first l (f ∷ fs) = silent-choice (is_some (route_up_refusal l.hub.sende
 
 silent-greeting : (l : Library) (o : Option ℕ) → AreSilent (greeting_events l o)
 silent-greeting l None = silent-first l l.hub.arrived
-silent-greeting l (Some t) = (tt, tt)
+silent-greeting l (Some t) = silent-choice (is_active_for t l.hub.supervised) (event.Hello t ∷ []) [] (tt, tt) tt
 
 silent-telling : (l : Library) (ts : List ℕ) → AreSilent (telling_events l ts)
 silent-telling l [] = silent-greeting l (greeted_next l.hub.greetings l.hub.early)

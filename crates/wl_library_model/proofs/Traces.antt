@@ -1,5 +1,5 @@
 -- A property of the posts on their way to the hub, and one of those on their way to a tab: each step keeps both.
-use Rattle.std.proofs.Common.{◌≡◌, ◌⊎◌, inl, inr, ⊎_elim, ℕ, Bool, true, false, cond, ◌&&◌, List, [], ◌∷◌, ◌++◌, length, drop, Option, Some, None, option_map, is_some, Ok, Err, refl, sym, ap, ◌∙◌, subst}
+use Rattle.std.proofs.Common.{◌≡◌, ◌⊎◌, inl, inr, ⊎_elim, ℕ, Bool, true, false, cond, ◌&&◌, List, [], ◌∷◌, ◌++◌, append-nil, length, drop, Option, Some, None, option_map, is_some, Ok, Err, refl, sym, ap, ◌∙◌, subst}
 use Rattle.std.specs.Prelude.{◌==◌}
 use Rattle.std.specs.Bool.{⊤}
 use Rattle.wl_origin.specs.Order.{Pair}
@@ -25,14 +25,14 @@ use Rattle.wl_broadcast.specs.Channels.{name_at, post_frame, open_refusal, opene
 use Rattle.wl_kernel.specs.Routes.{frame_of, route_up_refusal, routed_up, hearers, heard_of}
 use Rattle.wl_kernel.specs.Welcome.{texts_of, welcome}
 use Rattle.wl_kernel.specs.declared.routes.Routed.TheVariants.{Tabs}
-use Rattle.wl_kernel_supervisor.specs.SupervisedStates.{SupervisedState}
+use Rattle.wl_kernel_supervisor.specs.SupervisedStates.{SupervisedState, is_active_for}
 use Rattle.wl_tab.specs.TabChannels.{number_refusal, posting_refusal}
 use Rattle.wl_client.specs.declared.client.Unsent.{Unsent}
 use Rattle.wl_client.specs.declared.client.Unsent.TheVariants as unsent
 use Rattle.wl_client.specs.Client.{ClientState, call_refusal, channel_refusal, after_command, after_abort, after_release, with_channels, after_post, after_close, is_entering, after_told as client_after_told, is_hello_of, after_delivery, after_welcome, welcome_of, after_first as client_after_first}
 use Rattle.wl_client.specs.Client.{after_frame as client_after_frame, advanced as client_advanced}
 use Rattle.wl_hub.specs.Early.{greeted_next}
-use Rattle.wl_hub.specs.Hub.{HubState, stepped, routed_step, with_verdict, after_first, after_greeting, after_told, advanced, greeting, hub_opened, page_refusal, without_sender, hub_closed, hub_stopped, hub_started, hub_down}
+use Rattle.wl_hub.specs.Hub.{HubState, stepped, routed_step, with_verdict, after_first, greeted, postponing, after_greeting, after_told, advanced, greeting, hub_opened, page_refusal, without_sender, hub_closed, hub_stopped, hub_started, hub_down}
 use Rattle.wl_hub.specs.Hub.{from_broker as hub_sends}
 use Rattle.wl_world_model.specs.World.{taken_over}
 use Rattle.wl_library_model.specs.Library.{Library, Line, Step, Opens, Closes, Restarts, Stops, HubReceives, HubAdvances, HubSends, HubDrops, Asks, Queries, Aborts, Releases, Resends, OpensChannel, Posts, Reads, ClosesChannel, TakesEvent, ClientReceives, ClientAdvances, ClientSends, ClientSkips, TakesOver, Forges, new_line, with_line, with_hub, client_of, is_taken, runs, unless, asks, queries, aborts, releases, resends, opens_channel, posts, reads, takes_event, calls, hub_fed, hub_sends_from, hub_drops_from, client_fed, followed_by, Sending, unless_refused, sending_item, sending_due, sending_report, sending, step}
@@ -173,8 +173,10 @@ module _ (P H : ℕ → Frame → Type 0) (plain-post : (s : ℕ) (f : Frame) �
   greeting-hub : (h : HubState) (o : Option ℕ) → (o ≡ None → IsNow h) → Routes h → HubHas h → HubHas (after_greeting h o)
   greeting-hub h None now r y = first-hub h h.arrived refl (now refl) r y
   greeting-hub h (Some t) now r y =
-      more-outs h (after_greeting h (Some t)) ((t, frame.Hello (record { generation = h.supervised.kernel.generation })) ∷ []) refl refl (λ f i. i)
-      (λ n f i. subst (H n) (sym (pair-first n t f _ (In-one i)).1) (plain-heard n _ tt)) y
+      either HubHas (is_active_for t h.supervised) (greeted t h) (postponing h)
+      (λ _. more-outs h (greeted t h) ((t, frame.Hello (record { generation = h.supervised.kernel.generation })) ∷ []) refl refl (λ f i. i)
+      (λ n f i. subst (H n) (sym (pair-first n t f _ (In-one i)).1) (plain-heard n _ tt)) y)
+      (λ _. more-outs h (postponing h) [] (sym (append-nil h.outputs)) refl (λ f i. i) none-new y)
 
   telling-hub : (h : HubState) (ts : List ℕ) → h.untold ≡ ts → Routes h → HubHas h → HubHas (after_told h ts)
   telling-hub h [] e r y = greeting-hub h (greeted_next h.greetings h.early) (λ g. inr (e, g)) r y
