@@ -79,8 +79,9 @@ stranger-from g f b t n h = record {
   seat = find-none g t b.seats n (λ x i. seated-opened g f x.0 x.1 (h.seats x i));
   partial = find-none g t b.partial n h.partial;
   locks = λ p. let s = manager_of-Stands g f b p h in (
-      (λ r i e. apart (ap g (sym e) ∙ (s.0 r i).left) n),
-      (λ r i e. apart (ap g (sym e) ∙ (s.1 r i).left) n));
+    (λ r i e. apart (ap g (sym e) ∙ (s.0 r i).left) n),
+    (λ r i e. apart (ap g (sym e) ∙ (s.1 r i).left) n),
+  );
 }
 
 opened-same : (k : KernelState) (t : ℕ) → opened_at k t ≡ is_opened k t

@@ -101,7 +101,7 @@ NewTabsJoin =
     page_refusal t (Ok p) l.hub ≡ None → l.hub.supervised.broker ≡ Some b → IsIdle l →
     IsReady (joined t p is_pair l) t
 
--- If the partition is active then, and the name free, the new tab's first request gives it the lock.
+-- If the partition is active then, the new tab's first request for a free lock ends with its client holding the lock.
 abbrev pub NewTabsAreServed : Type 0
 NewTabsAreServed =
     (steps : List Step) (t : ℕ) (p : Pair) (is_pair : Bool) (b c : BrokerState) (mode : Mode) (name : List ℕ) →
