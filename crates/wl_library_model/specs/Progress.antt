@@ -3,15 +3,17 @@ use Rattle.std.specs.Prelude.{◌≡◌, ℕ, ◌<◌, ◌≤◌, List, [], ◌�
 use Rattle.wl_origin.specs.Order.{Pair}
 use Rattle.wl_limits.specs.declared.texts.TheConstants.{NAME_LIMIT}
 use Rattle.wl_draft.specs.declared.mode.Mode.{Mode}
+use Rattle.wl_draft.specs.declared.mode.Mode.TheVariants.{Exclusive}
 use Rattle.wl_draft.specs.Locks.{Locks, is_grantable, live, row_of}
 use Rattle.wl_broker.specs.Broker.{BrokerState, seat_of, manager_of, is_joined, is_active, next_of, limit_of}
 use Rattle.wl_agent.specs.Tab.{is_supported, ask_refusal}
 use Rattle.wl_kernel.specs.Kernel.{partition_number}
 use Rattle.wl_hub.specs.declared.receiving.Progress.TheVariants.{Idle}
 use Rattle.wl_hub.specs.Hub.{page_refusal, progress_of}
-use Rattle.wl_library_model.specs.Library.{Library, Step, Opens, HubSends, Asks, ClientReceives, ClientAdvances, new_library, client_of, runs, run_steps}
+use Rattle.wl_world_model.specs.WorldRows.{a, p}
+use Rattle.wl_library_model.specs.Library.{Library, Step, Opens, Restarts, HubSends, Asks, ClientReceives, ClientAdvances, new_library, client_of, runs, run_steps}
 use Rattle.wl_library_model.specs.Promises.{IsHolding}
-use Rattle.wl_library_model.specs.Rows.{to_hub}
+use Rattle.wl_library_model.specs.Rows.{to_hub, joins}
 
 -- Deliveries
 
@@ -110,3 +112,14 @@ NewTabsAreServed =
     page_refusal t (Ok p) l.hub ≡ None → l.hub.supervised.broker ≡ Some b → IsIdle l →
     m.hub.supervised.broker ≡ Some c → IsIdle m → is_supported name ≡ true → length name ≤ NAME_LIMIT → IsFree m t c mode name →
     IsHolding (granted t mode name m) t 0
+
+-- An example: the premises of the last law are met when a second tab opens.
+abbrev pub PremisesAreMet : Type 0
+PremisesAreMet =
+    let l = run_steps (Restarts ∷ joins 1) new_library in
+    let m = joined 2 p false l in
+    (page_refusal 2 (Ok p) l.hub ≡ None)
+    × ((b : BrokerState) × (l.hub.supervised.broker ≡ Some b))
+    × IsIdle l
+    × IsIdle m
+    × ((c : BrokerState) × (m.hub.supervised.broker ≡ Some c) × IsFree m 2 c Exclusive a)

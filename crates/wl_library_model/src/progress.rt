@@ -1,6 +1,6 @@
 //! Laws of progress, once all frames on their way were delivered.
 
-ghost use Rattle.wl_library_model.specs.Progress.{NewTabsAreServed, NewTabsJoin, RequestsAreGranted};
+ghost use Rattle.wl_library_model.specs.Progress.{NewTabsAreServed, NewTabsJoin, PremisesAreMet, RequestsAreGranted};
 
 /// Grants and joins, after every list of steps.
 ///
@@ -15,4 +15,6 @@ pub fn law_progress()
     ensures joined { NewTabsJoin }
     // If its partition is active then, its first request for a free lock ends with its client holding the lock.
     ensures served { NewTabsAreServed }
+    // An example: these premises are met when a second tab opens.
+    ensures met { PremisesAreMet }
 {}
