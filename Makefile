@@ -28,7 +28,7 @@ build: $(WLB) ## proves and builds the program, crates/wlb/out/wlb
 
 PROCESSES ?= examples/processes/counter
 
-demo-processes: $(WLB) ## plays PROCESSES, a folder with the scripts of a kernel and its tabs
+demo-processes: $(WLB) ## plays PROCESSES, a folder with the scripts of a kernel and its tabs, with the proved program
 	python3 tools/demo_processes.py $(PROCESSES) $(WLB)
 
 PREFIX ?= /usr/local

@@ -277,7 +277,8 @@ int32_t wlb_client_advance(wlb_client *client);
  * WLB_NO_HANDLE */
 int32_t wlb_client_next_output(wlb_client *client, uint8_t *out, size_t capacity, size_t *length);
 
-/* Writes the oldest event and forgets it. It is the last event from then on, for wlb_client_item and wlb_client_entry.
+/* Writes the oldest event and forgets it. It is the last event from then on, for wlb_client_item and wlb_client_entry. Nothing
+ * bounds the number of events that wait, so take them after each call of wlb_client_advance.
  * WLB_OK; WLB_IDLE: there is no event; WLB_NO_HANDLE. */
 int32_t wlb_client_next_event(wlb_client *client, wlb_event *event);
 
@@ -292,7 +293,8 @@ int32_t wlb_client_entry(wlb_client *client, size_t index, wlb_entry *entry, uin
                          size_t *length);
 
 /* Requests a lock (Web Locks, "request a lock"), shared or exclusive, and writes the number of the request. Its events are
- * WLB_GRANTED, or WLB_WAITING and later WLB_GRANTED. After a restart WLB_WAITING may come again, and WLB_GRANTED does not.
+ * WLB_GRANTED, or WLB_WAITING and later WLB_GRANTED. After a restart WLB_WAITING may come again, and WLB_GRANTED does not. A
+ * client that was welcomed keeps its requests until it enters a generation, and then sends them.
  * WLB_OK, WLB_MEMORY, WLB_NO_HANDLE, WLB_NOT_WELCOMED, WLB_BAD_TEXT, WLB_NOT_SUPPORTED, WLB_NAME_TOO_LONG, WLB_TOO_MANY,
  * WLB_NUMBERS_USED_UP. */
 int32_t wlb_client_request(wlb_client *client, const uint8_t *name, size_t name_length, bool shared, uint32_t *number);
