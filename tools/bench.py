@@ -26,7 +26,9 @@ includes the start and the end of the program.
 Tables: `bench_core tables` plays the same random calls on the indexed lock table and on the plain one. Prints the calls a
 second of both for each trace, and their ratio. It compares calls with those in a table of 64 entries: the same calls of the
 same clients beside 65,536 entries of other clients, and calls for any of 65,536 entries. `bare_table.c` stands beside the
-latter: its calls touch one row, one line and one name, and look nothing up.
+latter: its calls touch one row, one line and one name, and look nothing up. `std_table.rs` is a table over the collections of
+Rust's standard library. It takes turns with `bench_core tables` on four of the traces and has to make the same grants. Prints its
+best rate and the median ratio of the rates: above 1 the indexed table is faster. It is left out if there is no `rustc`.
 
 Board: in `bench_core board`, threads draw numbers from a board, look up a tab on it, or put parcels into an outbox that one
 more thread empties. The same loops run over a `Mutex` in the same run. Prints the best rate of the runs. The ratio is the time
@@ -96,6 +98,7 @@ WAITING = [64, 1_024, 32_768]
 ANSWERED = [200_000]
 COMMANDS = 20_000
 RUNS = 7
+TABLE_RUNS = 5
 
 ROUNDS = 2_000
 # Title, origins, tabs of an origin, whether each tab has a lock name of its own, and the goal for the ratio to the relay.
@@ -489,6 +492,17 @@ def build(place, name, *words):
     return program
 
 
+def build_rust(place, name):
+    """Builds a Rust program of this folder and returns its path, or None without a compiler."""
+    if not shutil.which("rustc"):
+        print(f"no rustc: {name} and the ratios to it are left out")
+        return None
+    program = os.path.join(place, name)
+    source = os.path.join(os.path.dirname(os.path.abspath(__file__)), f"{name}.rs")
+    subprocess.run(["rustc", "--edition", "2024", "-O", "-o", program, source], check=True)
+    return program
+
+
 def granting(program, rounds=ROUNDS, runs=RUNS):
     program = os.path.abspath(program)
     with tempfile.TemporaryDirectory(prefix="wlb-") as place:
@@ -573,8 +587,37 @@ def idle(program, seconds=IDLE_SECONDS, runs=IDLE_RUNS):
     print(f"idle: no tabs           {idle_share(program, 0, seconds):6.3f} of a processor  goal 0")
 
 
-def tables(bench):
-    subprocess.run([bench, "tables"], check=True)
+def table_rates(words, kind):
+    """Returns what a benchmark of tables prints, and for each trace the rate of this kind of table and the digest of its grants."""
+    output = subprocess.run(words, stdout=subprocess.PIPE, check=True, text=True).stdout
+    rates, title = {}, None
+    for line in output.splitlines():
+        if not line.startswith(" "):
+            title = line
+        elif line.startswith("  calls a second: "):
+            rate = int(line.partition(f"{kind} ")[2].partition(",")[0])
+        elif line.startswith("  digest of the grants: "):
+            rates[title] = rate, line.partition(": ")[2]
+    return output, rates
+
+
+def tables(bench, runs=TABLE_RUNS):
+    with tempfile.TemporaryDirectory(prefix="wlb-") as place:
+        std = build_rust(place, "std_table")
+        ours, others = [], []
+        for turn in range(runs if std else 1):
+            output, rates = table_rates([bench, "tables"], "indexed")
+            ours.append(rates)
+            if turn == 0:
+                print(output, end="")
+            if std:
+                others.append(table_rates([std], "std")[1])
+        for title in others[0] if others else []:
+            digests = {some[title][1] for some in (*ours, *others)}
+            assert len(digests) == 1, f"the tables grant different locks: {title}"
+            ratio = statistics.median(our[title][0] / other[title][0] for our, other in zip(ours, others))
+            best = max(other[title][0] for other in others)
+            print(f"tables: {title:34} of std {best:8} calls a second  ratio to it {ratio:5.2f}  goal 1")
     with tempfile.TemporaryDirectory(prefix="wlb-") as place:
         bare = build(place, "bare_table")
         if bare:

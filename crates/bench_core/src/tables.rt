@@ -302,6 +302,7 @@ fn compare(rt: &HostRuntime, trace: Trace, beside: Option<Trace>) -> anyhow::Res
     let fast = rate(trace.calls, indexed.calls);
     print_title(rt, trace, beside)?;
     print_rates(rt, "calls", fast, rate(plain_calls, plain.calls))?;
+    println!(rt; "  digest of the grants: {}", indexed.digest)?;
     print_rates(
         rt,
         "entries restored",

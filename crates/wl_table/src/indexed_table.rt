@@ -55,14 +55,15 @@ impl LockTable for IndexedTable {
         mode: Mode,
     ) -> Result<Vec<Grant>, AllocError> {
         // If nothing else is grantable, the request is granted alone or waits.
-        if self.candidates.is_empty() && self.index.lines.is_next(name, mode) {
-            return self.grant_immediately(client, number, name, mode);
+        let (place, is_next) = self.index.lines.ask(name, mode);
+        if self.candidates.is_empty() && is_next {
+            return self.grant_immediately(place, client, number, name, mode);
         }
         self.index.room_to_settle(&mut self.granted, 1)?;
         self.candidates.reserve(1)?;
-        let row = self.index.ready(client, number, name, mode)?;
-        self.candidates.push(self.index.next);
-        self.index.queue(row);
+        let row = self.index.ready(place, client, number, name, mode)?;
+        let order = self.index.queue(place, row);
+        self.candidates.push(order);
         self.index.settle(&mut self.candidates, &mut self.granted);
         Ok(exact_size_grants(self.alloc, &mut self.granted))
     }
@@ -74,10 +75,11 @@ impl LockTable for IndexedTable {
         name: &Name,
         mode: Mode,
     ) -> Result<Vec<Grant>, AllocError> {
-        if !self.index.lines.is_next(name, mode) {
+        let (place, is_next) = self.index.lines.ask(name, mode);
+        if !is_next {
             return Ok(Vec::new(self.alloc));
         }
-        self.grant_immediately(client, number, name, mode)
+        self.grant_immediately(place, client, number, name, mode)
     }
 
     fn release(&mut self, client: u16, number: u32) -> Result<Vec<Grant>, AllocError> {
@@ -167,6 +169,7 @@ impl IndexedTable {
     // Holds a lock that is grantable.
     fn grant_immediately(
         &mut self,
+        place: usize,
         client: u16,
         number: u32,
         name: &Name,
@@ -178,9 +181,9 @@ impl IndexedTable {
         ensures err { OnErr result (self.new ≡ self.old) }
     {
         let mut granted = Vec::with_capacity(self.alloc, 1)?;
-        let row = self.index.ready_lock(client, number, name, mode)?;
+        let row = self.index.ready_lock(place, client, number, name, mode)?;
         granted.push(Grant::from(&row)).unwrap();
-        self.index.hold(row);
+        self.index.hold(place, row);
         Ok(granted)
     }
 }

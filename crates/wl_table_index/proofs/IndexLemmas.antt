@@ -1,5 +1,5 @@
 -- Agreement of a table's index with its two lists.
-use Rattle.std.proofs.Common.{append-nil, ◌≡◌, ℕ, ◌+◌, ◌≤◌, Bool, true, false, ◌&&◌, not, cond, List, [], ◌∷◌, ◌++◌, length, refl, sym, ap, ◌∙◌, arith}
+use Rattle.std.proofs.Common.{append-nil, ◌≡◌, ℕ, ◌+◌, ◌<◌, ◌≤◌, Bool, true, false, ◌&&◌, not, cond, List, [], ◌∷◌, ◌++◌, length, refl, sym, ap, ◌∙◌, arith}
 use Rattle.std.specs.Prelude.{◌==◌, bytes_eq, filter, map, count_by}
 use Rattle.wl_table_index.specs.Places.{has_number}
 use Rattle.std.proofs.lemmas.Bool.Decides.{nat_tests}
@@ -127,19 +127,19 @@ pub counts-length : (name : List ℕ) (held waiting : Table Row) → (line_of na
 counts-length name [] waiting = omega arith
 counts-length name (p ∷ ps) waiting = counts-length_step name p ps waiting p.1.mode refl (counts-length name ps waiting)
 
-below-next_step : {X : Type 0} (k : ℕ) (p : ℕ × X) (ps : Table X) → (is_below ps k ≡ true → is_below ps (k + 1) ≡ true) → is_below (p ∷ ps) k ≡ true → is_below (p ∷ ps) (k + 1) ≡ true
-below-next_step k p ps below b = grind (arith, nat_tests)
+below-more_step : {X : Type 0} (j k : ℕ) (p : ℕ × X) (ps : Table X) → j ≤ k → (is_below ps j ≡ true → is_below ps k ≡ true) → is_below (p ∷ ps) j ≡ true → is_below (p ∷ ps) k ≡ true
+below-more_step j k p ps l below b = grind (arith, nat_tests)
 
-pub below-next : {X : Type 0} (k : ℕ) (ps : Table X) → is_below ps k ≡ true → is_below ps (k + 1) ≡ true
-below-next k [] b = refl
-below-next k (p ∷ ps) b = below-next_step k p ps (below-next k ps) b
+pub below-more : {X : Type 0} (j k : ℕ) (ps : Table X) → j ≤ k → is_below ps j ≡ true → is_below ps k ≡ true
+below-more j k [] l b = refl
+below-more j k (p ∷ ps) l b = below-more_step j k p ps l (below-more j k ps l) b
 
-below-last_step : {X : Type 0} (k : ℕ) (x : X) (p : ℕ × X) (ps : Table X) → (is_below ps k ≡ true → is_below (ps ++ (k, x) ∷ []) (k + 1) ≡ true) → is_below (p ∷ ps) k ≡ true → is_below ((p ∷ ps) ++ (k, x) ∷ []) (k + 1) ≡ true
-below-last_step k x p ps below b = grind (arith, nat_tests)
+below-last_step : {X : Type 0} (j k : ℕ) (x : X) (p : ℕ × X) (ps : Table X) → j < k → (is_below ps j ≡ true → is_below (ps ++ (j, x) ∷ []) k ≡ true) → is_below (p ∷ ps) j ≡ true → is_below ((p ∷ ps) ++ (j, x) ∷ []) k ≡ true
+below-last_step j k x p ps l below b = grind (arith, nat_tests)
 
-pub below-last : {X : Type 0} (k : ℕ) (x : X) (ps : Table X) → is_below ps k ≡ true → is_below (ps ++ (k, x) ∷ []) (k + 1) ≡ true
-below-last k x [] b = grind (arith, nat_tests)
-below-last k x (p ∷ ps) b = below-last_step k x p ps (below-last k x ps) b
+pub below-last : {X : Type 0} (j k : ℕ) (x : X) (ps : Table X) → j < k → is_below ps j ≡ true → is_below (ps ++ (j, x) ∷ []) k ≡ true
+below-last j k x [] l b = grind (arith, nat_tests)
+below-last j k x (p ∷ ps) l b = below-last_step j k x p ps l (below-last j k x ps l) b
 
 pub probed-free : (held waiting : Table Row) (order : ℕ) (r : Row) → is_grantable (values_in held) (values_in waiting) r ≡ true → locks_in (held ++ (order, r) ∷ []) waiting ≡ probed r (locks_in held waiting)
 unfolding probed

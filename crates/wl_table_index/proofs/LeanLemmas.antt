@@ -3,10 +3,12 @@ use Rattle.std.proofs.Common.{◌≡◌, ℕ, Bool, true, false, ◌&&◌, ◌||
 use Rattle.std.specs.Prelude.{◌==◌, bytes_eq}
 use Rattle.std.specs.Option.{option_map_or}
 use Rattle.std.proofs.lemmas.Bool.Decides.{nat_tests}
+use Rattle.wl_draft.specs.declared.mode.Mode.{Mode}
+use Rattle.wl_draft.specs.declared.mode.Mode.TheVariants.{Shared, Exclusive}
 use Rattle.wl_draft.specs.declared.row.Row.{Row}
 use Rattle.wl_draft.specs.Locks.{is_named}
 use Rattle.wl_draft.specs.Tables.{Table}
-use Rattle.wl_table_index.specs.NameLines.{LineState, is_nobody, with_waiter, is_idle_line}
+use Rattle.wl_table_index.specs.NameLines.{LineState, is_nobody, with_holder, with_waiter, is_idle_line}
 use Rattle.wl_table_index.specs.Clients.{no_places, places_seen, has_no_places, is_idle_client}
 use Rattle.wl_table_index.specs.Index.{IsLean, IsLeanBut, Fills, Empties}
 use Rattle.wl_table_index.specs.declared.index.Index.{Index}
@@ -24,6 +26,10 @@ idle-places (Some h) e = places_none h.held.items h.waiting.items e
 last-some : {X : Type 0} (x : X) (xs : List X) → (length (xs ++ x ∷ []) == 0) ≡ false
 last-some x [] = refl
 last-some x (y ∷ ys) = grind (arith, nat_tests)
+
+pub holder-somebody : (s : LineState) (mode : Mode) → is_nobody (with_holder s mode) ≡ false
+holder-somebody s Shared = grind (arith, nat_tests)
+holder-somebody s Exclusive = grind (arith, nat_tests)
 
 pub waiter-somebody : (s : LineState) (order : ℕ) → is_nobody (with_waiter s order) ≡ false
 waiter-somebody s order = ap (λ b. b && s.shared == 0 && s.exclusive == 0) (last-some order s.queue)

@@ -11,6 +11,9 @@ mod RoomLemmas
 mod SortLemmas
 pub mod ReportLemmas
 pub mod OrderLemmas
+mod SlotLemmas
+mod RowLemmas
+mod LineLemmas
 pub mod WithoutLemmas
 mod QueueLemmas
 mod PlaceLemmas

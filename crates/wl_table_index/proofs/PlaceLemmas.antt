@@ -235,10 +235,3 @@ least-miss_step k order number ps false e f = rw e refl
 
 pub least-miss : (k order number : ℕ) (ps : List (ℕ × ℕ)) → (number ≡ k → ⊥) → least_in k ((order, number) ∷ ps) ≡ least_in k ps
 least-miss k order number ps f = least-miss_step k order number ps (number == k) refl f
-
-pub not-some : {X : Type 0} (o : Option X) → is_some o ≡ false → o ≡ None
-not-some None e = refl
-not-some (Some x) e = cc
-
-pub true-false : true ≡ false → ⊥
-true-false e = cc

@@ -5,7 +5,7 @@ use Rattle.wl_draft.specs.declared.mode.Mode.TheVariants.{Shared, Exclusive}
 use Rattle.wl_draft.specs.declared.row.Row.{Row}
 use Rattle.wl_draft.specs.Locks.{Locks, is_named, live}
 use Rattle.wl_draft.specs.Tables.{Table}
-use Rattle.wl_table_index.specs.OrderNumbers.{values_in, orders_in, is_below, is_rising}
+use Rattle.wl_table_index.specs.OrderNumbers.{values_in, orders_in, is_below, is_rising, order_at}
 use Rattle.wl_table_index.specs.NameLines.{LineState, line_at, room_at, HasLine, count_named, is_idle_line}
 use Rattle.wl_table_index.specs.Clients.{Places, places_at, held_room_at, waiting_room_at, is_idle_client}
 use Rattle.std.specs.List.{list_all}
@@ -43,8 +43,8 @@ locks_in held waiting = record { held = values_in held; waiting = values_in wait
 pub record IsIndexed (t : Index) : Type 0 where
   pub held_rise : is_rising t.held.items ≡ true
   pub waiting_rise : is_rising t.waiting.items ≡ true
-  pub held_below : is_below t.held.items t.next ≡ true
-  pub waiting_below : is_below t.waiting.items t.next ≡ true
+  pub held_below : is_below t.held.items (order_at t.next 0) ≡ true
+  pub waiting_below : is_below t.waiting.items (order_at t.next 0) ≡ true
   pub lines : (name : List ℕ) → line_at t.lines name ≡ line_of name t.held.items t.waiting.items
   pub clients : (client : ℕ) → places_at t.clients client ≡ places_of client t.held.items t.waiting.items
   pub room : length t.waiting.items ≤ t.held.room

@@ -5,6 +5,7 @@ pub mod Clients
 pub mod Index
 pub mod Nexts
 pub mod OrderNumbers
+pub mod Slots
 pub mod Places
 pub mod Found
 pub mod RequestQueue

@@ -1,6 +1,6 @@
 -- Rows with numbers, seen as a table sorted by number, regardless of the order in which they are
 -- stored.
-use Rattle.std.specs.Prelude.{ℕ, List, [], ◌∷◌, map, filter, Bool, true, not, ◌&&◌, ◌==◌, nat_lt}
+use Rattle.std.specs.Prelude.{ℕ, ◌+◌, ◌*◌, ◌%◌, ◌^◌, List, [], ◌∷◌, map, filter, Bool, true, not, ◌&&◌, ◌==◌, nat_lt}
 use Rattle.wl_draft.specs.Tables.{Table, put}
 use Rattle.wl_draft.specs.declared.row.Row.{Row}
 
@@ -51,9 +51,19 @@ abbrev pub do_rise : List ℕ → Bool
 do_rise [] = true
 do_rise (k ∷ ks) = are_above k ks && do_rise ks
 
--- The rows in order, and the number of rows that can be added without an allocation.
+-- The order number of a row that is put in a slot in a given turn.
+abbrev pub order_at : ℕ → ℕ → ℕ
+order_at turn slot = turn * 2 ^ 64 + slot
+
+-- The slot of the row with an order number.
+unfoldable pub slot_of : ℕ → ℕ
+slot_of order = order % 2 ^ 64
+
+-- The rows in order, the slot of the next row, and the number of rows that can be added without an
+-- allocation.
 pub record Ordered : Type 0 where
   pub items : List (ℕ × Row)
+  pub slot : ℕ
   pub room : ℕ
 
 -- The numbers, and how many can be added without an allocation.

@@ -51,7 +51,7 @@ impl Clients {
     }
 
     /// Returns the order number of some held lock of the client with the selected number.
-    pub fn find_held(&self, client: u16, which: Option<u32>) -> Option<u64>
+    pub fn find_held(&self, client: u16, which: Option<u32>) -> Option<u128>
         ensures some { IfSome result (λ order. IsPlace which (places_at self.now client).held order) }
         ensures none { IfNone result (first_place which (places_at self.now client).held ≡ None) }
     {
@@ -62,7 +62,7 @@ impl Clients {
     }
 
     /// Returns the order number of some waiting request of the client with the selected number.
-    pub fn find_waiting(&self, client: u16, which: Option<u32>) -> Option<u64>
+    pub fn find_waiting(&self, client: u16, which: Option<u32>) -> Option<u128>
         ensures some { IfSome result (λ order. IsPlace which (places_at self.now client).waiting order) }
         ensures none { IfNone result (first_place which (places_at self.now client).waiting ≡ None) }
     {
@@ -73,26 +73,13 @@ impl Clients {
     }
 
     /// Returns the order number of the client's first request with this number.
-    pub fn first_waiting(&self, client: u16, number: u32) -> Option<u64>
+    pub fn first_waiting(&self, client: u16, number: u32) -> Option<u128>
         ensures { result ≡ first_place (Some number) (places_at self.now client).waiting }
     {
         match self.clients.get(&client) {
             Some(holdings) => holdings.waiting.first(number),
             None => None,
         }
-    }
-
-    /// Adds the client if it is not stored.
-    fn open(&mut self, client: u16) -> Result<(), AllocError>
-        ensures places { (c : ℕ) → places_at self.new c ≡ places_at self.old c }
-        ensures held { (c : ℕ) → held_room_at self.old c ≤ held_room_at self.new c }
-        ensures waiting { (c : ℕ) → waiting_room_at self.old c ≤ waiting_room_at self.new c }
-        ensures idle { (c : ℕ) → is_idle_client self.new c ≡ true → (is_idle_client self.old c || client == c) ≡ true }
-    {
-        if !self.clients.contains_key(&client) {
-            drop(self.clients.insert(client, Holdings::new(self.alloc))?);
-        }
-        Ok(())
     }
 
     /// Reserves capacity for one more lock of the client and for the grants of its requests. Fails
@@ -104,10 +91,14 @@ impl Clients {
         ensures kept { (c : ℕ) → held_room_at self.old c ≤ held_room_at self.new c }
         ensures idle { (c : ℕ) → is_idle_client self.new c ≡ true → (is_idle_client self.old c || client == c) ≡ true }
     {
-        self.open(client)?;
         match self.clients.get_mut(&client) {
             Some(holdings) => holdings.reserve_lock(),
-            None => Err(AllocError),
+            None => {
+                let mut holdings = Holdings::new(self.alloc);
+                holdings.reserve_lock()?;
+                drop(self.clients.insert(client, holdings)?);
+                Ok(())
+            }
         }
     }
 
@@ -122,15 +113,19 @@ impl Clients {
         ensures kept_waiting { (c : ℕ) → waiting_room_at self.old c ≤ waiting_room_at self.new c }
         ensures idle { (c : ℕ) → is_idle_client self.new c ≡ true → (is_idle_client self.old c || client == c) ≡ true }
     {
-        self.open(client)?;
         match self.clients.get_mut(&client) {
             Some(holdings) => holdings.reserve(count),
-            None => Err(AllocError),
+            None => {
+                let mut holdings = Holdings::new(self.alloc);
+                holdings.reserve(count)?;
+                drop(self.clients.insert(client, holdings)?);
+                Ok(())
+            }
         }
     }
 
     /// Appends a lock to those of the client. Capacity must be reserved.
-    pub fn hold(&mut self, client: u16, order: u64, number: u32)
+    pub fn hold(&mut self, client: u16, order: u128, number: u32)
         requires last { is_below (places_at self.old client).held order ≡ true }
         requires room { 0 < held_room_at self.old client }
         ensures places { (c : ℕ) → places_at self.new c
@@ -147,7 +142,7 @@ impl Clients {
     }
 
     /// Appends a request to those of the client. Capacity must be reserved.
-    pub fn wait(&mut self, client: u16, order: u64, number: u32)
+    pub fn wait(&mut self, client: u16, order: u128, number: u32)
         requires last { is_below (places_at self.old client).waiting order ≡ true }
         requires room { 0 < waiting_room_at self.old client }
         ensures places { (c : ℕ) → places_at self.new c ≡ (if client == c
@@ -164,7 +159,7 @@ impl Clients {
     }
 
     /// Removes a lock from those of the client.
-    pub fn drop_held(&mut self, client: u16, order: u64)
+    pub fn drop_held(&mut self, client: u16, order: u128)
         ensures places { (c : ℕ) → places_at self.new c
             ≡ (if client == c then without_held (places_at self.old c) order else places_at self.old c) }
         ensures held { (c : ℕ) → held_room_at self.old c ≤ held_room_at self.new c }
@@ -178,7 +173,7 @@ impl Clients {
     }
 
     /// Removes a request from those of the client.
-    pub fn drop_waiting(&mut self, client: u16, order: u64)
+    pub fn drop_waiting(&mut self, client: u16, order: u128)
         ensures places { (c : ℕ) → places_at self.new c
             ≡ (if client == c then without_waiting (places_at self.old c) order else places_at self.old c) }
         ensures held { (c : ℕ) → held_room_at self.old c ≤ held_room_at self.new c }

@@ -11,7 +11,7 @@ use std::marker::Model;
 /// Order numbers of requests that may be grantable, least first. A number may occur more than once.
 #[derive(Drop)]
 pub struct Candidates {
-    orders: BinaryHeap<Reverse<u64>>,
+    orders: BinaryHeap<Reverse<u128>>,
 }
 
 impl Model for Candidates {
@@ -54,7 +54,7 @@ impl Candidates {
     }
 
     /// Adds a candidate. Capacity must be reserved.
-    pub fn push(&mut self, order: u64)
+    pub fn push(&mut self, order: u128)
         requires { 0 < self.old.room }
         ensures items { (k : ℕ) → is_among k self.new.items ≡ (order == k || is_among k self.old.items) }
         ensures len { length self.new.items ≡ length self.old.items + 1 }
@@ -64,7 +64,7 @@ impl Candidates {
     }
 
     /// Removes and returns the least candidate.
-    pub fn pop(&mut self) -> Option<u64>
+    pub fn pop(&mut self) -> Option<u128>
         ensures items { IfSome result (λ o.
             (k : ℕ) → is_among k self.old.items ≡ (o == k || is_among k self.new.items)) }
         ensures least { IfSome result (λ o. (k : ℕ) → is_among k self.new.items ≡ true → o ≤ k) }

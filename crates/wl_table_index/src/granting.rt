@@ -4,7 +4,7 @@ ghost use Rattle.std.specs.Prelude.{◌≡◌, ◌+◌, ◌<◌, ◌≤◌, ◌^
 ghost use Rattle.wl_draft.specs.declared.row.Row.{Row};
 ghost use Rattle.wl_draft.specs.Tables.{find};
 ghost use Rattle.wl_draft.specs.Locks.{grants, newly_granted, settle};
-ghost use Rattle.wl_table_index.specs.OrderNumbers.{without_order};
+ghost use Rattle.wl_table_index.specs.OrderNumbers.{without_order, order_at};
 ghost use Rattle.wl_table_index.specs.Index.{IsIndexed, IsLean, locks_in};
 ghost use Rattle.wl_table_index.specs.Nexts.{next_in, is_next, is_among, AreCandidates, AreOthers};
 
@@ -14,14 +14,14 @@ use wl_draft::{Grant, Name};
 
 impl Index {
     // Returns the order number of the name's grantable request.
-    fn next_of(&self, name: &Name) -> Option<u64>
+    fn next_of(&self, place: usize, name: &Name) -> Option<u128>
         requires { IsIndexed self.now }
         ensures { result ≡ next_in name.now self.now.held.items self.now.waiting.items }
     {
-        match self.lines.front(name) {
+        match self.lines.front(place, name) {
             Some(order) => match self.waiting.get(order) {
                 Some(row) => {
-                    if self.lines.is_free(name, row.mode) {
+                    if self.lines.is_free(place, name, row.mode) {
                         Some(order)
                     } else {
                         None
@@ -34,12 +34,12 @@ impl Index {
     }
 
     /// Returns whether the request with this order number is grantable.
-    pub fn is_next(&self, order: u64) -> bool
+    pub fn is_next(&self, order: u128) -> bool
         requires { IsIndexed self.now }
         ensures { result ≡ is_next order self.now.held.items self.now.waiting.items }
     {
         match self.waiting.get(order) {
-            Some(row) => match self.next_of(&row.name) {
+            Some(row) => match self.next_of(self.waiting.line_of(order), &row.name) {
                 Some(next) => next == order,
                 None => false,
             },
@@ -48,7 +48,7 @@ impl Index {
     }
 
     /// Adds the first request that waits for the name to the candidates. Capacity must be reserved.
-    pub fn note_front(&self, name: &Name, candidates: &mut Candidates)
+    pub fn note_front(&self, place: usize, name: &Name, candidates: &mut Candidates)
         requires indexed { IsIndexed self.now }
         requires room { 0 < candidates.old.room }
         ensures front { (k : ℕ) → next_in name.now self.now.held.items self.now.waiting.items ≡ Some k
@@ -58,7 +58,7 @@ impl Index {
         ensures len { length candidates.new.items ≤ length candidates.old.items + 1 }
         ensures room { candidates.old.room ≤ candidates.new.room + 1 }
     {
-        match self.lines.front(name) {
+        match self.lines.front(place, name) {
             Some(order) => candidates.push(order),
             None => {}
         }
@@ -66,7 +66,7 @@ impl Index {
 
     // Grants a request: moves it from the waiting requests to the end of the held locks. Capacity
     // must be reserved.
-    fn grant(&mut self, order: u64, candidates: &mut Candidates, granted: &mut Vec<Grant>)
+    fn grant(&mut self, order: u128, candidates: &mut Candidates, granted: &mut Vec<Grant>)
         requires indexed { IsIndexed self.old }
         requires small { self.old.next + 1 < 2 ^ 64 }
         requires room { vec_len granted.old < vec_capacity granted.old }
@@ -75,7 +75,8 @@ impl Index {
         ensures indexed { IsIndexed self.new }
         ensures waiting { self.new.waiting.items ≡ without_order order self.old.waiting.items }
         ensures held { (r : Row) → find self.old.waiting.items order ≡ Some r
-            → self.new.held.items ≡ self.old.held.items ++ (self.old.next, r) ∷ [] }
+            → self.new.held.items
+            ≡ self.old.held.items ++ (order_at self.old.next self.old.held.slot, r) ∷ [] }
         ensures granted { (r : Row) → find self.old.waiting.items order ≡ Some r
             → granted.new.items ≡ granted.old.items ++ grants (r ∷ []) }
         ensures next { self.new.next ≤ self.old.next + 1 }
@@ -86,11 +87,13 @@ impl Index {
         ensures candidates_len { length candidates.new.items ≤ length candidates.old.items + 1 }
         ensures lean { IsLean self.old → IsLean self.new }
     {
+        let probable = self.waiting.line_of(order);
         match self.take_waiting(order) {
             Some(row) => {
-                self.note_front(&row.name, candidates);
+                let place = self.lines.place_near(probable, &row.name);
+                self.note_front(place, &row.name, candidates);
                 granted.push(Grant::from(&row)).unwrap();
-                self.hold(row);
+                self.hold(place, row);
             }
             None => {}
         }

@@ -3,7 +3,7 @@
 ghost use Rattle.std.specs.Prelude.{◌≡◌, ◌+◌, ◌-◌, ◌<◌, ◌≤◌, ◌^◌, [], ◌∷◌, ◌++◌, ℕ, List, ◌==◌, bytes_eq, OnOk, OnErr, IfOk, IfSome, IfNone};
 ghost use Rattle.wl_draft.specs.Tables.{find};
 ghost use Rattle.wl_draft.specs.Locks.{row_of};
-ghost use Rattle.wl_table_index.specs.OrderNumbers.{without_order};
+ghost use Rattle.wl_table_index.specs.OrderNumbers.{without_order, order_at};
 ghost use Rattle.wl_table_index.specs.NameLines.{HasLine};
 ghost use Rattle.wl_table_index.specs.Clients.{held_room_at};
 ghost use Rattle.wl_table_index.specs.Index.{IsIndexed, IsHoldable, IsReady, TakesRoom, IsLean, IsLeanBut, Fills, Empties};
@@ -18,6 +18,7 @@ use wl_draft::{Mode, Name, Row};
 /// client.
 #[derive(Drop)]
 pub struct Index {
+    /// Turn in which the next entry is appended.
     pub next: u64,
     pub held: Rows,
     pub waiting: Rows,
@@ -42,47 +43,52 @@ impl Index {
         }
     }
 
-    /// Appends a held lock. Capacity must be reserved.
-    pub fn hold(&mut self, row: Row)
+    /// Appends a held lock. Capacity must be reserved. `place` is the probable place of the name's line.
+    pub fn hold(&mut self, place: usize, row: Row)
         requires indexed { IsIndexed self.old }
         requires holdable { IsHoldable self.old row.client row.name }
         requires small { self.old.next + 1 < 2 ^ 64 }
         ensures indexed { IsIndexed self.new }
-        ensures held { self.new.held.items ≡ self.old.held.items ++ (self.old.next, row) ∷ [] }
+        ensures held { self.new.held.items
+            ≡ self.old.held.items ++ (order_at self.old.next self.old.held.slot, row) ∷ [] }
         ensures waiting { self.new.waiting.items ≡ self.old.waiting.items }
         ensures next { self.new.next ≡ self.old.next + 1 }
         ensures room { TakesRoom self.old self.new 1 0 row.name }
         ensures fills { Fills self.old self.new row }
     {
-        let order = self.next;
+        let turn = self.next;
+        let order = self.held.next_order(turn);
         let _count = self.held.len();
-        self.next = order + 1;
-        self.lines.hold(&row.name, row.mode);
+        self.next = turn + 1;
+        self.lines.hold(place, &row.name, row.mode);
         self.clients.hold(row.client, order, row.number);
-        self.held.push(order, row);
+        self.held.push(turn, place, row);
     }
 
-    /// Appends a waiting request. Capacity must be reserved.
-    pub fn queue(&mut self, row: Row)
+    /// Appends a waiting request, and returns its order number. Capacity must be reserved. `place` is
+    /// the probable place of the name's line.
+    pub fn queue(&mut self, place: usize, row: Row) -> u128
         requires indexed { IsIndexed self.old }
         requires ready { IsReady self.old row.client row.name 1 }
         requires small { self.old.next + 1 < 2 ^ 64 }
         ensures indexed { IsIndexed self.new }
         ensures held { self.new.held.items ≡ self.old.held.items }
-        ensures waiting { self.new.waiting.items ≡ self.old.waiting.items ++ (self.old.next, row) ∷ [] }
+        ensures waiting { self.new.waiting.items ≡ self.old.waiting.items ++ (result, row) ∷ [] }
         ensures next { self.new.next ≡ self.old.next + 1 }
         ensures room { TakesRoom self.old self.new 0 1 row.name }
         ensures fills { Fills self.old self.new row }
     {
-        let order = self.next;
-        self.next = order + 1;
-        self.lines.push(&row.name, order);
+        let turn = self.next;
+        let order = self.waiting.next_order(turn);
+        self.next = turn + 1;
+        self.lines.push(place, &row.name, order);
         self.clients.wait(row.client, order, row.number);
-        self.waiting.push(order, row);
+        self.waiting.push(turn, place, row);
+        order
     }
 
     /// Removes and returns a held lock.
-    pub fn take_held(&mut self, order: u64) -> Option<Row>
+    pub fn take_held(&mut self, order: u128) -> Option<Row>
         requires { IsIndexed self.old }
         ensures indexed { IsIndexed self.new }
         ensures value { result ≡ find self.old.held.items order }
@@ -91,9 +97,10 @@ impl Index {
         ensures next { self.new.next ≡ self.old.next }
         ensures empties { IfSome result (λ r. Empties self.old self.new r) }
     {
+        let place = self.held.line_of(order);
         match self.held.remove(order) {
             Some(row) => {
-                self.lines.remove_holder(&row.name, row.mode);
+                self.lines.remove_holder(place, &row.name, row.mode);
                 self.clients.drop_held(row.client, order);
                 Some(row)
             }
@@ -102,7 +109,7 @@ impl Index {
     }
 
     /// Removes and returns a waiting request.
-    pub fn take_waiting(&mut self, order: u64) -> Option<Row>
+    pub fn take_waiting(&mut self, order: u128) -> Option<Row>
         requires { IsIndexed self.old }
         ensures indexed { IsIndexed self.new }
         ensures value { result ≡ find self.old.waiting.items order }
@@ -110,14 +117,16 @@ impl Index {
         ensures waiting { self.new.waiting.items ≡ without_order order self.old.waiting.items }
         ensures next { self.new.next ≡ self.old.next }
         ensures room { self.old.held.room ≤ self.new.held.room }
+        ensures slot { self.new.held.slot ≡ self.old.held.slot }
         ensures client_room { (c : ℕ) → held_room_at self.old.clients c ≤ held_room_at self.new.clients c }
         ensures lines { (n : List ℕ) → HasLine self.old.lines n → HasLine self.new.lines n }
         ensures empties { IfSome result (λ r. Empties self.old self.new r) }
         ensures absent { IfNone result (IsLean self.old → IsLean self.new) }
     {
+        let place = self.waiting.line_of(order);
         match self.waiting.remove(order) {
             Some(row) => {
-                self.lines.take_out(&row.name, order);
+                self.lines.take_out(place, &row.name, order);
                 self.clients.drop_waiting(row.client, order);
                 Some(row)
             }
@@ -129,6 +138,7 @@ impl Index {
     /// its row. Fails if out of memory, and then keeps the index lean.
     pub fn ready(
         &mut self,
+        place: usize,
         client: u16,
         number: u32,
         name: &Name,
@@ -146,9 +156,9 @@ impl Index {
             → IsLeanBut self.new (λ n. bytes_eq name.now n) (λ c. client == c)) }
         ensures refused { OnErr result (IsLean self.old → IsLean self.new) }
     {
-        let row = self.make_ready(client, number, name, mode);
+        let row = self.make_ready(place, client, number, name, mode);
         if row.is_err() {
-            self.forget(client, name);
+            self.forget(client, place, name);
         }
         row
     }
@@ -156,6 +166,7 @@ impl Index {
     // Does the same as `ready`, but a failure may leave a name or a client without an entry.
     fn make_ready(
         &mut self,
+        place: usize,
         client: u16,
         number: u32,
         name: &Name,
@@ -171,14 +182,13 @@ impl Index {
         ensures small { OnOk result (self.new.next + 1 < 2 ^ 64) }
         ensures lean { IsLean self.old → IsLeanBut self.new (λ n. bytes_eq name.now n) (λ c. client == c) }
     {
-        let waiting = self.waiting.len();
         if self.next == u64::MAX {
             return Err(AllocError);
         }
         self.waiting.reserve(1)?;
-        self.held.reserve(waiting + 1)?;
+        self.held.reserve(self.waiting.len() + 1)?;
         self.clients.reserve(client, 1)?;
-        self.lines.reserve(name, 1)?;
+        self.lines.reserve(place, name, 1)?;
         new_row(client, number, name, mode)
     }
 
@@ -186,6 +196,7 @@ impl Index {
     /// wait. Returns its row. Fails if out of memory, and then keeps the index lean.
     pub fn ready_lock(
         &mut self,
+        place: usize,
         client: u16,
         number: u32,
         name: &Name,
@@ -203,9 +214,9 @@ impl Index {
             → IsLeanBut self.new (λ n. bytes_eq name.now n) (λ c. client == c)) }
         ensures refused { OnErr result (IsLean self.old → IsLean self.new) }
     {
-        let row = self.make_ready_lock(client, number, name, mode);
+        let row = self.make_ready_lock(place, client, number, name, mode);
         if row.is_err() {
-            self.forget(client, name);
+            self.forget(client, place, name);
         }
         row
     }
@@ -213,6 +224,7 @@ impl Index {
     // Does the same as `ready_lock`, but a failure may leave a name or a client without an entry.
     fn make_ready_lock(
         &mut self,
+        place: usize,
         client: u16,
         number: u32,
         name: &Name,
@@ -228,13 +240,15 @@ impl Index {
         ensures small { OnOk result (self.new.next + 1 < 2 ^ 64) }
         ensures lean { IsLean self.old → IsLeanBut self.new (λ n. bytes_eq name.now n) (λ c. client == c) }
     {
-        let waiting = self.waiting.len();
+        let Some(most) = self.waiting.len().checked_add(1) else {
+            return Err(AllocError);
+        };
         if self.next == u64::MAX {
             return Err(AllocError);
         }
-        self.held.reserve(waiting + 1)?;
+        self.held.reserve(most)?;
         self.clients.reserve_lock(client)?;
-        self.lines.open(name)?;
+        self.lines.open(place, name)?;
         new_row(client, number, name, mode)
     }
 }

@@ -41,7 +41,7 @@ impl NameLine {
     }
 
     /// Returns the order number of the first waiting request.
-    pub fn front(&self) -> Option<u64>
+    pub fn front(&self) -> Option<u128>
         ensures { result ≡ slice_get (line_seen self.now).queue 0 }
     {
         self.queue.front()
@@ -58,7 +58,7 @@ impl NameLine {
 
     /// Counts one more holder.
     pub fn hold(&mut self, mode: Mode)
-        requires { self.old.shared + self.old.exclusive < 2 ^ 63 }
+        requires { self.old.shared + self.old.exclusive + 1 < 2 ^ 64 }
         ensures seen { line_seen self.new ≡ with_holder (line_seen self.old) mode }
         ensures room { line_room self.new ≡ line_room self.old }
     {
@@ -69,7 +69,7 @@ impl NameLine {
     }
 
     /// Appends a request. Capacity must be reserved.
-    pub fn push(&mut self, order: u64)
+    pub fn push(&mut self, order: u128)
         requires { 0 < line_room self.old }
         ensures seen { line_seen self.new ≡ with_waiter (line_seen self.old) order }
         ensures room { line_room self.old ≡ line_room self.new + 1 }
@@ -103,7 +103,7 @@ impl NameLine {
     }
 
     /// Removes a request at any position.
-    pub fn take_out(&mut self, order: u64)
+    pub fn take_out(&mut self, order: u128)
         requires { do_rise (line_seen self.old).queue ≡ true }
         ensures seen { line_seen self.new ≡ without_waiter (line_seen self.old) order }
         ensures room { line_room self.old ≤ line_room self.new }

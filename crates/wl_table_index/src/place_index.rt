@@ -12,9 +12,9 @@ use std::marker::Model;
 /// A client's numbers with their order numbers. They are sorted by order number.
 #[derive(Drop)]
 pub struct PlaceIndex {
-    numbers: IndexMap<u64, u32>,
+    numbers: IndexMap<u128, u32>,
     // The place of each number, as long as no number has two places.
-    orders: IndexMap<u32, u64>,
+    orders: IndexMap<u32, u128>,
     // Whether a number may have two places. Only reports can cause this, and then a lookup searches
     // all places.
     is_doubled: bool,
@@ -63,7 +63,7 @@ impl PlaceIndex {
     }
 
     /// Returns the first place of a number.
-    pub fn first(&self, number: u32) -> Option<u64>
+    pub fn first(&self, number: u32) -> Option<u128>
         ensures value { result ≡ first_place (Some number) self.now.items }
         ensures rising { is_rising self.now.items ≡ true }
     {
@@ -75,7 +75,7 @@ impl PlaceIndex {
     }
 
     /// Returns some place of the selected number, or of any number if `which` is `None`.
-    pub fn find(&self, which: Option<u32>) -> Option<u64>
+    pub fn find(&self, which: Option<u32>) -> Option<u128>
         ensures some { IfSome result (λ order. IsPlace which self.now.items order) }
         ensures none { IfNone result (first_place which self.now.items ≡ None) }
     {
@@ -103,22 +103,23 @@ impl PlaceIndex {
     }
 
     /// Appends a place. Its order number must be above all others, and capacity must be reserved.
-    pub fn push(&mut self, order: u64, number: u32)
+    pub fn push(&mut self, order: u128, number: u32)
         requires last { is_below self.old.items order ≡ true }
         requires room { 0 < self.old.room }
         ensures items { self.new.items ≡ self.old.items ++ (order, number) ∷ [] }
         ensures room { self.old.room ≤ self.new.room + 1 }
     {
         let _ = self.numbers.insert(order, number);
-        if self.is_doubled || self.orders.contains_key(&number) {
-            self.is_doubled = true;
-        } else {
-            let _ = self.orders.insert(number, order);
+        if !self.is_doubled {
+            match self.orders.insert(number, order) {
+                Ok(None) => {}
+                _ => self.is_doubled = true,
+            }
         }
     }
 
     /// Removes the place with this order number.
-    pub fn remove(&mut self, order: u64)
+    pub fn remove(&mut self, order: u128)
         ensures items { self.new.items ≡ without_order order self.old.items }
         ensures room { self.old.room ≤ self.new.room }
     {
@@ -135,7 +136,7 @@ impl PlaceIndex {
         }
     }
 
-    fn any(&self) -> Option<u64>
+    fn any(&self) -> Option<u128>
         ensures some { IfSome result (λ order. IsPlace None self.now.items order) }
         ensures none { IfNone result (self.now.items ≡ []) }
     {
@@ -146,7 +147,7 @@ impl PlaceIndex {
     }
 
     // Returns the least place of a number, by a search of all places.
-    fn least(&self, number: u32) -> Option<u64>
+    fn least(&self, number: u32) -> Option<u128>
         ensures { result ≡ first_place (Some number) self.now.items }
     {
         let mut least = None;
@@ -161,7 +162,7 @@ impl PlaceIndex {
     }
 }
 
-fn lesser(order: u64, other: Option<u64>) -> u64
+fn lesser(order: u128, other: Option<u128>) -> u128
     ensures { result ≡ lesser_of order other }
 {
     match other {

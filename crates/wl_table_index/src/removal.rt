@@ -29,10 +29,12 @@ impl Index {
         ensures lean { IsLeanBut self.old (λ n. false) (λ c. client == c) → IsLeanBut self.new (λ n. false) (λ c. client == c) }
     {
         while let Some(order) = self.clients.find_held(client, which) {
+            let probable = self.held.line_of(order);
             match self.take_held(order) {
                 Some(row) => {
-                    self.note_front(&row.name, candidates);
-                    self.forget_name(&row.name);
+                    let place = self.lines.place_near(probable, &row.name);
+                    self.note_front(place, &row.name, candidates);
+                    self.forget_name(place, &row.name);
                 }
                 None => {}
             }
@@ -54,10 +56,12 @@ impl Index {
         ensures lean { IsLeanBut self.old (λ n. false) (λ c. client == c) → IsLeanBut self.new (λ n. false) (λ c. client == c) }
     {
         while let Some(order) = self.clients.find_waiting(client, which) {
+            let probable = self.waiting.line_of(order);
             match self.take_waiting(order) {
                 Some(row) => {
-                    self.note_front(&row.name, candidates);
-                    self.forget_name(&row.name);
+                    let place = self.lines.place_near(probable, &row.name);
+                    self.note_front(place, &row.name, candidates);
+                    self.forget_name(place, &row.name);
                 }
                 None => {}
             }
@@ -65,7 +69,7 @@ impl Index {
     }
 
     // Removes the name's line if it has no holder and no waiting request.
-    fn forget_name(&mut self, name: &Name)
+    fn forget_name(&mut self, place: usize, name: &Name)
         requires { IsIndexed self.old }
         ensures indexed { IsIndexed self.new }
         ensures held { self.new.held.items ≡ self.old.held.items }
@@ -75,7 +79,7 @@ impl Index {
             ≡ (is_idle_line self.old.lines n && not (bytes_eq name.now n)) }
         ensures clients { (c : ℕ) → is_idle_client self.new.clients c ≡ is_idle_client self.old.clients c }
     {
-        self.lines.forget(name);
+        self.lines.forget(place, name);
     }
 
     /// Removes the client if it has no entry.
@@ -93,7 +97,7 @@ impl Index {
     }
 
     /// Removes the client and the name if they have no entry.
-    pub fn forget(&mut self, client: u16, name: &Name)
+    pub fn forget(&mut self, client: u16, place: usize, name: &Name)
         requires { IsIndexed self.old }
         ensures indexed { IsIndexed self.new }
         ensures held { self.new.held.items ≡ self.old.held.items }
@@ -101,7 +105,7 @@ impl Index {
         ensures next { self.new.next ≡ self.old.next }
         ensures lean { IsLeanBut self.old (λ n. bytes_eq name.now n) (λ c. client == c) → IsLean self.new }
     {
-        self.forget_name(name);
+        self.forget_name(place, name);
         self.forget_client(client);
     }
 
@@ -121,7 +125,7 @@ impl Index {
     }
 
     /// Reserves capacity for all grants of a settling after `more` entries are added. Fails if out
-    /// of memory, or if too few order numbers are left.
+    /// of memory, or if too few turns are left.
     pub fn room_to_settle(&self, granted: &mut Vec<Grant>, more: usize) -> Result<(), AllocError>
         ensures items { granted.new.items ≡ granted.old.items }
         ensures room { OnOk result
@@ -129,15 +133,15 @@ impl Index {
         ensures small { OnOk result (self.now.next + length self.now.waiting.items + more + more < 2 ^ 64) }
     {
         let waiting = self.waiting.len();
-        if self.next >= LAST_ORDER || more >= MOST_ENTRIES {
+        if self.next >= LAST_TURN || waiting >= MOST_ENTRIES || more >= MOST_ENTRIES {
             return Err(AllocError);
         }
         granted.reserve(waiting + more)
     }
 }
 
-/// Bound of the order numbers of a table. No table lives long enough to reach it.
-const LAST_ORDER: u64 = 1 << 62;
+/// Bound of the turns of a table. No table lives long enough to reach it.
+const LAST_TURN: u64 = 1 << 62;
 
-/// Bound of the number of entries of a report.
+/// Bound of the number of waiting requests, and of the entries of a report.
 const MOST_ENTRIES: usize = 1 << 61;

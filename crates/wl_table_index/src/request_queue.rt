@@ -12,7 +12,7 @@ use std::marker::Model;
 /// The order number of a request, and whether the request was removed.
 #[derive(Clone, Copy)]
 pub struct Waiter {
-    pub order: u64,
+    pub order: u128,
     pub is_marked: bool,
 }
 
@@ -51,7 +51,7 @@ impl RequestQueue {
     }
 
     /// Returns the order number of the first waiting request.
-    pub fn front(&self) -> Option<u64>
+    pub fn front(&self) -> Option<u128>
         ensures { result ≡ slice_get self.now.items 0 }
     {
         match self.waiters.front() {
@@ -77,7 +77,7 @@ impl RequestQueue {
     }
 
     /// Appends a request. Capacity must be reserved.
-    pub fn push(&mut self, order: u64)
+    pub fn push(&mut self, order: u128)
         requires { 0 < self.old.room }
         ensures items { self.new.items ≡ self.old.items ++ order ∷ [] }
         ensures room { self.old.room ≡ self.new.room + 1 }
@@ -89,7 +89,7 @@ impl RequestQueue {
     }
 
     /// Removes a request at any position.
-    pub fn take_out(&mut self, order: u64)
+    pub fn take_out(&mut self, order: u128)
         requires { do_rise self.old.items ≡ true }
         ensures items { self.new.items ≡ without_number order self.old.items }
         ensures room { self.old.room ≤ self.new.room }
@@ -108,7 +108,7 @@ impl RequestQueue {
 
 /// Marks a request as removed, and returns whether it was found. If not, it drops each waiter with
 /// this number.
-fn mark(waiters: &mut VecDeque<Waiter>, order: u64) -> bool
+fn mark(waiters: &mut VecDeque<Waiter>, order: u128) -> bool
     requires { do_rise (numbers_in waiters.old.items) ≡ true }
     ensures numbers { numbers_in waiters.new.items ≡ without_number order (numbers_in waiters.old.items) }
     ensures len { deque_len waiters.new ≤ deque_len waiters.old }
@@ -127,7 +127,7 @@ fn mark(waiters: &mut VecDeque<Waiter>, order: u64) -> bool
 }
 
 /// Returns the index of a request. The numbers rise, so a binary search finds it.
-fn place_of(waiters: &VecDeque<Waiter>, order: u64) -> Option<usize>
+fn place_of(waiters: &VecDeque<Waiter>, order: u128) -> Option<usize>
     ensures { IfSome result (WaitsAt order waiters.now.items) }
 {
     let (Ok(index) | Err(index)) = waiters.binary_search_by_key(&order, |waiter| waiter.order);

@@ -51,9 +51,11 @@ impl Index {
             (λ n. is_named n held.now || is_named n waiting.now) (λ c. client == c) }
     {
         let more = held.len() + waiting.len();
-        let before = self.waiting.len();
+        let Some(most) = self.waiting.len().checked_add(more) else {
+            return Err(AllocError);
+        };
         self.waiting.reserve(waiting.len())?;
-        self.held.reserve(before + more)?;
+        self.held.reserve(most)?;
         self.clients.reserve(client, more)?;
         self.lines.open_all(held)?;
         self.lines.reserve_all(waiting)
@@ -86,11 +88,13 @@ impl Index {
             → IsLeanBut self.new (λ n. false) (λ c. client == c) }
     {
         for row in held {
-            self.hold(row);
+            let place = self.lines.place(&row.name);
+            self.hold(place, row);
         }
         for row in waiting {
-            candidates.push(self.next);
-            self.queue(row);
+            let place = self.lines.place(&row.name);
+            let order = self.queue(place, row);
+            candidates.push(order);
         }
     }
 }

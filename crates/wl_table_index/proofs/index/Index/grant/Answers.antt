@@ -1,6 +1,6 @@
 use Rattle.std.proofs.Common.{◌≡◌, true, ◌∙◌, ℕ, Some, length, sym, ap, arith}
 use Rattle.wl_draft.specs.Tables.{find}
-use Rattle.wl_table_index.specs.OrderNumbers.{without_order}
+use Rattle.wl_table_index.specs.OrderNumbers.{without_order, order_at}
 use Rattle.wl_table_index.specs.Index.{places_in}
 use Rattle.wl_table_index.specs.Clients.{places_at}
 use Rattle.wl_table_index.proofs.WithoutLemmas.{length-without}
@@ -35,4 +35,4 @@ returns-in-Some-clause-candidates c = λ r f'.
     let w : c.take_waiting.new.self.waiting.items ≡ without_order c.args.order t.waiting.items = c.take_waiting.ensures.waiting in
     let front : (j : ℕ) → next_in row.name t.held.items (without_order c.args.order t.waiting.items) ≡ Some j → is_among j c.note_front.new.candidates.items ≡ true = λ j e. c.note_front.ensures.front j (rw (h, w) e) in
     let taken = candidates-taken c.args.candidates.now.items c.note_front.new.candidates.items t.held.items t.waiting.items c.args.order row i.waiting_rise f c.requires.others c.note_front.ensures.kept front in
-    rw (c.hold.ensures.held, c.hold.ensures.waiting, h, w) (candidates-held c.note_front.new.candidates.items t.held.items (without_order c.args.order t.waiting.items) c.take_waiting.new.self.next row taken)
+    rw (c.hold.ensures.held, c.hold.ensures.waiting, h, w) (candidates-held c.note_front.new.candidates.items t.held.items (without_order c.args.order t.waiting.items) (order_at c.take_waiting.new.self.next c.take_waiting.new.self.held.slot) row taken)

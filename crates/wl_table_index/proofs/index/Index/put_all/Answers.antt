@@ -4,7 +4,7 @@ use Rattle.std.specs.Vec.Iter.{into_iter_items}
 use Rattle.wl_draft.specs.declared.row.Row.{Row}
 use Rattle.wl_draft.specs.Locks.{is_named}
 use Rattle.wl_draft.specs.Tables.{Table}
-use Rattle.wl_table_index.specs.OrderNumbers.{values_in}
+use Rattle.wl_table_index.specs.OrderNumbers.{values_in, order_at}
 use Rattle.wl_table_index.specs.Index.{HasRoom, IsLeanBut, are_of}
 use Rattle.wl_table_index.proofs.NextLemmas.{values-append}
 use Rattle.wl_table_index.proofs.LeanLemmas.{lean-held, lean-queued}
@@ -31,14 +31,14 @@ loop-row-preserved c =
       room = room-held l.self c.hold.new.self c.args.client r rest c.args.waiting.items i.indexed c.hold.ensures.indexed c.hold.ensures.waiting c.hold.ensures.room (subst P e i.room);
       mine = mine.1;
       next = omega (arith, i.next, ap (λ rs. length rs) e, c.hold.ensures.next);
-      held = values-more l.self.held.items c.hold.new.self.held.items l.self.next r rest (into_iter_items l.row-iterator) _ c.hold.ensures.held e i.held;
+      held = values-more l.self.held.items c.hold.new.self.held.items (order_at l.self.next l.self.held.slot) r rest (into_iter_items l.row-iterator) _ c.hold.ensures.held e i.held;
       kept = c.hold.ensures.waiting ∙ i.kept;
-      candidates = rw (c.hold.ensures.held, c.hold.ensures.waiting) (candidates-held c.args.candidates.now.items l.self.held.items l.self.waiting.items l.self.next r i.candidates);
+      candidates = rw (c.hold.ensures.held, c.hold.ensures.waiting) (candidates-held c.args.candidates.now.items l.self.held.items l.self.waiting.items (order_at l.self.next l.self.held.slot) r i.candidates);
       lean = λ n. lean-held l.self c.hold.new.self r rest c.args.waiting.items c.args.client c.hold.ensures.fills (subst Q e (i.lean n));
     }
 
-pub queue-requires-clause-ready : goal.queue-requires-clause-ready
-queue-requires-clause-ready c =
+pub queue-order-requires-clause-ready : goal.queue-order-requires-clause-ready
+queue-order-requires-clause-ready c =
     let l = c.loop-row-2 in
     let i = l.invariant in
     let r = c.in-Some-row.row in
@@ -59,13 +59,13 @@ loop-row-2-preserved c =
     let P : List Row → Type 0 = λ rs. HasRoom l.self c.args.client [] rs in
     let Q : List Row → Type 0 = λ rs. IsLeanBut l.self (λ n. is_named n rs) (λ k. c.args.client == k) in
     record {
-      indexed = c.queue.ensures.indexed;
-      room = room-queued l.self c.queue.new.self c.args.client l.self.next r rest i.indexed c.queue.ensures.indexed c.queue.ensures.waiting c.queue.ensures.room (subst P e i.room);
+      indexed = c.queue-order.ensures.indexed;
+      room = room-queued l.self c.queue-order.new.self c.args.client c.queue-order.result r rest i.indexed c.queue-order.ensures.indexed c.queue-order.ensures.waiting c.queue-order.ensures.room (subst P e i.room);
       mine = mine.1;
-      next = omega (arith, i.next, ap (λ rs. length rs) e, c.queue.ensures.next);
+      next = omega (arith, i.next, ap (λ rs. length rs) e, c.queue-order.ensures.next);
       candidates_room = omega (arith, i.candidates_room, ap (λ rs. length rs) e, c.push.ensures.room);
-      waiting = values-more l.self.waiting.items c.queue.new.self.waiting.items l.self.next r rest (into_iter_items l.row-iterator) _ c.queue.ensures.waiting e i.waiting;
-      kept = c.queue.ensures.held ∙ i.kept;
-      candidates = rw (c.queue.ensures.held, c.queue.ensures.waiting) (candidates-queued l.candidates.items c.push.new.self.items l.self.held.items l.self.waiting.items l.self.next r i.candidates (λ j m. c.push.ensures.items j ∙ pushed-kept l.self.next j _ m) (c.push.ensures.items l.self.next ∙ pushed-here l.self.next l.self.next _ refl));
-      lean = λ n. lean-queued l.self c.queue.new.self r rest c.args.client c.queue.ensures.fills (subst Q e (i.lean n));
+      waiting = values-more l.self.waiting.items c.queue-order.new.self.waiting.items c.queue-order.result r rest (into_iter_items l.row-iterator) _ c.queue-order.ensures.waiting e i.waiting;
+      kept = c.queue-order.ensures.held ∙ i.kept;
+      candidates = rw (c.queue-order.ensures.held, c.queue-order.ensures.waiting) (candidates-queued l.candidates.items c.push.new.self.items l.self.held.items l.self.waiting.items c.queue-order.result r i.candidates (λ j m. c.push.ensures.items j ∙ pushed-kept c.queue-order.result j _ m) (c.push.ensures.items c.queue-order.result ∙ pushed-here c.queue-order.result c.queue-order.result _ refl));
+      lean = λ n. lean-queued l.self c.queue-order.new.self r rest c.args.client c.queue-order.ensures.fills (subst Q e (i.lean n));
     }

@@ -1,6 +1,6 @@
 use Rattle.std.proofs.Common.{◌≡◌, ◌∙◌, ◌++◌, [], ◌∷◌, sym, ap, arith, append_assoc, append-nil}
 use Rattle.wl_draft.specs.Locks.{grants, newly_granted}
-use Rattle.wl_table_index.specs.OrderNumbers.{without_order}
+use Rattle.wl_table_index.specs.OrderNumbers.{without_order, order_at}
 use Rattle.wl_table_index.specs.Index.{locks_in}
 use Rattle.wl_table_index.specs.Nexts.{AreCandidates}
 use Rattle.wl_table_index.proofs.SettleLemmas.{newly-stuck, settle-stuck}
@@ -52,7 +52,7 @@ loop-order-preserved-then-is_next c =
     let o = c.in-Some.order in
     let h = l.self.held.items in
     let w = l.self.waiting.items in
-    let k = l.self.next in
+    let k = order_at l.self.next l.self.held.slot in
     let rise = i.indexed.waiting_rise in
     let g = next-grant l.candidates.items h w o rise i.candidates (least-popped l.candidates.items c.pop.new.self.items o c.in-Some.ensures.items c.in-Some.ensures.least) (sym c.is_next.ensures ∙ c.if-is_next.true) in
     let f = grant-find h w o g rise in

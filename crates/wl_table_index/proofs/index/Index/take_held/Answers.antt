@@ -1,6 +1,7 @@
 use Rattle.std.proofs.Common.{◌≡◌, ◌∙◌, Some, cond, sym, ap, arith}
 use Rattle.std.specs.Prelude.{◌==◌, bytes_eq}
 use Rattle.wl_draft.specs.Tables.{find}
+use Rattle.wl_table_index.specs.OrderNumbers.{order_at}
 use Rattle.wl_table_index.specs.Index.{line_of, places_of}
 use Rattle.wl_table_index.specs.NameLines.{without_holder}
 use Rattle.wl_table_index.specs.Clients.{places_at, without_held}
@@ -34,7 +35,7 @@ returns-in-Some-clause-indexed c =
     record {
       held_rise = rw c.remove.ensures.items (rising-without c.args.order t.held.items i.held_rise);
       waiting_rise = i.waiting_rise;
-      held_below = rw c.remove.ensures.items (below-without t.next c.args.order t.held.items i.held_below);
+      held_below = rw c.remove.ensures.items (below-without (order_at t.next 0) c.args.order t.held.items i.held_below);
       waiting_below = i.waiting_below;
       lines = λ n. c.remove_holder.ensures.lines n ∙ ap (λ s. cond (bytes_eq w.name n) (without_holder s w.mode) s) (i.lines n) ∙ line-remove_holder n t.held.items t.waiting.items c.args.order w i.held_rise f ∙ ap (λ h. line_of n h t.waiting.items) (sym c.remove.ensures.items);
       clients = λ k. c.drop_held.ensures.places k ∙ ap (λ s. cond (w.client == k) (without_held s c.args.order) s) (i.clients k) ∙ client-remove_holder k t.held.items t.waiting.items c.args.order w i.held_rise f ∙ ap (λ h. places_of k h t.waiting.items) (sym c.remove.ensures.items);

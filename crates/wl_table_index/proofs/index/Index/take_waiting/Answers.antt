@@ -2,6 +2,7 @@ use Rattle.std.proofs.Common.{◌≡◌, ◌∙◌, ℕ, Some, cond, sym, ap, ar
 use Rattle.std.specs.Prelude.{◌==◌, bytes_eq}
 use Rattle.wl_draft.specs.Tables.{find}
 use Rattle.wl_draft.specs.declared.row.Row.{Row}
+use Rattle.wl_table_index.specs.OrderNumbers.{order_at}
 use Rattle.wl_table_index.specs.Index.{line_of, places_of}
 use Rattle.wl_table_index.specs.NameLines.{without_waiter}
 use Rattle.wl_table_index.specs.Clients.{places_at, without_waiting}
@@ -40,7 +41,7 @@ returns-in-Some-clause-indexed c =
       held_rise = i.held_rise;
       waiting_rise = rw c.remove.ensures.items (rising-without c.args.order t.waiting.items i.waiting_rise);
       held_below = i.held_below;
-      waiting_below = rw c.remove.ensures.items (below-without t.next c.args.order t.waiting.items i.waiting_below);
+      waiting_below = rw c.remove.ensures.items (below-without (order_at t.next 0) c.args.order t.waiting.items i.waiting_below);
       lines = λ n. c.take_out.ensures.lines n ∙ ap (λ s. cond (bytes_eq w.name n) (without_waiter s c.args.order) s) (i.lines n) ∙ line-take_out n t.held.items t.waiting.items c.args.order w i.waiting_rise f ∙ ap (λ h. line_of n t.held.items h) (sym c.remove.ensures.items);
       clients = λ k. c.drop_waiting.ensures.places k ∙ ap (λ s. cond (w.client == k) (without_waiting s c.args.order) s) (i.clients k) ∙ client-take_out k t.held.items t.waiting.items c.args.order w i.waiting_rise f ∙ ap (λ h. places_of k t.held.items h) (sym c.remove.ensures.items);
       room = rw c.remove.ensures.items (omega (arith, i.room, length-without c.args.order w t.waiting.items i.waiting_rise f));

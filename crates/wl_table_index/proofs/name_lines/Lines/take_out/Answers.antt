@@ -1,19 +1,62 @@
-use Rattle.std.proofs.Common.{arith}
-use Rattle.std.proofs.lemmas.Map.Text.{text_keys}
-use Rattle.std.proofs.lemmas.Bool.Decides.{nat_tests}
+use Rattle.std.proofs.Common.{◌≡◌, ◌∙◌, Some, sym}
+use Rattle.std.specs.Prelude.{bytes_eq, position}
+use Rattle.std.specs.String.{string_bytes}
+use Rattle.std.specs.Map.{lookup, keys_of}
+use Rattle.wl_table_index.specs.NameLines.{nobody, line_seen, line_room, is_nobody, without_waiter}
+use Rattle.wl_table_index.proofs.LineLemmas.{lookup-written, lookup-there, step-written, room-kept, there-written, emptied-written}
 use Rattle.wl_table_index.proofs.name_lines.Lines.take_out.Goals as goal
 
+pub take_out-requires : goal.take_out-requires
+take_out-requires c =
+    let name = c.args.name.now in
+    let l = c.index_mut.result.now in
+    let v : lookup (λ k. bytes_eq name (string_bytes k)) c.args.self.now.lines.entries ≡ Some l = sym c.in-Some.ensures.value ∙ c.index_mut.ensures.value in
+    rw v at c.requires
+
 pub returns-in-Some-clause-lines : goal.returns-in-Some-clause-lines
-returns-in-Some-clause-lines c = λ n. grind (arith, text_keys)
+returns-in-Some-clause-lines c = λ n.
+    let name = c.args.name.now in
+    let es = c.args.self.now.lines.entries in
+    let l = c.index_mut.result.now in
+    let w = c.take_out.new.self in
+    let v : lookup (λ k. bytes_eq name (string_bytes k)) es ≡ Some l = sym c.in-Some.ensures.value ∙ c.index_mut.ensures.value in
+    let at : position (λ k. bytes_eq name (string_bytes k)) (keys_of es) ≡ Some c.in-Some.index = sym c.in-Some.ensures.index in
+    let new = lookup-written string_bytes name es c.in-Some.index w at n in
+    let old = lookup-there string_bytes name es l v n in
+    step-written (bytes_eq name n) _ _ l w new old line_seen nobody (λ s. without_waiter s c.args.order) c.take_out.ensures.seen
 
 pub returns-in-Some-clause-room : goal.returns-in-Some-clause-room
-returns-in-Some-clause-room c = λ n. grind (arith, text_keys)
+returns-in-Some-clause-room c = λ n.
+    let name = c.args.name.now in
+    let es = c.args.self.now.lines.entries in
+    let l = c.index_mut.result.now in
+    let w = c.take_out.new.self in
+    let v : lookup (λ k. bytes_eq name (string_bytes k)) es ≡ Some l = sym c.in-Some.ensures.value ∙ c.index_mut.ensures.value in
+    let at : position (λ k. bytes_eq name (string_bytes k)) (keys_of es) ≡ Some c.in-Some.index = sym c.in-Some.ensures.index in
+    let new = lookup-written string_bytes name es c.in-Some.index w at n in
+    let old = lookup-there string_bytes name es l v n in
+    room-kept (bytes_eq name n) _ _ l w new old line_room c.take_out.ensures.room
 
 pub returns-in-Some-clause-kept : goal.returns-in-Some-clause-kept
-returns-in-Some-clause-kept c = λ n h. grind (arith, text_keys)
-
-pub take_out-requires : goal.take_out-requires
-take_out-requires c = grind (arith, text_keys)
+returns-in-Some-clause-kept c = λ n h.
+    let name = c.args.name.now in
+    let es = c.args.self.now.lines.entries in
+    let l = c.index_mut.result.now in
+    let w = c.take_out.new.self in
+    let v : lookup (λ k. bytes_eq name (string_bytes k)) es ≡ Some l = sym c.in-Some.ensures.value ∙ c.index_mut.ensures.value in
+    let at : position (λ k. bytes_eq name (string_bytes k)) (keys_of es) ≡ Some c.in-Some.index = sym c.in-Some.ensures.index in
+    let new = lookup-written string_bytes name es c.in-Some.index w at n in
+    let old = lookup-there string_bytes name es l v n in
+    there-written (bytes_eq name n) _ _ l w new old h
 
 pub returns-in-Some-clause-idle : goal.returns-in-Some-clause-idle
-returns-in-Some-clause-idle c = λ n e. grind (arith, text_keys, nat_tests)
+returns-in-Some-clause-idle c = λ n e.
+    let name = c.args.name.now in
+    let es = c.args.self.now.lines.entries in
+    let l = c.index_mut.result.now in
+    let w = c.take_out.new.self in
+    let v : lookup (λ k. bytes_eq name (string_bytes k)) es ≡ Some l = sym c.in-Some.ensures.value ∙ c.index_mut.ensures.value in
+    let at : position (λ k. bytes_eq name (string_bytes k)) (keys_of es) ≡ Some c.in-Some.index = sym c.in-Some.ensures.index in
+    let new = lookup-written string_bytes name es c.in-Some.index w at n in
+    let old = lookup-there string_bytes name es l v n in
+    emptied-written (bytes_eq name n) _ _ l w new old (λ x. is_nobody (line_seen x)) e

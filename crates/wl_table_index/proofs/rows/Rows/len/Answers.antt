@@ -1,6 +1,6 @@
 use Rattle.std.proofs.Common.{◌∙◌, sym}
-use Rattle.wl_table_index.proofs.OrderLemmas.{length-ordered}
+use Rattle.wl_table_index.proofs.SlotLemmas.{length-slab}
 use Rattle.wl_table_index.proofs.rows.Rows.len.Goals as goal
 
 pub returns-clause-len : goal.returns-clause-len
-returns-clause-len c = rw (← c.self.view_is) (c.len.ensures.len ∙ sym (length-ordered c.self.inside.rows.entries c.len.ensures.unique))
+returns-clause-len c = rw (← c.self.view_is) (c.len.ensures ∙ sym (length-slab c.self.inside.rows c.self.invariant))
