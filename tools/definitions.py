@@ -62,6 +62,7 @@ STANDARDS = {
 # Definitions that the head of a file or a heading in it speaks of, by the file and the words of the section.
 HEADS = {
     ("wl_agent/specs/AgentLaws.antt", "query"): ["WholeOnceAllCame"],
+    ("wl_agent/specs/SnapshotParts.antt", "snapshot the lock state"): ["is_whole", "snapshot_of"],
     ("wl_broadcast/specs/Channels.antt", "9.5"): ["ChannelState", "Object", "opened", "posted", "heard", "read_at", "closed_at"],
     ("wl_broadcast/specs/Heard.antt", "BroadcastChannel"): [
         "TakesRising",
@@ -71,34 +72,24 @@ HEADS = {
         "DeliversNew",
     ],
     ("wl_draft/specs/Locks.antt", "process the lock request queue"): ["settle"],
+    ("wl_draft/specs/Settling.antt", "process the lock request queue"): [
+        "IsSettled",
+        "GrantsWhatIsFree",
+        "GrantsPrefixes",
+        "MovesGrants",
+        "SettlesByName",
+    ],
+    ("wl_library_model/specs/Channels.antt", "9.5"): ["HeardArePosts", "HeardRising", "HeardTillClosed"],
     ("wl_origin/specs/Partition.antt", "4"): ["partition_of", "partition_of_pair"],
+    ("wl_script_words/specs/Snapshots.antt", "snapshot the lock state"): ["json_text"],
+    ("wl_world_model/specs/Apart.antt", "3"): ["part", "projected", "RunsApart"],
     ("wl_world_model/specs/Heard.antt", "9.5"): ["HeardRising", "HeardPosts", "HeardTillClosed", "HeardIsRead"],
 }
 
 # Definitions of a section whose comments do not name it, by the standard and the words of the section.
 BESIDE = [
-    ("Web Locks", "lock manager", "wl_broker/specs/Broker.antt", ["BrokerState"]),
     ("Web Locks", "LockMode", "wl_draft/src/mode.rt", ["Mode"]),
-    ("Web Locks", "LockMode", "wl_world_model/specs/Holdings.antt", ["Exclusion"]),
-    ("Web Locks", "LockMode", "wl_library_model/specs/Promises.antt", ["Exclusion"]),
-    ("Web Locks", "request", "wl_agent/specs/Tab.antt", ["ask_refusal", "asked"]),
-    ("Web Locks", "query", "wl_agent/specs/Tab.antt", ["query_refusal", "queried"]),
-    ("Web Locks", "release the lock", "wl_agent/specs/Tab.antt", ["released"]),
-    ("Web Locks", "abort the request", "wl_agent/specs/Tab.antt", ["aborted"]),
-    (
-        "Web Locks",
-        "process the lock request queue",
-        "wl_draft/specs/Settling.antt",
-        ["IsSettled", "GrantsWhatIsFree", "GrantsPrefixes", "MovesGrants", "SettlesByName"],
-    ),
-    ("Web Locks", "snapshot the lock state", "wl_agent/specs/SnapshotParts.antt", ["is_whole", "snapshot_of"]),
-    ("Web Locks", "snapshot the lock state", "wl_script_words/specs/Snapshots.antt", ["json_text"]),
-    ("HTML Standard", "9.5", "wl_kernel/specs/Routes.antt", ["hearers"]),
-    ("HTML Standard", "9.5", "wl_library_model/specs/Channels.antt", ["HeardArePosts", "HeardRising", "HeardTillClosed"]),
-    ("RFC 6454", "3", "wl_world_model/specs/Apart.antt", ["part", "projected", "RunsApart"]),
-    ("RFC 6454", "3", "wl_library_model/specs/Promises.antt", ["Apart"]),
     ("RFC 6454", "4", "wl_origin/src/triple.rt", ["TupleOrigin"]),
-    ("RFC 6454", "5", "wl_origin/specs/Order.antt", ["pair_eq"]),
 ]
 
 # Terms of no standard, in the order in which a reader needs them.
@@ -220,7 +211,8 @@ def rows_of_standards():
         row.extend(name for name in names if name not in row)
 
     unused = set(HEADS)
-    for path in sorted(CRATES.glob("*/specs/*.antt")):
+    lowest_first = re.findall(r"^(\w+)", text_of(TOP / "crates.txt"), re.MULTILINE)
+    for path in sorted(CRATES.glob("*/specs/*.antt"), key=lambda path: (lowest_first.index(path.parts[-3]), path)):
         file = path.relative_to(CRATES).as_posix()
         for text, name in comments(path):
             for standard, words in cited(text):

@@ -257,7 +257,7 @@ module _ (p : Pair) where
       fit = fits-on side;
     }
 
-  -- What is said of the frames after a step.
+  -- Each frame after a step is plain, or a post that the world has.
   abbrev Says : WorldState → Library → Step → Type 0
   Says v l x = Special (PostIn v) (HeardIn v) (plain-post v) (plain-heard v) l x
 

@@ -1,4 +1,5 @@
--- Channels of the library: the calls that reach the channels of a tab's client, and the posts that its objects take.
+-- Channels of the library (HTML Standard, section 9.5): the calls that reach the channels of a tab's client, and the
+-- posts that its objects take.
 use Rattle.std.specs.Prelude.{◌≡◌, ℕ, ◌<◌, List, [], ◌∷◌, ◌++◌, true, false, not, length, is_some, ◌&&◌, ◌==◌, if◌then◌else◌}
 use Rattle.wl_grammar.specs.declared.frame.Frame.{Frame}
 use Rattle.wl_grammar.specs.declared.frame.Frame.TheVariants as frame

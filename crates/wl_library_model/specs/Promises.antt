@@ -38,7 +38,8 @@ mode_at l t k = mode_of (operation_of (client_of l t).locks k)
 abbrev pub partition_at : Library → ℕ → Option Pair
 partition_at l t = partition_in (opened_tab l.hub.supervised.kernel t)
 
--- Two different locks of one name, held by clients of honest tabs of one partition, are both shared.
+-- Two different locks of one name, held by clients of honest tabs of one partition, are both shared (Web Locks,
+-- "LockMode").
 abbrev pub Exclusion : Library → Type 0
 Exclusion l =
     (t k u j : ℕ) → IsHonest l t → IsHonest l u → IsHolding l t k → IsHolding l u j → Differ t k u j →
@@ -84,7 +85,7 @@ abbrev pub alone : Pair → List Step → WorldState
 alone p steps = run (projected p empty_world (events steps)) empty_world
 
 -- The locks of a partition are those of the run of its own events: the locks of each client, and those that the broker
--- has under the number of the partition, which is one of its tabs' numbers.
+-- has under the number of the partition, which is one of its tabs' numbers (RFC 6454, section 3).
 pub record Apart (steps : List Step) (l : Library) : Type 0 where
   pub clients :
       (p : Pair) (t : ℕ) → partition_at l t ≡ Some p → (client_of l t).is_welcomed ≡ true →

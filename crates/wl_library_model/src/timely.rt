@@ -2,7 +2,7 @@
 
 ghost use Rattle.wl_library_model.specs.Timely.{ChannelsAreRuns};
 
-/// The channels of a client, beside those that the world has for its tab.
+/// Compares the channels of a client with those that the world has for its tab.
 ///
 /// The hub decides who hears a post when it handles the post, and the world decides when the post is made.
 pub fn law_timely()

@@ -1,5 +1,5 @@
--- A whole snapshot as JSON without spaces: the two lists of a `LockManagerSnapshot` (Web Locks
--- API).
+-- A whole snapshot (Web Locks, "snapshot the lock state") as JSON without spaces: the two lists of a
+-- `LockManagerSnapshot`.
 use Rattle.std.specs.Prelude.{ℕ, List, map, codes, decimal}
 use Rattle.serde_json.specs.Data.{Data, Items, string, array, object, no_members, member}
 use Rattle.serde_json.specs.View.{items_of}

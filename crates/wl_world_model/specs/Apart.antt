@@ -1,4 +1,4 @@
--- The part of a world that belongs to one partition, and the events of a list that concern it.
+-- The part of a world that belongs to one partition (RFC 6454, section 3), and the events of a list that concern it.
 use Rattle.std.specs.Prelude.{◌≡◌, ℕ, List, [], ◌∷◌, Bool, false, not, ◌&&◌, ◌||◌, filter, Option, Some, None, is_some, if◌then◌else◌}
 use Rattle.wl_draft.specs.Tables.{Table}
 use Rattle.wl_origin.specs.Order.{Pair, pair_eq}

@@ -42,7 +42,8 @@ partition_at w t = partition_in (opened_tab w.kernel t)
 abbrev pub Differ : ℕ → ℕ → ℕ → ℕ → Type 0
 Differ t k u j = (t ≡ u) × (k ≡ j) → ⊥
 
--- Mutual exclusion: two different locks of one name, held by honest tabs of one partition, are both shared.
+-- Mutual exclusion: two different locks of one name, held by honest tabs of one partition, are both shared
+-- (Web Locks, "LockMode").
 abbrev pub Exclusion : WorldState → Type 0
 Exclusion w =
     (t k u j : ℕ) → IsHonest w t → IsHonest w u → IsHolding w t k → IsHolding w u j → Differ t k u j → partition_at w t ≡ partition_at w u →
