@@ -161,8 +161,16 @@ def ended_with_clock(ran):
 # ---- A script
 
 COLORS = {"line": "1", "comment": "36", "drop": "31", "lock": "32"}
-READING = """Behind > stands a line of the script, and under it the sim's reply. `m5 1>b` is message 5, from tab 1 to the broker; k is
-the kernel. `1#0` is tab 1's command 0, or the lock that it requests. docs/SCRIPTS.md has the language.
+READING = """Behind > stands a line of the script, and under it the sim's reply.
+
+  m5 1>b     message 5, from tab 1 (a renderer) to the broker (lock manager); k is the kernel between them
+  1#0        command 0 of tab 1, or the lock that it requests
+  hello 2    tells a tab that generation 2, the broker's second life, is up: the tab enters it and reports to it
+  gen 2      belongs to generation 2
+  base 3     in a report: the tab had issued 3 commands when it entered the generation; 0 in its first one
+  upto 4     in an answer: the broker has taken the tab's commands below number 4
+
+docs/SCRIPTS.md has the language.
 """
 
 
