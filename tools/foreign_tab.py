@@ -18,69 +18,10 @@ import struct
 import sys
 import time
 
-SECONDS = 20
+from process_tests import hostile, order
+from process_tests.link import ANSWER, CHANNEL, GRANTED, HEARD, HELLO, SECONDS, WELCOME, Link, Unexpected
+
 POSTS = 200
-CHANNEL = b"\x01n"
-
-COMMAND, REPORT, POST, HELLO, ANSWER, HEARD, WELCOME = 1, 2, 3, 16, 17, 19, 20
-GRANTED = 2
-
-
-class Unexpected(OSError):
-    """A frame that the role does not expect, or a frame that is missing."""
-
-
-class Link:
-    """Tab's or broker's end of its link."""
-
-    def __init__(self, path):
-        self.socket = socket.socket(socket.AF_UNIX)
-        self.socket.settimeout(SECONDS)
-        self.socket.connect(path)
-
-    def read(self, count):
-        got = b""
-        while len(got) < count:
-            piece = self.socket.recv(count - len(got))
-            if not piece:
-                raise Unexpected("the link has ended")
-            got += piece
-        return got
-
-    def frame(self):
-        """Returns the kind of the next frame, and its fields."""
-        (length,) = struct.unpack(">I", self.read(4))
-        body = self.read(length)
-        return body[1], body[2:]
-
-    def until(self, kind):
-        """Returns the fields of the next frame of this kind, and ignores the frames before it."""
-        while True:
-            found, fields = self.frame()
-            if found == kind:
-                return fields
-
-    def send(self, kind, fields):
-        body = bytes([1, kind]) + fields
-        self.socket.sendall(struct.pack(">I", len(body)) + body)
-
-    def post(self, number, data):
-        self.send(POST, struct.pack(">I", number) + CHANNEL + struct.pack(">H", len(data)) + data)
-
-    def ask(self, generation, number, name, flag=0):
-        """Requests an exclusive lock. The flag 1 makes it a probe."""
-        self.send(COMMAND, struct.pack(">II", generation, number) + bytes([1, 2, flag, len(name)]) + name)
-
-    def join(self, generation):
-        """Enters a generation with an empty report."""
-        self.send(REPORT, struct.pack(">IIH", generation, 0, 0))
-
-    def leave(self):
-        """Closes the link once all bytes are read, as a tab has to."""
-        self.socket.shutdown(socket.SHUT_WR)
-        while self.socket.recv(4096):
-            pass
-        self.socket.close()
 
 
 def wait_for_file(name):
@@ -96,6 +37,27 @@ def data_of(number):
 
 
 # ---- Tabs
+
+
+def speak(link):
+    """Requests the exclusive lock `a` of `https://a.test` in generation 1, and waits for its grant. Each byte is as expected."""
+    link.expect(bytes.fromhex("00000014 01 14 0001 000E") + b"https://a.test")
+    link.expect(bytes.fromhex("00000006 01 10 00000001"))
+    link.write(bytes.fromhex("0000000C 01 02 00000001 00000000 0000 0000000F 01 01 00000001 00000000 01 02 00 01 61"))
+    # A second Hello comes only to a listed tab, so the grant is next.
+    link.expect(bytes.fromhex("0000000F 01 11 00000001 00000001 00000000 02"))
+
+
+def speaker(path):
+    """Is granted a lock, and ends."""
+    speak(Link(path))
+
+
+def remover(path):
+    """Removes the file of its socket unless the kernel has, is granted a lock, and ends."""
+    link = Link(path)
+    pathlib.Path(path).unlink(missing_ok=True)
+    speak(link)
 
 
 def poster(path):
@@ -261,7 +223,9 @@ def leaving_broker(path):
     leave_child(link, greet)
 
 
-TABS = [poster, hearer, stale, closer, sleeper, deaf, teller, dier, flooder, gate, quiet_leaver, noisy_leaver, looker]
+TALKING = [speaker, remover, poster, hearer, stale, teller, dier, flooder, gate, looker]
+LEAVING = [closer, sleeper, deaf, quiet_leaver, noisy_leaver]
+TABS = [*TALKING, *LEAVING, *hostile.TABS, *order.TABS]
 BROKERS = [leaving_broker]
 
 

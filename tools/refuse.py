@@ -42,8 +42,8 @@ SLOW = {"test_lanes": ("tests::process_lanes::", "tests::turnstile::")}
 # Front of the names of the book's tests, which have to do without large allocations.
 STEPS = "tests::steps::"
 WITHOUT_LARGE = {"test_lanes": (STEPS,)}
-# The first has no tests. The tests of the second start processes, which would be refused memory too.
-NOT_IN_GATE = {"test_support", "test_processes"}
+# It has no tests.
+NOT_IN_GATE = {"test_support"}
 
 
 @dataclasses.dataclass(frozen=True)
