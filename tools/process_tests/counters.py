@@ -12,7 +12,7 @@ def check_counter(program):
     """Four tabs make ten rounds each over two stops of the broker."""
     kernel = f"start\n{opens('TAB', 'TAB', 'TAB', 'TAB')}pause 50\nstop\nstart\npause 50\nstop\nstart\njoin\n"
     stdout = "up 1\n" + opened(1, 2, 3, 4) + "stopped 1\nup 2\nstopped 2\nup 3\n" + ended(0, 0, 0, 0)
-    for lanes, shards in [(2, 1), (2, 2), (4, 16)]:
+    for lanes, shards in [(2, 1), (2, 2), (4, 16), (16, 16)]:
         name = f"forty rounds over {lanes} lanes and {shards} shards"
         played = play(Stage(program, lanes=lanes, shards=shards), kernel, TAB=rounds(10))
         ends(name, played, stdout)
