@@ -1,5 +1,6 @@
 """Tabs that count under one lock, while tabs, brokers and the kernel itself are stopped or killed. No addition is lost."""
 
+import contextlib
 import os
 import signal
 import time
@@ -37,6 +38,8 @@ def check_killed_tab(program):
 
 
 KILLS = 5
+# Rounds of each of two tabs. They take longer than the kills.
+ROUNDS = 1_000
 
 
 def check_killed_broker(program):
@@ -47,13 +50,14 @@ def check_killed_broker(program):
         for _turn in range(KILLS):
             time.sleep(0.02)
             for broker in children_of(kernel, "broker"):
-                os.kill(broker, signal.SIGKILL)
-                killed.append(broker)
+                with contextlib.suppress(ProcessLookupError):
+                    os.kill(broker, signal.SIGKILL)
+                    killed.append(broker)
 
-    played = play(Stage(program), f"start\n{opens('TAB', 'TAB')}join\n", watch, TAB=rounds(50))
+    played = play(Stage(program), f"start\n{opens('TAB', 'TAB')}join\n", watch, TAB=rounds(ROUNDS))
     tells("a killed broker", played, "ended 1 0\n", "ended 2 0\n")
     same("a killed broker", "whether a broker was killed", bool(killed), True)
-    same("a killed broker", "the counter", played.counter, "100\n")
+    same("a killed broker", "the counter", played.counter, f"{2 * ROUNDS}\n")
 
 
 def check_stopped(program):
