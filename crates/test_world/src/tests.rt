@@ -1,6 +1,6 @@
-//! Modules: rows of events, random events, a hub, and clients of a hub.
+//! Modules: rows of events, ends of a run of the sim, a hub, and clients of a hub.
 
 mod client;
 mod hub;
-mod random;
 mod rows;
+mod sim_ends;

@@ -1,12 +1,10 @@
-//! Words of scripts, and lines of the sim that are refused for their form. The rows have each form of a line.
+//! Words of scripts, and the texts that they spell.
 
 use super::process_lines::clear_front;
 use std::alloc::{AllocError, Global};
 use std::process::Abort;
-use test_support::retry::{BACK, append, bytes};
+use test_support::retry::BACK;
 use test_support::text::Text;
-use wl_script::line_reading::read_line;
-use wl_script::sim_line::SimLine;
 use wl_script_words::{ParseFault, put_word, unescape};
 
 /// Calls `put_word` alone: a caller without its clauses is proved much sooner.
@@ -66,78 +64,4 @@ fn other_spellings(rt: HostRuntime) {
         let text = unescaped(rt.alloc(), word);
         assert!(&rt; matches!(&text, Err(ParseFault::Form)), "of {word}");
     }
-}
-
-/// Calls `read_line` alone: a caller without its clauses is proved much sooner.
-fn read_once(alloc: Global, text: &[u8]) -> Result<SimLine, ParseFault> {
-    read_line(alloc, text)
-}
-
-/// Reads a line, again if memory is refused.
-fn read(alloc: Global, text: &[u8]) -> Result<SimLine, ParseFault> {
-    match read_once(alloc, text) {
-        Err(ParseFault::Memory) => read_once(alloc, text),
-        answer => answer,
-    }
-}
-
-/// Lines that nearly have the form of a line.
-static OTHER_FORMS: [&str; 28] = [
-    " ",
-    "show ",
-    " show",
-    "Show",
-    "shows",
-    "hello",
-    "hello  1",
-    "hello 0",
-    "hello 01",
-    "hello 65536",
-    "hello +1",
-    "hello 1 2",
-    "kill x",
-    "start - 1",
-    "start 1 -",
-    "open 1",
-    "open 1 ",
-    "ask 1 both a",
-    "ask 1 shared",
-    "ask 1 shared a b",
-    "ask 1 shared %FF",
-    "abort 1 -1",
-    "deliver 1",
-    "deliver m",
-    "deliver M1",
-    "deliver m01",
-    "post 1 0",
-    "show\r",
-];
-
-fn is_form(line: &Result<SimLine, ParseFault>) -> bool {
-    matches!(line, Err(ParseFault::Form))
-}
-
-/// Returns whether a line is refused for its form.
-fn is_refused(alloc: Global, text: &[u8]) -> bool {
-    let line = read(alloc, text);
-    let is_form = is_form(&line);
-    drop(line);
-    is_form
-}
-
-#[test]
-fn other_forms(rt: HostRuntime) {
-    for text in &OTHER_FORMS {
-        assert!(rt; is_refused(rt.alloc(), text.as_bytes()), "of {text}");
-    }
-    assert!(rt; is_refused(rt.alloc(), b"open 1 \xff"));
-}
-
-#[test]
-fn a_line_of_65536_and_of_65537_bytes(rt: HostRuntime) {
-    let mut text = bytes(rt.alloc(), b'#', 65_536).expect(&rt, BACK);
-    let line = read(rt.alloc(), text.as_slice());
-    assert!(rt; matches!(&line, Ok(SimLine::Blank)));
-    append(&mut text, b"#").expect(&rt, BACK);
-    assert!(rt; is_refused(rt.alloc(), text.as_slice()));
 }

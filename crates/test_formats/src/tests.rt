@@ -1,9 +1,12 @@
-//! Calls of the frame reader that the tests share. A call that is refused memory is made again, and must then give its answer.
+//! Calls of the frame reader that the tests of frames share. A call that is refused memory is made again, and must then give its
+//! answer.
 
 mod examples;
 mod forms;
 mod limits;
+mod process_lines;
 mod streams;
+mod words;
 
 use std::alloc::Global;
 use std::process::Abort;
