@@ -1,12 +1,13 @@
-//! Modules: steps of one lane, lanes on threads over shards, ends of a lane, and the lanes of the broker's process and their order.
+//! Modules: steps of one lane, lanes on threads over shards, ends of a lane, the lanes of the broker's process, and the
+//! statuses of faults.
 
 mod events;
 mod lane_ends;
 mod lanes;
 mod process_lanes;
-mod process_order;
 mod runs;
 mod shards;
+mod statuses;
 mod steps;
 mod turnstile;
 

@@ -5,7 +5,6 @@ ghost use Rattle.std.specs.Prelude.{◌<◌};
 use std::alloc::{AllocError, Global};
 use std::collections::VecDeque;
 use std::sync::Wait;
-use test_support::dice::Dice;
 use wl_frames::{
     Addressed, Answer, Command, Downward, Mode, Name, Operation, Outcome, Report, Sequence,
     Stamped, Upward,
@@ -44,36 +43,13 @@ pub fn command(partition: u16, tab: u16, number: u32, operation: Operation) -> B
     stamped(partition, tab, Upward::Command(command))
 }
 
-/// Returns a request or a probe.
-pub fn request(
-    alloc: Global,
-    mode: Mode,
-    if_available: bool,
-    name: &str,
-) -> Result<Operation, AllocError> {
+/// Returns a request for the exclusive lock `a`.
+pub fn request(alloc: Global) -> Result<Operation, AllocError> {
     Ok(Operation::Request {
-        mode,
-        if_available,
-        name: Name::new(String::from_str(alloc, name)?),
+        mode: Mode::Exclusive,
+        if_available: false,
+        name: Name::new(String::from_str(alloc, "a")?),
     })
-}
-
-/// Returns a command with a random operation.
-pub fn random_command(
-    dice: &mut Dice,
-    alloc: Global,
-    partition: u16,
-    tab: u16,
-    number: u32,
-) -> Result<BookEvent, AllocError> {
-    let earlier = dice.number(u64::from(number));
-    let operation = match dice.below(8) {
-        0..=3 => request(alloc, dice.mode(), dice.below(4) == 0, dice.lock_name())?,
-        4..=5 => Operation::Release { number: earlier },
-        6 => Operation::Abort { number: earlier },
-        _ => Operation::Query,
-    };
-    Ok(command(partition, tab, number, operation))
 }
 
 /// Adds an event.

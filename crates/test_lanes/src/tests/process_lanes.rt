@@ -4,7 +4,6 @@ ghost use Rattle.std.specs.Prelude.{◌≤◌};
 ghost use Rattle.wl_locked.specs.declared.shards.TheConstants.{SHARD_LIMIT};
 
 use super::events::report;
-use super::runs::Open;
 use super::turnstile::{Turnstile, were_in_order};
 use std::alloc::{AllocError, Global};
 use std::io;
@@ -25,7 +24,7 @@ use wl_process_broker::run_generation;
 const LANES: u16 = 2;
 
 /// Returns the bytes of a Start frame without tabs.
-pub(super) fn start(alloc: Global) -> Result<Vec<u8>, AllocError> {
+fn start(alloc: Global) -> Result<Vec<u8>, AllocError> {
     let mut bytes = Vec::new(alloc);
     let start = Start {
         generation: 1,
@@ -36,7 +35,7 @@ pub(super) fn start(alloc: Global) -> Result<Vec<u8>, AllocError> {
 }
 
 /// Appends the bytes of an event.
-pub(super) fn append_event(bytes: &mut Vec<u8>, event: BookEvent) -> Result<(), AllocError> {
+fn append_event(bytes: &mut Vec<u8>, event: BookEvent) -> Result<(), AllocError> {
     let frame = match event {
         BookEvent::Take(stamped) => Frame::Stamped(stamped),
         BookEvent::Dead(tab) => Frame::Dead(Dead { tab }),
@@ -54,7 +53,7 @@ fn conversation(alloc: Global, tabs: &[u16]) -> Result<Vec<u8>, AllocError> {
 }
 
 /// Returns a link that these bytes come over, and its other end.
-pub(super) fn link_with<R: Net>(rt: &R, bytes: &[u8]) -> io::Result<(UnixStream, UnixStream)> {
+fn link_with<R: Net>(rt: &R, bytes: &[u8]) -> io::Result<(UnixStream, UnixStream)> {
     let (link, mut kernel) = UnixStream::pair(rt)?;
     kernel.write_all(bytes)?;
     Ok((link, kernel))
@@ -95,26 +94,4 @@ fn runs_gated<R: Threads + Wait + Clock + Net + Abort + Sync>(rt: &R, alloc: Glo
 fn two_lanes_of_a_process_at_the_same_time(rt: HostRuntime) {
     runs_gated(&rt, rt.alloc(), 2);
     runs_gated(&rt, rt.alloc(), 4);
-}
-
-/// Runs a broker of two lanes. One lane uses up the generation's only step while the link stays open.
-fn spend<R: Threads + Wait + Clock + Net + Abort + Sync>(
-    rt: &R,
-    alloc: Global,
-) -> Result<(), AllocError> {
-    let bytes = conversation(alloc, &[2, 2, 2, 2])?;
-    let (link, _kernel) = link_with(rt, bytes.as_slice()).expect(rt, "a link");
-    match run_generation(rt, alloc, &link, LANES, 1, 1, &Open) {
-        Ok(()) => Ok(()),
-        Err(_fault) => Err(AllocError),
-    }
-}
-
-/// The other lane ends too, although nothing comes for it.
-#[test]
-fn a_spent_generation_ends_all_lanes(rt: HostRuntime) {
-    let alloc = rt.alloc();
-    if spend(&rt, alloc).is_err() {
-        spend(&rt, alloc).expect(&rt, BACK);
-    }
 }

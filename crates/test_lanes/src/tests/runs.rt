@@ -13,13 +13,10 @@ use std::process::Abort;
 use std::rt::Clock;
 use std::sync::Wait;
 use std::thread::Threads;
-use wl_broker::{Broker, Dropped};
 use wl_frames::Frame;
 use wl_locked::{
-    Blanks, BookEvent, CloseFault, History, LANE_LIMIT, Reply, SHARD_LIMIT, ShardLane, Sharded,
-    Shards, Work,
+    Blanks, CloseFault, History, LANE_LIMIT, SHARD_LIMIT, ShardLane, Sharded, Shards, Work,
 };
-use wl_table::IndexedTable;
 use wl_workers::{Gate, Intake, Job, LaneEnd, LaneEndCause, Outlet, OutletFault, run_lanes};
 
 /// Intake that gives a list of works, up to the first that is not dealt to `shards` shards. Contracts see that number alone.
@@ -282,34 +279,4 @@ pub fn end_so(rt: &impl Abort, ends: &[LaneEnd], first: LaneEnd, second: LaneEnd
     same(rt, ends.len(), 2);
     same(rt, ends.first().copied(), Some(first));
     same(rt, ends.last().copied(), Some(second));
-}
-
-/// Returns the reply of a broker of one thread to an event.
-fn answer(broker: &mut Broker<IndexedTable>, event: &BookEvent) -> Result<Reply, AllocError> {
-    match event {
-        BookEvent::Take(stamped) => match broker.take(stamped) {
-            Ok(outs) => Ok(Reply::Outs(outs)),
-            Err(Dropped::Memory) => Err(AllocError),
-            Err(reason) => Ok(Reply::Dropped(reason)),
-        },
-        BookEvent::Dead(tab) => Ok(Reply::Outs(broker.dead(*tab)?)),
-    }
-}
-
-/// Asserts that a broker of one thread gives each reply of a history.
-pub fn replay(rt: &impl Abort, alloc: Global, history: &History) -> Result<(), AllocError> {
-    let (mut broker, _hellos) = Broker::<IndexedTable>::start(alloc, 1, &[])?;
-    for step in history.steps() {
-        let reply = answer(&mut broker, step.event.get())?;
-        assert!(rt; reply == step.reply);
-        drop(reply);
-    }
-    Ok(())
-}
-
-/// Asserts that each lane ended because its intake did.
-pub fn have_ended(rt: &impl Abort, ends: &[LaneEnd]) {
-    for end in ends {
-        same(rt, end.why, LaneEndCause::Ended);
-    }
 }

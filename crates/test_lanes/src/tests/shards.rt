@@ -11,7 +11,6 @@ use std::marker::Brand;
 use std::process::Abort;
 use std::sync::Wait;
 use test_support::retry::BACK;
-use wl_frames::Mode;
 use wl_locked::{Blanks, NotStepped, Receipt, ShardLane, Sharded, Shards, Work};
 
 /// Takes a copy of a work.
@@ -84,7 +83,7 @@ fn use_up_one<J: Shards, R: Wait + Abort>(
         let event = report(alloc, tab, tab);
         step(rt, alloc, broker, lane, Work { shard, event }, Some(place))?;
     }
-    let asked = command(1, 1, 0, request(alloc, Mode::Exclusive, false, "a")?);
+    let asked = command(1, 1, 0, request(alloc)?);
     let work = Work {
         shard: 1,
         event: asked,

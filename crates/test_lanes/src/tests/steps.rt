@@ -14,7 +14,7 @@ use std::process::Abort;
 use std::sync::Wait;
 use std::sync::ledger::Blank;
 use test_support::retry::BACK;
-use wl_frames::{Addressed, Downward, Mode, Operation, Outcome};
+use wl_frames::{Addressed, Downward, Operation, Outcome};
 use wl_locked::{
     BookEvent, Generation, LANE_LIMIT, Lane, LockedBroker, NotStepped, Receipt, Reply, STEP_LIMIT,
     SharedEvent, Step,
@@ -49,7 +49,7 @@ fn add_request(
     number: u32,
     outcome: Outcome,
 ) -> Result<(), AllocError> {
-    let event = command(1, tab, number, request(alloc, Mode::Exclusive, false, "a")?);
+    let event = command(1, tab, number, request(alloc)?);
     let told = answer(tab, number.wrapping_add(1), number, outcome);
     add(alloc, steps, event, reply(alloc, Some(told), None))
 }
