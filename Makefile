@@ -97,6 +97,7 @@ test: ## the gate: proves every crate, kills mutants, runs every test and the pr
 	@python3 tools/check_program.py $(WLB)
 	@python3 tools/check_vectors.py --program $(WLB)
 	@python3 tools/chart.py --check --program $(WLB)
+	@python3 tools/check_sim.py $(WLB)
 	@python3 tools/check_processes.py $(WLB)
 	@python3 tools/check_library.py $(ARCHIVES)
 	@python3 tools/check_js.py $(WLB) $(or $(ARCHIVES),$(dir $(HUB) $(CLIENT)))

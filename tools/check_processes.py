@@ -1,6 +1,6 @@
-"""Runs kernels of `wlb` with real brokers and tabs, and scripts of its sim, and compares what they print with what is expected.
+"""Runs kernels of `wlb` with real brokers and tabs, and compares what they print with what is expected.
 
-The checks of kernels stand in `process_tests`, by topic:
+The checks stand in `process_tests`, by topic:
 
     scripts     scripts of kernels and tabs, refused ones too; queries; missing files; the folders of `examples/processes`
     counters    tabs that count, while tabs and brokers are killed, and the kernel is stopped and continued
@@ -10,14 +10,7 @@ The checks of kernels stand in `process_tests`, by topic:
     lanes       a broker whose one lane is busy, whose generation is spent, or whose lanes share the work
     faults      kernels that run short of descriptors or whose system calls fail (`faults.c`)
 
-No process and no socket may be left. The checks of the sim stand in `sim_tests`:
-
-    play        rows of scripts, each line with its output (`sim_tests/rows`)
-    limits      scripts that reach a limit and exceed it by one, and long scripts
-    parts       tabs that report in parts
-    ends        lines of another form
-    stops       stops and deaths behind each line of rows
-    random_events   no two locks that are held conflict after random events
+No process and no socket may be left.
 
 The tool prints each difference, and nothing if there is none. The status is 1 if there is a difference. It needs `/proc` and a C
 compiler `cc`.
@@ -25,9 +18,8 @@ compiler `cc`.
 
 from checks import main_of
 from process_tests import counters, faults, foreign, hostile, lanes, order, scripts
-from sim_tests import ends, limits, parts, play, random_events, stops
 
-TOPICS = [scripts, counters, foreign, hostile, order, lanes, faults, play, limits, parts, ends, stops, random_events]
+TOPICS = [scripts, counters, foreign, hostile, order, lanes, faults]
 
 if __name__ == "__main__":
     main_of(__doc__, *[check for topic in TOPICS for check in topic.CHECKS])
