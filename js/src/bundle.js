@@ -1,6 +1,6 @@
 // Several links over one MessagePort.
 
-import { listen, whole } from './transports.js';
+import { Ending, listen, whole } from './transports.js';
 
 /**
  * The links of a renderer: one for each of its documents, all over one MessagePort. What is sent over them keeps its order, as pages
@@ -22,7 +22,7 @@ export class LinkBundle {
     port.start();
   }
 
-  /** Opens a link. Only one side of a port may open links. */
+  /** Opens a link. Only one side of a port may open links. A link of a port that has ended has ended, too. */
   open(details) {
     const number = this.#next++;
     this.#post(number, 'open', details);
@@ -59,16 +59,15 @@ export class LinkBundle {
   }
 
   #link(number) {
-    const kept = [];
-    let isEarly = false;
-    const end = { receive: bytes => kept.push(bytes), closed: () => { isEarly = true; } };
-    this.#ends.set(number, end);
+    const kept = [], ending = new Ending();
+    const end = { receive: bytes => kept.push(bytes), closed: () => ending.come() };
+    if (this.#isOver) ending.come();
+    else this.#ends.set(number, end);
     return {
       start(receive, closed) {
         end.receive = receive;
-        end.closed = () => closed(null);
+        ending.listen(closed);
         for (const bytes of kept.splice(0)) receive(bytes);
-        if (isEarly) queueMicrotask(end.closed);
       },
       send: bytes => {
         if (this.#ends.get(number) === end) this.#post(number, 'bytes', whole(bytes));

@@ -1,7 +1,7 @@
 // Links. A link has three functions, and may have a flag:
 //
 //   start(receive, closed)   calls `receive` with each piece of bytes that comes, and `closed` once when the link has ended, with the
-//                            error if there was one. What comes before is kept
+//                            error if there was one. What came before is kept, and so is an end
 //   send(bytes)              sends bytes, in order. After the end it does nothing
 //   close()                  ends the link. `closed` is called on both sides
 //   losesFrames              true if the other side may drop whole frames. A tab then sends its report and all that waits again
@@ -19,32 +19,49 @@ export function whole(bytes) {
   return bytes.byteLength === bytes.buffer.byteLength ? bytes : Uint8Array.from(bytes);
 }
 
+/** End of a link. It is told once, also if it came before `listen`: else a tab would wait for ever. */
+export class Ending {
+  isOver = false;
+  #error = null;
+  #tell = null;
+
+  /** Notes the end, and tells it. Returns false if the link had ended before. */
+  come(error = null) {
+    if (this.isOver) return false;
+    this.isOver = true;
+    this.#error = error;
+    this.#tell?.(error);
+    return true;
+  }
+
+  listen(tell) {
+    this.#tell = tell;
+    if (this.isOver) queueMicrotask(() => tell(this.#error));
+  }
+}
+
 /** A link over a MessagePort of a browser, of Electron or of node:worker_threads. A message that is not bytes ends it. */
 export function portLink(port) {
-  let closed = null, isOver = false;
+  const ending = new Ending();
   const end = () => {
-    if (isOver) return;
-    isOver = true;
-    port.close();
-    closed?.(null);
+    if (ending.come()) port.close();
   };
+  listen(port, 'close', end);
   return {
-    start(receive, whenClosed) {
-      closed = whenClosed;
-      if (isOver) queueMicrotask(() => closed(null));
+    start(receive, closed) {
+      ending.listen(closed);
       listen(port, 'message', ({ data }) => {
-        if (isOver) return;
+        if (ending.isOver) return;
         if (data instanceof Uint8Array) receive(data);
         else end();
       });
-      listen(port, 'close', end);
       port.start();
     },
     send(bytes) {
-      if (!isOver) port.postMessage(whole(bytes));
+      if (!ending.isOver) port.postMessage(whole(bytes));
     },
     close() {
-      if (isOver) return;
+      if (ending.isOver) return;
       port.postMessage(null);
       end();
     },
@@ -53,11 +70,14 @@ export function portLink(port) {
 
 /** A link over a stream socket of node:net. */
 export function socketLink(socket) {
+  const ending = new Ending();
+  let error = null;
+  socket.on('error', cause => { error = cause; });
+  socket.on('close', () => ending.come(error));
+  if (socket.destroyed) ending.come(socket.errored);
   return {
     start(receive, closed) {
-      let error = null;
-      socket.on('error', cause => { error = cause; });
-      socket.on('close', () => closed(error));
+      ending.listen(closed);
       socket.on('data', receive);
     },
     send(bytes) {
@@ -70,12 +90,12 @@ export function socketLink(socket) {
 /** Connects to the Unix socket of `wlb kernel` (Node), which drops frames when a queue is full. */
 export async function connectSocket(path) {
   const { connect } = await import('node:net');
-  const socket = connect(path);
+  const socket = connect(path), link = { ...socketLink(socket), losesFrames: true };
   await new Promise((resolve, reject) => {
     socket.once('connect', resolve);
     socket.once('error', reject);
   });
-  return { ...socketLink(socket), losesFrames: true };
+  return link;
 }
 
 /** Two links that are the ends of one: for a tab in the same event loop as its host. */

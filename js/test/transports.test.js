@@ -6,7 +6,7 @@ import net from 'node:net';
 import os from 'node:os';
 import path from 'node:path';
 import test from 'node:test';
-import { Host, LinkBundle, connect, connectSocket, portLink, serveSharedWorker, sharedWorkerLink, socketLink } from '../src/index.js';
+import { Host, LinkBundle, connect, connectSocket, linkPair, portLink, serveSharedWorker, sharedWorkerLink, socketLink } from '../src/index.js';
 import { URL_A, clientModule, deferred, hold, hubModule, isAvailable, seen } from '../lab/lab.js';
 
 test('tabs over a Unix socket', async t => {
@@ -44,6 +44,78 @@ test('tabs over a Unix socket', async t => {
 
 test('a socket without a server refuses', async () => {
   await assert.rejects(connectSocket('/nonexistent/socket'), error => error.code === 'ENOENT');
+});
+
+test('a link that has ended before `connect` makes it reject', async t => {
+  const folder = fs.mkdtempSync(path.join(os.tmpdir(), 'wlb-socket-')), file = path.join(folder, 'host');
+  // As a host does that refuses a tab.
+  const server = net.createServer(socket => socket.end());
+  t.after(() => {
+    server.close();
+    fs.rmSync(folder, { recursive: true });
+  });
+  await new Promise(resolve => server.listen(file, resolve));
+  const closed = socket => new Promise(resolve => socket.once('close', resolve));
+  const pages = new EventTarget();
+  globalThis.addEventListener = pages.addEventListener.bind(pages);
+  t.after(() => { delete globalThis.addEventListener; });
+  const links = {
+    async connectSocket() { return connectSocket(file); },
+    async 'a socket'() {
+      const socket = net.connect(file), link = socketLink(socket);
+      await closed(socket);
+      return link;
+    },
+    async 'a socket that was closed before'() {
+      const socket = net.connect(file);
+      await closed(socket.resume());
+      return socketLink(socket);
+    },
+    async 'a port'() {
+      const { port1, port2 } = new MessageChannel(), link = portLink(port1);
+      port2.close();
+      return link;
+    },
+    async 'a link that its own side has closed'() {
+      const [link] = linkPair();
+      link.close();
+      return link;
+    },
+    async linkPair() {
+      const [link, other] = linkPair(), host = await Host.create(hubModule);
+      assert.throws(() => host.accept(other, { url: 'data:,x' }));
+      return link;
+    },
+    async 'a link of a bundle'() {
+      const { port1, port2 } = new MessageChannel(), link = new LinkBundle(port1).open(null);
+      new LinkBundle(port2, other => other.close());
+      t.after(() => port2.close());
+      return link;
+    },
+    async 'a link of a bundle that is closed'() {
+      const bundle = new LinkBundle(new MessageChannel().port1), link = bundle.open(null);
+      bundle.close();
+      return link;
+    },
+    async 'a link that a closed bundle opens'() {
+      const bundle = new LinkBundle(new MessageChannel().port1);
+      bundle.close();
+      return bundle.open(null);
+    },
+    async sharedWorkerLink() {
+      const link = sharedWorkerLink({ port: new MessageChannel().port1 });
+      pages.dispatchEvent(new Event('pagehide'));
+      return link;
+    },
+  };
+  for (const [name, open] of Object.entries(links)) {
+    const link = await open();
+    await new Promise(resolve => setTimeout(resolve, 50));
+    const late = new Promise(resolve => setTimeout(resolve, 2000, 'is not settled').unref());
+    const result = await Promise.race([connect(link, clientModule).then(() => 'connects', error => error), late]);
+    assert.ok(result instanceof Error, `${name}: ${result}`);
+    assert.match(result.message, /the link was closed/, name);
+  }
 });
 
 test('tabs of one port keep the order of their calls', async t => {
