@@ -14,7 +14,7 @@ function errorOf(error) {
     case 'NAME_TOO_LONG': return new TypeError('a name has at most 255 bytes of UTF-8');
     case 'TOO_MANY_CHANNELS': return refusal('QuotaExceededError', 'the tab has too many open channels');
     case 'DATA_TOO_LONG': return refusal('DataCloneError', `a message has at most ${DATA_BYTES} bytes`);
-    case 'POSTS_USED_UP': return refusal('QuotaExceededError', 'the tab has made all of its posts');
+    case 'POSTS_USED_UP': return refusal('QuotaExceededError', 'the tab has made all of its posts: close it, and connect anew');
     case 'CLOSED': return refusal('InvalidStateError', 'the channel is closed');
     case 'MEMORY': return new RangeError('out of memory');
     default: return error;

@@ -1,6 +1,6 @@
 // Several links over one MessagePort.
 
-import { Ending, listen, whole } from './transports.js';
+import { Ending, PORT, listen, need, whole } from './transports.js';
 
 /**
  * The links of a renderer: one for each of its documents, all over one MessagePort. What is sent over them keeps its order, as pages
@@ -15,6 +15,7 @@ export class LinkBundle {
   #isOver = false;
 
   constructor(port, opened = null) {
+    need(port, PORT, 'LinkBundle needs a MessagePort');
     this.#port = port;
     this.#opened = opened;
     listen(port, 'message', ({ data }) => this.#come(data));

@@ -1,6 +1,7 @@
 // Client: locks and channels of one tab, behind bytes.
 
 import { CLIENT, Part, WlbError, pieces } from './module.js';
+import { lockMode } from './webidl.js';
 
 const KINDS = [null, 'welcomed', 'entered', 'granted', 'waiting', 'notAvailable', 'lost', 'answered', 'posted', 'other'];
 
@@ -27,7 +28,7 @@ export class Client {
     for (const piece of pieces(bytes)) {
       const code = this.#part.with([piece], (...words) => this.#part.must('receive', words, ['BAD_FRAME']));
       while (this.#part.must('advance', [], ['IDLE']) === 'OK') this.#tellAll(tell);
-      if (code === 'BAD_FRAME') throw new WlbError(code, 'wlb_client_receive');
+      if (code === 'BAD_FRAME') throw new WlbError(code, 'the other side is no host of wlb');
     }
   }
 
@@ -78,8 +79,8 @@ export class Client {
   probe(name, mode) { return this.#ask('probe', name, mode); }
 
   #ask(what, name, mode) {
-    const part = this.#part;
-    part.with([name], (...words) => part.must(what, [...words, mode === 'shared' ? 1 : 0, part.result]));
+    const part = this.#part, isShared = lockMode(mode) === 'shared';
+    part.with([name], (...words) => part.must(what, [...words, isShared ? 1 : 0, part.result]));
     return part.u32(0);
   }
 

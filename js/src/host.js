@@ -3,6 +3,7 @@
 import { joined } from './frames.js';
 import { Hub } from './hub.js';
 import { HUB, WlbError } from './module.js';
+import { LINK, need } from './transports.js';
 
 /**
  * A hub whose tabs are links. Everything happens in the calls of the links: a host has no timer. `source` of `create` is
@@ -24,12 +25,15 @@ export class Host {
   /**
    * Gives a link a tab, and returns the tab's number. `url` is that of the document or worker. `top` is that of the document at the top,
    * for one in a frame. If the link ends, the tab is closed, so a link must not end before its tab has stopped. A tab that is refused
-   * throws a WlbError, and its link is closed.
+   * throws a WlbError, and its link is closed. So it is if `url` is missing, which throws a TypeError.
    */
-  accept(link, { url, top = undefined }) {
+  accept(link, options) {
+    need(link, LINK, 'accept needs a link, such as portLink(port)');
     const tab = this.#next;
     try {
-      if (tab > 0xffff) throw new WlbError('NUMBER_TAKEN', 'Host.accept');
+      const { url, top } = options ?? {};
+      if (url === undefined) throw new TypeError('accept needs { url }, the URL of the document or worker');
+      if (tab > 0xffff) throw new WlbError('NUMBER_TAKEN', 'all 65,535 tab numbers are used up');
       if (top === undefined) this.#hub.open(tab, url);
       else this.#hub.openPair(tab, top, url);
     } catch (error) {

@@ -45,7 +45,7 @@ export class Hub {
     for (const piece of pieces(bytes)) {
       const code = this.#part.with([piece], (...words) => this.#part.must('receive', [tab, ...words], ['BAD_FRAME']));
       this.#advance();
-      if (code === 'BAD_FRAME') throw new WlbError(code, 'wlb_hub_receive');
+      if (code === 'BAD_FRAME') throw new WlbError(code, 'the other side is no tab of wlb');
     }
   }
 

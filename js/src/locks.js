@@ -2,7 +2,7 @@
 
 import { WlbError } from './module.js';
 import { encodeName, decodeName } from './names.js';
-import { INTERNAL, expose, illegal } from './webidl.js';
+import { INTERNAL, expose, illegal, lockMode } from './webidl.js';
 
 /** A granted lock. */
 export class Lock {
@@ -70,10 +70,7 @@ function lockOptions(value) {
   if (typeof value !== 'object' && typeof value !== 'function') throw new TypeError('the options are not an object');
   const options = { ifAvailable: Boolean(value.ifAvailable), mode: 'exclusive', signal: undefined, steal: false };
   const { mode } = value;
-  if (mode !== undefined) {
-    options.mode = `${mode}`;
-    if (options.mode !== 'shared' && options.mode !== 'exclusive') throw new TypeError(`${options.mode} is not a LockMode`);
-  }
+  if (mode !== undefined) options.mode = lockMode(mode);
   const { signal } = value;
   if (signal !== undefined) {
     if (!(signal instanceof AbortSignal)) throw new TypeError('the signal is not an AbortSignal');
@@ -101,7 +98,7 @@ function errorOf(error) {
     case 'NAME_TOO_LONG': return new TypeError('a name has at most 255 bytes of UTF-8');
     case 'NOT_SUPPORTED': return refusal('NotSupportedError', 'the name starts with U+002D');
     case 'TOO_MANY': return refusal('QuotaExceededError', 'the tab has too many locks, requests and queries');
-    case 'NUMBERS_USED_UP': return refusal('QuotaExceededError', 'the tab has made all of its requests');
+    case 'NUMBERS_USED_UP': return refusal('QuotaExceededError', 'the tab has made all of its requests: close it, and connect anew');
     case 'MEMORY': return new RangeError('out of memory');
     default: return error;
   }

@@ -10,10 +10,36 @@ export const STATUSES = [
 /** Limits of include/wlb.h. */
 export const FRAME_BYTES = 65540, NAME_BYTES = 255, DATA_BYTES = 16384;
 
+/** Texts of the statuses that a call fails with. */
+const MEANINGS = {
+  MEMORY: 'out of memory',
+  NO_HANDLE: 'the hub or client has been freed',
+  NO_TAB: 'no tab of this number lives',
+  BAD_TEXT: 'a name has to be UTF-8',
+  BAD_URL: 'url and top have to be absolute URLs of at most 2,048 bytes, such as https://app.example/',
+  OPAQUE_ORIGIN: 'url and top have to have an origin, unlike data:,x',
+  NUMBER_TAKEN: 'the number of the tab is 0, or had a tab before',
+  TOO_MANY_LIVING: '1,024 tabs live',
+  PARTITION_FULL: '64 tabs of this url and top live',
+  GENERATIONS_USED_UP: 'all 65,535 generations of the broker are used up',
+  NOT_WELCOMED: 'the client has not received its welcome',
+  NOT_SUPPORTED: 'the name of a lock starts with U+002D',
+  NAME_TOO_LONG: `a name has at most ${NAME_BYTES} bytes of UTF-8`,
+  TOO_MANY: 'the tab has too many locks, requests and queries',
+  NUMBERS_USED_UP: 'all 1,000,000 commands of the tab are used up',
+  HELD: 'the lock is held: release it instead',
+  NOTHING: 'there is no such number',
+  NO_CHANNEL: 'the tab has opened no such channel',
+  CLOSED: 'the channel is closed',
+  DATA_TOO_LONG: `a post has at most ${DATA_BYTES} bytes`,
+  TOO_MANY_CHANNELS: 'the tab has 64 open channels',
+  POSTS_USED_UP: 'all 1,000,000 posts of the tab are used up',
+};
+
 /** Error of a call of the module. `code` is the status without its prefix, for instance 'TOO_MANY'. */
 export class WlbError extends Error {
-  constructor(code, what) {
-    super(`${what}: ${code}`);
+  constructor(code, meaning = MEANINGS[code]) {
+    super(meaning ? `${code}: ${meaning}` : code);
     this.name = 'WlbError';
     this.code = code;
   }
@@ -77,12 +103,13 @@ export class Part {
   /** Calls a function, and returns its status 'OK' or one of those that are expected. Throws a WlbError for any other one. */
   must(name, words = [], expected = []) {
     const code = STATUSES[this.call(name, ...words)];
-    if (code !== 'OK' && !expected.includes(code)) throw new WlbError(code, `wlb_${this.#kind}_${name}`);
+    if (code !== 'OK' && !expected.includes(code)) throw new WlbError(code);
     return code;
   }
 
   /** Calls `run` with address and length of a copy of each byte sequence. */
   with(sequences, run) {
+    sequences.forEach(checkBytes);
     const total = sequences.reduce((sum, bytes) => sum + bytes.length, 0);
     const room = total <= FRAME_BYTES ? this.#room : this.#allocate(BigInt(total));
     try {
@@ -120,7 +147,7 @@ export class Part {
 
   #allocate(length) {
     const at = this.#exports.host_allocate(length + ADDRESS_BYTES);
-    if (at === 0n) throw new WlbError('MEMORY', 'host_allocate');
+    if (at === 0n) throw new WlbError('MEMORY');
     return at;
   }
 
@@ -138,7 +165,13 @@ export class Part {
   }
 }
 
+/** A text or an ArrayBuffer would be copied as zeros, or as nothing. Bytes may come of another realm. */
+function checkBytes(bytes) {
+  if (!ArrayBuffer.isView(bytes) || bytes.BYTES_PER_ELEMENT !== 1) throw new TypeError('names, frames and data have to be Uint8Arrays');
+}
+
 /** Cuts bytes into pieces that fit into the room of a Part. */
 export function* pieces(bytes) {
+  checkBytes(bytes);
   for (let at = 0; at < bytes.length; at += FRAME_BYTES) yield bytes.subarray(at, at + FRAME_BYTES);
 }

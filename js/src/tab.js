@@ -6,12 +6,14 @@ import { Splitter, commandIn, joined, originIn, takenIn } from './frames.js';
 import { lockManagerOf } from './locks.js';
 import { CLIENT } from './module.js';
 import { Tasks } from './tasks.js';
+import { LINK, need } from './transports.js';
 
 /**
- * Makes a tab over a link to a hub, and waits for the hub's welcome. `source` is `wlb_client.wasm`: its bytes, its URL, a Response, or
+ * Makes a tab over a link to a hub, and waits for the hub's welcome. Rejects if the link ends first. `source` is `wlb_client.wasm`: its bytes, its URL, a Response, or
  * a compiled module.
  */
 export async function connect(link, source = CLIENT) {
+  need(link, LINK, 'connect needs a link, such as portLink(port) or await connectSocket(path)');
   const agent = new Agent(await Client.create(source), link);
   await agent.welcomed;
   return new Tab(agent);

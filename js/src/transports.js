@@ -8,6 +8,14 @@
 
 import { WlbError } from './module.js';
 
+/** Throws a TypeError if a value lacks one of the functions. `wanted` says what it should be. */
+export function need(value, functions, wanted) {
+  if (functions.some(name => typeof value?.[name] !== 'function')) throw new TypeError(wanted);
+}
+
+export const LINK = ['start', 'send', 'close'];
+export const PORT = ['postMessage', 'start', 'close'];
+
 /** Calls `run` with each event of a port. A port of Electron's main process is an EventEmitter. */
 export function listen(port, type, run) {
   if (port.addEventListener) port.addEventListener(type, run);
@@ -42,6 +50,7 @@ export class Ending {
 
 /** A link over a MessagePort of a browser, of Electron or of node:worker_threads. A message that is not bytes ends it. */
 export function portLink(port) {
+  need(port, PORT, 'portLink needs a MessagePort');
   const ending = new Ending();
   const end = () => {
     if (ending.come()) port.close();
@@ -70,6 +79,7 @@ export function portLink(port) {
 
 /** A link over a stream socket of node:net. */
 export function socketLink(socket) {
+  need(socket, ['on', 'write', 'end'], 'socketLink needs a socket of node:net');
   const ending = new Ending();
   let error = null;
   socket.on('error', cause => { error = cause; });

@@ -7,6 +7,13 @@ export function illegal() {
   return new TypeError('Illegal constructor');
 }
 
+/** Converts to the enumeration LockMode. */
+export function lockMode(value) {
+  const mode = `${value}`;
+  if (mode !== 'shared' && mode !== 'exclusive') throw new TypeError(`${mode} is not a LockMode`);
+  return mode;
+}
+
 /** Makes members of a class enumerable, and names the class for Object.prototype.toString. */
 export function expose(type, ...members) {
   for (const member of members) {
