@@ -1,4 +1,4 @@
-// The programs of README.md, as it says that they are run.
+// The programs of this package's README.md, and the one of the README.md at the top, as these say that they are run.
 
 import assert from 'node:assert/strict';
 import { spawnSync } from 'node:child_process';
@@ -22,13 +22,19 @@ function filesOf(section) {
 
 const MODULES = ['wlb_hub32.wasm', 'wlb_client32.wasm'];
 
+/** A folder with the package in `place`. */
+function installed(t, place) {
+  const folder = fs.mkdtempSync(path.join(os.tmpdir(), 'wlb-readme-')), home = path.join(folder, place);
+  t.after(() => fs.rmSync(folder, { recursive: true }));
+  fs.mkdirSync(path.join(home, 'dist'), { recursive: true });
+  for (const name of ['src', 'package.json']) fs.cpSync(path.join(here, name), path.join(home, name), { recursive: true });
+  for (const name of MODULES) fs.copyFileSync(path.join(modules, name), path.join(home, 'dist', name));
+  return folder;
+}
+
 /** A folder with the files, in which the package is installed. */
 function folderOf(t, section) {
-  const folder = fs.mkdtempSync(path.join(os.tmpdir(), 'wlb-readme-')), installed = path.join(folder, 'node_modules/wlb');
-  t.after(() => fs.rmSync(folder, { recursive: true }));
-  fs.mkdirSync(path.join(installed, 'dist'), { recursive: true });
-  for (const name of ['src', 'package.json']) fs.cpSync(path.join(here, name), path.join(installed, name), { recursive: true });
-  for (const name of MODULES) fs.copyFileSync(path.join(modules, name), path.join(installed, 'dist', name));
+  const folder = installed(t, 'node_modules/wlb');
   for (const { name, content } of filesOf(section)) fs.writeFileSync(path.join(folder, name), content, { mode: 0o755 });
   return folder;
 }
@@ -50,11 +56,27 @@ function checkTurns(lines) {
 
 const skip = hasProgram() ? false : 'there is no program `wlb`: run `make test`, or set WLB_PROGRAM';
 
+test('the example at the top of the repository', t => {
+  const folder = installed(t, 'js'), text = fs.readFileSync(path.join(here, '../README.md'), 'utf8');
+  fs.writeFileSync(path.join(folder, 'lock.mjs'), /^```js\n([\s\S]*?)^```$/m.exec(text)[1]);
+  assert.deepEqual(run(folder, 'node lock.mjs'), ['tab 1 holds the lock db']);
+});
+
 test('two threads', t => checkTurns(run(folderOf(t, 'Two threads'), 'node main.mjs')));
 
 test('two processes', t => {
   const host = 'node host.mjs & host=$!; until [ -S locks.sock ]; do sleep 0.05; done';
   checkTurns(run(folderOf(t, 'Two processes'), `${host}; node tab.mjs one & one=$!; node tab.mjs two; wait $one; kill $host`));
+});
+
+test('a second host ends, and a host that was killed has a successor', t => {
+  const folder = folderOf(t, 'Two processes'), tabs = [1, 2].map(number => `until node tab.mjs ${number} 2>errors; do sleep 0.05; done`);
+  const lines = run(folder, [
+    'node host.mjs & host=$!', tabs[0], 'node host.mjs 2>refused && exit 1', 'grep -o EADDRINUSE refused | head -1', tabs[0],
+    'kill -9 $host; wait $host 2>errors', 'test -S locks.sock || exit 1', 'node host.mjs & host=$!', tabs[1], 'kill $host',
+  ].join('\n'));
+  const turns = number => Array.from({ length: 3 }, () => [`${number} begins`, `${number} ends`]).flat();
+  assert.deepEqual(lines, [...turns(1), 'EADDRINUSE', ...turns(1), ...turns(2)]);
 });
 
 test('two processes under wlb kernel', { skip }, t => {

@@ -51,7 +51,7 @@ export type ModuleSource = BufferSource | string | URL | Response | WebAssembly.
 
 export function compile(source: ModuleSource): Promise<WebAssembly.Module>;
 
-/** `code` is a status of include/wlb.h without its prefix, for instance "TOO_MANY". */
+/** `code` is a status of include/wlb.h without its prefix, for instance "TOO_MANY". The message begins with it. */
 export class WlbError extends Error {
   readonly code: string;
 }
@@ -59,6 +59,7 @@ export class WlbError extends Error {
 // ---- Links
 
 export interface Link {
+  /** `closed` is called once, also if the link ended before. */
   start(receive: (bytes: Uint8Array) => void, closed: (error: Error | null) => void): void;
   send(bytes: Uint8Array): void;
   close(): void;
@@ -78,6 +79,7 @@ export interface Port {
 export function portLink(port: Port): Link;
 /** `socket` is a net.Socket of Node. */
 export function socketLink(socket: any): Link;
+/** Rejects with the error of node:net, for instance ENOENT or ECONNREFUSED if nobody listens. */
 export function connectSocket(path: string): Promise<Link>;
 export function linkPair(): [Link, Link];
 /** Several links over one MessagePort, which keeps the order of what is sent over all of them. */
@@ -94,15 +96,20 @@ export function sharedWorkerLink(worker: any): Link;
 // ---- Host and tab
 
 export interface HubNumbers {
+  /** Generation of the broker, or 0 if none is up. */
   generation: number;
+  /** Living tabs. */
   living: number;
+  /** Dead tabs that the broker was not told of. */
   untold: number;
+  /** Frames that wait to be sent. A Host sends them at once. */
   outputs: number;
 }
 
 export class Host {
   static create(hub?: ModuleSource): Promise<Host>;
   constructor(hub: Hub);
+  /** Throws a WlbError or a TypeError for a tab that is refused, and closes its link. */
   accept(link: Link, options: { url: string; top?: string }): number;
   close(tab: number): void;
   restart(): void;
@@ -120,6 +127,7 @@ export class Tab {
   close(): void;
 }
 
+/** Rejects if the link ends before the host's welcome. */
 export function connect(link: Link, client?: ModuleSource): Promise<Tab>;
 
 // ---- Hub and client, by their bytes
