@@ -1,7 +1,7 @@
 // Links. A link has three functions, and may have a flag:
 //
 //   start(receive, closed)   calls `receive` with each piece of bytes that comes, and `closed` once when the link has ended, with the
-//                            error if there was one. What came before is kept, and so is an end
+//                            error if there was one. Bytes that came before are kept, and so is an end
 //   send(bytes)              sends bytes, in order. After the end it does nothing
 //   close()                  ends the link. `closed` is called on both sides
 //   losesFrames              true if the other side may drop whole frames. A tab then sends its report and all that waits again
@@ -93,7 +93,11 @@ export function socketLink(socket) {
     send(bytes) {
       if (socket.writable) socket.write(bytes);
     },
-    close() { socket.end(); },
+    close() {
+      socket.end();
+      // The end of the other side comes behind its bytes, and nobody else reads them if the link was not started.
+      socket.resume();
+    },
   };
 }
 

@@ -42,6 +42,20 @@ test('tabs over a Unix socket', async t => {
   await other.closed;
 });
 
+test('the socket of a refused tab is closed, also if bytes of it are unread', async t => {
+  const host = await Host.create(hubModule), server = net.createServer();
+  t.after(() => server.close());
+  await new Promise(resolve => server.listen(0, '127.0.0.1', resolve));
+  const connection = new Promise(resolve => server.once('connection', resolve));
+  const stranger = net.connect(server.address().port, '127.0.0.1');
+  stranger.write(new Uint8Array(100_000));
+  const socket = await connection, end = new Promise(resolve => socket.once('close', resolve));
+  assert.throws(() => host.accept(socketLink(socket), { url: 'data:,x' }), error => error.code === 'OPAQUE_ORIGIN');
+  stranger.resume();
+  const late = new Promise(resolve => setTimeout(resolve, 2000, 'late').unref());
+  assert.notEqual(await Promise.race([end, late]), 'late');
+});
+
 test('a socket without a server refuses', async () => {
   await assert.rejects(connectSocket('/nonexistent/socket'), error => error.code === 'ENOENT');
 });
