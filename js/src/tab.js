@@ -14,7 +14,11 @@ import { LINK, need } from './transports.js';
  */
 export async function connect(link, source = CLIENT) {
   need(link, LINK, 'connect needs a link, such as portLink(port) or await connectSocket(path)');
-  const agent = new Agent(await Client.create(source), link);
+  const client = await Client.create(source).catch(error => {
+    link.close();
+    throw error;
+  });
+  const agent = new Agent(client, link);
   await agent.welcomed;
   return new Tab(agent);
 }

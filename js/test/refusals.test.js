@@ -83,6 +83,16 @@ test('a link has to be one', async () => {
   for (const end of [port1, port2, link, other]) end.close();
 });
 
+test('a tab without a module closes its link', async () => {
+  const host = await Host.create(hubModule), [ours, theirs] = linkPair();
+  host.accept(ours, { url: URL_A });
+  await assert.rejects(connect(theirs, new URL('none.wasm', import.meta.url)), error => error.code === 'ENOENT');
+  const end = Date.now() + 2000;
+  while (host.status().living && Date.now() < end) await new Promise(setImmediate);
+  assert.equal(host.status().living, 0);
+  ours.close();
+});
+
 test('another server is no host', async t => {
   const server = net.createServer(socket => socket.end('220 mail.example ready\r\n'));
   t.after(() => server.close());
