@@ -49,6 +49,8 @@ import sys
 import tempfile
 import time
 
+# The wrapper starts this file by `python -I`, which leaves the file's folder out.
+sys.path.insert(0, os.path.dirname(os.path.abspath(__file__)))
 import argument_types
 
 # Seconds of a run: its usual length, the time without a granted lock after which it counts as hanging, and the limit.
