@@ -1,14 +1,15 @@
 //! Lock table with indexes.
 
 ghost use Rattle.std.specs.Prelude.{◌≡◌, [], ◌∷◌, true, IfOk, OnOk, OnErr};
-ghost use Rattle.wl_draft.specs.Locks.{is_grantable, row_of, grants, probed};
+ghost use Rattle.wl_draft.specs.Locks.{is_grantable, row_of, grants, probed, standing};
+ghost use Rattle.wl_draft.specs.declared.row.Standing.TheVariants.{Absent};
 
 use crate::lock_table::LockTable;
 use std::alloc::{AllocError, Global};
 use std::marker::Model;
 use std::mem;
 use wl_draft::{Entry, Grant, Mode, Name, Row, Standing, rows_of};
-use wl_table_index::{Candidates, Index};
+use wl_table_index::{Candidates, Index, Removal};
 
 /// A lock table with an index of its names and an index of its clients. The cost of a command does
 /// not grow with the locks and requests of other clients.
@@ -86,7 +87,7 @@ impl LockTable for IndexedTable {
         self.index.room_to_settle(&mut self.granted, 0)?;
         self.candidates.reserve(self.index.clients.live(client))?;
         self.index
-            .take_all_held(client, Some(number), &mut self.candidates);
+            .remove_all(client, Removal::Release(number), &mut self.candidates);
         self.index.forget_client(client);
         self.index.settle(&mut self.candidates, &mut self.granted);
         Ok(exact_size_grants(self.alloc, &mut self.granted))
@@ -95,11 +96,8 @@ impl LockTable for IndexedTable {
     fn abort(&mut self, client: u16, number: u32) -> Result<Vec<Grant>, AllocError> {
         self.index.room_to_settle(&mut self.granted, 0)?;
         self.candidates.reserve(self.index.clients.live(client))?;
-        let which = Some(number);
         self.index
-            .take_all_held(client, which, &mut self.candidates);
-        self.index
-            .take_all_waiting(client, which, &mut self.candidates);
+            .remove_all(client, Removal::Abort(number), &mut self.candidates);
         self.index.forget_client(client);
         self.index.settle(&mut self.candidates, &mut self.granted);
         Ok(exact_size_grants(self.alloc, &mut self.granted))
@@ -108,9 +106,8 @@ impl LockTable for IndexedTable {
     fn end_client(&mut self, client: u16, settle: bool) -> Result<Vec<Grant>, AllocError> {
         self.index.room_to_settle(&mut self.granted, 0)?;
         self.candidates.reserve(self.index.clients.live(client))?;
-        self.index.take_all_held(client, None, &mut self.candidates);
         self.index
-            .take_all_waiting(client, None, &mut self.candidates);
+            .remove_all(client, Removal::End, &mut self.candidates);
         self.index.forget_client(client);
         if !settle {
             return Ok(Vec::new(self.alloc));
@@ -175,7 +172,8 @@ impl IndexedTable {
         name: &Name,
         mode: Mode,
     ) -> Result<Vec<Grant>, AllocError>
-        requires { is_grantable self.old.held self.old.waiting (row_of client number name.now mode) ≡ true }
+        requires grantable { is_grantable self.old.held self.old.waiting (row_of client number name.now mode) ≡ true }
+        requires fresh { standing self.old client number ≡ Absent }
         ensures grants { IfOk result (λ g. g.items ≡ grants (row_of client number name.now mode ∷ [])) }
         ensures ok { OnOk result (self.new ≡ probed (row_of client number name.now mode) self.old) }
         ensures err { OnErr result (self.new ≡ self.old) }

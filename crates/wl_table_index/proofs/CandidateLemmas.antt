@@ -11,9 +11,7 @@ use Rattle.wl_draft.specs.declared.row.Row.{Row}
 use Rattle.wl_draft.specs.Tables.{Table, find}
 use Rattle.wl_draft.specs.Locks.{is_free, is_grantable, is_pair, grantable_behind}
 use Rattle.wl_table_index.specs.OrderNumbers.{values_in, is_rising, without_order}
-use Rattle.wl_table_index.specs.Places.{first_place}
-use Rattle.wl_table_index.specs.Index.{places_in}
-use Rattle.wl_table_index.specs.Nexts.{first_named, if_free, next_in, is_number, is_next, is_among, AreCandidates, AreOthers}
+use Rattle.wl_table_index.specs.Nexts.{first_named, first_pair, if_free, next_in, is_number, is_next, is_among, AreCandidates, AreOthers}
 use Rattle.wl_table_index.proofs.Stuck.{AreStuck}
 use Rattle.wl_table_index.proofs.WithoutLemmas.{count-one}
 use Rattle.wl_table_index.proofs.NextLemmas.{IsGrant, next-split, next-row, next-at, stuck-nexts, stuck-rows, grantable-next, append-cons, rising-apart, find-split, not-true, next-stuck_step, text-same, text-self}
@@ -227,14 +225,14 @@ candidates-queued orders after held waiting order r all kept here =
 
 -- A pair is grantable, depending on the place of its first request
 
-place-true : (client number : ℕ) (p : ℕ × Row) (ps : Table Row) → is_pair client number p.1 ≡ true → first_place (Some number) (places_in client (p ∷ ps)) ≡ Some p.0
-place-true client number p ps e = grind (arith, nat_tests)
+place-true : (client number : ℕ) (p : ℕ × Row) (ps : Table Row) → is_pair client number p.1 ≡ true → first_pair client number (p ∷ ps) ≡ Some p.0
+place-true client number p ps e = rw e refl
 
-place-false : (client number : ℕ) (p : ℕ × Row) (ps : Table Row) → is_pair client number p.1 ≡ false → first_place (Some number) (places_in client (p ∷ ps)) ≡ first_place (Some number) (places_in client ps)
-place-false client number p ps e = grind (arith, nat_tests)
+place-false : (client number : ℕ) (p : ℕ × Row) (ps : Table Row) → is_pair client number p.1 ≡ false → first_pair client number (p ∷ ps) ≡ first_pair client number ps
+place-false client number p ps e = rw e refl
 
 abbrev next_first : ℕ → ℕ → Table Row → Table Row → Table Row → Bool
-next_first client number held waiting rest = option_map_or (λ o. is_next o held waiting) (first_place (Some number) (places_in client rest)) false
+next_first client number held waiting rest = option_map_or (λ o. is_next o held waiting) (first_pair client number rest) false
 
 is-next_here : (held front back : Table Row) (p : ℕ × Row) → is_rising (front ++ p ∷ back) ≡ true → is_next p.0 held (front ++ p ∷ back) ≡ is_grantable (values_in held) (values_in front) p.1
 is-next_here held front back p rise =
@@ -250,7 +248,7 @@ grantable-step client number held front p ps false e rise below =
     values-last' [] p = refl
     values-last' (f ∷ fs) p = ap (λ xs. f.1 ∷ xs) (values-last' fs p)
 
-pub grantable-first : (client number : ℕ) (held front rest : Table Row) → is_rising (front ++ rest) ≡ true → grantable_behind (values_in held) (values_in front) client number (values_in rest) ≡ option_map_or (λ o. is_next o held (front ++ rest)) (first_place (Some number) (places_in client rest)) false
+pub grantable-first : (client number : ℕ) (held front rest : Table Row) → is_rising (front ++ rest) ≡ true → grantable_behind (values_in held) (values_in front) client number (values_in rest) ≡ option_map_or (λ o. is_next o held (front ++ rest)) (first_pair client number rest) false
 grantable-first client number held front [] rise = refl
 grantable-first client number held front (p ∷ ps) rise =
     grantable-step client number held front p ps (is_pair client number p.1) refl rise (grantable-first client number held (front ++ p ∷ []) ps (ap is_rising (append_assoc front (p ∷ []) ps) ∙ rise))

@@ -1,30 +1,20 @@
 -- Agreement of a table's index with its two lists.
 use Rattle.std.proofs.Common.{append-nil, ◌≡◌, ℕ, ◌+◌, ◌<◌, ◌≤◌, Bool, true, false, ◌&&◌, not, cond, List, [], ◌∷◌, ◌++◌, length, refl, sym, ap, ◌∙◌, arith}
 use Rattle.std.specs.Prelude.{◌==◌, bytes_eq, filter, map, count_by}
-use Rattle.wl_table_index.specs.Places.{has_number}
 use Rattle.std.proofs.lemmas.Bool.Decides.{nat_tests}
-use Rattle.std.proofs.lemmas.List.{length-map, map-append}
+use Rattle.std.proofs.lemmas.List.{map-append}
 use Rattle.std.proofs.lemmas.List.Elements.{filter-append}
-use Rattle.std.proofs.lemmas.List.Sums.{length-filter, sum_by-cons}
+use Rattle.std.proofs.lemmas.List.Sums.{sum_by-cons}
 use Rattle.wl_draft.specs.declared.mode.Mode.{Mode}
 use Rattle.wl_draft.specs.declared.mode.Mode.TheVariants.{Shared, Exclusive}
 use Rattle.wl_draft.specs.declared.row.Row.{Row}
-use Rattle.wl_draft.specs.declared.row.Standing.TheVariants.{Held, Waiting, Absent}
 use Rattle.wl_draft.specs.Tables.{Table}
-use Rattle.wl_draft.specs.Locks.{probed, queued, is_named, is_free, is_grantable, has_pair, count_of, standing, live}
+use Rattle.wl_draft.specs.Locks.{probed, queued, is_named, is_free, is_grantable, live}
 use Rattle.wl_table_index.specs.OrderNumbers.{values_in, orders_in, is_below}
 use Rattle.wl_table_index.specs.NameLines.{LineState, lets_in, with_holder, with_waiter}
-use Rattle.wl_table_index.specs.Clients.{Places, with_held, with_waiting}
-use Rattle.wl_table_index.specs.Index.{line_of, places_in, places_of, locks_in, is_shared, is_exclusive}
+use Rattle.wl_table_index.specs.Index.{line_of, count_rows, locks_in, is_shared, is_exclusive}
 
--- Places of a client
-
-any-places_step : (client number : ℕ) (p : ℕ × Row) (ps : Table Row) → has_number number (places_in client ps) ≡ has_pair client number (values_in ps) → has_number number (places_in client (p ∷ ps)) ≡ has_pair client number (values_in (p ∷ ps))
-any-places_step client number p ps below = grind (arith, nat_tests)
-
-pub any-places : (client number : ℕ) (rows : Table Row) → has_number number (places_in client rows) ≡ has_pair client number (values_in rows)
-any-places client number [] = refl
-any-places client number (p ∷ ps) = any-places_step client number p ps (any-places client number ps)
+-- Number of a client's entries
 
 pub count-cons : {X : Type 0} (t : X → Bool) (x : X) (xs : List X) → count_by t (x ∷ xs) ≡ cond (t x) 1 0 + count_by t xs
 count-cons t x xs = sum_by-cons (λ y. cond (t y) 1 0) x xs
@@ -34,17 +24,9 @@ count-map t f [] = refl
 count-map t f (x ∷ xs) =
     count-cons t (f x) (map f xs) ∙ ap (λ n. cond (t (f x)) 1 0 + n) (count-map t f xs) ∙ sym (count-cons (λ y. t (f y)) x xs)
 
-pub count-places : (client : ℕ) (rows : Table Row) → length (places_in client rows) ≡ count_of client (values_in rows)
-count-places client rows =
-    length-map (filter (λ (p : ℕ × Row). p.1.client == client) rows) (λ (p : ℕ × Row). (p.0, p.1.number)) ∙ length-filter (λ (p : ℕ × Row). p.1.client == client) rows ∙ sym (count-map (λ (r : Row). r.client == client) (λ (p : ℕ × Row). p.1) rows)
-
-pub standing-places : (held waiting : Table Row) (places : Places) (client number : ℕ) → places ≡ places_of client held waiting → standing (locks_in held waiting) client number ≡ cond (has_number number places.held) Held (cond (has_number number places.waiting) Waiting Absent)
-standing-places held waiting places client number e =
-    rw (e, any-places client number held, any-places client number waiting) refl
-
-pub live-places : (held waiting : Table Row) (places : Places) (client : ℕ) → places ≡ places_of client held waiting → live (locks_in held waiting) client ≡ length places.held + length places.waiting
-live-places held waiting places client e =
-    rw (e, count-places client held, count-places client waiting) refl
+pub live-counts : (held waiting : Table Row) (client : ℕ) → live (locks_in held waiting) client ≡ count_rows client held + count_rows client waiting
+live-counts held waiting client =
+    rw (count-map (λ (r : Row). r.client == client) (λ (p : ℕ × Row). p.1) held, count-map (λ (r : Row). r.client == client) (λ (p : ℕ × Row). p.1) waiting) refl
 
 -- Line of a name
 
@@ -87,7 +69,7 @@ grantable-line held waiting r =
 
 -- One more lock
 
-count-last : {X : Type 0} (t : X → Bool) (x : X) (xs : List X) → count_by t (xs ++ x ∷ []) ≡ count_by t xs + cond (t x) 1 0
+pub count-last : {X : Type 0} (t : X → Bool) (x : X) (xs : List X) → count_by t (xs ++ x ∷ []) ≡ count_by t xs + cond (t x) 1 0
 count-last t x [] = grind (arith, count-cons t x [])
 count-last t x (y ∷ ys) =
     grind (arith, count-cons t y ys, count-cons t y (ys ++ x ∷ []), count-last t x ys)
@@ -101,22 +83,6 @@ pub line-held : (name : List ℕ) (held waiting : Table Row) (order : ℕ) (r : 
 line-held name held waiting order r =
     line-held_step (bytes_eq r.name name) _ _ 0 _ r.mode ∙ sym (rw (count-last (λ (p : ℕ × Row). bytes_eq p.1.name name && is_shared p.1.mode) (order, r) held, count-last (λ (p : ℕ × Row). bytes_eq p.1.name name && is_exclusive p.1.mode) (order, r) held) refl)
 
-place_step : (b : Bool) (places : Table ℕ) (p : ℕ × Row) → places ++ map (λ (q : ℕ × Row). (q.0, q.1.number)) (cond b (p ∷ []) []) ≡ cond b (places ++ (p.0, p.1.number) ∷ []) places
-place_step true places p = refl
-place_step false places p = append-nil places
-
-places-held : (client : ℕ) (held : Table Row) (order : ℕ) (r : Row) → places_in client (held ++ (order, r) ∷ []) ≡ cond (r.client == client) (places_in client held ++ (order, r.number) ∷ []) (places_in client held)
-places-held client held order r =
-    rw (filter-append, map-append) (place_step (r.client == client) (places_in client held) (order, r))
-
-client_cond : (b : Bool) (places waiting : Table ℕ) (order number : ℕ) → cond b (with_held (record { held = places; waiting = waiting }) order number) (record { held = places; waiting = waiting }) ≡ record { held = cond b (places ++ (order, number) ∷ []) places; waiting = waiting }
-client_cond true places waiting order number = refl
-client_cond false places waiting order number = refl
-
-pub client-held : (client : ℕ) (held waiting : Table Row) (order : ℕ) (r : Row) → cond (r.client == client) (with_held (places_of client held waiting) order r.number) (places_of client held waiting) ≡ places_of client (held ++ (order, r) ∷ []) waiting
-client-held client held waiting order r =
-    client_cond (r.client == client) _ _ order r.number ∙ sym (rw (places-held client held order r) refl)
-
 counts-length_step : (name : List ℕ) (p : ℕ × Row) (ps waiting : Table Row) (mode : Mode) → p.1.mode ≡ mode → (line_of name ps waiting).shared + (line_of name ps waiting).exclusive ≤ length ps → (line_of name (p ∷ ps) waiting).shared + (line_of name (p ∷ ps) waiting).exclusive ≤ length (p ∷ ps)
 counts-length_step name p ps waiting Shared e below =
     grind (arith, nat_tests, count-cons (λ (q : ℕ × Row). bytes_eq q.1.name name && is_exclusive q.1.mode) p ps, count-cons (λ (q : ℕ × Row). bytes_eq q.1.name name && is_shared q.1.mode) p ps)
@@ -126,6 +92,13 @@ counts-length_step name p ps waiting Exclusive e below =
 pub counts-length : (name : List ℕ) (held waiting : Table Row) → (line_of name held waiting).shared + (line_of name held waiting).exclusive ≤ length held
 counts-length name [] waiting = omega arith
 counts-length name (p ∷ ps) waiting = counts-length_step name p ps waiting p.1.mode refl (counts-length name ps waiting)
+
+count-within_step : (client : ℕ) (p : ℕ × Row) (ps : Table Row) → count_rows client (p ∷ ps) ≡ cond (p.1.client == client) 1 0 + count_rows client ps → count_rows client ps ≤ length ps → count_rows client (p ∷ ps) ≤ length (p ∷ ps)
+count-within_step client p ps one below = grind (arith, nat_tests)
+
+pub count-within : (client : ℕ) (rows : Table Row) → count_rows client rows ≤ length rows
+count-within client [] = omega arith
+count-within client (p ∷ ps) = count-within_step client p ps (count-cons (λ (q : ℕ × Row). q.1.client == client) p ps) (count-within client ps)
 
 below-more_step : {X : Type 0} (j k : ℕ) (p : ℕ × X) (ps : Table X) → j ≤ k → (is_below ps j ≡ true → is_below ps k ≡ true) → is_below (p ∷ ps) j ≡ true → is_below (p ∷ ps) k ≡ true
 below-more_step j k p ps l below b = grind (arith, nat_tests)
@@ -164,14 +137,6 @@ line-queued_step false s e queue p = rw append-nil refl
 pub line-queued : (name : List ℕ) (held waiting : Table Row) (order : ℕ) (r : Row) → cond (bytes_eq r.name name) (with_waiter (line_of name held waiting) order) (line_of name held waiting) ≡ line_of name held (waiting ++ (order, r) ∷ [])
 line-queued name held waiting order r =
     line-queued_step (bytes_eq r.name name) _ _ _ (order, r) ∙ sym (rw (filter-append, map-append) refl)
-
-client_cond_waiting : (b : Bool) (held places : Table ℕ) (order number : ℕ) → cond b (with_waiting (record { held = held; waiting = places }) order number) (record { held = held; waiting = places }) ≡ record { held = held; waiting = cond b (places ++ (order, number) ∷ []) places }
-client_cond_waiting true held places order number = refl
-client_cond_waiting false held places order number = refl
-
-pub client-queued : (client : ℕ) (held waiting : Table Row) (order : ℕ) (r : Row) → cond (r.client == client) (with_waiting (places_of client held waiting) order r.number) (places_of client held waiting) ≡ places_of client held (waiting ++ (order, r) ∷ [])
-client-queued client held waiting order r =
-    client_cond_waiting (r.client == client) _ _ order r.number ∙ sym (rw (places-held client waiting order r) refl)
 
 pub length-queued : (waiting : Table Row) (order : ℕ) (r : Row) → length (waiting ++ (order, r) ∷ []) ≡ length waiting + 1
 length-queued [] order r = refl

@@ -9,19 +9,9 @@ use Rattle.wl_draft.specs.declared.row.Row.{Row}
 use Rattle.wl_draft.specs.Locks.{is_named}
 use Rattle.wl_draft.specs.Tables.{Table}
 use Rattle.wl_table_index.specs.NameLines.{LineState, is_nobody, with_holder, with_waiter, is_idle_line}
-use Rattle.wl_table_index.specs.Clients.{no_places, places_seen, has_no_places, is_idle_client}
+use Rattle.wl_table_index.specs.Clients.{is_idle_client}
 use Rattle.wl_table_index.specs.Index.{IsLean, IsLeanBut, Fills, Empties}
 use Rattle.wl_table_index.specs.declared.index.Index.{Index}
-use Rattle.wl_table_index.specs.declared.holdings.Holdings.{Holdings}
-
-places_none : (held waiting : Table ℕ) → (length held == 0 && length waiting == 0) ≡ true → record { held = held; waiting = waiting } ≡ no_places
-places_none [] [] e = refl
-places_none [] (p ∷ ps) e = grind (arith, nat_tests)
-places_none (p ∷ ps) waiting e = grind (arith, nat_tests)
-
-pub idle-places : (o : Option Holdings) → option_map_or (λ h. has_no_places (places_seen h)) o false ≡ true → option_map_or places_seen o no_places ≡ no_places
-idle-places None e = refl
-idle-places (Some h) e = places_none h.held.items h.waiting.items e
 
 last-some : {X : Type 0} (x : X) (xs : List X) → (length (xs ++ x ∷ []) == 0) ≡ false
 last-some x [] = refl
@@ -62,7 +52,7 @@ other a b e f = grind arith
 nothing : (b : Bool) → false ≡ true → b ≡ true
 nothing b e = cc
 
-moved_step : (old mid here : Bool) → (mid && not here) ≡ true → (mid ≡ true → (old || here) ≡ true) → (old ≡ true → false ≡ true) → false ≡ true
+pub moved_step : (old mid here : Bool) → (mid && not here) ≡ true → (mid ≡ true → (old || here) ≡ true) → (old ≡ true → false ≡ true) → false ≡ true
 moved_step old mid here e f g = grind arith
 
 dropped_step : (old here mine : Bool) → (old || here) ≡ true → (old ≡ true → mine ≡ true) → here ≡ mine → mine ≡ true

@@ -16,4 +16,5 @@ mod RowLemmas
 mod LineLemmas
 pub mod WithoutLemmas
 mod QueueLemmas
-mod PlaceLemmas
+mod HoldingLemmas
+pub mod PlaceLemmas

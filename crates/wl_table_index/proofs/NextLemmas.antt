@@ -190,6 +190,17 @@ pub front-of : (name : List ℕ) (held waiting : Table Row) (order k : ℕ) → 
 front-of name held waiting order k f e =
     front-of_step name held order k (first_named name waiting) (f ∙ first-front name waiting) e
 
+next-front_step : (name : List ℕ) (held waiting : Table Row) (k : ℕ) (o : Option ℕ) → o ≡ slice_get (line_of name held waiting).queue 0 → next_in name held waiting ≡ Some k → o ≡ Some k
+next-front_step name held waiting k None f e =
+    absurd (no-next k (sym (next-none name held waiting f) ∙ e))
+  where
+    no-next : (k : ℕ) → None ≡ Some k → ⊥
+    no-next k e = cc
+next-front_step name held waiting k (Some order) f e = ap (λ j. Some j) (front-of name held waiting order k f e)
+
+pub next-front : (name : List ℕ) (held waiting : Table Row) (k : ℕ) → next_in name held waiting ≡ Some k → slice_get (line_of name held waiting).queue 0 ≡ Some k
+next-front name held waiting k e = next-front_step name held waiting k _ refl e
+
 -- Requests that are not grantable
 
 pub append-cons : {X : Type 0} (xs ys zs : List X) (x : X) → (xs ++ x ∷ ys) ++ zs ≡ xs ++ x ∷ (ys ++ zs)

@@ -1,237 +1,332 @@
--- Places of a client: the first place of a number after a place is added or removed.
-use Rattle.std.proofs.Common.{rules, ◌≡◌, ℕ, ◌+◌, ◌<◌, Bool, true, false, ◌||◌, cond, List, [], ◌∷◌, ◌++◌, Option, Some, None, drop, suc, zero, refl, sym, ap, ◌∙◌, arith}
-use Rattle.std.specs.Prelude.{◌==◌, nat_lt, nat_eq, is_some, slice_get, IfSome}
-use Rattle.std.specs.Map.{keys_of}
-use Rattle.std.specs.List.{IsDistinct}
+-- Places of a client's entries, and the rows that they stand for.
+use Rattle.std.proofs.Common.{rules, ◌≡◌, ℕ, ◌+◌, ◌<◌, ◌≤◌, Bool, true, false, not, ◌&&◌, ◌||◌, cond, eqb, List, [], ◌∷◌, ◌++◌, Option, Some, None, length, suc, refl, sym, ap, ◌∙◌, arith}
+use Rattle.std.specs.Prelude.{◌==◌, nat_lt, nat_eq, is_some, IsSome, count_by}
+use Rattle.std.specs.Option.{option_map_or}
+use Rattle.std.specs.HashMap.{get}
 use Rattle.std.proofs.lemmas.Bool.Decides.{nat_tests}
-use Rattle.wl_draft.specs.Tables.{Table, find, put}
-use Rattle.wl_table_index.specs.OrderNumbers.{ordered, is_above, is_rising, without_order}
-use Rattle.wl_table_index.specs.Places.{first_place, has_number, is_once, lesser_of, IsPlace}
-use Rattle.wl_table_index.proofs.OrderLemmas.{find-ordered, find-above, above-less, rising-ordered, lookup-absent}
-use Rattle.wl_table_index.proofs.WithoutLemmas.{without-above}
+use Rattle.wl_draft.specs.declared.row.Row.{Row}
+use Rattle.wl_draft.specs.declared.row.Standing.{Standing}
+use Rattle.wl_draft.specs.declared.row.Standing.TheVariants.{Held, Waiting, Absent}
+use Rattle.wl_draft.specs.Tables.{Table, find}
+use Rattle.wl_draft.specs.Locks.{is_pair, has_pair, standing}
+use Rattle.wl_table_index.specs.declared.holdings.Removal.{Removal}
+use Rattle.wl_table_index.specs.declared.holdings.Place.{Place}
+use Rattle.wl_table_index.specs.declared.holdings.Holdings.{Holdings}
+use Rattle.wl_table_index.specs.declared.clients.Clients.{Clients}
+use Rattle.wl_table_index.specs.declared.index.Index.{Index}
+use Rattle.wl_table_index.specs.OrderNumbers.{values_in, is_above, is_below, is_rising, without_order}
+use Rattle.wl_table_index.specs.Clients.{has_place, has_place_at, has_number_at, count_at, takes, IsLeast, IsStanding}
+use Rattle.wl_table_index.specs.Index.{IsIndexed, is_entry, count_rows, locks_in}
+use Rattle.wl_table_index.specs.Nexts.{is_taken, left_by, first_pair}
+use Rattle.wl_table_index.proofs.HoldingLemmas.{has-latest, no-truth, number-self, same-order}
+use Rattle.wl_table_index.proofs.OrderLemmas.{find-above, find-last, find-without}
+use Rattle.wl_table_index.proofs.WithoutLemmas.{count-one, count-without, filter-without, length-without}
 
--- First place of a number
+-- Rows of a pair after a row is added or removed
 
-has-first_step : (k : ℕ) (p : ℕ × ℕ) (ps : Table ℕ) → has_number k ps ≡ is_some (first_place (Some k) ps) → has_number k (p ∷ ps) ≡ is_some (first_place (Some k) (p ∷ ps))
-has-first_step k p ps below = grind (arith, nat_tests)
+find-below_step : (k : ℕ) (p : ℕ × Row) (ps : Table Row) → (is_below ps k ≡ true → find ps k ≡ None) → is_below (p ∷ ps) k ≡ true → find (p ∷ ps) k ≡ None
+find-below_step k p ps below b = grind (arith, nat_tests)
 
-pub has-first : (k : ℕ) (ps : Table ℕ) → has_number k ps ≡ is_some (first_place (Some k) ps)
-has-first k [] = refl
-has-first k (p ∷ ps) = has-first_step k p ps (has-first k ps)
+find-below : (k : ℕ) (ps : Table Row) → is_below ps k ≡ true → find ps k ≡ None
+find-below k [] b = refl
+find-below k (p ∷ ps) b = find-below_step k p ps (find-below k ps) b
 
-abbrev or_else : Option ℕ → Option ℕ → Option ℕ
-or_else None other = other
-or_else (Some x) other = Some x
-
-first-last_step : (k order number : ℕ) (p : ℕ × ℕ) (ps : Table ℕ) (b : Bool) → (p.1 == k) ≡ b → first_place (Some k) (ps ++ (order, number) ∷ []) ≡ or_else (first_place (Some k) ps) (cond (number == k) (Some order) None) → first_place (Some k) ((p ∷ ps) ++ (order, number) ∷ []) ≡ or_else (first_place (Some k) (p ∷ ps)) (cond (number == k) (Some order) None)
-first-last_step k order number p ps true e below = rw e refl
-first-last_step k order number p ps false e below = rw e below
-
-first-last : (k order number : ℕ) (ps : Table ℕ) → first_place (Some k) (ps ++ (order, number) ∷ []) ≡ or_else (first_place (Some k) ps) (cond (number == k) (Some order) None)
-first-last k order number [] = refl
-first-last k order number (p ∷ ps) = first-last_step k order number p ps (p.1 == k) refl (first-last k order number ps)
-
-same-k : (a b : ℕ) → (a == b) ≡ true → a ≡ b
-same-k a b e = grind (arith, nat_tests)
-
-pushed-step : (k order number : ℕ) (ps : Table ℕ) (b : Bool) → (number == k) ≡ b → first_place (Some number) ps ≡ None → or_else (first_place (Some k) ps) (cond b (Some order) None) ≡ cond b (Some order) (first_place (Some k) ps)
-pushed-step k order number ps true e n =
-    ap (λ o. or_else o (Some order)) (ap (λ j. first_place (Some j) ps) (sym (same-k number k e)) ∙ n)
-pushed-step k order number ps false e n = or_none (first_place (Some k) ps)
+pushed-step : (client number j order : ℕ) (r : Row) (o : Option Row) (b : Bool) → (order == j) ≡ b → (b ≡ true → o ≡ None) → ((r.client == client && r.number == number && order == j) || is_entry client number o) ≡ is_entry client number (cond (order == j) (Some r) o)
+pushed-step client number j order r o true e n = rw (e, n refl) (both-true (r.client == client) (r.number == number))
   where
-    or_none : (o : Option ℕ) → or_else o None ≡ o
-    or_none None = refl
-    or_none (Some x) = refl
+    both-true : (a b : Bool) → ((a && b && true) || false) ≡ (a && b)
+    both-true true true = refl
+    both-true true false = refl
+    both-true false b = refl
+pushed-step client number j order r o false e n = rw e (both-false (r.client == client) (r.number == number) (is_entry client number o))
+  where
+    both-false : (a b c : Bool) → ((a && b && false) || c) ≡ c
+    both-false true true c = refl
+    both-false true false c = refl
+    both-false false b c = refl
 
--- The new place is the first one of a number that had none.
-pub first-pushed : (k order number : ℕ) (ps : Table ℕ) → first_place (Some number) ps ≡ None → first_place (Some k) (ps ++ (order, number) ∷ []) ≡ cond (number == k) (Some order) (first_place (Some k) ps)
-first-pushed k order number ps n =
-    first-last k order number ps ∙ pushed-step k order number ps (number == k) refl n
+pub entry-pushed : (client number j order : ℕ) (r : Row) (ps : Table Row) → is_below ps order ≡ true → ((r.client == client && r.number == number && order == j) || is_entry client number (find ps j)) ≡ is_entry client number (find (ps ++ (order, r) ∷ []) j)
+entry-pushed client number j order r ps b =
+    pushed-step client number j order r (find ps j) (order == j) refl (λ e. ap (λ k. find ps k) (sym (same-order order j e)) ∙ find-below order ps b) ∙ ap (λ o. is_entry client number o) (sym (find-last order r ps j b))
 
-once-pushed_step : (order number : ℕ) (p : ℕ × ℕ) (ps : Table ℕ) → has_number p.1 (ps ++ (order, number) ∷ []) ≡ (has_number p.1 ps || number == p.1) → (is_once ps ≡ true → has_number number ps ≡ false → is_once (ps ++ (order, number) ∷ []) ≡ true) → is_once (p ∷ ps) ≡ true → has_number number (p ∷ ps) ≡ false → is_once ((p ∷ ps) ++ (order, number) ∷ []) ≡ true
-once-pushed_step order number p ps has below o n = grind (arith, nat_tests)
+removed-step : (client number j order : ℕ) (r : Row) (o : Option Row) (b : Bool) → (order == j) ≡ b → (b ≡ true → o ≡ Some r) → (not (r.client == client && r.number == number && order == j) && is_entry client number o) ≡ is_entry client number (cond (order == j) None o)
+removed-step client number j order r o true e n = rw (e, n refl) (both-true (r.client == client) (r.number == number))
+  where
+    both-true : (a b : Bool) → (not (a && b && true) && (a && b)) ≡ false
+    both-true true true = refl
+    both-true true false = refl
+    both-true false b = refl
+removed-step client number j order r o false e n = rw e (both-false (r.client == client) (r.number == number) (is_entry client number o))
+  where
+    both-false : (a b c : Bool) → (not (a && b && false) && c) ≡ c
+    both-false true true c = refl
+    both-false true false c = refl
+    both-false false b c = refl
 
-has-last_step : (k order number : ℕ) (p : ℕ × ℕ) (ps : Table ℕ) → has_number k (ps ++ (order, number) ∷ []) ≡ (has_number k ps || number == k) → has_number k ((p ∷ ps) ++ (order, number) ∷ []) ≡ (has_number k (p ∷ ps) || number == k)
-has-last_step k order number p ps below = grind (arith, nat_tests)
+pub entry-removed : (client number j order : ℕ) (r : Row) (ps : Table Row) → find ps order ≡ Some r → (not (r.client == client && r.number == number && order == j) && is_entry client number (find ps j)) ≡ is_entry client number (find (without_order order ps) j)
+entry-removed client number j order r ps f =
+    removed-step client number j order r (find ps j) (order == j) refl (λ e. ap (λ k. find ps k) (sym (same-order order j e)) ∙ f) ∙ ap (λ o. is_entry client number o) (sym (find-without order ps j))
 
-has-last : (k order number : ℕ) (ps : Table ℕ) → has_number k (ps ++ (order, number) ∷ []) ≡ (has_number k ps || number == k)
-has-last k order number [] = grind (arith, nat_tests)
-has-last k order number (p ∷ ps) = has-last_step k order number p ps (has-last k order number ps)
+pub other-added : (a d : Bool) → ((a && false) || d) ≡ d
+other-added true d = refl
+other-added false d = refl
 
-once-has : (order number : ℕ) (ps : Table ℕ) → is_once ps ≡ true → has_number number ps ≡ false → is_once (ps ++ (order, number) ∷ []) ≡ true
-once-has order number [] o n = refl
-once-has order number (p ∷ ps) o n =
-    once-pushed_step order number p ps (has-last p.1 order number ps) (once-has order number ps) o n
+pub other-dropped : (a d : Bool) → (not (a && false) && d) ≡ d
+other-dropped true d = refl
+other-dropped false d = refl
 
-pub once-pushed : (order number : ℕ) (ps : Table ℕ) → is_once ps ≡ true → first_place (Some number) ps ≡ None → is_once (ps ++ (order, number) ∷ []) ≡ true
-once-pushed order number ps o n = once-has order number ps o (has-first number ps ∙ ap (λ x. is_some x) n)
+-- The row of a pair
 
--- Removing a place
+pub record IsRow (client number : ℕ) (rows : Table Row) (order : ℕ) : Type 0 where
+  pub row : Row
+  pub found : find rows order ≡ Some row
+  pub mine : row.client ≡ client
+  pub is_mine : (row.client == client) ≡ true
+  pub named : row.number ≡ number
 
-find-has_step : (order number : ℕ) (p : ℕ × ℕ) (ps : Table ℕ) → (find ps order ≡ Some number → has_number number ps ≡ true) → find (p ∷ ps) order ≡ Some number → has_number number (p ∷ ps) ≡ true
-find-has_step order number p ps below f = grind (arith, nat_tests)
+pub pair-self : (r : Row) → is_pair r.client r.number r ≡ true
+pair-self r = grind (arith, nat_tests)
 
-no-place : (number : ℕ) → None ≡ Some number → ⊥
-no-place number e = cc
+first-part : (a b : Bool) → (a && b) ≡ true → a ≡ true
+first-part true b e = refl
+first-part false b e = e
 
-find-has : (order number : ℕ) (ps : Table ℕ) → find ps order ≡ Some number → has_number number ps ≡ true
-find-has order number [] f = absurd (no-place number f)
-find-has order number (p ∷ ps) f = find-has_step order number p ps (find-has order number ps) f
+second-part : (a b : Bool) → (a && b) ≡ true → b ≡ true
+second-part true b e = e
+second-part false b e = cc
 
-has-without_step : (k order : ℕ) (p : ℕ × ℕ) (ps : Table ℕ) → (has_number k ps ≡ false → has_number k (without_order order ps) ≡ false) → has_number k (p ∷ ps) ≡ false → has_number k (without_order order (p ∷ ps)) ≡ false
-has-without_step k order p ps below h = grind (arith, nat_tests)
-
-has-without : (k order : ℕ) (ps : Table ℕ) → has_number k ps ≡ false → has_number k (without_order order ps) ≡ false
-has-without k order [] h = refl
-has-without k order (p ∷ ps) h = has-without_step k order p ps (has-without k order ps) h
-
-once-without_step : (order : ℕ) (p : ℕ × ℕ) (ps : Table ℕ) → (has_number p.1 ps ≡ false → has_number p.1 (without_order order ps) ≡ false) → (is_once ps ≡ true → is_once (without_order order ps) ≡ true) → is_once (p ∷ ps) ≡ true → is_once (without_order order (p ∷ ps)) ≡ true
-once-without_step order p ps has below o = grind (arith, nat_tests)
-
-pub once-without : (order : ℕ) (ps : Table ℕ) → is_once ps ≡ true → is_once (without_order order ps) ≡ true
-once-without order [] o = refl
-once-without order (p ∷ ps) o = once-without_step order p ps (has-without p.1 order ps) (once-without order ps) o
-
-first-removed_step : (k order number : ℕ) (p : ℕ × ℕ) (ps : Table ℕ) → has_number number ps ≡ is_some (first_place (Some number) ps) → (is_above p.0 ps ≡ true → without_order p.0 ps ≡ ps) → (find ps order ≡ Some number → has_number number ps ≡ true) → (is_rising ps ≡ true → is_once ps ≡ true → find ps order ≡ Some number → first_place (Some k) (without_order order ps) ≡ cond (number == k) None (first_place (Some k) ps)) → is_rising (p ∷ ps) ≡ true → is_once (p ∷ ps) ≡ true → find (p ∷ ps) order ≡ Some number → first_place (Some k) (without_order order (p ∷ ps)) ≡ cond (number == k) None (first_place (Some k) (p ∷ ps))
-first-removed_step k order number p ps has same found below r o f = grind (arith, nat_tests)
-
-pub first-removed : (k order number : ℕ) (ps : Table ℕ) → is_rising ps ≡ true → is_once ps ≡ true → find ps order ≡ Some number → first_place (Some k) (without_order order ps) ≡ cond (number == k) None (first_place (Some k) ps)
-first-removed k order number [] r o f = absurd (no-place number f)
-first-removed k order number (p ∷ ps) r o f =
-    first-removed_step k order number p ps (has-first number ps) (without-above p.0 ps) (find-has order number ps) (first-removed k order number ps) r o f
-
--- The first place is a place
-
-first-found_step : (k order : ℕ) (p : ℕ × ℕ) (ps : Table ℕ) → (is_rising ps ≡ true → first_place (Some k) ps ≡ Some order → find ps order ≡ Some k) → (is_above p.0 ps ≡ true → find ps p.0 ≡ None) → is_rising (p ∷ ps) ≡ true → first_place (Some k) (p ∷ ps) ≡ Some order → find (p ∷ ps) order ≡ Some k
-first-found_step k order p ps below above r f = grind (arith, nat_tests)
-
-first-found : (k order : ℕ) (ps : Table ℕ) → is_rising ps ≡ true → first_place (Some k) ps ≡ Some order → find ps order ≡ Some k
-first-found k order [] r f = absurd (no-place order f)
-first-found k order (p ∷ ps) r f = first-found_step k order p ps (first-found k order ps) (find-above p.0 ps) r f
-
-self-k : (k : ℕ) → (k == k) ≡ true
-self-k k = grind (arith, nat_tests)
-
-pub first-place : (k : ℕ) (ps : Table ℕ) → is_rising ps ≡ true → (o : Option ℕ) → o ≡ first_place (Some k) ps → IfSome o (λ order. IsPlace (Some k) ps order)
-first-place k ps r (Some order) f = record {
-  number = k;
-  found = first-found k order ps r (sym f);
-  meant = self-k k;
+row-of_step : (client number : ℕ) (rows : Table Row) (order : ℕ) (o : Option Row) → find rows order ≡ o → is_entry client number o ≡ true → IsRow client number rows order
+row-of_step client number rows order None f e = absurd (no-truth e)
+row-of_step client number rows order (Some r) f e = record {
+  row = r;
+  found = f;
+  mine = same-order r.client client (first-part _ _ e);
+  is_mine = first-part _ _ e;
+  named = same-order r.number number (second-part (r.client == client) (r.number == number) e);
 }
-first-place k ps r None f = search rules
 
--- Least place of a number, searched in any order
+pub row-of : (client number : ℕ) (rows : Table Row) (order : ℕ) → is_entry client number (find rows order) ≡ true → IsRow client number rows order
+row-of client number rows order e = row-of_step client number rows order (find rows order) refl e
 
-abbrev pub least_in : ℕ → List (ℕ × ℕ) → Option ℕ
-least_in k [] = None
-least_in k (p ∷ ps) = cond (p.1 == k) (Some (lesser_of p.0 (least_in k ps))) (least_in k ps)
+pub none-there : (o : Option Row) → IsSome o → None ≡ o → ⊥
+none-there (Some r) h e = cc
+none-there None h e = cc
 
-abbrev pub lesser_both : Option ℕ → Option ℕ → Option ℕ
-lesser_both None other = other
-lesser_both (Some x) other = Some (lesser_of x other)
-
-first-above_step : (j k x : ℕ) (p : ℕ × ℕ) (ps : Table ℕ) → (is_above j ps ≡ true → first_place (Some k) ps ≡ Some x → j < x) → is_above j (p ∷ ps) ≡ true → first_place (Some k) (p ∷ ps) ≡ Some x → j < x
-first-above_step j k x p ps below a f = grind (arith, nat_tests)
-
-first-above : (j k x : ℕ) (ps : Table ℕ) → is_above j ps ≡ true → first_place (Some k) ps ≡ Some x → j < x
-first-above j k x [] a f = absurd (no-place x f)
-first-above j k x (p ∷ ps) a f = first-above_step j k x p ps (first-above j k x ps) a f
-
-lesser-above : (order k : ℕ) (ps : Table ℕ) (o : Option ℕ) → first_place (Some k) ps ≡ o → is_above order ps ≡ true → lesser_of order o ≡ order
-lesser-above order k ps None f a = refl
-lesser-above order k ps (Some x) f a =
-    let l = first-above order k x ps a f in
-    grind (arith, nat_tests)
-
-first-put_less : (order n k : ℕ) (ps : Table ℕ) (b : Bool) → (n == k) ≡ b → lesser_of order (first_place (Some k) ps) ≡ order → first_place (Some k) ((order, n) ∷ ps) ≡ cond (n == k) (Some (lesser_of order (first_place (Some k) ps))) (first_place (Some k) ps)
-first-put_less order n k ps true e l = rw (e, l) refl
-first-put_less order n k ps false e l = rw e refl
-
-first-put_more : (order n k : ℕ) (p : ℕ × ℕ) (ps : Table ℕ) (b d : Bool) → (p.1 == k) ≡ b → (n == k) ≡ d → p.0 < order → first_place (Some k) (put order n ps) ≡ cond (n == k) (Some (lesser_of order (first_place (Some k) ps))) (first_place (Some k) ps) → first_place (Some k) (p ∷ put order n ps) ≡ cond (n == k) (Some (lesser_of order (first_place (Some k) (p ∷ ps)))) (first_place (Some k) (p ∷ ps))
-first-put_more order n k p ps true true e d l below = rw (e, d) (lesser-first order p.0 l)
+pub row-there : (r : Row) (o : Option Row) → o ≡ Some r → IsSome o
+row-there r (Some q) e = search rules
+row-there r None e = absurd (none-some r e)
   where
-    lesser-first : (order x : ℕ) → x < order → Some x ≡ Some (lesser_of order (Some x))
-    lesser-first order x l = grind (arith, nat_tests)
-first-put_more order n k p ps true false e d l below = rw (e, d) refl
-first-put_more order n k p ps false true e d l below = rw (e, d) (rw d at below)
-first-put_more order n k p ps false false e d l below = rw (e, d) (rw d at below)
+    none-some : (r : Row) → None ≡ Some r → ⊥
+    none-some r e = cc
 
-first-put_step : (order n k : ℕ) (p : ℕ × ℕ) (ps : Table ℕ) (b d : Bool) → (p.0 == order) ≡ b → nat_lt order p.0 ≡ d → is_rising (p ∷ ps) ≡ true → find (p ∷ ps) order ≡ None → (is_above p.0 ps ≡ true → nat_lt order p.0 ≡ true → is_above order (p ∷ ps) ≡ true) → (find ps order ≡ None → first_place (Some k) (put order n ps) ≡ cond (n == k) (Some (lesser_of order (first_place (Some k) ps))) (first_place (Some k) ps)) → first_place (Some k) (put order n (p ∷ ps)) ≡ cond (n == k) (Some (lesser_of order (first_place (Some k) (p ∷ ps)))) (first_place (Some k) (p ∷ ps))
-first-put_step order n k p ps true d e l r f above below =
-    let here : find (p ∷ ps) order ≡ Some p.1 = rw e refl in
-    absurd (some-none p.1 (sym here ∙ f))
+-- A client without rows
+
+entry-none_step : (client number order : ℕ) (p : ℕ × Row) (ps : Table Row) → count_rows client (p ∷ ps) ≡ cond (p.1.client == client) 1 0 + count_rows client ps → (count_rows client ps ≡ 0 → is_entry client number (find ps order) ≡ false) → count_rows client (p ∷ ps) ≡ 0 → is_entry client number (find (p ∷ ps) order) ≡ false
+entry-none_step client number order p ps one below e = grind (arith, nat_tests)
+
+pub entry-none : (client number order : ℕ) (ps : Table Row) → count_rows client ps ≡ 0 → is_entry client number (find ps order) ≡ false
+entry-none client number order [] e = refl
+entry-none client number order (p ∷ ps) e =
+    entry-none_step client number order p ps (count-one (λ (q : ℕ × Row). q.1.client == client) p ps) (entry-none client number order ps) e
+
+no-sum : (a b : ℕ) → a + b ≡ 0 → (a ≡ 0) × (b ≡ 0)
+no-sum a b e = (omega arith, omega arith)
+
+-- A client without entries has no place.
+pub no-places : (t : Index) (client : ℕ) → IsIndexed t → count_at t.clients client ≡ 0 → (number order : ℕ) (b : Bool) → has_place_at t.clients client number order b ≡ false
+no-places t client i e number order true =
+    i.held_places client number order ∙ entry-none client number order t.held.items (no-sum _ _ (sym (i.counts client) ∙ e)).0
+no-places t client i e number order false =
+    i.waiting_places client number order ∙ entry-none client number order t.waiting.items (no-sum _ _ (sym (i.counts client) ∙ e)).1
+
+-- The same places agree with the same rows.
+pub indexed-same : (t : Index) (cs : Clients) → ((c n o : ℕ) (b : Bool) → has_place_at cs c n o b ≡ has_place_at t.clients c n o b) → ((c : ℕ) → count_at cs c ≡ count_at t.clients c) → IsIndexed t → IsIndexed (record t { clients = cs })
+indexed-same t cs places count i = record {
+  held_rise = i.held_rise;
+  waiting_rise = i.waiting_rise;
+  held_below = i.held_below;
+  waiting_below = i.waiting_below;
+  lines = i.lines;
+  held_places = λ c n o. places c n o true ∙ i.held_places c n o;
+  waiting_places = λ c n o. places c n o false ∙ i.waiting_places c n o;
+  counts = λ c. count c ∙ i.counts c;
+  room = i.room;
+}
+
+-- Rows that no lookup finds
+
+rising-parts : (p : ℕ × Row) (ps : Table Row) → is_rising (p ∷ ps) ≡ true → (is_above p.0 ps ≡ true) × (is_rising ps ≡ true)
+rising-parts p ps r = (grind (arith, nat_tests), grind (arith, nat_tests))
+
+entry-here : (client number : ℕ) (p : ℕ × Row) (ps : Table Row) → is_entry client number (find (p ∷ ps) p.0) ≡ is_pair client number p.1
+entry-here client number p ps = rw (number-self p.0) refl
+
+later-step : (client number order : ℕ) (p : ℕ × Row) (ps : Table Row) (b : Bool) → (p.0 == order) ≡ b → find ps p.0 ≡ None → is_entry client number (find ps order) ≡ true → find (p ∷ ps) order ≡ find ps order
+later-step client number order p ps true e none f =
+    let n : find ps order ≡ None = ap (λ k. find ps k) (sym (same-order p.0 order e)) ∙ none in
+    absurd (no-truth (sym (ap (λ o. is_entry client number o) n) ∙ f))
+later-step client number order p ps false e none f = rw e refl
+
+entry-later : (client number order : ℕ) (p : ℕ × Row) (ps : Table Row) → is_above p.0 ps ≡ true → is_entry client number (find ps order) ≡ true → is_entry client number (find (p ∷ ps) order) ≡ true
+entry-later client number order p ps above f =
+    ap (λ o. is_entry client number o) (later-step client number order p ps (p.0 == order) refl (find-above p.0 ps above) f) ∙ f
+
+not-so : (b : Bool) → (b ≡ true → false ≡ true) → b ≡ false
+not-so true f = sym (f refl)
+not-so false f = refl
+
+-- What no lookup finds in a table, none finds in its rest.
+none-later : (client number order : ℕ) (p : ℕ × Row) (ps : Table Row) → is_above p.0 ps ≡ true → is_entry client number (find (p ∷ ps) order) ≡ false → is_entry client number (find ps order) ≡ false
+none-later client number order p ps above e =
+    not-so (is_entry client number (find ps order)) (λ f. sym e ∙ entry-later client number order p ps above f)
+
+-- Standing of a pair
+
+entry-pair_step : (client number order : ℕ) (p : ℕ × Row) (ps : Table Row) → (is_entry client number (find ps order) ≡ true → has_pair client number (values_in ps) ≡ true) → is_entry client number (find (p ∷ ps) order) ≡ true → has_pair client number (values_in (p ∷ ps)) ≡ true
+entry-pair_step client number order p ps below e = grind (arith, nat_tests)
+
+pub entry-pair : (client number order : ℕ) (ps : Table Row) → is_entry client number (find ps order) ≡ true → has_pair client number (values_in ps) ≡ true
+entry-pair client number order [] e = e
+entry-pair client number order (p ∷ ps) e = entry-pair_step client number order p ps (entry-pair client number order ps) e
+
+pair-none : (client number : ℕ) (ps : Table Row) → is_rising ps ≡ true → ((order : ℕ) → is_entry client number (find ps order) ≡ false) → has_pair client number (values_in ps) ≡ false
+pair-none client number [] rise none = refl
+pair-none client number (p ∷ ps) rise none =
+    let r = rising-parts p ps rise in
+    let here : is_pair client number p.1 ≡ false = sym (entry-here client number p ps) ∙ none p.0 in
+    let rest : has_pair client number (values_in ps) ≡ false = pair-none client number ps r.1 (λ order. none-later client number order p ps r.0 (none order)) in
+    rw here rest
+
+pub standing-of : (t : Index) (client number : ℕ) (s : Standing) → IsIndexed t → IsStanding (has_place_at t.clients client number) s → standing (locks_in t.held.items t.waiting.items) client number ≡ s
+standing-of t client number Held i s =
+    let h = entry-pair client number s.0 t.held.items (sym (i.held_places client number s.0) ∙ s.1) in
+    rw h refl
+standing-of t client number Waiting i s =
+    let h = pair-none client number t.held.items i.held_rise (λ o. sym (i.held_places client number o) ∙ s.0 o) in
+    let w = entry-pair client number s.1.0 t.waiting.items (sym (i.waiting_places client number s.1.0) ∙ s.1.1) in
+    rw (h, w) refl
+standing-of t client number Absent i s =
+    let h = pair-none client number t.held.items i.held_rise (λ o. sym (i.held_places client number o) ∙ s.0 o) in
+    let w = pair-none client number t.waiting.items i.waiting_rise (λ o. sym (i.waiting_places client number o) ∙ s.1 o) in
+    rw (h, w) refl
+
+-- An absent pair has no place.
+
+absent-step : (held waiting : Table Row) (client number order : ℕ) (b : Bool) → standing (locks_in held waiting) client number ≡ Absent → is_entry client number (find (cond b held waiting) order) ≡ true → false ≡ true
+absent-step held waiting client number order true s e =
+    let h = entry-pair client number order held e in
+    let k : standing (locks_in held waiting) client number ≡ Held = rw h refl in
+    absurd (no (sym k ∙ s))
   where
-    some-none : (x : ℕ) → Some x ≡ None → ⊥
-    some-none x e = cc
-first-put_step order n k p ps false true e l r f above below =
-    let a : is_above order (p ∷ ps) ≡ true = above (rise-above p ps r) l in
-    rw (e, l) (first-put_less order n k (p ∷ ps) (n == k) refl (lesser-above order k (p ∷ ps) (first_place (Some k) (p ∷ ps)) refl a))
+    no : Held ≡ Absent → ⊥
+    no e = cc
+absent-step held waiting client number order false s e =
+    let w = entry-pair client number order waiting e in
+    let k : standing (locks_in held waiting) client number ≡ cond (has_pair client number (values_in held)) Held Waiting = rw w refl in
+    absurd (no (has_pair client number (values_in held)) (sym k ∙ s))
   where
-    rise-above : (p : ℕ × ℕ) (ps : Table ℕ) → is_rising (p ∷ ps) ≡ true → is_above p.0 ps ≡ true
-    rise-above p ps r = grind (arith, nat_tests)
-first-put_step order n k p ps false false e l r f above below =
-    let later : find (p ∷ ps) order ≡ find ps order = rw e refl in
-    rw (e, l) (first-put_more order n k p ps (p.1 == k) (n == k) refl refl (more p.0 order e l) (below (sym later ∙ f)))
+    no : (h : Bool) → cond h Held Waiting ≡ Absent → ⊥
+    no true e = cc
+    no false e = cc
+
+place-row : (t : Index) (client number order : ℕ) (b : Bool) → IsIndexed t → has_place_at t.clients client number order b ≡ true → is_entry client number (find (cond b t.held.items t.waiting.items) order) ≡ true
+place-row t client number order true i e = sym (i.held_places client number order) ∙ e
+place-row t client number order false i e = sym (i.waiting_places client number order) ∙ e
+
+number-place : (o : Option Holdings) (number : ℕ) → option_map_or (λ h. is_some (get nat_eq h.places number)) o false ≡ true → (p : Place) × (option_map_or (λ h. has_place h number p.order p.is_held) o false ≡ true)
+number-place None number e = absurd (no-truth e)
+number-place (Some h) number e = latest (get nat_eq h.places number) refl e
   where
-    more : (x y : ℕ) → (x == y) ≡ false → nat_lt y x ≡ false → x < y
-    more x y e l = grind (arith, nat_tests)
+    latest : (o : Option Place) → get nat_eq h.places number ≡ o → is_some o ≡ true → (p : Place) × (has_place h number p.order p.is_held ≡ true)
+    latest None f e = absurd (no-truth e)
+    latest (Some p) f e = (p, has-latest h number p f)
 
-rise-tail : (p : ℕ × ℕ) (ps : Table ℕ) → is_rising (p ∷ ps) ≡ true → is_rising ps ≡ true
-rise-tail p ps r = grind (arith, nat_tests)
+pub number-absent : (t : Index) (client number : ℕ) → IsIndexed t → standing (locks_in t.held.items t.waiting.items) client number ≡ Absent → has_number_at t.clients client number ≡ false
+number-absent t client number i s =
+    not-so (has_number_at t.clients client number) (λ e.
+    let p = number-place (get nat_eq t.clients.clients client) number e in
+    absent-step t.held.items t.waiting.items client number p.0.order p.0.is_held s (place-row t client number p.0.order p.0.is_held i p.1))
 
-first-put : (order n k : ℕ) (ps : Table ℕ) → is_rising ps ≡ true → find ps order ≡ None → first_place (Some k) (put order n ps) ≡ cond (n == k) (Some (lesser_of order (first_place (Some k) ps))) (first_place (Some k) ps)
-first-put order n k [] r f = refl
-first-put order n k (p ∷ ps) r f =
-    first-put_step order n k p ps (p.0 == order) (nat_lt order p.0) refl refl r f (above-all order p ps) (first-put order n k ps (rise-tail p ps r))
+-- First request of a pair
+
+at-most : (a b : ℕ) → a ≤ b → b ≤ a → a ≡ b
+at-most a b l m = omega arith
+
+above-find_step : (k order : ℕ) (p : ℕ × Row) (ps : Table Row) (client number : ℕ) → (is_above k ps ≡ true → is_entry client number (find ps order) ≡ true → k < order) → is_above k (p ∷ ps) ≡ true → is_entry client number (find (p ∷ ps) order) ≡ true → k < order
+above-find_step k order p ps client number below a e = grind (arith, nat_tests)
+
+above-find : (k order : ℕ) (ps : Table Row) (client number : ℕ) → is_above k ps ≡ true → is_entry client number (find ps order) ≡ true → k < order
+above-find k order [] client number a e = absurd (no-truth e)
+above-find k order (p ∷ ps) client number a e = above-find_step k order p ps client number (above-find k order ps client number) a e
+
+not-below_step : (order : ℕ) (p : ℕ × Row) (ps : Table Row) (client number : ℕ) → (is_entry client number (find ps order) ≡ true → p.0 < order) → is_entry client number (find (p ∷ ps) order) ≡ true → p.0 ≤ order
+not-below_step order p ps client number above e = grind (arith, nat_tests)
+
+other-step : (order : ℕ) (p : ℕ × Row) (ps : Table Row) (client number : ℕ) → is_pair client number p.1 ≡ false → is_entry client number (find (p ∷ ps) order) ≡ true → is_entry client number (find ps order) ≡ true
+other-step order p ps client number n e = grind (arith, nat_tests)
+
+first-step : (client number o : ℕ) (p : ℕ × Row) (ps : Table Row) (b : Bool) → is_pair client number p.1 ≡ b → is_rising (p ∷ ps) ≡ true → (is_entry client number (find ps o) ≡ true → ((k : ℕ) → is_entry client number (find ps k) ≡ true → o ≤ k) → first_pair client number ps ≡ Some o) → is_entry client number (find (p ∷ ps) o) ≡ true → ((k : ℕ) → is_entry client number (find (p ∷ ps) k) ≡ true → o ≤ k) → first_pair client number (p ∷ ps) ≡ Some o
+first-step client number o p ps true e rise below f least =
+    let r = rising-parts p ps rise in
+    let a : p.0 ≤ o = not-below_step o p ps client number (above-find p.0 o ps client number r.0) f in
+    rw e (ap (λ k. Some k) (at-most p.0 o a (least p.0 (entry-here client number p ps ∙ e))))
+first-step client number o p ps false e rise below f least =
+    let r = rising-parts p ps rise in
+    rw e (below (other-step o p ps client number e f) (λ k g. least k (entry-later client number k p ps r.0 g)))
+
+first-some : (client number o : ℕ) (ps : Table Row) → is_rising ps ≡ true → is_entry client number (find ps o) ≡ true → ((k : ℕ) → is_entry client number (find ps k) ≡ true → o ≤ k) → first_pair client number ps ≡ Some o
+first-some client number o [] rise f least = absurd (no-truth f)
+first-some client number o (p ∷ ps) rise f least =
+    first-step client number o p ps (is_pair client number p.1) refl rise (first-some client number o ps (rising-parts p ps rise).1) f least
+
+first-none : (client number : ℕ) (ps : Table Row) → is_rising ps ≡ true → ((k : ℕ) → is_entry client number (find ps k) ≡ false) → first_pair client number ps ≡ None
+first-none client number [] rise none = refl
+first-none client number (p ∷ ps) rise none =
+    let r = rising-parts p ps rise in
+    let here : is_pair client number p.1 ≡ false = sym (entry-here client number p ps) ∙ none p.0 in
+    rw here (first-none client number ps r.1 (λ order. none-later client number order p ps r.0 (none order)))
+
+pub first-of : (t : Index) (client number : ℕ) (o : Option ℕ) → IsIndexed t → IsLeast (λ k. has_place_at t.clients client number k false) o → first_pair client number t.waiting.items ≡ o
+first-of t client number None i l =
+    first-none client number t.waiting.items i.waiting_rise (λ k. sym (i.waiting_places client number k) ∙ l k)
+first-of t client number (Some o) i l =
+    first-some client number o t.waiting.items i.waiting_rise (sym (i.waiting_places client number o) ∙ l.0) (λ k e. l.1 k (i.waiting_places client number k ∙ e))
+
+-- Rows that a command removes
+
+-- The client has one row more in a list before such a row is removed from it.
+pub one-fewer : (client number : ℕ) (rows : Table Row) (order : ℕ) → is_rising rows ≡ true → is_entry client number (find rows order) ≡ true → count_rows client (without_order order rows) + 1 ≡ count_rows client rows
+one-fewer client number rows order rise e =
+    let r = row-of client number rows order e in
+    rw r.is_mine at (count-without (λ (p : ℕ × Row). p.1.client == client) order r.row rows rise r.found)
+
+pub length-fewer : (client number : ℕ) (rows : Table Row) (order : ℕ) → is_rising rows ≡ true → is_entry client number (find rows order) ≡ true → suc (length (without_order order rows)) ≡ length rows
+length-fewer client number rows order rise e =
+    let r = row-of client number rows order e in
+    length-without order r.row rows rise r.found
+
+taken-step : (a b : Bool) → (b ≡ true → a ≡ false) → (a && b) ≡ false
+taken-step true true f = f refl
+taken-step true false f = refl
+taken-step false b f = refl
+
+pair-client : (client : ℕ) (r : Row) → is_pair client r.number r ≡ false → (r.client == client) ≡ false
+pair-client client r e = grind (arith, nat_tests)
+
+-- If no place is left, no row has to be removed.
+pub none-left : (client : ℕ) (removal : Removal) (held : Bool) (rows : Table Row) → is_rising rows ≡ true → ((number order : ℕ) → takes removal held number ≡ true → is_entry client number (find rows order) ≡ false) → left_by client removal held rows ≡ rows
+none-left client removal held [] rise none = refl
+none-left client removal held (p ∷ ps) rise none =
+    let r = rising-parts p ps rise in
+    let here : is_taken client removal held p.1 ≡ false = taken-step (p.1.client == client) (takes removal held p.1.number) (λ t. pair-client client p.1 (sym (entry-here client p.1.number p ps) ∙ none p.1.number p.0 t)) in
+    rw here (ap (λ qs. p ∷ qs) (none-left client removal held ps r.1 (λ number order t. none-later client number order p ps r.0 (none number order t))))
+
+-- Removing one of the rows first does not change the result.
+pub one-left : (client number : ℕ) (removal : Removal) (held : Bool) (rows : Table Row) (order : ℕ) → is_rising rows ≡ true → is_entry client number (find rows order) ≡ true → takes removal held number ≡ true → left_by client removal held (without_order order rows) ≡ left_by client removal held rows
+one-left client number removal held rows order rise e t =
+    let r = row-of client number rows order e in
+    let s : takes removal held r.row.number ≡ true = ap (λ n. takes removal held n) r.named ∙ t in
+    filter-without (λ (p : ℕ × Row). not (is_taken client removal held p.1)) order r.row rows (gone (r.row.client == client) (takes removal held r.row.number) r.is_mine s) rise r.found
   where
-    above-all : (order : ℕ) (p : ℕ × ℕ) (ps : Table ℕ) → is_above p.0 ps ≡ true → nat_lt order p.0 ≡ true → is_above order (p ∷ ps) ≡ true
-    above-all order p ps a l =
-        let less = above-less order p.0 ps l a in
-        grind (arith, nat_tests)
-
-pub least-ordered : (k : ℕ) (es : List (ℕ × ℕ)) → IsDistinct nat_eq (keys_of es) → least_in k es ≡ first_place (Some k) (ordered es)
-unfolding IsDistinct
-least-ordered k [] d = refl
-least-ordered k (p ∷ ps) d =
-    ap (λ o. cond (p.1 == k) (Some (lesser_of p.0 o)) o) (least-ordered k ps d.1) ∙ sym (first-put p.0 p.1 k (ordered ps) (rising-ordered ps) (find-ordered ps p.0 ∙ lookup-absent p.0 ps d.0))
-
-pub least-more : (order : ℕ) (least rest : Option ℕ) → lesser_both (Some (lesser_of order least)) rest ≡ lesser_both least (Some (lesser_of order rest))
-least-more order None rest = refl
-least-more order (Some x) None = grind (arith, nat_tests)
-least-more order (Some x) (Some y) = grind (arith, nat_tests)
-
-pub least-end : (o : Option ℕ) → lesser_both o None ≡ o
-least-end None = refl
-least-end (Some x) = refl
-
--- One entry after another
-
-drop-first : (x y : ℕ × ℕ) (ys : List (ℕ × ℕ)) → slice_get (y ∷ ys) 0 ≡ Some x → y ∷ ys ≡ x ∷ drop 1 (y ∷ ys)
-drop-first x y ys e = cc
-
-drop-later : (i : ℕ) (x y : ℕ × ℕ) (ys : List (ℕ × ℕ)) → (slice_get ys i ≡ Some x → drop i ys ≡ x ∷ drop (suc i) ys) → slice_get (y ∷ ys) (suc i) ≡ Some x → drop (suc i) (y ∷ ys) ≡ x ∷ drop (suc (suc i)) (y ∷ ys)
-drop-later i x y ys below e = below e
-
-pub no-entry : (x : ℕ × ℕ) → None ≡ Some x → ⊥
-no-entry x e = cc
-
-drop-suc : (i : ℕ) (x : ℕ × ℕ) (xs : List (ℕ × ℕ)) → slice_get xs i ≡ Some x → drop i xs ≡ x ∷ drop (suc i) xs
-drop-suc zero x [] e = absurd (no-entry x e)
-drop-suc (suc i) x [] e = absurd (no-entry x e)
-drop-suc zero x (y ∷ ys) e = drop-first x y ys e
-drop-suc (suc i) x (y ∷ ys) e = drop-later i x y ys (drop-suc i x ys) e
-
-pub drop-next : (i : ℕ) (x : ℕ × ℕ) (xs : List (ℕ × ℕ)) → slice_get xs i ≡ Some x → drop i xs ≡ x ∷ drop (i + 1) xs
-drop-next i x xs e =
-    let n : suc i ≡ i + 1 = omega arith in
-    drop-suc i x xs e ∙ ap (λ j. x ∷ drop j xs) n
-
-pub least-hit : (k order number : ℕ) (ps : List (ℕ × ℕ)) → number ≡ k → least_in k ((order, number) ∷ ps) ≡ Some (lesser_of order (least_in k ps))
-least-hit k order number ps e = rw e (rw (self-k k) refl)
-
-least-miss_step : (k order number : ℕ) (ps : List (ℕ × ℕ)) (b : Bool) → (number == k) ≡ b → (number ≡ k → ⊥) → least_in k ((order, number) ∷ ps) ≡ least_in k ps
-least-miss_step k order number ps true e f = absurd (f (same-k number k e))
-least-miss_step k order number ps false e f = rw e refl
-
-pub least-miss : (k order number : ℕ) (ps : List (ℕ × ℕ)) → (number ≡ k → ⊥) → least_in k ((order, number) ∷ ps) ≡ least_in k ps
-least-miss k order number ps f = least-miss_step k order number ps (number == k) refl f
+    gone : (a b : Bool) → a ≡ true → b ≡ true → not (a && b) ≡ false
+    gone a b e f = rw (e, f) refl

@@ -9,8 +9,7 @@ use Rattle.wl_draft.specs.declared.row.Row.{Row}
 use Rattle.wl_draft.specs.Tables.{Table}
 use Rattle.wl_draft.specs.Locks.{is_named}
 use Rattle.wl_table_index.specs.NameLines.{room_at, count_named}
-use Rattle.wl_table_index.specs.Clients.{places_at}
-use Rattle.wl_table_index.specs.Index.{IsIndexed, IsReady, HasRoom, TakesRoom, places_in, are_of}
+use Rattle.wl_table_index.specs.Index.{IsHoldable, IsReady, HasRoom, TakesRoom, are_of}
 use Rattle.wl_table_index.specs.declared.index.Index.{Index}
 use Rattle.wl_table_index.proofs.WithoutLemmas.{count-one}
 use Rattle.wl_table_index.proofs.NextLemmas.{text-same, text-self}
@@ -71,56 +70,55 @@ no_cond : (b : Bool) → cond {A = ℕ} b 0 0 ≡ 0
 no_cond true = refl
 no_cond false = refl
 
-places-waiting : (t : Index) (client : ℕ) → IsIndexed t → length (places_at t.clients client).waiting ≡ length (places_in client t.waiting.items)
-places-waiting t client i = ap (λ s. length s.waiting) (i.clients client)
-
-pub room-held : (t u : Index) (client : ℕ) (r : Row) (rs requests : List Row) → IsIndexed t → IsIndexed u → u.waiting.items ≡ t.waiting.items → TakesRoom t u 1 0 r.name → HasRoom t client (r ∷ rs) requests → HasRoom u client rs requests
-room-held t u client r rs requests i j w k h =
-    let same : length (places_at u.clients client).waiting ≡ length (places_at t.clients client).waiting = places-waiting u client j ∙ ap (λ x. length (places_in client x)) w ∙ sym (places-waiting t client i) in
-    record {
-      held = rw w (omega (arith, h.held, k.held));
-      waiting = omega (arith, h.waiting, k.waiting);
-      client_held = omega (arith, same, h.client_held, k.client_held client);
-      client_waiting = omega (arith, h.client_waiting, k.client_waiting client);
-      lines = λ n e. k.lines n (h.lines n (named-rest n r rs e));
-      names = λ n. omega (arith, h.names n, k.names n, no_cond (bytes_eq r.name n));
-    }
+pub room-held : (t u : Index) (client : ℕ) (r : Row) (rs requests : List Row) → u.waiting.items ≡ t.waiting.items → TakesRoom t u 1 0 r.name → HasRoom t client (r ∷ rs) requests → HasRoom u client rs requests
+room-held t u client r rs requests w k h = record {
+  held = rw w (omega (arith, h.held, k.held));
+  waiting = omega (arith, h.waiting, k.waiting);
+  places = omega (arith, h.places, k.places client);
+  further = omega (arith, h.further, k.further client);
+  lines = λ n e. k.lines n (h.lines n (named-rest n r rs e));
+  names = λ n. omega (arith, h.names n, k.names n, no_cond (bytes_eq r.name n));
+}
 
 count-first : (r : Row) (rs : List Row) → count_named r.name (r ∷ rs) ≡ suc (count_named r.name rs)
 count-first r rs = count-one (λ x. bytes_eq r.name x.name) r rs ∙ (rw (text-self r.name) (omega arith))
 
-pub ready-first : (t : Index) (client : ℕ) (r : Row) (rs : List Row) → r.client ≡ client → HasRoom t client [] (r ∷ rs) → IsReady t r.client r.name 1
+pub ready-first : (t : Index) (client : ℕ) (r : Row) (rs : List Row) → r.client ≡ client → HasRoom t client [] (r ∷ rs) → IsReady t r.client r.number r.name
 ready-first t client r rs e h =
-    let n : 1 ≤ room_at t.lines r.name = omega (arith, h.names r.name, count-first r rs) in
+    let n : 0 < room_at t.lines r.name = omega (arith, h.names r.name, count-first r rs) in
     rw e (record {
       held = omega (arith, h.held);
       waiting = omega (arith, h.waiting);
-      client_held = omega (arith, h.client_held);
-      client_waiting = omega (arith, h.client_waiting);
-      line = room-line _ (omega (arith, n));
+      place = omega (arith, h.places);
+      further = λ known. omega (arith, h.further);
+      line = room-line _ n;
       name_room = n;
     })
 
-places-last_step : (client : ℕ) (q p : ℕ × Row) (ps : Table Row) → length (places_in client (ps ++ q ∷ [])) ≤ length (places_in client ps) + 1 → length (places_in client ((p ∷ ps) ++ q ∷ [])) ≤ length (places_in client (p ∷ ps)) + 1
-places-last_step client q p ps below = grind (arith, nat_tests)
+named-first : (r : Row) (rs : List Row) → is_named r.name (r ∷ rs) ≡ true
+named-first r rs = rw (text-self r.name) refl
 
-places-last : (client : ℕ) (q : ℕ × Row) (ps : Table Row) → length (places_in client (ps ++ q ∷ [])) ≤ length (places_in client ps) + 1
-places-last client q [] = grind (arith, nat_tests)
-places-last client q (p ∷ ps) = places-last_step client q p ps (places-last client q ps)
+pub holdable-first : (t : Index) (client : ℕ) (r : Row) (rs requests : List Row) → r.client ≡ client → HasRoom t client (r ∷ rs) requests → IsHoldable t r.client r.number r.name
+holdable-first t client r rs requests e h =
+    rw e (record {
+      held = omega (arith, h.held);
+      place = omega (arith, h.places);
+      further = λ known. omega (arith, h.further);
+      line = h.lines r.name (named-first r rs);
+    })
 
 length-last : {X : Type 0} (x : X) (xs : List X) → length (xs ++ x ∷ []) ≡ length xs + 1
 length-last x [] = refl
 length-last x (y ∷ ys) = grind (arith, length-last x ys)
 
-pub room-queued : (t u : Index) (client order : ℕ) (r : Row) (rs : List Row) → IsIndexed t → IsIndexed u → u.waiting.items ≡ t.waiting.items ++ (order, r) ∷ [] → TakesRoom t u 0 1 r.name → HasRoom t client [] (r ∷ rs) → HasRoom u client [] rs
-room-queued t u client order r rs i j w k h =
-    let more : length (places_at u.clients client).waiting ≤ length (places_at t.clients client).waiting + 1 = rw (places-waiting u client j, places-waiting t client i, w) (places-last client (order, r) t.waiting.items) in
+pub room-queued : (t u : Index) (client order : ℕ) (r : Row) (rs : List Row) → u.waiting.items ≡ t.waiting.items ++ (order, r) ∷ [] → TakesRoom t u 0 1 r.name → HasRoom t client [] (r ∷ rs) → HasRoom u client [] rs
+room-queued t u client order r rs w k h =
     let len : length u.waiting.items ≡ length t.waiting.items + 1 = ap length w ∙ length-last (order, r) t.waiting.items in
     record {
       held = omega (arith, len, h.held, k.held);
       waiting = omega (arith, h.waiting, k.waiting);
-      client_held = omega (arith, more, h.client_held, k.client_held client);
-      client_waiting = omega (arith, h.client_waiting, k.client_waiting client);
+      places = omega (arith, h.places, k.places client);
+      further = omega (arith, h.further, k.further client);
       lines = λ n e. k.lines n (h.lines n e);
       names = λ n. omega (arith, h.names n, k.names n, count-one (λ x. bytes_eq n x.name) r rs, ap (λ (b : Bool). cond {A = ℕ} b 1 0) (text-turn n r.name));
     }

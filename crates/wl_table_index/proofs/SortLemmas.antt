@@ -1,6 +1,6 @@
 -- Rows of a table, read in the order of its sorted numbers.
-use Rattle.std.proofs.Common.{◌≡◌, ℕ, ◌+◌, ◌<◌, suc, zero, Bool, true, ◌&&◌, cond, List, [], ◌∷◌, ◌++◌, Some, None, length, take, get_or, refl, sym, ap, ◌∙◌, arith}
-use Rattle.std.specs.Prelude.{nat_lt, nat_eq, is_some, IsPermutation}
+use Rattle.std.proofs.Common.{◌≡◌, ℕ, ◌+◌, ◌<◌, suc, zero, Bool, true, false, ◌&&◌, cond, List, [], ◌∷◌, ◌++◌, Some, None, length, take, get_or, refl, sym, ap, ◌∙◌, arith}
+use Rattle.std.specs.Prelude.{◌==◌, nat_lt, nat_eq, is_some, IsPermutation}
 use Rattle.std.specs.Ordering.{nat_cmp}
 use Rattle.std.specs.declared.cmp.Ordering.TheVariants.{Less}
 use Rattle.std.specs.Map.{lookup, keys_of}
@@ -12,10 +12,23 @@ use Rattle.wl_draft.specs.Tables.{Table, find}
 use Rattle.wl_draft.specs.declared.row.Row.{Row}
 use Rattle.wl_table_index.specs.OrderNumbers.{ordered, orders_in, values_in, is_above, is_rising}
 use Rattle.wl_table_index.specs.Nexts.{is_among}
-use Rattle.wl_table_index.proofs.OrderLemmas.{table_ext, find-ordered, rising-ordered}
-use Rattle.wl_table_index.proofs.RemovalLemmas.{find-later}
+use Rattle.wl_table_index.proofs.OrderLemmas.{table_ext, find-ordered, find-above, rising-ordered}
 use Rattle.wl_table_index.proofs.NextLemmas.{rising-rest}
 use Rattle.wl_table_index.proofs.CandidateLemmas.{among-permutation}
+
+find-later_step : (p : ℕ × Row) (ps : Table Row) (order : ℕ) (r : Row) (b : Bool) → (p.0 == order) ≡ b → is_above p.0 ps ≡ true → find ps order ≡ Some r → find (p ∷ ps) order ≡ Some r
+find-later_step p ps order r true e a f =
+    let same : p.0 ≡ order = grind (arith, nat_tests) in
+    absurd (none-found r (sym (find-above p.0 ps a) ∙ ap (λ k. find ps k) same ∙ f))
+  where
+    none-found : (r : Row) → None ≡ Some r → ⊥
+    none-found r e = cc
+find-later_step p ps order r false e a f = rw e f
+
+find-later : (p : ℕ × Row) (ps : Table Row) (order : ℕ) (r : Row) → is_rising (p ∷ ps) ≡ true → find ps order ≡ Some r → find (p ∷ ps) order ≡ Some r
+find-later p ps order r rise f =
+    let above : is_above p.0 ps ≡ true = grind (arith, nat_tests) in
+    find-later_step p ps order r (p.0 == order) refl above f
 
 -- Numbers as a table
 

@@ -11,12 +11,11 @@ use Rattle.wl_draft.specs.Tables.{Table}
 use Rattle.wl_draft.specs.Locks.{is_named}
 use Rattle.wl_table_index.specs.OrderNumbers.{values_in}
 use Rattle.wl_table_index.specs.NameLines.{nobody, line_seen, is_nobody}
-use Rattle.wl_table_index.specs.Clients.{Places, no_places, places_seen, places_at, has_no_places}
 use Rattle.wl_table_index.specs.Index.{IsIndexed, IsLean, KeepsNoOthers, line_of, is_shared, is_exclusive}
 use Rattle.wl_table_index.specs.declared.index.Index.{Index}
 use Rattle.wl_table_index.specs.declared.name_line.NameLine.{NameLine}
 use Rattle.wl_table_index.specs.declared.holdings.Holdings.{Holdings}
-use Rattle.wl_table_index.proofs.IndexLemmas.{named-queue, count-cons, live-places}
+use Rattle.wl_table_index.proofs.IndexLemmas.{named-queue, count-cons, live-counts}
 
 named-held_step : (name : List ℕ) (p : ℕ × Row) (ps : Table Row) (mode : Mode) → p.1.mode ≡ mode → is_named name (values_in ps) ≡ not (count_by (λ (q : ℕ × Row). bytes_eq q.1.name name && is_shared q.1.mode) ps == 0 && count_by (λ (q : ℕ × Row). bytes_eq q.1.name name && is_exclusive q.1.mode) ps == 0) → is_named name (values_in (p ∷ ps)) ≡ not (count_by (λ (q : ℕ × Row). bytes_eq q.1.name name && is_shared q.1.mode) (p ∷ ps) == 0 && count_by (λ (q : ℕ × Row). bytes_eq q.1.name name && is_exclusive q.1.mode) (p ∷ ps) == 0)
 named-held_step name p ps Shared e below =
@@ -42,18 +41,16 @@ line-used : (o : Option NameLine) → IsSome o → (option_map_or (λ l. is_nobo
 line-used None e f = cc
 line-used (Some l) e f = no _ f
 
-places-used : (o : Option Holdings) → IsSome o → (option_map_or (λ h. has_no_places (places_seen h)) o false ≡ true → false ≡ true) → has_no_places (option_map_or places_seen o no_places) ≡ false
-places-used None e f = cc
-places-used (Some h) e f = no _ f
-
-some-places : (s : Places) → has_no_places s ≡ false → 1 ≤ length s.held + length s.waiting
-some-places s e = grind (arith, nat_tests)
+count-used : (o : Option Holdings) → IsSome o → (option_map_or (λ h. h.count == 0) o false ≡ true → false ≡ true) → 1 ≤ option_map_or (λ h. h.count) o 0
+count-used None e f = cc
+count-used (Some h) e f =
+    let used : (h.count == 0) ≡ false = no _ f in
+    grind (arith, nat_tests)
 
 pub lean-used : (t : Index) → IsIndexed t → IsLean t → KeepsNoOthers t
 lean-used t i l = record {
   names = λ name h. named-used name t.held.items t.waiting.items (ap (λ s. is_nobody s) (sym (i.lines name)) ∙ line-used (get_by_text t.lines.lines name) h (l.names name));
   clients = λ client h.
-      let n = some-places (places_at t.clients client) (places-used (get nat_eq t.clients.clients client) h (l.clients client)) in
-      let e = live-places t.held.items t.waiting.items (places_at t.clients client) client (i.clients client) in
-      rw e n;
+      let n = count-used (get nat_eq t.clients.clients client) h (l.clients client) in
+      rw (live-counts t.held.items t.waiting.items client, ← i.counts client) n;
 }

@@ -1,13 +1,13 @@
 -- Invariant of an index: each line and each client's places agree with the two lists.
-use Rattle.std.specs.Prelude.{◌≡◌, ◌≤◌, ◌<◌, ◌+◌, ℕ, List, Bool, true, false, not, length, map, filter, count_by, ◌==◌, ◌&&◌, ◌||◌, IsSome, nat_eq, bytes_eq, if◌then◌else◌}
+use Rattle.std.specs.Prelude.{◌≡◌, ◌≤◌, ◌<◌, ◌+◌, ℕ, List, Bool, true, false, not, length, map, filter, count_by, ◌==◌, ◌&&◌, ◌||◌, Option, None, Some, IsSome, nat_eq, bytes_eq, if◌then◌else◌}
 use Rattle.wl_draft.specs.declared.mode.Mode.{Mode}
 use Rattle.wl_draft.specs.declared.mode.Mode.TheVariants.{Shared, Exclusive}
 use Rattle.wl_draft.specs.declared.row.Row.{Row}
-use Rattle.wl_draft.specs.Locks.{Locks, is_named, live}
-use Rattle.wl_draft.specs.Tables.{Table}
+use Rattle.wl_draft.specs.Locks.{Locks, is_named, is_pair, live}
+use Rattle.wl_draft.specs.Tables.{Table, find}
 use Rattle.wl_table_index.specs.OrderNumbers.{values_in, orders_in, is_below, is_rising, order_at}
 use Rattle.wl_table_index.specs.NameLines.{LineState, line_at, room_at, HasLine, count_named, is_idle_line}
-use Rattle.wl_table_index.specs.Clients.{Places, places_at, held_room_at, waiting_room_at, is_idle_client}
+use Rattle.wl_table_index.specs.Clients.{has_place_at, has_number_at, count_at, place_room_at, further_room_at, is_idle_client}
 use Rattle.std.specs.List.{list_all}
 use Rattle.std.specs.HashMap.{get}
 use Rattle.wl_table_index.specs.declared.index.Index.{Index}
@@ -28,12 +28,14 @@ line_of name held waiting = record {
   queue = orders_in (filter (λ p. bytes_eq p.1.name name) waiting);
 }
 
--- A client's places in a list.
-abbrev pub places_in : ℕ → Table Row → Table ℕ
-places_in client rows = map (λ p. (p.0, p.1.number)) (filter (λ p. p.1.client == client) rows)
+-- The row belongs to the pair of a client and a command number.
+abbrev pub is_entry : ℕ → ℕ → Option Row → Bool
+is_entry client number None = false
+is_entry client number (Some r) = is_pair client number r
 
-abbrev pub places_of : ℕ → Table Row → Table Row → Places
-places_of client held waiting = record { held = places_in client held; waiting = places_in client waiting }
+-- The number of rows that belong to the client.
+abbrev pub count_rows : ℕ → Table Row → ℕ
+count_rows client rows = count_by (λ p. p.1.client == client) rows
 
 -- The held locks and the waiting requests of the two lists.
 abbrev pub locks_in : Table Row → Table Row → Locks
@@ -46,9 +48,10 @@ pub record IsIndexed (t : Index) : Type 0 where
   pub held_below : is_below t.held.items (order_at t.next 0) ≡ true
   pub waiting_below : is_below t.waiting.items (order_at t.next 0) ≡ true
   pub lines : (name : List ℕ) → line_at t.lines name ≡ line_of name t.held.items t.waiting.items
-  pub clients : (client : ℕ) → places_at t.clients client ≡ places_of client t.held.items t.waiting.items
+  pub held_places : (client number order : ℕ) → has_place_at t.clients client number order true ≡ is_entry client number (find t.held.items order)
+  pub waiting_places : (client number order : ℕ) → has_place_at t.clients client number order false ≡ is_entry client number (find t.waiting.items order)
+  pub counts : (client : ℕ) → count_at t.clients client ≡ count_rows client t.held.items + count_rows client t.waiting.items
   pub room : length t.waiting.items ≤ t.held.room
-  pub client_room : (client : ℕ) → length (places_at t.clients client).waiting ≤ held_room_at t.clients client
 
 -- Each name stored without an entry satisfies `is_name`, and each client stored without an entry
 -- satisfies `is_client`.
@@ -76,20 +79,21 @@ pub record Empties (old new : Index) (row : Row) : Type 0 where
   pub names : (name : List ℕ) → is_idle_line new.lines name ≡ true → (is_idle_line old.lines name || bytes_eq row.name name) ≡ true
   pub clients : (client : ℕ) → is_idle_client new.clients client ≡ true → (is_idle_client old.clients client || row.client == client) ≡ true
 
--- There is capacity for one more lock of this client with this name.
-pub record IsHoldable (t : Index) (client : ℕ) (name : List ℕ) : Type 0 where
+-- There is capacity for one more lock of this pair with this name.
+pub record IsHoldable (t : Index) (client number : ℕ) (name : List ℕ) : Type 0 where
   pub held : length t.waiting.items < t.held.room
-  pub client_held : length (places_at t.clients client).waiting < held_room_at t.clients client
+  pub place : 0 < place_room_at t.clients client
+  pub further : has_number_at t.clients client number ≡ true → 0 < further_room_at t.clients client
   pub line : HasLine t.lines name
 
--- There is capacity for `count` more entries of this client with this name, held or waiting.
-pub record IsReady (t : Index) (client : ℕ) (name : List ℕ) (count : ℕ) : Type 0 where
-  pub held : length t.waiting.items + count ≤ t.held.room
-  pub waiting : count ≤ t.waiting.room
-  pub client_held : length (places_at t.clients client).waiting + count ≤ held_room_at t.clients client
-  pub client_waiting : count ≤ waiting_room_at t.clients client
+-- There is capacity for one more entry of this pair with this name, held or waiting.
+pub record IsReady (t : Index) (client number : ℕ) (name : List ℕ) : Type 0 where
+  pub held : length t.waiting.items < t.held.room
+  pub waiting : 0 < t.waiting.room
+  pub place : 0 < place_room_at t.clients client
+  pub further : has_number_at t.clients client number ≡ true → 0 < further_room_at t.clients client
   pub line : HasLine t.lines name
-  pub name_room : count ≤ room_at t.lines name
+  pub name_room : 0 < room_at t.lines name
 
 -- All rows belong to this client.
 abbrev pub are_of : ℕ → List Row → Bool
@@ -99,8 +103,8 @@ are_of client rows = list_all (λ r. r.client == client) rows
 pub record HasRoom (t : Index) (client : ℕ) (locks requests : List Row) : Type 0 where
   pub held : length t.waiting.items + length locks + length requests ≤ t.held.room
   pub waiting : length requests ≤ t.waiting.room
-  pub client_held : length (places_at t.clients client).waiting + length locks + length requests ≤ held_room_at t.clients client
-  pub client_waiting : length requests ≤ waiting_room_at t.clients client
+  pub places : length locks + length requests ≤ place_room_at t.clients client
+  pub further : length locks + length requests ≤ further_room_at t.clients client
   pub lines : (name : List ℕ) → is_named name locks ≡ true → HasLine t.lines name
   pub names : (name : List ℕ) → count_named name requests ≤ room_at t.lines name
 
@@ -108,7 +112,7 @@ pub record HasRoom (t : Index) (client : ℕ) (locks requests : List Row) : Type
 pub record TakesRoom (old new : Index) (locks requests : ℕ) (name : List ℕ) : Type 0 where
   pub held : old.held.room ≤ new.held.room + locks
   pub waiting : old.waiting.room ≤ new.waiting.room + requests
-  pub client_held : (client : ℕ) → held_room_at old.clients client ≤ held_room_at new.clients client + locks
-  pub client_waiting : (client : ℕ) → waiting_room_at old.clients client ≤ waiting_room_at new.clients client + requests
+  pub places : (client : ℕ) → place_room_at old.clients client ≤ place_room_at new.clients client + locks + requests
+  pub further : (client : ℕ) → further_room_at old.clients client ≤ further_room_at new.clients client + locks + requests
   pub lines : (n : List ℕ) → HasLine old.lines n → HasLine new.lines n
   pub names : (n : List ℕ) → room_at old.lines n ≤ room_at new.lines n + (if bytes_eq name n then requests else 0)

@@ -6,6 +6,4 @@ pub mod Index
 pub mod Nexts
 pub mod OrderNumbers
 pub mod Slots
-pub mod Places
-pub mod Found
 pub mod RequestQueue

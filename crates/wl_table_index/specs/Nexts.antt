@@ -3,10 +3,11 @@ use Rattle.std.specs.Prelude.{◌≡◌, ℕ, List, [], ◌∷◌, Bool, true, f
 use Rattle.std.specs.List.{list_any}
 use Rattle.std.specs.Option.{option_map_or}
 use Rattle.wl_draft.specs.declared.row.Row.{Row}
-use Rattle.wl_draft.specs.Locks.{is_free}
+use Rattle.wl_draft.specs.Locks.{is_free, is_pair}
 use Rattle.wl_draft.specs.Tables.{Table, find}
 use Rattle.wl_table_index.specs.OrderNumbers.{values_in}
-use Rattle.wl_table_index.specs.Places.{meets}
+use Rattle.wl_table_index.specs.declared.holdings.Removal.{Removal}
+use Rattle.wl_table_index.specs.Clients.{takes}
 
 -- The first row with a given name.
 abbrev pub first_named : List ℕ → Table Row → Option (ℕ × Row)
@@ -43,10 +44,16 @@ AreCandidates orders held waiting = (name : List ℕ) (k : ℕ) → next_in name
 abbrev pub AreOthers : ℕ → List ℕ → Table Row → Table Row → Type 0
 AreOthers order orders held waiting = (name : List ℕ) (k : ℕ) → next_in name held waiting ≡ Some k → (order == k) ≡ false → is_among k orders ≡ true
 
--- The row belongs to the client, and has the selected number if one is selected.
-abbrev pub is_meant : ℕ → Option ℕ → Row → Bool
-is_meant client which r = r.client == client && meets which r.number
+-- The row belongs to the client, and the command removes entries with its number that are held, or
+-- else that wait.
+abbrev pub is_taken : ℕ → Removal → Bool → Row → Bool
+is_taken client removal held r = r.client == client && takes removal held r.number
 
--- The rows that are not selected.
-abbrev pub without_meant : ℕ → Option ℕ → Table Row → Table Row
-without_meant client which rows = filter (λ p. not (is_meant client which p.1)) rows
+-- The rows that the command does not remove.
+abbrev pub left_by : ℕ → Removal → Bool → Table Row → Table Row
+left_by client removal held rows = filter (λ p. not (is_taken client removal held p.1)) rows
+
+-- The order number of the first row of a pair.
+abbrev pub first_pair : ℕ → ℕ → Table Row → Option ℕ
+first_pair client number [] = None
+first_pair client number (p ∷ ps) = if is_pair client number p.1 then Some p.0 else first_pair client number ps

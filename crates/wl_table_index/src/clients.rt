@@ -1,11 +1,9 @@
 //! Entries of all clients.
 
-ghost use Rattle.std.specs.Prelude.{true, false, not, ◌&&◌, ◌||◌, ◌≡◌, ◌+◌, ◌<◌, ◌≤◌, ◌==◌, ℕ, length, OnOk, IfSome, IfNone, Some, None, if◌then◌else◌};
-ghost use Rattle.wl_table_index.specs.OrderNumbers.{is_below};
-ghost use Rattle.wl_table_index.specs.Places.{first_place, IsPlace};
-ghost use Rattle.wl_table_index.specs.Clients.{no_places, is_idle_client, places_at, standing_in, held_room_at, with_held, waiting_room_at, with_waiting, without_held, without_waiting};
+ghost use Rattle.std.specs.Prelude.{true, false, not, ◌&&◌, ◌||◌, ◌≡◌, ◌+◌, ◌-◌, ◌<◌, ◌≤◌, ◌^◌, ◌==◌, ℕ, Bool, OnOk, IfSome, IfNone, if◌then◌else◌};
+ghost use Rattle.wl_table_index.specs.Clients.{is_place, is_idle_client, has_place_at, has_number_at, count_at, place_room_at, further_room_at, takes, IsLeast, IsStanding, IsTaken};
 
-use crate::holdings::Holdings;
+use crate::holdings::{Holdings, Place, Removal};
 use indexmap::IndexMap;
 use std::alloc::{AllocError, Global};
 use wl_draft::Standing;
@@ -20,7 +18,8 @@ pub struct Clients {
 impl Clients {
     /// Returns an index without clients.
     pub fn new(alloc: Global) -> Clients
-        ensures places { (c : ℕ) → places_at result c ≡ no_places }
+        ensures places { (c n o : ℕ) (b : Bool) → has_place_at result c n o b ≡ false }
+        ensures count { (c : ℕ) → count_at result c ≡ 0 }
         ensures idle { (c : ℕ) → is_idle_client result c ≡ false }
     {
         Clients {
@@ -31,7 +30,7 @@ impl Clients {
 
     /// Returns whether the client's lock with this number is held, waiting or absent.
     pub fn standing(&self, client: u16, number: u32) -> Standing
-        ensures { result ≡ standing_in (places_at self.now client) number }
+        ensures { IsStanding (has_place_at self.now client number) result }
     {
         match self.clients.get(&client) {
             Some(holdings) => holdings.standing(number),
@@ -41,156 +40,123 @@ impl Clients {
 
     /// Returns the number of entries of the client.
     pub fn live(&self, client: u16) -> usize
-        ensures { result
-            ≡ length (places_at self.now client).held + length (places_at self.now client).waiting }
+        ensures { result ≡ count_at self.now client }
     {
         match self.clients.get(&client) {
-            Some(holdings) => holdings.len(),
+            Some(holdings) => holdings.count,
             None => 0,
-        }
-    }
-
-    /// Returns the order number of some held lock of the client with the selected number.
-    pub fn find_held(&self, client: u16, which: Option<u32>) -> Option<u128>
-        ensures some { IfSome result (λ order. IsPlace which (places_at self.now client).held order) }
-        ensures none { IfNone result (first_place which (places_at self.now client).held ≡ None) }
-    {
-        match self.clients.get(&client) {
-            Some(holdings) => holdings.held.find(which),
-            None => None,
-        }
-    }
-
-    /// Returns the order number of some waiting request of the client with the selected number.
-    pub fn find_waiting(&self, client: u16, which: Option<u32>) -> Option<u128>
-        ensures some { IfSome result (λ order. IsPlace which (places_at self.now client).waiting order) }
-        ensures none { IfNone result (first_place which (places_at self.now client).waiting ≡ None) }
-    {
-        match self.clients.get(&client) {
-            Some(holdings) => holdings.waiting.find(which),
-            None => None,
         }
     }
 
     /// Returns the order number of the client's first request with this number.
     pub fn first_waiting(&self, client: u16, number: u32) -> Option<u128>
-        ensures { result ≡ first_place (Some number) (places_at self.now client).waiting }
+        ensures { IsLeast (λ o. has_place_at self.now client number o false) result }
     {
         match self.clients.get(&client) {
-            Some(holdings) => holdings.waiting.first(number),
+            Some(holdings) => holdings.first_waiting(number),
             None => None,
         }
     }
 
-    /// Reserves capacity for one more lock of the client and for the grants of its requests. Fails
-    /// if out of memory.
-    pub fn reserve_lock(&mut self, client: u16) -> Result<(), AllocError>
-        ensures places { (c : ℕ) → places_at self.new c ≡ places_at self.old c }
-        ensures held { OnOk result
-            (length (places_at self.new client).waiting < held_room_at self.new client) }
-        ensures kept { (c : ℕ) → held_room_at self.old c ≤ held_room_at self.new c }
+    /// Returns the place of some entry of the client that the command removes.
+    pub fn find(&self, client: u16, removal: Removal) -> Option<Place>
+        ensures some { IfSome result (λ p. IsTaken removal (has_place_at self.now client) p) }
+        ensures none { IfNone result ((n o : ℕ) (b : Bool) → takes removal b n ≡ true
+            → has_place_at self.now client n o b ≡ false) }
+    {
+        match self.clients.get(&client) {
+            Some(holdings) => holdings.find(removal),
+            None => None,
+        }
+    }
+
+    /// Reserves capacity for `count` more entries of the client, of which `further` have a number that
+    /// is known. Fails if out of memory.
+    pub fn reserve(&mut self, client: u16, count: usize, further: usize) -> Result<(), AllocError>
+        ensures places { (c n o : ℕ) (b : Bool) → has_place_at self.new c n o b ≡ has_place_at self.old c n o b }
+        ensures numbers { (c n : ℕ) → has_number_at self.new c n ≡ has_number_at self.old c n }
+        ensures count { (c : ℕ) → count_at self.new c ≡ count_at self.old c }
+        ensures room { OnOk result (count ≤ place_room_at self.new client) }
+        ensures further { OnOk result (further ≤ further_room_at self.new client) }
         ensures idle { (c : ℕ) → is_idle_client self.new c ≡ true → (is_idle_client self.old c || client == c) ≡ true }
     {
         match self.clients.get_mut(&client) {
-            Some(holdings) => holdings.reserve_lock(),
+            Some(holdings) => holdings.reserve(count, further),
             None => {
                 let mut holdings = Holdings::new(self.alloc);
-                holdings.reserve_lock()?;
+                holdings.reserve(count, further)?;
                 drop(self.clients.insert(client, holdings)?);
                 Ok(())
             }
         }
     }
 
-    /// Reserves capacity for `count` more entries of the client, held or waiting. Fails if out of
-    /// memory.
-    pub fn reserve(&mut self, client: u16, count: usize) -> Result<(), AllocError>
-        ensures places { (c : ℕ) → places_at self.new c ≡ places_at self.old c }
-        ensures held { OnOk result
-            (length (places_at self.new client).waiting + count ≤ held_room_at self.new client) }
-        ensures waiting { OnOk result (count ≤ waiting_room_at self.new client) }
-        ensures kept { (c : ℕ) → held_room_at self.old c ≤ held_room_at self.new c }
-        ensures kept_waiting { (c : ℕ) → waiting_room_at self.old c ≤ waiting_room_at self.new c }
-        ensures idle { (c : ℕ) → is_idle_client self.new c ≡ true → (is_idle_client self.old c || client == c) ≡ true }
+    /// Frees the client's capacity for further places if it has none.
+    pub fn shrink(&mut self, client: u16)
+        ensures places { (c n o : ℕ) (b : Bool) → has_place_at self.new c n o b ≡ has_place_at self.old c n o b }
+        ensures count { (c : ℕ) → count_at self.new c ≡ count_at self.old c }
+        ensures idle { (c : ℕ) → is_idle_client self.new c ≡ is_idle_client self.old c }
     {
         match self.clients.get_mut(&client) {
-            Some(holdings) => holdings.reserve(count),
-            None => {
-                let mut holdings = Holdings::new(self.alloc);
-                holdings.reserve(count)?;
-                drop(self.clients.insert(client, holdings)?);
-                Ok(())
-            }
+            Some(holdings) => holdings.shrink(),
+            None => {}
         }
     }
 
-    /// Appends a lock to those of the client. Capacity must be reserved.
-    pub fn hold(&mut self, client: u16, order: u128, number: u32)
-        requires last { is_below (places_at self.old client).held order ≡ true }
-        requires room { 0 < held_room_at self.old client }
-        ensures places { (c : ℕ) → places_at self.new c
-            ≡ (if client == c then with_held (places_at self.old c) order number else places_at self.old c) }
-        ensures held { (c : ℕ)
-            → held_room_at self.old c ≤ held_room_at self.new c + (if client == c then 1 else 0) }
-        ensures waiting { (c : ℕ) → waiting_room_at self.old c ≤ waiting_room_at self.new c }
+    /// Adds an entry of the client. Capacity must be reserved.
+    pub fn add(&mut self, client: u16, number: u32, place: Place)
+        requires room { 0 < place_room_at self.old client }
+        requires further { has_number_at self.old client number ≡ true → 0 < further_room_at self.old client }
+        requires small { count_at self.old client + 1 < 2 ^ 64 }
+        ensures places { (c n o : ℕ) (b : Bool) → has_place_at self.new c n o b
+            ≡ ((client == c && number == n && is_place place o b)
+            || has_place_at self.old c n o b) }
+        ensures count { (c : ℕ) → count_at self.new c ≡ count_at self.old c + (if client == c then 1 else 0) }
+        ensures room { (c : ℕ) → place_room_at self.old c ≤ place_room_at self.new c + 1 }
+        ensures further { (c : ℕ) → further_room_at self.old c ≤ further_room_at self.new c + 1 }
         ensures idle { (c : ℕ) → is_idle_client self.new c ≡ (is_idle_client self.old c && not (client == c)) }
     {
         match self.clients.get_mut(&client) {
-            Some(holdings) => holdings.held.push(order, number),
+            Some(holdings) => holdings.push(number, place),
             None => {}
         }
     }
 
-    /// Appends a request to those of the client. Capacity must be reserved.
-    pub fn wait(&mut self, client: u16, order: u128, number: u32)
-        requires last { is_below (places_at self.old client).waiting order ≡ true }
-        requires room { 0 < waiting_room_at self.old client }
-        ensures places { (c : ℕ) → places_at self.new c ≡ (if client == c
-            then with_waiting (places_at self.old c) order number else places_at self.old c) }
-        ensures held { (c : ℕ) → held_room_at self.old c ≤ held_room_at self.new c }
-        ensures waiting { (c : ℕ)
-            → waiting_room_at self.old c ≤ waiting_room_at self.new c + (if client == c then 1 else 0) }
-        ensures idle { (c : ℕ) → is_idle_client self.new c ≡ (is_idle_client self.old c && not (client == c)) }
-    {
-        match self.clients.get_mut(&client) {
-            Some(holdings) => holdings.waiting.push(order, number),
-            None => {}
-        }
-    }
-
-    /// Removes a lock from those of the client.
-    pub fn drop_held(&mut self, client: u16, order: u128)
-        ensures places { (c : ℕ) → places_at self.new c
-            ≡ (if client == c then without_held (places_at self.old c) order else places_at self.old c) }
-        ensures held { (c : ℕ) → held_room_at self.old c ≤ held_room_at self.new c }
-        ensures waiting { (c : ℕ) → waiting_room_at self.old c ≤ waiting_room_at self.new c }
+    /// Removes an entry of the client.
+    pub fn drop_entry(&mut self, client: u16, number: u32, place: Place)
+        ensures places { (c n o : ℕ) (b : Bool) → has_place_at self.new c n o b
+            ≡ (not (client == c && number == n && is_place place o b)
+            && has_place_at self.old c n o b) }
+        ensures count { (c : ℕ) → count_at self.new c ≡ count_at self.old c - (if client == c then 1 else 0) }
         ensures idle { (c : ℕ) → is_idle_client self.new c ≡ true → (is_idle_client self.old c || client == c) ≡ true }
     {
         match self.clients.get_mut(&client) {
-            Some(holdings) => holdings.held.remove(order),
+            Some(holdings) => holdings.remove(number, place),
             None => {}
         }
     }
 
-    /// Removes a request from those of the client.
-    pub fn drop_waiting(&mut self, client: u16, order: u128)
-        ensures places { (c : ℕ) → places_at self.new c
-            ≡ (if client == c then without_waiting (places_at self.old c) order else places_at self.old c) }
-        ensures held { (c : ℕ) → held_room_at self.old c ≤ held_room_at self.new c }
-        ensures waiting { (c : ℕ) → waiting_room_at self.old c ≤ waiting_room_at self.new c }
-        ensures idle { (c : ℕ) → is_idle_client self.new c ≡ true → (is_idle_client self.old c || client == c) ≡ true }
+    /// Moves a request of the client to its held locks, where it gets another order number.
+    pub fn grant(&mut self, client: u16, number: u32, order: u128, granted: u128)
+        requires { has_place_at self.old client number order false ≡ true }
+        ensures held { (c n o : ℕ) → has_place_at self.new c n o true
+            ≡ ((client == c && number == n && granted == o) || has_place_at self.old c n o true) }
+        ensures waiting { (c n o : ℕ) → has_place_at self.new c n o false
+            ≡ (not (client == c && number == n && order == o) && has_place_at self.old c n o false) }
+        ensures count { (c : ℕ) → count_at self.new c ≡ count_at self.old c }
+        ensures idle { (c : ℕ) → is_idle_client self.new c ≡ is_idle_client self.old c }
     {
         match self.clients.get_mut(&client) {
-            Some(holdings) => holdings.waiting.remove(order),
+            Some(holdings) => holdings.grant(number, order, granted),
             None => {}
         }
     }
 
     /// Removes the client if it has no entry.
     pub fn forget(&mut self, client: u16)
-        ensures places { (c : ℕ) → places_at self.new c ≡ places_at self.old c }
-        ensures room { (c : ℕ) → length (places_at self.old c).waiting ≤ held_room_at self.old c
-            → length (places_at self.new c).waiting ≤ held_room_at self.new c }
+        requires { count_at self.old client ≡ 0 → (n o : ℕ) (b : Bool) → has_place_at self.old client n o b ≡ false }
+        ensures places { (c n o : ℕ) (b : Bool) → has_place_at self.new c n o b ≡ has_place_at self.old c n o b }
+        ensures count { (c : ℕ) → count_at self.new c ≡ count_at self.old c }
         ensures idle { (c : ℕ) → is_idle_client self.new c ≡ (is_idle_client self.old c && not (client == c)) }
     {
         if self.is_idle(client) {
@@ -203,7 +169,7 @@ impl Clients {
         ensures { result ≡ is_idle_client self.now client }
     {
         match self.clients.get(&client) {
-            Some(holdings) => holdings.is_empty(),
+            Some(holdings) => holdings.count == 0,
             None => false,
         }
     }

@@ -1,6 +1,6 @@
 //! Candidates for granting.
 
-ghost use Rattle.std.specs.Prelude.{◌≡◌, ◌+◌, ◌≤◌, ◌<◌, [], ℕ, true, ◌==◌, ◌||◌, length, OnOk, OnSome, IfSome, IfNone};
+ghost use Rattle.std.specs.Prelude.{◌≡◌, ◌+◌, ◌≤◌, ◌<◌, [], ℕ, true, ◌==◌, ◌||◌, length, Some, OnOk, OnSome, IfSome, IfNone};
 ghost use Rattle.wl_table_index.specs.Nexts.{is_among};
 
 use std::alloc::{AllocError, Global};
@@ -61,6 +61,20 @@ impl Candidates {
         ensures room { self.old.room ≤ self.new.room + 1 }
     {
         self.orders.push(Reverse(order)).unwrap();
+    }
+
+    /// Adds the front request of a name, if there is one. Capacity must be reserved.
+    pub fn push_front(&mut self, front: Option<u128>)
+        requires { 0 < self.old.room }
+        ensures front { (k : ℕ) → front ≡ Some k → is_among k self.new.items ≡ true }
+        ensures kept { (k : ℕ) → is_among k self.old.items ≡ true → is_among k self.new.items ≡ true }
+        ensures len { length self.new.items ≤ length self.old.items + 1 }
+        ensures room { self.old.room ≤ self.new.room + 1 }
+    {
+        match front {
+            Some(order) => self.push(order),
+            None => {}
+        }
     }
 
     /// Removes and returns the least candidate.

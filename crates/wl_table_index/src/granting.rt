@@ -58,10 +58,7 @@ impl Index {
         ensures len { length candidates.new.items ≤ length candidates.old.items + 1 }
         ensures room { candidates.old.room ≤ candidates.new.room + 1 }
     {
-        match self.lines.front(place, name) {
-            Some(order) => candidates.push(order),
-            None => {}
-        }
+        candidates.push_front(self.lines.front(place, name));
     }
 
     // Grants a request: moves it from the waiting requests to the end of the held locks. Capacity
@@ -88,12 +85,19 @@ impl Index {
         ensures lean { IsLean self.old → IsLean self.new }
     {
         let probable = self.waiting.line_of(order);
-        match self.take_waiting(order) {
+        match self.waiting.remove(order) {
             Some(row) => {
                 let place = self.lines.place_near(probable, &row.name);
-                self.note_front(place, &row.name, candidates);
+                let turn = self.next;
+                let held = self.held.next_order(turn);
+                let _count = self.held.len();
+                self.next = turn + 1;
+                self.lines.take_out(place, &row.name, order);
+                candidates.push_front(self.lines.front(place, &row.name));
+                self.lines.hold(place, &row.name, row.mode);
+                self.clients.grant(row.client, row.number, order, held);
                 granted.push(Grant::from(&row)).unwrap();
-                self.hold(place, row);
+                self.held.append(turn, place, row);
             }
             None => {}
         }

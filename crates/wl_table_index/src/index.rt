@@ -1,14 +1,14 @@
 //! Index of the two lists of a lock table, by name and by client.
 
-ghost use Rattle.std.specs.Prelude.{◌≡◌, ◌+◌, ◌-◌, ◌<◌, ◌≤◌, ◌^◌, [], ◌∷◌, ◌++◌, ℕ, List, ◌==◌, bytes_eq, OnOk, OnErr, IfOk, IfSome, IfNone};
+ghost use Rattle.std.specs.Prelude.{false, ◌≡◌, ◌+◌, ◌-◌, ◌<◌, ◌≤◌, ◌^◌, [], ◌∷◌, ◌++◌, ℕ, List, ◌==◌, bytes_eq, OnOk, OnErr, IfOk, IfSome, IfNone};
 ghost use Rattle.wl_draft.specs.Tables.{find};
 ghost use Rattle.wl_draft.specs.Locks.{row_of};
+ghost use Rattle.wl_table_index.specs.Clients.{has_number_at};
 ghost use Rattle.wl_table_index.specs.OrderNumbers.{without_order, order_at};
-ghost use Rattle.wl_table_index.specs.NameLines.{HasLine};
-ghost use Rattle.wl_table_index.specs.Clients.{held_room_at};
 ghost use Rattle.wl_table_index.specs.Index.{IsIndexed, IsHoldable, IsReady, TakesRoom, IsLean, IsLeanBut, Fills, Empties};
 
 use crate::clients::Clients;
+use crate::holdings::Place;
 use crate::name_lines::Lines;
 use crate::rows::Rows;
 use std::alloc::{AllocError, Global};
@@ -46,7 +46,7 @@ impl Index {
     /// Appends a held lock. Capacity must be reserved. `place` is the probable place of the name's line.
     pub fn hold(&mut self, place: usize, row: Row)
         requires indexed { IsIndexed self.old }
-        requires holdable { IsHoldable self.old row.client row.name }
+        requires holdable { IsHoldable self.old row.client row.number row.name }
         requires small { self.old.next + 1 < 2 ^ 64 }
         ensures indexed { IsIndexed self.new }
         ensures held { self.new.held.items
@@ -61,15 +61,22 @@ impl Index {
         let _count = self.held.len();
         self.next = turn + 1;
         self.lines.hold(place, &row.name, row.mode);
-        self.clients.hold(row.client, order, row.number);
-        self.held.push(turn, place, row);
+        self.clients.add(
+            row.client,
+            row.number,
+            Place {
+                order,
+                is_held: true,
+            },
+        );
+        self.held.append(turn, place, row);
     }
 
     /// Appends a waiting request, and returns its order number. Capacity must be reserved. `place` is
     /// the probable place of the name's line.
     pub fn queue(&mut self, place: usize, row: Row) -> u128
         requires indexed { IsIndexed self.old }
-        requires ready { IsReady self.old row.client row.name 1 }
+        requires ready { IsReady self.old row.client row.number row.name }
         requires small { self.old.next + 1 < 2 ^ 64 }
         ensures indexed { IsIndexed self.new }
         ensures held { self.new.held.items ≡ self.old.held.items }
@@ -80,10 +87,18 @@ impl Index {
     {
         let turn = self.next;
         let order = self.waiting.next_order(turn);
+        let _count = self.held.len();
         self.next = turn + 1;
         self.lines.push(place, &row.name, order);
-        self.clients.wait(row.client, order, row.number);
-        self.waiting.push(turn, place, row);
+        self.clients.add(
+            row.client,
+            row.number,
+            Place {
+                order,
+                is_held: false,
+            },
+        );
+        self.waiting.append(turn, place, row);
         order
     }
 
@@ -101,7 +116,14 @@ impl Index {
         match self.held.remove(order) {
             Some(row) => {
                 self.lines.remove_holder(place, &row.name, row.mode);
-                self.clients.drop_held(row.client, order);
+                self.clients.drop_entry(
+                    row.client,
+                    row.number,
+                    Place {
+                        order,
+                        is_held: true,
+                    },
+                );
                 Some(row)
             }
             None => None,
@@ -116,18 +138,20 @@ impl Index {
         ensures held { self.new.held.items ≡ self.old.held.items }
         ensures waiting { self.new.waiting.items ≡ without_order order self.old.waiting.items }
         ensures next { self.new.next ≡ self.old.next }
-        ensures room { self.old.held.room ≤ self.new.held.room }
-        ensures slot { self.new.held.slot ≡ self.old.held.slot }
-        ensures client_room { (c : ℕ) → held_room_at self.old.clients c ≤ held_room_at self.new.clients c }
-        ensures lines { (n : List ℕ) → HasLine self.old.lines n → HasLine self.new.lines n }
         ensures empties { IfSome result (λ r. Empties self.old self.new r) }
-        ensures absent { IfNone result (IsLean self.old → IsLean self.new) }
     {
         let place = self.waiting.line_of(order);
         match self.waiting.remove(order) {
             Some(row) => {
                 self.lines.take_out(place, &row.name, order);
-                self.clients.drop_waiting(row.client, order);
+                self.clients.drop_entry(
+                    row.client,
+                    row.number,
+                    Place {
+                        order,
+                        is_held: false,
+                    },
+                );
                 Some(row)
             }
             None => None,
@@ -144,13 +168,14 @@ impl Index {
         name: &Name,
         mode: Mode,
     ) -> Result<Row, AllocError>
-        requires { IsIndexed self.old }
+        requires indexed { IsIndexed self.old }
+        requires fresh { has_number_at self.old.clients client number ≡ false }
         ensures indexed { IsIndexed self.new }
         ensures held { self.new.held.items ≡ self.old.held.items }
         ensures waiting { self.new.waiting.items ≡ self.old.waiting.items }
         ensures next { self.new.next ≡ self.old.next }
         ensures row { IfOk result (λ r. r ≡ row_of client number name.now mode) }
-        ensures ready { OnOk result (IsReady self.new client name.now 1) }
+        ensures ready { OnOk result (IsReady self.new client number name.now) }
         ensures small { OnOk result (self.new.next + 1 < 2 ^ 64) }
         ensures lean { OnOk result (IsLean self.old
             → IsLeanBut self.new (λ n. bytes_eq name.now n) (λ c. client == c)) }
@@ -172,13 +197,14 @@ impl Index {
         name: &Name,
         mode: Mode,
     ) -> Result<Row, AllocError>
-        requires { IsIndexed self.old }
+        requires indexed { IsIndexed self.old }
+        requires fresh { has_number_at self.old.clients client number ≡ false }
         ensures indexed { IsIndexed self.new }
         ensures held { self.new.held.items ≡ self.old.held.items }
         ensures waiting { self.new.waiting.items ≡ self.old.waiting.items }
         ensures next { self.new.next ≡ self.old.next }
         ensures row { IfOk result (λ r. r ≡ row_of client number name.now mode) }
-        ensures ready { OnOk result (IsReady self.new client name.now 1) }
+        ensures ready { OnOk result (IsReady self.new client number name.now) }
         ensures small { OnOk result (self.new.next + 1 < 2 ^ 64) }
         ensures lean { IsLean self.old → IsLeanBut self.new (λ n. bytes_eq name.now n) (λ c. client == c) }
     {
@@ -187,7 +213,7 @@ impl Index {
         }
         self.waiting.reserve(1)?;
         self.held.reserve(self.waiting.len() + 1)?;
-        self.clients.reserve(client, 1)?;
+        self.clients.reserve(client, 1, 0)?;
         self.lines.reserve(place, name, 1)?;
         new_row(client, number, name, mode)
     }
@@ -202,13 +228,14 @@ impl Index {
         name: &Name,
         mode: Mode,
     ) -> Result<Row, AllocError>
-        requires { IsIndexed self.old }
+        requires indexed { IsIndexed self.old }
+        requires fresh { has_number_at self.old.clients client number ≡ false }
         ensures indexed { IsIndexed self.new }
         ensures held { self.new.held.items ≡ self.old.held.items }
         ensures waiting { self.new.waiting.items ≡ self.old.waiting.items }
         ensures next { self.new.next ≡ self.old.next }
         ensures row { IfOk result (λ r. r ≡ row_of client number name.now mode) }
-        ensures holdable { OnOk result (IsHoldable self.new client name.now) }
+        ensures holdable { OnOk result (IsHoldable self.new client number name.now) }
         ensures small { OnOk result (self.new.next + 1 < 2 ^ 64) }
         ensures lean { OnOk result (IsLean self.old
             → IsLeanBut self.new (λ n. bytes_eq name.now n) (λ c. client == c)) }
@@ -230,13 +257,14 @@ impl Index {
         name: &Name,
         mode: Mode,
     ) -> Result<Row, AllocError>
-        requires { IsIndexed self.old }
+        requires indexed { IsIndexed self.old }
+        requires fresh { has_number_at self.old.clients client number ≡ false }
         ensures indexed { IsIndexed self.new }
         ensures held { self.new.held.items ≡ self.old.held.items }
         ensures waiting { self.new.waiting.items ≡ self.old.waiting.items }
         ensures next { self.new.next ≡ self.old.next }
         ensures row { IfOk result (λ r. r ≡ row_of client number name.now mode) }
-        ensures holdable { OnOk result (IsHoldable self.new client name.now) }
+        ensures holdable { OnOk result (IsHoldable self.new client number name.now) }
         ensures small { OnOk result (self.new.next + 1 < 2 ^ 64) }
         ensures lean { IsLean self.old → IsLeanBut self.new (λ n. bytes_eq name.now n) (λ c. client == c) }
     {
@@ -247,7 +275,7 @@ impl Index {
             return Err(AllocError);
         }
         self.held.reserve(most)?;
-        self.clients.reserve_lock(client)?;
+        self.clients.reserve(client, 1, 0)?;
         self.lines.open(place, name)?;
         new_row(client, number, name, mode)
     }

@@ -11,13 +11,12 @@ pub mod index;
 pub mod laws;
 pub mod name_line;
 pub mod name_lines;
-pub mod place_index;
 mod removal;
 pub mod request_queue;
 pub mod restoring;
 pub mod rows;
 
 pub use grant_candidates::Candidates;
+pub use holdings::Removal;
 pub use index::Index;
-pub use place_index::PlaceIndex;
 pub use request_queue::RequestQueue;

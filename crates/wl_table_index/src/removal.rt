@@ -1,70 +1,93 @@
 //! Removal of a client's entries.
 
-ghost use Rattle.std.specs.Prelude.{◌≡◌, ℕ, List, false, not, ◌&&◌, ◌||◌, ◌==◌, bytes_eq, ◌+◌, ◌<◌, ◌≤◌, ◌^◌, OnOk, length, vec_len, vec_capacity};
+ghost use Rattle.std.specs.Prelude.{◌≡◌, ℕ, List, false, true, not, ◌&&◌, ◌||◌, ◌==◌, bytes_eq, ◌+◌, ◌<◌, ◌≤◌, ◌^◌, OnOk, IsSome, length, vec_len, vec_capacity};
+ghost use Rattle.wl_draft.specs.Tables.{find};
 ghost use Rattle.wl_draft.specs.Locks.{is_named};
+ghost use Rattle.wl_table_index.specs.OrderNumbers.{without_order};
 ghost use Rattle.wl_table_index.specs.NameLines.{is_idle_line};
-ghost use Rattle.wl_table_index.specs.Clients.{is_idle_client};
-ghost use Rattle.wl_table_index.specs.Index.{IsIndexed, IsLean, IsLeanBut, places_in};
-ghost use Rattle.wl_table_index.specs.Nexts.{without_meant, AreCandidates};
+ghost use Rattle.wl_table_index.specs.Clients.{is_idle_client, count_at};
+ghost use Rattle.wl_table_index.specs.Index.{IsIndexed, IsLean, IsLeanBut, is_entry};
+ghost use Rattle.wl_table_index.specs.Nexts.{left_by, AreCandidates};
 
 use crate::grant_candidates::Candidates;
+use crate::holdings::Removal;
 use crate::index::Index;
 use std::alloc::AllocError;
 use wl_draft::{Grant, Name, Row};
 
 impl Index {
-    /// Removes the client's held locks with the selected number, or all of them if `which` is
-    /// `None`. The front request of each name concerned becomes a candidate.
-    pub fn take_all_held(&mut self, client: u16, which: Option<u32>, candidates: &mut Candidates)
+    /// Removes the entries of the client that the command removes. The front request of each name
+    /// concerned becomes a candidate.
+    pub fn remove_all(&mut self, client: u16, removal: Removal, candidates: &mut Candidates)
         requires indexed { IsIndexed self.old }
-        requires room { length (places_in client self.old.held.items)
-            + length (places_in client self.old.waiting.items) ≤ candidates.old.room }
+        requires room { count_at self.old.clients client ≤ candidates.old.room }
         requires candidates { AreCandidates candidates.old.items self.old.held.items self.old.waiting.items }
         ensures indexed { IsIndexed self.new }
-        ensures held { self.new.held.items ≡ without_meant client which self.old.held.items }
-        ensures waiting { self.new.waiting.items ≡ self.old.waiting.items }
-        ensures next { self.new.next ≡ self.old.next }
-        ensures room { length (places_in client self.new.waiting.items) ≤ candidates.new.room }
-        ensures candidates { AreCandidates candidates.new.items self.new.held.items self.new.waiting.items }
-        ensures lean { IsLeanBut self.old (λ n. false) (λ c. client == c) → IsLeanBut self.new (λ n. false) (λ c. client == c) }
-    {
-        while let Some(order) = self.clients.find_held(client, which) {
-            let probable = self.held.line_of(order);
-            match self.take_held(order) {
-                Some(row) => {
-                    let place = self.lines.place_near(probable, &row.name);
-                    self.note_front(place, &row.name, candidates);
-                    self.forget_name(place, &row.name);
-                }
-                None => {}
-            }
-        }
-    }
-
-    /// Removes the client's requests with the selected number, or all of them if `which` is `None`.
-    /// The front request of each name concerned becomes a candidate.
-    pub fn take_all_waiting(&mut self, client: u16, which: Option<u32>, candidates: &mut Candidates)
-        requires indexed { IsIndexed self.old }
-        requires room { length (places_in client self.old.waiting.items) ≤ candidates.old.room }
-        requires candidates { AreCandidates candidates.old.items self.old.held.items self.old.waiting.items }
-        ensures indexed { IsIndexed self.new }
-        ensures held { self.new.held.items ≡ self.old.held.items }
-        ensures waiting { self.new.waiting.items ≡ without_meant client which self.old.waiting.items }
+        ensures held { self.new.held.items ≡ left_by client removal true self.old.held.items }
+        ensures waiting { self.new.waiting.items ≡ left_by client removal false self.old.waiting.items }
         ensures next { self.new.next ≡ self.old.next }
         ensures fewer { length self.new.waiting.items ≤ length self.old.waiting.items }
         ensures candidates { AreCandidates candidates.new.items self.new.held.items self.new.waiting.items }
         ensures lean { IsLeanBut self.old (λ n. false) (λ c. client == c) → IsLeanBut self.new (λ n. false) (λ c. client == c) }
     {
-        while let Some(order) = self.clients.find_waiting(client, which) {
-            let probable = self.waiting.line_of(order);
-            match self.take_waiting(order) {
-                Some(row) => {
-                    let place = self.lines.place_near(probable, &row.name);
-                    self.note_front(place, &row.name, candidates);
-                    self.forget_name(place, &row.name);
-                }
-                None => {}
+        while let Some(place) = self.clients.find(client, removal) {
+            if place.is_held {
+                self.drop_held(place.order, candidates);
+            } else {
+                self.drop_waiting(place.order, candidates);
             }
+        }
+    }
+
+    // Removes a held lock. The front request of its name becomes a candidate.
+    fn drop_held(&mut self, order: u128, candidates: &mut Candidates)
+        requires indexed { IsIndexed self.old }
+        requires there { IsSome (find self.old.held.items order) }
+        requires room { 0 < candidates.old.room }
+        ensures indexed { IsIndexed self.new }
+        ensures held { self.new.held.items ≡ without_order order self.old.held.items }
+        ensures waiting { self.new.waiting.items ≡ self.old.waiting.items }
+        ensures next { self.new.next ≡ self.old.next }
+        ensures room { candidates.old.room ≤ candidates.new.room + 1 }
+        ensures candidates { AreCandidates candidates.old.items self.old.held.items self.old.waiting.items
+            → AreCandidates candidates.new.items self.new.held.items self.new.waiting.items }
+        ensures lean { (client number : ℕ) → is_entry client number (find self.old.held.items order) ≡ true
+            → IsLeanBut self.old (λ n. false) (λ c. client == c) → IsLeanBut self.new (λ n. false) (λ c. client == c) }
+    {
+        let probable = self.held.line_of(order);
+        match self.take_held(order) {
+            Some(row) => {
+                let place = self.lines.place_near(probable, &row.name);
+                self.note_front(place, &row.name, candidates);
+                self.forget_name(place, &row.name);
+            }
+            None => {}
+        }
+    }
+
+    // Removes a waiting request. The front request of its name becomes a candidate.
+    fn drop_waiting(&mut self, order: u128, candidates: &mut Candidates)
+        requires indexed { IsIndexed self.old }
+        requires there { IsSome (find self.old.waiting.items order) }
+        requires room { 0 < candidates.old.room }
+        ensures indexed { IsIndexed self.new }
+        ensures held { self.new.held.items ≡ self.old.held.items }
+        ensures waiting { self.new.waiting.items ≡ without_order order self.old.waiting.items }
+        ensures next { self.new.next ≡ self.old.next }
+        ensures room { candidates.old.room ≤ candidates.new.room + 1 }
+        ensures candidates { AreCandidates candidates.old.items self.old.held.items self.old.waiting.items
+            → AreCandidates candidates.new.items self.new.held.items self.new.waiting.items }
+        ensures lean { (client number : ℕ) → is_entry client number (find self.old.waiting.items order) ≡ true
+            → IsLeanBut self.old (λ n. false) (λ c. client == c) → IsLeanBut self.new (λ n. false) (λ c. client == c) }
+    {
+        let probable = self.waiting.line_of(order);
+        match self.take_waiting(order) {
+            Some(row) => {
+                let place = self.lines.place_near(probable, &row.name);
+                self.note_front(place, &row.name, candidates);
+                self.forget_name(place, &row.name);
+            }
+            None => {}
         }
     }
 

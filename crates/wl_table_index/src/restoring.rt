@@ -56,7 +56,7 @@ impl Index {
         };
         self.waiting.reserve(waiting.len())?;
         self.held.reserve(most)?;
-        self.clients.reserve(client, more)?;
+        self.clients.reserve(client, more, more)?;
         self.lines.open_all(held)?;
         self.lines.reserve_all(waiting)
     }
@@ -96,5 +96,6 @@ impl Index {
             let order = self.queue(place, row);
             candidates.push(order);
         }
+        self.clients.shrink(client);
     }
 }

@@ -80,7 +80,7 @@ impl Rows {
     }
 
     /// Appends a row. Its order number must be above all others, and capacity must be reserved.
-    pub fn push(&mut self, turn: u64, line: usize, row: Row)
+    pub fn append(&mut self, turn: u64, line: usize, row: Row)
         requires last { is_below self.old.items (order_at turn self.old.slot) ≡ true }
         requires room { 0 < self.old.room }
         ensures items { self.new.items ≡ self.old.items ++ (order_at turn self.old.slot, row) ∷ [] }

@@ -5,8 +5,13 @@ use Rattle.wl_table_index.specs.OrderNumbers.{order_at}
 use Rattle.wl_table_index.specs.Index.{locks_in}
 use Rattle.wl_table_index.proofs.IndexLemmas.{probed-free}
 use Rattle.wl_table_index.proofs.LeanLemmas.{lean-filled}
+use Rattle.wl_table_index.proofs.PlaceLemmas.{number-absent}
 use Rattle.wl_table_index.proofs.CandidateLemmas.{candidates-held}
 use Rattle.wl_table.proofs.indexed_table.IndexedTable.grant_immediately.Goals as goal
+
+pub ready_lock-requires-clause-fresh : goal.ready_lock-requires-clause-fresh
+ready_lock-requires-clause-fresh c =
+    number-absent c.self.inside.index c.args.client c.args.number c.self.invariant.index (rw (← c.self.view_is) at c.requires.fresh)
 
 pub invariant_of-self-2 : goal.invariant_of-self-2
 invariant_of-self-2 c =
@@ -26,7 +31,7 @@ returns-clause-grants c =
 
 pub returns-clause-ok : goal.returns-clause-ok
 returns-clause-ok c =
-    let e = rw (← c.self.view_is) at c.requires in
+    let e = rw (← c.self.view_is) at c.requires.grantable in
     let k = order_at c.ready_lock.new.self.next c.ready_lock.new.self.held.slot in
     let items : c.hold.new.self.held.items ≡ c.self.inside.index.held.items ++ (k, (row_of c.args.client c.args.number c.args.name.now c.args.mode)) ∷ [] = c.hold.ensures.held ∙ ap (λ h. h ++ (k, c.in_ok-row.row) ∷ []) c.in_ok-row.ensures.held ∙ ap (λ r. c.self.inside.index.held.items ++ (k, r) ∷ []) c.in_ok-row.ensures.row in
     let same : c.hold.new.self.waiting.items ≡ c.self.inside.index.waiting.items = c.hold.ensures.waiting ∙ c.in_ok-row.ensures.waiting in

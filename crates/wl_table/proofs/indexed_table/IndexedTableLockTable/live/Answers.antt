@@ -1,9 +1,8 @@
 use Rattle.std.proofs.Common.{◌∙◌, sym}
-use Rattle.wl_table_index.specs.Clients.{places_at}
-use Rattle.wl_table_index.proofs.IndexLemmas.{live-places}
+use Rattle.wl_table_index.proofs.IndexLemmas.{live-counts}
 use Rattle.wl_table.proofs.indexed_table.IndexedTableLockTable.live.Goals as goal
 
 pub returns : goal.returns
 returns c =
-    rw (← c.self.view_is)
-    (c.live.ensures ∙ sym (live-places c.self.inside.index.held.items c.self.inside.index.waiting.items (places_at c.self.inside.index.clients c.args.client) c.args.client (c.self.invariant.index.clients c.args.client)))
+    let t = c.self.inside.index in
+    rw (← c.self.view_is) (c.live.ensures ∙ c.self.invariant.index.counts c.args.client ∙ sym (live-counts t.held.items t.waiting.items c.args.client))

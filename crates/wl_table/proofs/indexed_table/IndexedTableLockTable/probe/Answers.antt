@@ -15,8 +15,8 @@ returns-then-not-is_next-clause-ok c =
     let e : is_grantable (values_in c.self.inside.index.held.items) (values_in c.self.inside.index.waiting.items) (row_of c.args.client c.args.number c.args.name.now c.args.mode) ≡ false = grantable-known c.self.inside.index.held.items c.self.inside.index.waiting.items (line_at c.self.inside.index.lines c.args.name.now) (row_of c.args.client c.args.number c.args.name.now c.args.mode) c.ask-place.result.1 false (c.self.invariant.index.lines c.args.name.now) c.ask-place.ensures c.if-not-is_next.true in
     rw (← c.self.view_is) (probed-stuck c.self.inside.index.held.items c.self.inside.index.waiting.items (row_of c.args.client c.args.number c.args.name.now c.args.mode) e)
 
-pub grant_immediately-requires : goal.grant_immediately-requires
-grant_immediately-requires c =
+pub grant_immediately-requires-clause-grantable : goal.grant_immediately-requires-clause-grantable
+grant_immediately-requires-clause-grantable c =
     let e : is_grantable (values_in c.self.inside.index.held.items) (values_in c.self.inside.index.waiting.items) (row_of c.args.client c.args.number c.args.name.now c.args.mode) ≡ true = grantable-known c.self.inside.index.held.items c.self.inside.index.waiting.items (line_at c.self.inside.index.lines c.args.name.now) (row_of c.args.client c.args.number c.args.name.now c.args.mode) c.ask-place.result.1 true (c.self.invariant.index.lines c.args.name.now) c.ask-place.ensures c.if-not-is_next.false in
     rw (← c.self.view_is) e
 

@@ -6,13 +6,14 @@ use Rattle.wl_table_index.specs.NameLines.{line_at}
 use Rattle.wl_table_index.specs.Nexts.{is_among, AreCandidates}
 use Rattle.wl_table_index.proofs.IndexLemmas.{queued-in, grantable-known}
 use Rattle.wl_table_index.proofs.Stuck.{AreStuck}
+use Rattle.wl_table_index.proofs.PlaceLemmas.{number-absent}
 use Rattle.wl_table_index.proofs.SettleLemmas.{newly-alone, settle-alone}
 use Rattle.wl_table_index.proofs.LeanLemmas.{lean-filled, no-items}
 use Rattle.wl_table_index.proofs.CandidateLemmas.{no-candidates, candidates-queued, pushed-here, pushed-kept}
 use Rattle.wl_table.proofs.indexed_table.IndexedTableLockTable.request.Goals as goal
 
-pub grant_immediately-requires : goal.grant_immediately-requires
-grant_immediately-requires c =
+pub grant_immediately-requires-clause-grantable : goal.grant_immediately-requires-clause-grantable
+grant_immediately-requires-clause-grantable c =
     let e : is_grantable (values_in c.self.inside.index.held.items) (values_in c.self.inside.index.waiting.items) (row_of c.args.client c.args.number c.args.name.now c.args.mode) ≡ true = grantable-known c.self.inside.index.held.items c.self.inside.index.waiting.items (line_at c.self.inside.index.lines c.args.name.now) (row_of c.args.client c.args.number c.args.name.now c.args.mode) c.ask-place.result.1 true (c.self.invariant.index.lines c.args.name.now) c.ask-place.ensures c.if-is_next.true in
     rw (← c.self.view_is) e
 
@@ -31,6 +32,10 @@ returns-then-is_next-clause-ok c =
     let none : AreCandidates [] c.self.inside.index.held.items c.self.inside.index.waiting.items = rw (no-items c.self.inside.candidates.items (sym c.is_empty.ensures ∙ c.if-is_empty.true)) at c.self.invariant.candidates in
     let stuck : AreStuck c.args.self.now.held [] c.args.self.now.waiting = rw (← c.self.view_is) (no-candidates c.self.inside.index.held.items c.self.inside.index.waiting.items none) in
     rw (settle-alone c.args.self.now (row_of c.args.client c.args.number c.args.name.now c.args.mode) stuck known) c.grant_immediately.ensures.ok
+
+pub ready-requires-clause-fresh : goal.ready-requires-clause-fresh
+ready-requires-clause-fresh c =
+    number-absent c.self.inside.index c.args.client c.args.number c.self.invariant.index (rw (← c.self.view_is) at c.requires)
 
 pub settle-requires-clause-candidates : goal.settle-requires-clause-candidates
 settle-requires-clause-candidates c =

@@ -1,23 +1,26 @@
-use Rattle.std.proofs.Common.{◌≡◌, ◌<◌, ◌+◌, ◌∙◌, true, cond, length, sym, ap, arith}
+use Rattle.std.proofs.Common.{◌≡◌, ◌<◌, ◌+◌, ◌∙◌, ℕ, true, false, ◌&&◌, ◌||◌, cond, sym, ap, arith}
 use Rattle.std.specs.Prelude.{◌==◌, bytes_eq}
-use Rattle.wl_table_index.specs.Index.{line_of, places_of}
+use Rattle.wl_draft.specs.declared.row.Row.{Row}
+use Rattle.wl_draft.specs.Tables.{find}
+use Rattle.wl_table_index.specs.Index.{line_of, is_entry}
 use Rattle.wl_table_index.specs.NameLines.{with_holder}
-use Rattle.wl_table_index.specs.Clients.{places_at, held_room_at, with_held}
 use Rattle.wl_table_index.specs.OrderNumbers.{is_below, order_at}
 use Rattle.wl_table_index.proofs.OrderLemmas.{rising-last}
-use Rattle.wl_table_index.proofs.IndexLemmas.{below-last, below-more, line-held, client-held, counts-length}
-use Rattle.wl_table_index.proofs.EntryLemmas.{below-places, room-step, length-held}
+use Rattle.wl_table_index.proofs.IndexLemmas.{below-last, below-more, line-held, counts-length, count-within, count-last}
+use Rattle.wl_table_index.proofs.PlaceLemmas.{entry-pushed, other-added}
 use Rattle.wl_table_index.proofs.index.Index.hold.Goals as goal
 
-pub hold-requires-2-clause-last : goal.hold-requires-2-clause-last
-hold-requires-2-clause-last c =
-    let t = c.args.self.now in
-    let o = order_at t.next t.held.slot in
-    let below : is_below t.held.items o ≡ true = below-more (order_at t.next 0) o t.held.items (omega arith) c.requires.indexed.held_below in
-    rw (c.requires.indexed.clients c.args.row.client, c.next_order-order.ensures.order) (below-places c.args.row.client o t.held.items below)
+pub add-requires-clause-further : goal.add-requires-clause-further
+add-requires-clause-further c = c.requires.holdable.further
 
-pub push-requires-clause-last : goal.push-requires-clause-last
-push-requires-clause-last c =
+pub add-requires-clause-small : goal.add-requires-clause-small
+add-requires-clause-small c =
+    let k = c.args.row.client in
+    let t = c.args.self.now in
+    omega (arith, c.requires.indexed.counts k, count-within k t.held.items, count-within k t.waiting.items, c.len-count.ensures.len, c.len-count.ensures.small, c.requires.holdable.held)
+
+pub append-requires-clause-last : goal.append-requires-clause-last
+append-requires-clause-last c =
     let t = c.args.self.now in
     below-more (order_at t.next 0) (order_at t.next t.held.slot) t.held.items (omega arith) c.requires.indexed.held_below
 
@@ -39,15 +42,13 @@ returns-clause-indexed c =
     let l : o < order_at (t.next + 1) 0 = omega (arith, c.next_order-order.ensures.slot) in
     let below : is_below t.held.items o ≡ true = below-more (order_at t.next 0) o t.held.items (omega arith) i.held_below in
     record {
-      held_rise = rw c.push.ensures.items (rising-last o r t.held.items i.held_rise below);
+      held_rise = rw c.append.ensures.items (rising-last o r t.held.items i.held_rise below);
       waiting_rise = i.waiting_rise;
-      held_below = rw c.push.ensures.items (below-last o (order_at (t.next + 1) 0) r t.held.items l below);
+      held_below = rw c.append.ensures.items (below-last o (order_at (t.next + 1) 0) r t.held.items l below);
       waiting_below = below-more (order_at t.next 0) (order_at (t.next + 1) 0) t.waiting.items (omega arith) i.waiting_below;
-      lines = λ n. c.hold.ensures.lines n ∙ ap (λ s. cond (bytes_eq r.name n) (with_holder s r.mode) s) (i.lines n) ∙ line-held n t.held.items t.waiting.items o r ∙ ap (λ h. line_of n h t.waiting.items) (sym c.push.ensures.items);
-      clients = λ k. c.hold-2.ensures.places k ∙ ap (λ s. cond (r.client == k) (with_held s c.next_order-order.result r.number) s) (i.clients k) ∙ ap (λ j. cond (r.client == k) (with_held (places_of k t.held.items t.waiting.items) j r.number) (places_of k t.held.items t.waiting.items)) same ∙ client-held k t.held.items t.waiting.items o r ∙ ap (λ h. places_of k h t.waiting.items) (sym c.push.ensures.items);
-      room = omega (arith, c.requires.holdable.held, c.push.ensures.room);
-      client_room = λ k.
-          let e = length-held (r.client == k) (places_at t.clients k) c.next_order-order.result r.number in
-          let m = room-step r.client k (λ j. length (places_at t.clients j).waiting) (λ j. held_room_at t.clients j) (λ j. held_room_at c.hold-2.new.self j) c.requires.holdable.client_held (i.client_room k) (c.hold-2.ensures.held k) in
-          rw (c.hold-2.ensures.places k, e) m;
+      lines = λ n. c.hold.ensures.lines n ∙ ap (λ s. cond (bytes_eq r.name n) (with_holder s r.mode) s) (i.lines n) ∙ line-held n t.held.items t.waiting.items o r ∙ ap (λ h. line_of n h t.waiting.items) (sym c.append.ensures.items);
+      held_places = λ k n j. c.add.ensures.places k n j true ∙ ap (λ b. (r.client == k && r.number == n && c.next_order-order.result == j) || b) (i.held_places k n j) ∙ ap (λ (x : ℕ). (r.client == k && r.number == n && x == j) || is_entry k n (find t.held.items j)) same ∙ entry-pushed k n j o r t.held.items below ∙ ap (λ h. is_entry k n (find h j)) (sym c.append.ensures.items);
+      waiting_places = λ k n j. c.add.ensures.places k n j false ∙ other-added (r.client == k && r.number == n) _ ∙ i.waiting_places k n j;
+      counts = λ k. rw c.append.ensures.items (omega (arith, c.add.ensures.count k, i.counts k, count-last (λ (p : ℕ × Row). p.1.client == k) (o, r) t.held.items));
+      room = omega (arith, c.requires.holdable.held, c.append.ensures.room);
     }

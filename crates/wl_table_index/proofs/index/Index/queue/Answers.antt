@@ -1,28 +1,31 @@
-use Rattle.std.proofs.Common.{◌≡◌, ◌<◌, ◌+◌, ◌∙◌, true, cond, length, sym, ap, arith}
+use Rattle.std.proofs.Common.{◌≡◌, ◌<◌, ◌+◌, ◌∙◌, ℕ, true, false, ◌&&◌, ◌||◌, cond, sym, ap, arith}
 use Rattle.std.specs.Prelude.{◌==◌, bytes_eq}
+use Rattle.wl_draft.specs.declared.row.Row.{Row}
+use Rattle.wl_draft.specs.Tables.{find}
 use Rattle.wl_table_index.specs.OrderNumbers.{is_below, order_at}
-use Rattle.wl_table_index.specs.Index.{line_of, places_of}
+use Rattle.wl_table_index.specs.Index.{line_of, is_entry}
 use Rattle.wl_table_index.specs.NameLines.{with_waiter}
-use Rattle.wl_table_index.specs.Clients.{places_at, held_room_at, with_waiting}
 use Rattle.wl_table_index.proofs.OrderLemmas.{rising-last}
-use Rattle.wl_table_index.proofs.IndexLemmas.{below-last, below-more, line-queued, client-queued, length-queued}
-use Rattle.wl_table_index.proofs.EntryLemmas.{below-places, room-waiting, length-waiting}
+use Rattle.wl_table_index.proofs.IndexLemmas.{below-last, below-more, line-queued, length-queued, count-within, count-last}
+use Rattle.wl_table_index.proofs.PlaceLemmas.{entry-pushed, other-added}
 use Rattle.wl_table_index.proofs.index.Index.queue.Goals as goal
 
-pub wait-requires-clause-last : goal.wait-requires-clause-last
-wait-requires-clause-last c =
-    let t = c.args.self.now in
-    let o = order_at t.next t.waiting.slot in
-    let below : is_below t.waiting.items o ≡ true = below-more (order_at t.next 0) o t.waiting.items (omega arith) c.requires.indexed.waiting_below in
-    rw (c.requires.indexed.clients c.args.row.client, c.next_order-order.ensures.order) (below-places c.args.row.client o t.waiting.items below)
+pub add-requires-clause-further : goal.add-requires-clause-further
+add-requires-clause-further c = c.requires.ready.further
 
-pub push-requires-2-clause-last : goal.push-requires-2-clause-last
-push-requires-2-clause-last c =
+pub add-requires-clause-small : goal.add-requires-clause-small
+add-requires-clause-small c =
+    let k = c.args.row.client in
+    let t = c.args.self.now in
+    omega (arith, c.requires.indexed.counts k, count-within k t.held.items, count-within k t.waiting.items, c.len-count.ensures.len, c.len-count.ensures.small, c.requires.ready.held)
+
+pub append-requires-clause-last : goal.append-requires-clause-last
+append-requires-clause-last c =
     let t = c.args.self.now in
     below-more (order_at t.next 0) (order_at t.next t.waiting.slot) t.waiting.items (omega arith) c.requires.indexed.waiting_below
 
 pub returns-clause-waiting : goal.returns-clause-waiting
-returns-clause-waiting c = rw c.next_order-order.ensures.order c.push-2.ensures.items
+returns-clause-waiting c = rw c.next_order-order.ensures.order c.append.ensures.items
 
 pub returns-clause-indexed : goal.returns-clause-indexed
 returns-clause-indexed c =
@@ -35,14 +38,12 @@ returns-clause-indexed c =
     let below : is_below t.waiting.items o ≡ true = below-more (order_at t.next 0) o t.waiting.items (omega arith) i.waiting_below in
     record {
       held_rise = i.held_rise;
-      waiting_rise = rw c.push-2.ensures.items (rising-last o r t.waiting.items i.waiting_rise below);
+      waiting_rise = rw c.append.ensures.items (rising-last o r t.waiting.items i.waiting_rise below);
       held_below = below-more (order_at t.next 0) (order_at (t.next + 1) 0) t.held.items (omega arith) i.held_below;
-      waiting_below = rw c.push-2.ensures.items (below-last o (order_at (t.next + 1) 0) r t.waiting.items l below);
-      lines = λ n. c.push.ensures.lines n ∙ ap (λ s. cond (bytes_eq r.name n) (with_waiter s c.next_order-order.result) s) (i.lines n) ∙ ap (λ j. cond (bytes_eq r.name n) (with_waiter (line_of n t.held.items t.waiting.items) j) (line_of n t.held.items t.waiting.items)) same ∙ line-queued n t.held.items t.waiting.items o r ∙ ap (λ w. line_of n t.held.items w) (sym c.push-2.ensures.items);
-      clients = λ k. c.wait.ensures.places k ∙ ap (λ s. cond (r.client == k) (with_waiting s c.next_order-order.result r.number) s) (i.clients k) ∙ ap (λ j. cond (r.client == k) (with_waiting (places_of k t.held.items t.waiting.items) j r.number) (places_of k t.held.items t.waiting.items)) same ∙ client-queued k t.held.items t.waiting.items o r ∙ ap (λ w. places_of k t.held.items w) (sym c.push-2.ensures.items);
-      room = rw (c.push-2.ensures.items, length-queued t.waiting.items o r) c.requires.ready.held;
-      client_room = λ k.
-          let e = length-waiting (r.client == k) (places_at t.clients k) c.next_order-order.result r.number in
-          let m = room-waiting r.client k (λ j. length (places_at t.clients j).waiting) (λ j. held_room_at t.clients j) (held_room_at c.wait.new.self k) c.requires.ready.client_held (i.client_room k) (c.wait.ensures.held k) in
-          rw (c.wait.ensures.places k, e) m;
+      waiting_below = rw c.append.ensures.items (below-last o (order_at (t.next + 1) 0) r t.waiting.items l below);
+      lines = λ n. c.push.ensures.lines n ∙ ap (λ s. cond (bytes_eq r.name n) (with_waiter s c.next_order-order.result) s) (i.lines n) ∙ ap (λ j. cond (bytes_eq r.name n) (with_waiter (line_of n t.held.items t.waiting.items) j) (line_of n t.held.items t.waiting.items)) same ∙ line-queued n t.held.items t.waiting.items o r ∙ ap (λ w. line_of n t.held.items w) (sym c.append.ensures.items);
+      held_places = λ k n j. c.add.ensures.places k n j true ∙ other-added (r.client == k && r.number == n) _ ∙ i.held_places k n j;
+      waiting_places = λ k n j. c.add.ensures.places k n j false ∙ ap (λ b. (r.client == k && r.number == n && c.next_order-order.result == j) || b) (i.waiting_places k n j) ∙ ap (λ (x : ℕ). (r.client == k && r.number == n && x == j) || is_entry k n (find t.waiting.items j)) same ∙ entry-pushed k n j o r t.waiting.items below ∙ ap (λ w. is_entry k n (find w j)) (sym c.append.ensures.items);
+      counts = λ k. rw c.append.ensures.items (omega (arith, c.add.ensures.count k, i.counts k, count-last (λ (p : ℕ × Row). p.1.client == k) (o, r) t.waiting.items));
+      room = rw (c.append.ensures.items, length-queued t.waiting.items o r) (omega (arith, c.requires.ready.held));
     }
