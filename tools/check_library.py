@@ -259,6 +259,20 @@ def check_vectors(installed):
     same("check_vectors.py", "standard error", ran.stderr, "")
 
 
+def check_refused_calls(installed):
+    """They do so, too, whichever of their allocations is refused."""
+    folder = installed.folder / "refusing"
+    folder.mkdir()
+    for name in LIBRARIES:
+        words = ["cc", *FLAGS, "-fPIC", "-shared", "-o", folder / f"lib{name}.so", TOOLS / "refuse_numbered.c"]
+        archive = installed.prefix / "lib" / f"lib{name}.a"
+        ran = run([*words, "-Wl,--wrap=malloc,--wrap=realloc", "-Wl,--whole-archive", archive, "-Wl,--no-whole-archive"])
+        same(f"cc refuse_numbered.c lib{name}.a", "standard error", ran.stderr, "")
+    ran = run([sys.executable, TOOLS / "refused_calls.py", folder])
+    differences.extend(ran.stdout.splitlines())
+    same("refused_calls.py", "standard error", ran.stderr, "")
+
+
 def check_edges(installed):
     for program in builds_of(installed, TOOLS / "library_edges.c"):
         ends(program.name, installed.play(program), "")
@@ -297,6 +311,7 @@ CHECKS = [
     check_browser,
     check_refused,
     check_vectors,
+    check_refused_calls,
     check_edges,
     check_fuzz,
     check_fuzz_finds,

@@ -535,8 +535,10 @@ class Hub(Library):
             pass
 
     def open(self, words):
-        tab, url = words
-        self.call("open", ctypes.c_uint16(tab), *span(url.encode()))
+        """Opens a tab with its URL, or with the URL at the top and its own."""
+        tab, *urls = words
+        spans = [word for url in urls for word in span(url.encode())]
+        self.call("open" if len(urls) == 1 else "open_pair", ctypes.c_uint16(tab), *spans)
 
     def close(self, tab):
         self.call("close", ctypes.c_uint16(tab))
@@ -555,8 +557,7 @@ class Hub(Library):
         return [(tab.value, frame) for frame in self.outputs(ctypes.byref(tab))]
 
 
-def check_hub(folder, vector):
-    hub = Hub(folder)
+def check_hub(hub, vector):
     for place, step in enumerate(vector["steps"]):
         name = f"{vector['name']}, step {place}"
         (action,) = [key for key in ("open", "close", "restart", "receives") if key in step]
@@ -564,15 +565,19 @@ def check_hub(folder, vector):
         found, wanted = hub.sends(), [(tab, hex_of(text)) for tab, text in step["sends"]]
         same(name, "the tabs to which the hub sends", [tab for tab, _ in found], [tab for tab, _ in wanted])
         same_lists(name, "what the hub sends", [frame for _, frame in found], [frame for _, frame in wanted])
+
+
+def check_hub_conversation(hub, vector):
+    try:
+        check_hub(hub, vector)
+    except Failed as failed:
+        differences.append(f"{vector['name']}: {failed}")
     hub.free()
 
 
 def check_hubs(folder, vectors):
     for vector in vectors["hubs"]:
-        try:
-            check_hub(folder, vector)
-        except Failed as failed:
-            differences.append(f"{vector['name']}: {failed}")
+        check_hub_conversation(Hub(folder), vector)
 
 
 # ---- The command line

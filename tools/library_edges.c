@@ -370,6 +370,69 @@ static void channels(void) {
     end();
 }
 
+// Writes the next output of the hub, which is for this tab.
+static void next_output_for(uint16_t tab) {
+    uint16_t found = UNTOUCHED;
+    size_t length;
+    expect(WLB_OK, wlb_hub_next_output(&hub, &found, frame_bytes, sizeof frame_bytes, &length));
+    expect(tab, found);
+}
+
+static void expect_numbers(uint32_t generation, uint32_t living, uint32_t untold, uint64_t outputs) {
+    wlb_hub_numbers numbers;
+    expect(WLB_OK, wlb_hub_status(&hub, &numbers));
+    expect((int32_t)generation, (int32_t)numbers.generation);
+    expect((int32_t)living, (int32_t)numbers.living);
+    expect((int32_t)untold, (int32_t)numbers.untold);
+    expect((int32_t)outputs, (int32_t)numbers.outputs);
+}
+
+// A close drops the frames of its tab that the hub has not handled. Output for a dead tab and of an earlier generation is dropped.
+static void dropped_output(void) {
+    uint32_t number;
+    uint16_t tab = UNTOUCHED;
+    size_t length = UNTOUCHED;
+    begin();
+    open_client(3, URL);
+    send_down();
+    forget_events(3);
+    expect(WLB_OK, wlb_client_request(&clients[1], bytes_of("a"), 1, false, &number));
+    pass(1);
+    last_of(1, WLB_GRANTED);
+    expect(WLB_OK, wlb_client_request(&clients[3], bytes_of("a"), 1, false, &number));
+    pass(3);
+    last_of(3, WLB_WAITING);
+    // The release of tab 1 arrives, but is not handled before its close.
+    expect(WLB_OK, wlb_client_release(&clients[1], 0));
+    expect(WLB_OK, wlb_client_next_output(&clients[1], frame_bytes, sizeof frame_bytes, &length));
+    expect(WLB_OK, wlb_hub_receive(&hub, 1, frame_bytes, length));
+    expect(WLB_BUSY, wlb_hub_receive(&hub, 3, frame_bytes, length));
+    expect(WLB_OK, wlb_hub_close(&hub, 1));
+    expect_numbers(1, 2, 1, 0);
+    expect(WLB_OK, wlb_hub_advance(&hub));
+    expect(WLB_IDLE, wlb_hub_advance(&hub));
+    expect_numbers(1, 2, 0, 1);
+    // Tab 3 gets the lock at the death, and dies before the grant is sent.
+    expect(WLB_OK, wlb_hub_close(&hub, 3));
+    advance_hub();
+    length = UNTOUCHED;
+    expect(WLB_DROPPED, wlb_hub_next_output(&hub, &tab, frame_bytes, sizeof frame_bytes, &length));
+    expect(WLB_IDLE, wlb_hub_next_output(&hub, &tab, frame_bytes, sizeof frame_bytes, &length));
+    expect(UNTOUCHED, tab);
+    expect(UNTOUCHED, (int32_t)length);
+    // A grant for tab 2 is not sent before the restart.
+    expect(WLB_OK, wlb_client_request(&clients[2], bytes_of("a"), 1, false, &number));
+    send_up(2);
+    expect_numbers(1, 1, 0, 1);
+    expect(WLB_OK, wlb_hub_restart(&hub));
+    expect_numbers(2, 1, 0, 2);
+    expect(WLB_DROPPED, wlb_hub_next_output(&hub, &tab, frame_bytes, sizeof frame_bytes, &length));
+    next_output_for(2);
+    expect(WLB_IDLE, wlb_hub_next_output(&hub, &tab, frame_bytes, sizeof frame_bytes, &length));
+    wlb_client_free(&clients[3]);
+    end();
+}
+
 // Takes and drops what the client of tab 1 puts out.
 static void drop_output(void) {
     size_t length;
@@ -412,6 +475,7 @@ int main(void) {
     partitions();
     recovery();
     ended_numbers();
+    dropped_output();
     channels();
     used_up();
     return 0;

@@ -1,6 +1,4 @@
-//! Modules: rows of events, ends of a run of the sim, a hub, and clients of a hub.
+//! Modules: rows of events, and ends of a run of the sim.
 
-mod client;
-mod hub;
 mod rows;
 mod sim_ends;
