@@ -136,11 +136,20 @@ export class Kernel {
     }
   }
 
+  /** Returns whether so many milliseconds pass in which no tab comes and the kernel does not end. Its script may still open tabs. */
+  async #isLate(ms) {
+    for (let came = -1; came < this.tabs.size;) {
+      came = this.tabs.size;
+      if (await within(this.ended, ms) !== LATE) return false;
+    }
+    return true;
+  }
+
   /** Has all tabs leave, waits for the kernel's end, and returns what is not as it should be. */
   async end() {
     const faults = [];
     for (const tab of this.tabs.values()) this.send(tab, { op: 'exit' });
-    if (await within(this.ended, 10000) === LATE) {
+    if (await this.#isLate(10000)) {
       faults.push('the kernel does not end');
       for (const tab of this.tabs.values()) this.kill(tab);
       if (await within(this.ended, 3000) === LATE) this.#child.kill('SIGKILL');
