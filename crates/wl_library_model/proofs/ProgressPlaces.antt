@@ -58,7 +58,7 @@ use Rattle.wl_library_model.proofs.Happens.{Good, happens-on, happens-good, empt
 
 -- Places at the broker
 
--- A number given here is that of the tab's partition.
+-- The tab was opened, and the number, if there is one, is that of its partition.
 abbrev pub IsPlace : WorldState → ℕ → Option ℕ → Type 0
 IsPlace w t o = (q : ℕ) → o ≡ Some q → (was_opened w t ≡ true) × (partition_of w t ≡ q)
 
