@@ -18,21 +18,16 @@ pub fn name(alloc: Global, text: &str) -> Result<Name, AllocError> {
     }
 }
 
-fn repeated_once(alloc: Global, piece: &str, count: usize) -> Result<String, AllocError> {
-    piece.repeat(alloc, count)
-}
-
-/// Returns `count` copies of a text, one after another.
-pub fn repeated(alloc: Global, piece: &str, count: usize) -> Result<String, AllocError> {
-    match repeated_once(alloc, piece, count) {
-        Ok(text) => Ok(text),
-        Err(_) => repeated_once(alloc, piece, count),
-    }
+fn letters_once(alloc: Global, count: usize) -> Result<String, AllocError> {
+    "x".repeat(alloc, count)
 }
 
 /// Returns a text of `count` letters `x`.
 pub fn letters(alloc: Global, count: usize) -> Result<String, AllocError> {
-    repeated(alloc, "x", count)
+    match letters_once(alloc, count) {
+        Ok(text) => Ok(text),
+        Err(_) => letters_once(alloc, count),
+    }
 }
 
 fn bytes_once(alloc: Global, byte: u8, count: usize) -> Result<Vec<u8>, AllocError> {
