@@ -8,10 +8,11 @@ with it that each frame's bytes are those of its value. Then it plays
 - `tabs` through the C library `libwlb_client`, each whole and then byte by byte, and `frames` and `faults` once more;
 - `hubs` through the C library `libwlb_hub`.
 
-With `--client` it plays `tabs`, `frames` and `faults` through a client of yours instead. COMMAND is started for each conversation. It
-reads a line of JSON for each step: an object with the action, as a conversation has it, but all bytes as plain hexadecimal digits. It
-writes a line of JSON for each: an object with the keys `number`, `gets` and `refused` of the result, `reports` and `sends`. A key that a
-conversation would not have is left out. After bytes that are no frame, `refused` is `BAD_FRAME`.
+With `--client` it plays `tabs`, `frames` and `faults` through a client of yours instead, frames and faults behind a Welcome.
+`js/lab/vectors.js` is such a client. COMMAND is started for each conversation. It reads a line of JSON for each step: an object with
+the action, as a conversation has it, but all bytes as plain hexadecimal digits. It writes a line of JSON for each: an object with the
+keys `number`, `gets` and `refused` of the result, `reports` and `sends`. A key that a conversation would not have is left out. After
+bytes that are no frame, `refused` is `BAD_FRAME`.
 
 Without an option it takes the program and the libraries that this checkout has built, and says what it leaves out if one is
 missing. It prints each difference. The status is 1 if there is one.
@@ -510,15 +511,19 @@ def check_tabs(folder, vectors):
         tab.free()
 
 
+# Frame that comes first to a tab.
+WELCOME = "0000001401140001000E68747470733A2F2F612E74657374"
+
+
 def check_client(command, vectors):
-    """Plays what a client plays, through a command."""
+    """Plays what a client plays, through a command. A frame or a fault comes behind a Welcome."""
     for vector in vectors["tabs"]:
         check_conversation(ForeignTab(command), vector)
     for vector in vectors["frames"] + vectors["faults"]:
         wanted = {} if vector.get("fault", "Truncated") == "Truncated" else {"refused": "BAD_FRAME"}
         tab = ForeignTab(command)
         try:
-            same(vector["name"], "the result of `receives`", tab.act("receives", [vector["bytes"]]), wanted)
+            same(vector["name"], "the result of `receives`", tab.act("receives", [WELCOME, vector["bytes"]]), wanted)
         except Failed as failed:
             differences.append(f"{vector['name']}: {failed}")
         tab.free()

@@ -27,12 +27,13 @@ export class Client {
   receive(bytes, tell) {
     for (const piece of pieces(bytes)) {
       const code = this.#part.with([piece], (...words) => this.#part.must('receive', words, ['BAD_FRAME']));
-      while (this.#part.must('advance', [], ['IDLE']) === 'OK') this.#tellAll(tell);
+      while (this.#part.must('advance', [], ['IDLE']) === 'OK') this.takeEvents(tell);
       if (code === 'BAD_FRAME') throw new WlbError(code, 'the other side is no host of wlb');
     }
   }
 
-  #tellAll(tell) {
+  /** Calls `tell` with each event that waits: after `receive` none, after `post` that of the tab's own channels. */
+  takeEvents(tell) {
     const part = this.#part;
     while (part.must('next_event', [part.result], ['IDLE']) === 'OK') {
       const kind = KINDS[part.u32(0)], number = part.u32(4), count = part.u32(8);
@@ -106,7 +107,7 @@ export class Client {
     return part.u32(0);
   }
 
-  /** Posts bytes to all other channels of the name. The tab's own channels have them when this returns, without an event. */
+  /** Posts bytes to all other channels of the name. The tab's own channels have them when this returns. */
   post(channel, data) { this.#part.with([data], (...words) => this.#part.must('post', [channel, ...words])); }
 
   /** Takes the oldest post out of a channel's inbox: {source, data}, or null if the inbox is empty. */

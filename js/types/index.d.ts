@@ -165,6 +165,8 @@ export class Client {
   static create(client?: ModuleSource): Promise<Client>;
   private constructor();
   receive(bytes: Uint8Array, tell: (event: ClientEvent) => void): void;
+  /** After `post`, tells of the tab's own channels that have the post. */
+  takeEvents(tell: (event: ClientEvent) => void): void;
   outputs(): Generator<Uint8Array, void>;
   request(name: Uint8Array, mode: LockMode): number;
   probe(name: Uint8Array, mode: LockMode): number;
