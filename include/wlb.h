@@ -293,8 +293,8 @@ int32_t wlb_client_entry(wlb_client *client, size_t index, wlb_entry *entry, uin
                          size_t *length);
 
 /* Requests a lock (Web Locks, "request a lock"), shared or exclusive, and writes the number of the request. Its events are
- * WLB_GRANTED, or WLB_WAITING and later WLB_GRANTED. After a restart WLB_WAITING may come again, and WLB_GRANTED does not. A
- * client that was welcomed keeps its requests until it enters a generation, and then sends them.
+ * WLB_GRANTED, or WLB_WAITING and later WLB_GRANTED. A restart may repeat WLB_WAITING, never WLB_GRANTED. A client that was
+ * welcomed keeps its requests until it enters a generation, and then sends them.
  * WLB_OK, WLB_MEMORY, WLB_NO_HANDLE, WLB_NOT_WELCOMED, WLB_BAD_TEXT, WLB_NOT_SUPPORTED, WLB_NAME_TOO_LONG, WLB_TOO_MANY,
  * WLB_NUMBERS_USED_UP. */
 int32_t wlb_client_request(wlb_client *client, const uint8_t *name, size_t name_length, bool shared, uint32_t *number);

@@ -169,6 +169,8 @@ READING = """Behind > stands a line of the script, and under it the sim's reply.
   gen 2      belongs to generation 2
   base 3     in a report: the tab had issued 3 commands when it entered the generation; 0 in its first one
   upto 4     in an answer: the broker has taken the tab's commands below number 4
+  taken      answers a release or an abort
+  over       of a command: released, aborted, or ended otherwise; an answer to it is dropped
 
 docs/SCRIPTS.md has the language.
 """

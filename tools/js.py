@@ -3,12 +3,15 @@
 It needs Node of version 20 or later, and the modules that `make wasm` writes. The status is that of the script, or 0 if it is left out.
 """
 
+import argparse
 import os
 import pathlib
 import re
 import shutil
 import subprocess
 import sys
+
+import argument_types
 
 TOP = pathlib.Path(__file__).resolve().parent.parent
 OLDEST = 20
@@ -39,11 +42,16 @@ def run(program, script, *words):
     return subprocess.run(["node", TOP / "js" / "lab" / script, *words], env=environment, check=False).returncode
 
 
+def main():
+    parser = argparse.ArgumentParser(description=__doc__, formatter_class=argparse.RawDescriptionHelpFormatter)
+    parser.add_argument("program", metavar="PROGRAM", type=argument_types.program, help="the program `wlb`")
+    parser.add_argument("script", metavar="SCRIPT", help="a script of js/lab")
+    parser.add_argument("words", metavar="WORD", nargs=argparse.REMAINDER, help="the words for the script")
+    given = parser.parse_args()
+    if not (TOP / "js" / "lab" / given.script).is_file():
+        parser.error(f"there is no script js/lab/{given.script}")
+    sys.exit(run(given.program, given.script, *given.words))
+
+
 if __name__ == "__main__":
-    if len(sys.argv) < 3:
-        sys.exit("usage: js.py PROGRAM SCRIPT [WORD ..]")
-    if not os.access(sys.argv[1], os.X_OK) or os.path.isdir(sys.argv[1]):
-        sys.exit(f"js: there is no program {sys.argv[1]}: `make build` builds crates/wlb/out/wlb")
-    if not (TOP / "js" / "lab" / sys.argv[2]).is_file():
-        sys.exit(f"js: there is no script js/lab/{sys.argv[2]}")
-    sys.exit(run(*sys.argv[1:]))
+    main()

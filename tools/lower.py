@@ -5,8 +5,10 @@ of the memory is extended to 64 bits. Nothing else changes. The tool takes the i
 refuses others; the engine checks the types of what it has written.
 """
 
-import pathlib
+import argparse
 import sys
+
+import argument_types
 
 TYPES, IMPORTS, FUNCTIONS, MEMORIES, CODE, DATA = 1, 2, 3, 5, 10, 11
 I32, I64, F32, F64 = 0x7F, 0x7E, 0x7D, 0x7C
@@ -208,10 +210,13 @@ def lower(module):
     return bytes(made)
 
 
+def main():
+    parser = argparse.ArgumentParser(description=__doc__, formatter_class=argparse.RawDescriptionHelpFormatter)
+    parser.add_argument("module", metavar="MODULE", type=argument_types.file, help="a module with 64-bit memory")
+    parser.add_argument("lowered", metavar="LOWERED", type=argument_types.new_file, help="the module that is written")
+    given = parser.parse_args()
+    given.lowered.write_bytes(lower(given.module.read_bytes()))
+
+
 if __name__ == "__main__":
-    if len(sys.argv) != 3:
-        sys.exit("usage: lower.py MODULE LOWERED")
-    try:
-        pathlib.Path(sys.argv[2]).write_bytes(lower(pathlib.Path(sys.argv[1]).read_bytes()))
-    except OSError as error:
-        sys.exit(f"lower: {error.filename}: {error.strerror}")
+    main()

@@ -13,24 +13,20 @@
 
 import fs from 'node:fs';
 import path from 'node:path';
-import { parseArgs } from 'node:util';
+import { commandLine } from '../lab/command_line.js';
 import { sleep } from '../lab/kernel.js';
 import { FOLDERS, HOSTS, RUN, SKIP } from './plan.js';
-import { Processes } from './processes.js';
-import { Threads } from './threads.js';
 
 const text = { type: 'string' }, flag = { type: 'boolean', default: false };
-const { values: options, positionals: [suite] } = parseArgs({
-  allowPositionals: true,
-  options: {
-    processes: flag, only: { ...text, default: '' }, pairs: flag, restart: text, repeat: { ...text, default: '1' },
-    seed: { ...text, default: '1' }, timeout: { ...text, default: '20000' }, quiet: flag,
-  },
-});
+const { values: options, positionals: [suite] } = commandLine(import.meta.url, {
+  processes: flag, only: { ...text, default: '' }, pairs: flag, restart: text, repeat: { ...text, default: '1' },
+  seed: { ...text, default: '1' }, timeout: { ...text, default: '20000' }, quiet: flag,
+}, true);
 if (!suite || !fs.existsSync(path.join(suite, 'resources/testharness.js'))) {
   console.error('conformance: give the folder of the web-platform-tests: the one with `resources/testharness.js`');
   process.exit(2);
 }
+const Place = options.processes ? (await import('./processes.js')).Processes : (await import('./threads.js')).Threads;
 
 // A linear congruential generator, so that a seed gives the same moments again.
 let state = Number(options.seed);
@@ -59,7 +55,7 @@ class Run {
 
   async run(arePairs) {
     const { file, skip = [] } = this.#test;
-    this.#place = await (options.processes ? Processes : Threads).open(this.#test, arePairs);
+    this.#place = await Place.open(this.#test, arePairs);
     const url = `${HOSTS.own}/${file.replace(/\.js$/, '.html')}`;
     const names = skip.map(([name]) => name);
     this.#start({ ctx: 'page', as: 'page', url, file, timeout: Number(options.timeout), skip: names }, HOSTS.own, null);

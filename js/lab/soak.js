@@ -10,17 +10,15 @@
 // The status is 1 if two holders have met, if a counter is wrong, if a request was not granted in time, or if a process or a tab has
 // ended otherwise than it should. With --wrong it is 1 if that was not noticed.
 
-import { parseArgs } from 'node:util';
-import { soakProcesses } from './soak_processes.js';
-import { soakThreads } from './soak_threads.js';
+import { commandLine } from './command_line.js';
 
 const text = value => ({ type: 'string', default: value }), flag = { type: 'boolean', default: false };
-const { values } = parseArgs({
-  options: { processes: flag, seconds: text('20'), tabs: text('6'), seed: text('1'), restart: text(''), kill: text('700'), wrong: flag },
+const { values } = commandLine(import.meta.url, {
+  processes: flag, seconds: text('20'), tabs: text('6'), seed: text('1'), restart: text(''), kill: text('700'), wrong: flag,
 });
 const numbers = Object.fromEntries(['seconds', 'tabs', 'kill'].map(key => [key, Number(values[key])]));
 const options = { ...numbers, seed: values.seed, restart: Number(values.restart || (values.processes ? 200 : 40)), patience: 20000 };
-const soak = values.processes ? soakProcesses : soakThreads;
+const soak = values.processes ? (await import('./soak_processes.js')).soakProcesses : (await import('./soak_threads.js')).soakThreads;
 
 /** Plays clients that are wrong, and returns whether that was noticed. */
 async function isNoticed(wrong) {

@@ -19,14 +19,14 @@ import http from 'node:http';
 import os from 'node:os';
 import path from 'node:path';
 import { fileURLToPath } from 'node:url';
-import { parseArgs } from 'node:util';
 import { MessageChannel, Worker } from 'node:worker_threads';
 import { Host, connect, linkPair, portLink } from '../src/index.js';
+import { commandLine } from './command_line.js';
 import { Kernel, hasProgram } from './kernel.js';
-import { clientModule, hubModule } from './lab.js';
 import { measure } from './speed_loop.js';
 
-const { values } = parseArgs({ options: { rounds: { type: 'string', default: '2000' }, runs: { type: 'string', default: '5' } } });
+const { values } = commandLine(import.meta.url, { rounds: { type: 'string', default: '2000' }, runs: { type: 'string', default: '5' } });
+const { clientModule, hubModule } = await import('./lab.js');
 const rounds = Number(values.rounds), runs = Number(values.runs);
 const ORIGIN = 'https://a.test/', PATIENCE = 120000;
 
