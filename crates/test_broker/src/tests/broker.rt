@@ -62,7 +62,7 @@ fn start(
 }
 
 /// Returns the state of a broker: the joined ones of its first four tabs, and the active ones of its first three partitions.
-fn seen(broker: &TestedBroker) -> [bool; 7] {
+fn joined_and_active(broker: &TestedBroker) -> [bool; 7] {
     [
         broker.is_joined(1),
         broker.is_joined(2),
@@ -76,7 +76,7 @@ fn seen(broker: &TestedBroker) -> [bool; 7] {
 
 /// Asserts that a refusal of memory left the broker unchanged.
 fn is_unchanged(rt: &impl Abort, broker: &TestedBroker, before: [bool; 7]) {
-    assert!(rt; seen(broker) == before);
+    assert!(rt; joined_and_active(broker) == before);
 }
 
 /// Calls `take` alone: a caller without its clauses is proved much sooner.
@@ -90,7 +90,7 @@ fn take_again(
     broker: &mut TestedBroker,
     stamped: &Stamped,
 ) -> Result<Outs, Dropped> {
-    let before = seen(broker);
+    let before = joined_and_active(broker);
     match take_once(broker, stamped) {
         Err(Dropped::Memory) => {
             is_unchanged(rt, broker, before);
@@ -113,7 +113,7 @@ fn take(rt: &impl Abort, alloc: Global, broker: &mut TestedBroker, stamped: &Sta
 
 /// Returns the answer to a tab's death.
 fn bury(rt: &impl Abort, broker: &mut TestedBroker, tab: u16) -> Outs {
-    let before = seen(broker);
+    let before = joined_and_active(broker);
     match broker.dead(tab) {
         Ok(outs) => outs,
         Err(_) => {
@@ -256,7 +256,7 @@ fn copy(
     frame: &Frame,
     place: usize,
 ) -> Outs {
-    let before = seen(broker);
+    let before = joined_and_active(broker);
     let copies = match told(broker, frame) {
         Ok(copies) => copies,
         Err(_) => {
