@@ -378,7 +378,7 @@ latest-granted_waiting o order granted None = none (not (order == o))
     none false = refl
 latest-granted_waiting o order granted (Some p) = place-granted_waiting o order granted p.order p.is_held
 
--- `was` is the latest place of the number that is asked for, and `mine` is that of the granted number.
+-- `was` is the latest place of the number `n`, and `mine` that of the granted number.
 held-step : (number n o order granted : ℕ) (was mine : Option Place) (fs : List FurtherPlace) (hit : Bool) → (number == n) ≡ hit → (hit ≡ true → was ≡ mine) → (is_latest mine order false || is_further fs number order false) ≡ true → (is_latest (cond (number == n) (granted_latest order granted mine) was) o true || is_further (map (granted_further number order granted) fs) n o true) ≡ ((number == n && granted == o) || (is_latest was o true || is_further fs n o true))
 held-step number n o order granted was mine fs true e same there =
     rw (e, same refl) (ap (λ x. x || is_further (map (granted_further number order granted) fs) n o true) (latest-granted_held o order granted mine) ∙ ap (λ x. (is_latest mine o true || (is_latest mine order false && granted == o)) || x) (further-granted_held number order granted n o fs ∙ ap (λ h. is_further fs n o true || (is_further fs number order false && (h && granted == o))) e) ∙ or-and (is_latest mine o true) (is_latest mine order false) (is_further fs n o true) (granted == o) (is_further fs number order false) ∙ ap (λ x. (is_latest mine o true || is_further fs n o true) || (x && granted == o)) there ∙ turn (is_latest mine o true || is_further fs n o true) (granted == o))

@@ -90,7 +90,7 @@ module _ {K X : Type 0} (text : K → List ℕ) where
       let p = place-at name es i e d g f in
       ap (λ n. cond (nat_lt n (length (keys_of es))) (Some n) None) p.0 ∙ ap (λ b. cond b (Some i) None) (lt-ltb i _ p.1)
 
--- What is seen of each name after one value is written
+-- The values of all names after a write to one
 
 module _ {X : Type 0} (b : Bool) (old new : Option X) (v w : X) (n : new ≡ cond b (Some w) old) (o : b ≡ true → old ≡ Some v) where
   pub step-written : {V : Type 0} (g : X → V) (d : V) (f : V → V) → g w ≡ f (g v) → option_map_or g new d ≡ cond b (f (option_map_or g old d)) (option_map_or g old d)

@@ -175,7 +175,7 @@ not-so : (b : Bool) → (b ≡ true → false ≡ true) → b ≡ false
 not-so true f = sym (f refl)
 not-so false f = refl
 
--- What no lookup finds in a table, none finds in its rest.
+-- If a table has no such entry at an order number, neither has its rest.
 none-later : (client number order : ℕ) (p : ℕ × Row) (ps : Table Row) → is_above p.0 ps ≡ true → is_entry client number (find (p ∷ ps) order) ≡ false → is_entry client number (find ps order) ≡ false
 none-later client number order p ps above e =
     not-so (is_entry client number (find ps order)) (λ f. sym e ∙ entry-later client number order p ps above f)

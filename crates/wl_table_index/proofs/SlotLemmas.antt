@@ -31,7 +31,7 @@ apart_step j k false e f = refl
 apart : (j k : ℕ) → (slot_of j ≡ slot_of k → ⊥) → nat_eq j k ≡ false
 apart j k f = apart_step j k (nat_eq j k) refl f
 
--- The rows of some slots, the first of which has a given key
+-- Rows of consecutive slots, from a given key on
 
 abbrev AreFrom : ℕ → List (Option StoredRow) → Type 0
 AreFrom first slots = (i : ℕ) (s : StoredRow) → get_or slots i None ≡ Some s → slot_of s.order ≡ first + i

@@ -70,8 +70,8 @@ impl Clients {
         }
     }
 
-    /// Reserves capacity for `count` more entries of the client, of which `further` have a number that
-    /// is known. Fails if out of memory.
+    /// Reserves capacity for `count` more entries of the client. It has an entry with the number of
+    /// `further` of them. Fails if out of memory.
     pub fn reserve(&mut self, client: u16, count: usize, further: usize) -> Result<(), AllocError>
         ensures places { (c n o : ℕ) (b : Bool) → has_place_at self.new c n o b ≡ has_place_at self.old c n o b }
         ensures numbers { (c n : ℕ) → has_number_at self.new c n ≡ has_number_at self.old c n }

@@ -154,8 +154,8 @@ impl Holdings {
         least
     }
 
-    /// Reserves capacity for `count` more entries, of which `further` have a number that is known.
-    /// Fails if out of memory.
+    /// Reserves capacity for `count` more entries. The client has an entry with the number of `further`
+    /// of them. Fails if out of memory.
     pub fn reserve(&mut self, count: usize, further: usize) -> Result<(), AllocError>
         ensures places { (n o : ℕ) (b : Bool) → has_place self.new n o b ≡ has_place self.old n o b }
         ensures numbers { (n : ℕ) → get nat_eq self.new.places n ≡ get nat_eq self.old.places n }
