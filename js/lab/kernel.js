@@ -136,7 +136,7 @@ export class Kernel {
     }
   }
 
-  /** Returns whether so many milliseconds pass in which no tab comes and the kernel does not end. Its script may still open tabs. */
+  /** Returns whether the kernel does not end. It is late when no tab has come for `ms` milliseconds: its script may still open some. */
   async #isLate(ms) {
     for (let came = -1; came < this.tabs.size;) {
       came = this.tabs.size;

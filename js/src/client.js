@@ -32,7 +32,7 @@ export class Client {
     }
   }
 
-  /** Calls `tell` with each event that waits: after `receive` none, after `post` that of the tab's own channels. */
+  /** Calls `tell` with each event that waits. `receive` leaves none. `post` leaves one if the tab's own channels took the post. */
   takeEvents(tell) {
     const part = this.#part;
     while (part.must('next_event', [part.result], ['IDLE']) === 'OK') {
