@@ -5,7 +5,7 @@ library. The call that needs it returns WLB_MEMORY, or has a spare buffer. A ref
 as if nothing had happened. A refused call of a hub may change none of the hub's numbers, but a refused restart leaves no broker up.
 
 FOLDER has the shared libraries of both parts, linked with `refuse_numbered.c`, as `check_library.py` makes them. The tool refuses up to
-60 allocations of each conversation, spread evenly. It prints each difference. The status is 1 if there is one.
+60 allocations of each conversation, spread evenly, or with `--all` every one. It prints each difference. The status is 1 if there is one.
 """
 
 import argparse
@@ -62,12 +62,14 @@ def play_hub(folder, vector):
     check_vectors.check_hub_conversation(Hub(folder), vector)
 
 
-def sample(count):
-    """Returns up to SAMPLE numbers from 1 to `count`, spread evenly."""
-    return sorted({1 + place * count // SAMPLE for place in range(SAMPLE)}) if count > SAMPLE else range(1, count + 1)
+def sample(count, most):
+    """Returns up to `most` numbers from 1 to `count`, spread evenly. If `most` is None, returns all."""
+    if most is None or count <= most:
+        return range(1, count + 1)
+    return sorted({1 + place * count // most for place in range(most)})
 
 
-def check(folder, part, play, vectors):
+def check(folder, part, play, vectors, most):
     library = ctypes.CDLL(str(folder / f"libwlb_{part}.so"))
     library.allocations.restype = ctypes.c_long
     for vector in vectors:
@@ -75,7 +77,7 @@ def check(folder, part, play, vectors):
         play(folder, vector)
         count = library.allocations()
         same(vector["name"], "whether it allocates", count > 0, True)
-        for number in sample(count):
+        for number in sample(count, most):
             before = len(differences)
             library.refuse(ctypes.c_long(number))
             play(folder, vector)
@@ -86,11 +88,13 @@ def check(folder, part, play, vectors):
 def main():
     parser = argparse.ArgumentParser(description=__doc__, formatter_class=argparse.RawDescriptionHelpFormatter)
     parser.add_argument("folder", metavar="FOLDER", type=argument_types.folder, help="the libraries that refuse an allocation")
+    parser.add_argument("--all", action="store_true", help="refuse every allocation, not a sample")
     given = parser.parse_args()
+    most = None if given.all else SAMPLE
     vectors = json.loads(check_vectors.VECTORS.read_text(encoding="utf-8"))
     folder = given.folder.absolute()
-    check(folder, "client", play_tab, vectors["tabs"])
-    check(folder, "hub", play_hub, vectors["hubs"])
+    check(folder, "client", play_tab, vectors["tabs"], most)
+    check(folder, "hub", play_hub, vectors["hubs"], most)
     for difference in differences:
         print(difference)
     sys.exit(1 if differences else 0)
