@@ -89,7 +89,7 @@ HEADS = {
 # Definitions of a section whose comments do not name it, by the standard and the words of the section.
 BESIDE = [
     ("Web Locks", "LockMode", "wl_draft/src/mode.rt", ["Mode"]),
-    ("RFC 6454", "4", "wl_origin/src/triple.rt", ["TupleOrigin"]),
+    ("RFC 6454", "4", "wl_origin/src/tuple_origin.rt", ["TupleOrigin"]),
 ]
 
 # Terms of no standard, in the order in which a reader needs them.
@@ -108,7 +108,7 @@ TERMS = [
     ("supervisor: whether a broker is up", "wl_kernel/specs/SupervisorStates.antt", ["IsReached", "begun", "halted"]),
     (
         "start, stop, message, death",
-        "wl_kernel_supervisor/specs/Changes.antt",
+        "wl_supervised_broker/specs/Changes.antt",
         ["start_change", "stop_change", "message_change", "death_change"],
     ),
     ("message, bag of all messages", "wl_world_messages/specs/Messages.antt", ["is_sent", "sent_all"]),
@@ -135,10 +135,10 @@ TERMS = [
 
 HEAD = """# Definitions
 
-Contracts cite definitions, which stand in `specs/` of each crate. This page leads from a section of a standard to its
-definitions. `python3 tools/definitions.py` writes the page from the comments of the definitions, and the gate compares both.
-Files stand under `crates`. `GUARANTEES.md` has the order in which to read the definitions behind the promises; `GLOSSARY.md`
-explains the words.
+Contracts cite definitions, most of them in `specs/` of a crate. This page leads from a section of a standard to its
+definitions. `python3 tools/definitions.py` writes it from their comments and its own lists, and the gate compares both. Files
+stand under `crates`. `GUARANTEES.md` has the order in which to read the definitions behind the promises; `GLOSSARY.md` explains
+the words.
 """
 
 CITATION = re.compile(r"\(([^()]*)\)")

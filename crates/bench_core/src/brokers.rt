@@ -68,7 +68,7 @@ pub(crate) fn run<R: Threads + Wait + Clock + Sync + Print>(
     only: Option<String>,
 ) -> io::Result<()> {
     if is_named(&only, "turns") {
-        return by_turns(rt, alloc, is_timed);
+        return alternate_alone_and_locked(rt, alloc, is_timed);
     }
     let whole = if is_timed { WHOLE } else { FEW };
     for trace in TRACES {
@@ -112,7 +112,11 @@ fn is_named(only: &Option<String>, what: &str) -> bool {
 }
 
 /// Repeatedly runs the events of each trace without a lock and then with one.
-fn by_turns<R: Wait + Clock + Print>(rt: &R, alloc: Global, is_timed: bool) -> io::Result<()> {
+fn alternate_alone_and_locked<R: Wait + Clock + Print>(
+    rt: &R,
+    alloc: Global,
+    is_timed: bool,
+) -> io::Result<()> {
     for trace in TRACES {
         for _ in 0..TURNS {
             run_alone(rt, alloc, trace, is_timed, WHOLE)?;

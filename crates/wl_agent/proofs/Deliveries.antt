@@ -19,7 +19,7 @@ use Rattle.wl_draft.specs.Tables.{Table, find, put, has_row}
 use Rattle.wl_agent.proofs.TabSteps.{step-becomes}
 use Rattle.wl_agent.specs.SnapshotParts.{PartsState, fits, with_part, is_whole}
 use Rattle.wl_agent.specs.Tab.{TabState, report_frames, enter, status_of, operation_of, is_issued, is_query, is_querying}
-use Rattle.wl_agent.specs.Delivery.{delivery, noted, becomes, has_entered, of_other, told_by_answer, told_by_part, told_command, told_lock, told_asked, told_end, told_query, told_asked_query, told_unless, told_by_come, parts_refusal, asking_refusal, part_refusal, parts_of, with_part_come, after_answer, after_part, takes_memory, IsSendable}
+use Rattle.wl_agent.specs.Delivery.{delivery, noted, becomes, has_entered, of_other, told_by_answer, told_by_part, result_of_answer, result_of_lock_answer, result_of_asked_lock_answer, result_of_end_answer, result_of_query_answer, result_of_asked_query_answer, told_unless, told_by_come, parts_refusal, asking_refusal, part_refusal, parts_of, with_part_come, after_answer, after_part, takes_memory, IsSendable}
 
 -- Hellos
 
@@ -88,7 +88,7 @@ pub sendable : (d : Delivered) → is_rare d ≡ false → IsSendable d
 sendable (told.Entered frames) e = cc
 sendable d e = tt
 
-asked_told : (k : ℕ) (b : Bool) (o : Outcome) → is_rare (told_asked k b o) ≡ false
+asked_told : (k : ℕ) (b : Bool) (o : Outcome) → is_rare (result_of_asked_lock_answer k b o) ≡ false
 asked_told k b outcome.Granted = refl
 asked_told k true outcome.Waiting = refl
 asked_told k false outcome.Waiting = refl
@@ -96,7 +96,7 @@ asked_told k true outcome.Gone = refl
 asked_told k false outcome.Gone = refl
 asked_told k b outcome.Taken = refl
 
-lock_told : (k : ℕ) (b : Bool) (s : Option Status) (o : Outcome) → is_rare (told_lock k b s o) ≡ false
+lock_told : (k : ℕ) (b : Bool) (s : Option Status) (o : Outcome) → is_rare (result_of_lock_answer k b s o) ≡ false
 lock_told k b None o = refl
 lock_told k b (Some Asked) o = asked_told k b o
 lock_told k b (Some Held) o = refl
@@ -104,19 +104,19 @@ lock_told k b (Some (Querying p)) o = refl
 lock_told k b (Some (Whole p)) o = refl
 lock_told k b (Some Lost) o = refl
 
-end_told : (k : ℕ) (o : Outcome) → is_rare (told_end k o) ≡ false
+end_told : (k : ℕ) (o : Outcome) → is_rare (result_of_end_answer k o) ≡ false
 end_told k outcome.Granted = refl
 end_told k outcome.Waiting = refl
 end_told k outcome.Gone = refl
 end_told k outcome.Taken = refl
 
-asking_told : (k : ℕ) (o : Outcome) → is_rare (told_asked_query k o) ≡ false
+asking_told : (k : ℕ) (o : Outcome) → is_rare (result_of_asked_query_answer k o) ≡ false
 asking_told k outcome.Granted = refl
 asking_told k outcome.Waiting = refl
 asking_told k outcome.Gone = refl
 asking_told k outcome.Taken = refl
 
-query_told : (k : ℕ) (s : Option Status) (o : Outcome) → is_rare (told_query k s o) ≡ false
+query_told : (k : ℕ) (s : Option Status) (o : Outcome) → is_rare (result_of_query_answer k s o) ≡ false
 query_told k None o = refl
 query_told k (Some Asked) o = refl
 query_told k (Some Held) o = refl
@@ -124,13 +124,13 @@ query_told k (Some (Querying p)) o = asking_told k o
 query_told k (Some (Whole p)) o = refl
 query_told k (Some Lost) o = refl
 
-command_told : (k : ℕ) (op : Operation) (s : Option Status) (o : Outcome) → is_rare (told_command k op s o) ≡ false
+command_told : (k : ℕ) (op : Operation) (s : Option Status) (o : Outcome) → is_rare (result_of_answer k op s o) ≡ false
 command_told k (Request mode b name) s o = lock_told k b s o
 command_told k (Release n) s o = end_told k o
 command_told k (Abort n) s o = end_told k o
 command_told k Query s o = query_told k s o
 
-told_if : (x : Answer) (a : TabState) (b : Bool) → ltb x.number (length a.issued) ≡ b → is_rare (cond b (told_command x.number (operation_of a x.number) (status_of a x.number) x.outcome) (told.Dropped unheard.Odd)) ≡ false
+told_if : (x : Answer) (a : TabState) (b : Bool) → ltb x.number (length a.issued) ≡ b → is_rare (cond b (result_of_answer x.number (operation_of a x.number) (status_of a x.number) x.outcome) (told.Dropped unheard.Odd)) ≡ false
 told_if x a true e = command_told x.number (operation_of a x.number) (status_of a x.number) x.outcome
 told_if x a false e = refl
 

@@ -3,47 +3,49 @@
 
 ghost use Rattle.std.specs.Prelude.{◌≡◌};
 ghost use Rattle.std.specs.Option.{option_copied};
-ghost use Rattle.wl_agent.specs.Delivery.{told_command, told_lock, told_asked, told_end, told_query, told_asked_query};
+ghost use Rattle.wl_agent.specs.Delivery.{result_of_answer, result_of_lock_answer, result_of_asked_lock_answer, result_of_end_answer, result_of_query_answer, result_of_asked_query_answer};
 
 use crate::delivered::Delivered;
 use crate::drop_reason::DropReason;
 use crate::status::Status;
 use wl_grammar::{Operation, Outcome};
 
-pub(crate) fn told_command(
+pub(crate) fn result_of_answer(
     number: u32,
     operation: &Operation,
     status: Option<&Status>,
     outcome: Outcome,
 ) -> Delivered
-    ensures { result ≡ told_command number operation.now (option_copied status.entry) outcome }
+    ensures { result ≡ result_of_answer number operation.now (option_copied status.entry) outcome }
 {
     match operation {
         Operation::Request { if_available, .. } => {
-            told_lock(number, *if_available, status, outcome)
+            result_of_lock_answer(number, *if_available, status, outcome)
         }
-        Operation::Release { .. } | Operation::Abort { .. } => told_end(number, outcome),
-        Operation::Query => told_query(number, status, outcome),
+        Operation::Release { .. } | Operation::Abort { .. } => result_of_end_answer(
+            number, outcome,
+        ),
+        Operation::Query => result_of_query_answer(number, status, outcome),
     }
 }
 
-fn told_lock(
+fn result_of_lock_answer(
     number: u32,
     if_available: bool,
     status: Option<&Status>,
     outcome: Outcome,
 ) -> Delivered
-    ensures { result ≡ told_lock number if_available (option_copied status.entry) outcome }
+    ensures { result ≡ result_of_lock_answer number if_available (option_copied status.entry) outcome }
 {
     match status {
-        Some(Status::Asked) => told_asked(number, if_available, outcome),
+        Some(Status::Asked) => result_of_asked_lock_answer(number, if_available, outcome),
         Some(Status::Held) => Delivered::Dropped(DropReason::Held),
         _ => Delivered::Dropped(DropReason::Over),
     }
 }
 
-fn told_asked(number: u32, if_available: bool, outcome: Outcome) -> Delivered
-    ensures { result ≡ told_asked number if_available outcome }
+fn result_of_asked_lock_answer(number: u32, if_available: bool, outcome: Outcome) -> Delivered
+    ensures { result ≡ result_of_asked_lock_answer number if_available outcome }
 {
     match outcome {
         Outcome::Granted => Delivered::Granted(number),
@@ -53,8 +55,8 @@ fn told_asked(number: u32, if_available: bool, outcome: Outcome) -> Delivered
     }
 }
 
-fn told_end(number: u32, outcome: Outcome) -> Delivered
-    ensures { result ≡ told_end number outcome }
+fn result_of_end_answer(number: u32, outcome: Outcome) -> Delivered
+    ensures { result ≡ result_of_end_answer number outcome }
 {
     match outcome {
         Outcome::Taken => Delivered::Taken(number),
@@ -62,17 +64,17 @@ fn told_end(number: u32, outcome: Outcome) -> Delivered
     }
 }
 
-fn told_query(number: u32, status: Option<&Status>, outcome: Outcome) -> Delivered
-    ensures { result ≡ told_query number (option_copied status.entry) outcome }
+fn result_of_query_answer(number: u32, status: Option<&Status>, outcome: Outcome) -> Delivered
+    ensures { result ≡ result_of_query_answer number (option_copied status.entry) outcome }
 {
     match status {
-        Some(Status::Querying(_)) => told_asked_query(number, outcome),
+        Some(Status::Querying(_)) => result_of_asked_query_answer(number, outcome),
         _ => Delivered::Dropped(DropReason::Over),
     }
 }
 
-fn told_asked_query(number: u32, outcome: Outcome) -> Delivered
-    ensures { result ≡ told_asked_query number outcome }
+fn result_of_asked_query_answer(number: u32, outcome: Outcome) -> Delivered
+    ensures { result ≡ result_of_asked_query_answer number outcome }
 {
     match outcome {
         Outcome::Gone => Delivered::Lost(number),

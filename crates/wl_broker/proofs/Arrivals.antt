@@ -5,15 +5,15 @@ use Rattle.std.proofs.lemmas.Bool.{and_parts, cases_eq, false≢true, eqb-true, 
 use Rattle.wl_draft.specs.Tables.{Table, find, put}
 use Rattle.wl_draft.proofs.TableLemmas.{find-put_same, find-put_other}
 use Rattle.wl_grammar.specs.Grammar.{TabsRiseFrom}
-use Rattle.wl_broker.specs.declared.seat.Seat.{Seat}
-use Rattle.wl_broker.specs.declared.seat.Seat.TheVariants.{Joined, Dead}
+use Rattle.wl_broker.specs.declared.seat.TabSeat.{TabSeat}
+use Rattle.wl_broker.specs.declared.seat.TabSeat.TheVariants.{Joined, Dead}
 use Rattle.wl_broker.specs.Broker.{has_arrived, listed_at}
 use Rattle.wl_broker.specs.BrokerInvariant.{all_arrived}
 
 -- Active partitions
 
 -- A tab with a seat has arrived.
-pub has_come_some : (s : Seat) → has_arrived (Some s) ≡ true
+pub has_come_some : (s : TabSeat) → has_arrived (Some s) ≡ true
 has_come_some (Joined p n l) = refl
 has_come_some Dead = refl
 
@@ -30,7 +30,7 @@ same_place : (e h h' l l' : Bool) → (e ≡ true → h' ≡ h) → l' ≡ l →
 same_place true h h' l l' f g = rw (f refl, g) refl
 same_place false h h' l l' f g = g
 
-all_come-apart : (listed : List (ℕ × ℕ)) (seats : Table Seat) (t : ℕ) (s : Seat) (p : ℕ) → is_apart t p listed ≡ true → all_arrived listed (put t s seats) p ≡ all_arrived listed seats p
+all_come-apart : (listed : List (ℕ × ℕ)) (seats : Table TabSeat) (t : ℕ) (s : TabSeat) (p : ℕ) → is_apart t p listed ≡ true → all_arrived listed (put t s seats) p ≡ all_arrived listed seats p
 all_come-apart [] seats t s p apart = refl
 all_come-apart (x ∷ xs) seats t s p apart =
     let h = and_parts _ _ apart in
@@ -39,13 +39,13 @@ all_come-apart (x ∷ xs) seats t s p apart =
     (all_come-apart xs seats t s p h.1)
 
 -- Another seat of a tab that has arrived changes nothing.
-has_come-again : (seats : Table Seat) (t : ℕ) (s : Seat) (k : ℕ) → has_arrived (find seats t) ≡ true → has_arrived (find (put t s seats) k) ≡ has_arrived (find seats k)
+has_come-again : (seats : Table TabSeat) (t : ℕ) (s : TabSeat) (k : ℕ) → has_arrived (find seats t) ≡ true → has_arrived (find (put t s seats) k) ≡ has_arrived (find seats k)
 has_come-again seats t s k was =
     ⊎_elim (λ (e : t ≡ k). subst (λ j. has_arrived (find (put t s seats) j) ≡ has_arrived (find seats j)) e (ap has_arrived (find-put_same t s seats) ∙ has_come_some s ∙ sym was))
     (λ (ne : t ≡ k → ⊥). ap has_arrived (find-put_other t s seats k (λ e. ne (sym e))))
     (cases_eq t k)
 
-pub all_come-again : (listed : List (ℕ × ℕ)) (seats : Table Seat) (t : ℕ) (s : Seat) (p : ℕ) → has_arrived (find seats t) ≡ true → all_arrived listed (put t s seats) p ≡ all_arrived listed seats p
+pub all_come-again : (listed : List (ℕ × ℕ)) (seats : Table TabSeat) (t : ℕ) (s : TabSeat) (p : ℕ) → has_arrived (find seats t) ≡ true → all_arrived listed (put t s seats) p ≡ all_arrived listed seats p
 all_come-again [] seats t s p was = refl
 all_come-again (x ∷ xs) seats t s p was =
     same_place (eqb x.1 p) _ _ _ _ (λ e. has_come-again seats t s x.0 was) (all_come-again xs seats t s p was)
@@ -74,5 +74,5 @@ apart_unlisted [] t k p r h = refl
 apart_unlisted (x ∷ xs) t k p r h =
     apart_unlisted_as x xs t k p (eqb x.0 t) refl r (apart_unlisted xs t (x.0 + 1) p r.1) h
 
-pub all_come-elsewhere : (listed : List (ℕ × ℕ)) (seats : Table Seat) (t : ℕ) (s : Seat) (p : ℕ) → TabsRiseFrom 1 listed → is_within (listed_at t listed) p ≡ false → all_arrived listed (put t s seats) p ≡ all_arrived listed seats p
+pub all_come-elsewhere : (listed : List (ℕ × ℕ)) (seats : Table TabSeat) (t : ℕ) (s : TabSeat) (p : ℕ) → TabsRiseFrom 1 listed → is_within (listed_at t listed) p ≡ false → all_arrived listed (put t s seats) p ≡ all_arrived listed seats p
 all_come-elsewhere listed seats t s p r h = all_come-apart listed seats t s p (apart_unlisted listed t 1 p r h)

@@ -11,8 +11,8 @@ use Rattle.wl_grammar.specs.Grammar.{TabsRiseFrom}
 use Rattle.wl_grammar.specs.declared.frame.Operation.{Operation}
 use Rattle.wl_grammar.specs.declared.frame.Operation.TheVariants.{Query}
 use Rattle.wl_broker_reports.specs.ReportParts.{Partial, all_below}
-use Rattle.wl_broker.specs.declared.seat.Seat.{Seat}
-use Rattle.wl_broker.specs.declared.seat.Seat.TheVariants.{Joined, Dead}
+use Rattle.wl_broker.specs.declared.seat.TabSeat.{TabSeat}
+use Rattle.wl_broker.specs.declared.seat.TabSeat.TheVariants.{Joined, Dead}
 use Rattle.wl_broker.specs.Broker.{has_arrived, listed_at, elsewhere, drafted}
 use Rattle.wl_broker.specs.BrokerInvariant.{PartitionState, state_of, no_partition, all_arrived, taken_in, was_taken, AllRows, IsPartition, IsConsistent, Had, broker_of}
 use Rattle.wl_broker.proofs.PartitionRows.{at-find, at_none, find_there, put_same}
@@ -23,11 +23,11 @@ use Rattle.wl_broker.proofs.TakenRows.{AllRows-put, AllRows-settle_if, AllRows-d
 -- One change of a seat and of a partition
 
 -- The change leaves this partition as it is.
-pub record IsApart (listed : List (ℕ × ℕ)) (seats : Table Seat) (t : ℕ) (s : Seat) (q : ℕ) : Type 0 where
+pub record IsApart (listed : List (ℕ × ℕ)) (seats : Table TabSeat) (t : ℕ) (s : TabSeat) (q : ℕ) : Type 0 where
   pub active : all_arrived listed (put t s seats) q ≡ all_arrived listed seats q
   pub taken : taken_in (find seats t) q ≤ taken_in (Some s) q
 
-IsPartition-put : {listed : List (ℕ × ℕ)} {seats : Table Seat} {t : ℕ} {s : Seat} {q : ℕ} {st : PartitionState} → IsApart listed seats t s q → IsPartition listed seats q st → IsPartition listed (put t s seats) q st
+IsPartition-put : {listed : List (ℕ × ℕ)} {seats : Table TabSeat} {t : ℕ} {s : TabSeat} {q : ℕ} {st : PartitionState} → IsApart listed seats t s q → IsPartition listed seats q st → IsPartition listed (put t s seats) q st
 IsPartition-put {listed} {seats} {t} {s} {q} {st} a h =
     record { active = h.active ∙ sym a.active; numbers = AllRows-put seats t s q st.locks a.taken h.numbers }
 
@@ -44,7 +44,7 @@ put_here p q x y ps same e =
     some_inj (sym (subst (λ j. find (put p x ps) j ≡ Some x) (sym same) (find-put_same p x ps)) ∙ e)
 
 -- A new seat in no partition keeps the invariant.
-pub IsConsistent-seat : {listed : List (ℕ × ℕ)} {seats : Table Seat} {partitions : Table PartitionState} (t : ℕ) (s : Seat) → IsConsistent listed seats partitions → ((q : ℕ) → IsApart listed seats t s q) → ((q n l : ℕ) → s ≡ Joined q n l → ⊥) → IsConsistent listed (put t s seats) partitions
+pub IsConsistent-seat : {listed : List (ℕ × ℕ)} {seats : Table TabSeat} {partitions : Table PartitionState} (t : ℕ) (s : TabSeat) → IsConsistent listed seats partitions → ((q : ℕ) → IsApart listed seats t s q) → ((q n l : ℕ) → s ≡ Joined q n l → ⊥) → IsConsistent listed (put t s seats) partitions
 IsConsistent-seat {listed} {seats} {partitions} t s k apart gone =
     record {
       listed_once = k.listed_once;
@@ -56,7 +56,7 @@ IsConsistent-seat {listed} {seats} {partitions} t s k apart gone =
     }
 
 -- A new seat in this partition or in none keeps the invariant.
-pub IsConsistent-put : {listed : List (ℕ × ℕ)} {seats : Table Seat} {partitions : Table PartitionState} (t : ℕ) (s : Seat) (p : ℕ) (st : PartitionState) → IsConsistent listed seats partitions → ((q : ℕ) → q ≢ p → IsApart listed seats t s q) → ((q n l : ℕ) → s ≡ Joined q n l → q ≡ p) → IsPartition listed (put t s seats) p st → IsConsistent listed (put t s seats) (put p st partitions)
+pub IsConsistent-put : {listed : List (ℕ × ℕ)} {seats : Table TabSeat} {partitions : Table PartitionState} (t : ℕ) (s : TabSeat) (p : ℕ) (st : PartitionState) → IsConsistent listed seats partitions → ((q : ℕ) → q ≢ p → IsApart listed seats t s q) → ((q n l : ℕ) → s ≡ Joined q n l → q ≡ p) → IsPartition listed (put t s seats) p st → IsConsistent listed (put t s seats) (put p st partitions)
 IsConsistent-put {listed} {seats} {partitions} t s p st k apart place here =
     record {
       listed_once = k.listed_once;
@@ -71,19 +71,19 @@ IsConsistent-put {listed} {seats} {partitions} t s p st k apart place here =
 
 -- Row of a partition
 
-rows_as : {listed : List (ℕ × ℕ)} {seats : Table Seat} {partitions : Table PartitionState} (p : ℕ) (o : Option PartitionState) → IsConsistent listed seats partitions → find partitions p ≡ o → AllRows (was_taken seats p) (at no_partition partitions p).locks
+rows_as : {listed : List (ℕ × ℕ)} {seats : Table TabSeat} {partitions : Table PartitionState} (p : ℕ) (o : Option PartitionState) → IsConsistent listed seats partitions → find partitions p ≡ o → AllRows (was_taken seats p) (at no_partition partitions p).locks
 rows_as {partitions = partitions} p None k e = rw at_none (refl, refl)
 rows_as {partitions = partitions} p (Some st) k e = rw (at-find no_partition st p partitions e) (k.each p st e).numbers
 
-pub IsConsistent-rows : {listed : List (ℕ × ℕ)} {seats : Table Seat} {partitions : Table PartitionState} (p : ℕ) → IsConsistent listed seats partitions → AllRows (was_taken seats p) (at no_partition partitions p).locks
+pub IsConsistent-rows : {listed : List (ℕ × ℕ)} {seats : Table TabSeat} {partitions : Table PartitionState} (p : ℕ) → IsConsistent listed seats partitions → AllRows (was_taken seats p) (at no_partition partitions p).locks
 IsConsistent-rows {partitions = partitions} p k = rows_as p (find partitions p) k refl
 
-active_as : {listed : List (ℕ × ℕ)} {seats : Table Seat} {partitions : Table PartitionState} (p : ℕ) (o : Option PartitionState) → IsConsistent listed seats partitions → find partitions p ≡ o → IsSome o → (at no_partition partitions p).is_active ≡ all_arrived listed seats p
+active_as : {listed : List (ℕ × ℕ)} {seats : Table TabSeat} {partitions : Table PartitionState} (p : ℕ) (o : Option PartitionState) → IsConsistent listed seats partitions → find partitions p ≡ o → IsSome o → (at no_partition partitions p).is_active ≡ all_arrived listed seats p
 active_as p None k e some = cc
 active_as {partitions = partitions} p (Some st) k e some = rw (at-find no_partition st p partitions e) (k.each p st e).active
 
 -- If a tab has joined in a partition, the partition's row states whether it is active.
-pub IsConsistent-active : {listed : List (ℕ × ℕ)} {seats : Table Seat} {partitions : Table PartitionState} (t p n l : ℕ) → IsConsistent listed seats partitions → find seats t ≡ Some (Joined p n l) → (at no_partition partitions p).is_active ≡ all_arrived listed seats p
+pub IsConsistent-active : {listed : List (ℕ × ℕ)} {seats : Table TabSeat} {partitions : Table PartitionState} (t p n l : ℕ) → IsConsistent listed seats partitions → find seats t ≡ Some (Joined p n l) → (at no_partition partitions p).is_active ≡ all_arrived listed seats p
 IsConsistent-active {partitions = partitions} t p n l k e = active_as p (find partitions p) k refl (k.seated t p n l e)
 
 taken_here : (p n l : ℕ) → taken_in (Some (Joined p n l)) p ≡ n
@@ -93,21 +93,21 @@ taken_there : (p q n l : ℕ) → q ≢ p → taken_in (Some (Joined p n l)) q �
 taken_there p q n l ne = cond-false _ _ _ (ne_eqb p q (λ e. ne (sym e)))
 
 -- The next command of a tab has a new pair.
-pub IsConsistent-new : {listed : List (ℕ × ℕ)} {seats : Table Seat} {partitions : Table PartitionState} (t p n l : ℕ) → IsConsistent listed seats partitions → find seats t ≡ Some (Joined p n l) → standing (at no_partition partitions p).locks t n ≡ Absent
+pub IsConsistent-new : {listed : List (ℕ × ℕ)} {seats : Table TabSeat} {partitions : Table PartitionState} (t p n l : ℕ) → IsConsistent listed seats partitions → find seats t ≡ Some (Joined p n l) → standing (at no_partition partitions p).locks t n ≡ Absent
 IsConsistent-new {seats = seats} t p n l k e =
     new_pair seats p t n _ (IsConsistent-rows p k) (let here : taken_in (find seats t) p ≡ n = ap (λ o. taken_in o p) e ∙ taken_here p n l in omega arith)
 
 -- A tab joins
 
 -- No command of a tab without a seat has been taken.
-untaken : (o : Option Seat) (q n : ℕ) → o ≡ None → taken_in o q ≤ n
+untaken : (o : Option TabSeat) (q n : ℕ) → o ≡ None → taken_in o q ≤ n
 untaken o q n e = rw e (omega arith)
 
 unlisted_elsewhere : (o : Option ℕ) (p q : ℕ) → elsewhere o p ≡ false → q ≢ p → is_within o q ≡ false
 unlisted_elsewhere None p q e ne = refl
 unlisted_elsewhere (Some r) p q e ne = ne_eqb r q (λ same. ne (sym same ∙ eqb-true r p (not-false _ e)))
 
-pub IsConsistent-join : {listed : List (ℕ × ℕ)} {seats : Table Seat} {partitions : Table PartitionState} (t p base l : ℕ) (entries : List Entry) (b : Bool) → IsConsistent listed seats partitions → find seats t ≡ None → elsewhere (listed_at t listed) p ≡ false → all_below base entries ≡ true → b ≡ all_arrived listed (put t (Joined p base l) seats) p → IsConsistent listed (put t (Joined p base l) seats) (put p (state_of (settle_if b (restored t entries (at no_partition partitions p).locks)) b) partitions)
+pub IsConsistent-join : {listed : List (ℕ × ℕ)} {seats : Table TabSeat} {partitions : Table PartitionState} (t p base l : ℕ) (entries : List Entry) (b : Bool) → IsConsistent listed seats partitions → find seats t ≡ None → elsewhere (listed_at t listed) p ≡ false → all_below base entries ≡ true → b ≡ all_arrived listed (put t (Joined p base l) seats) p → IsConsistent listed (put t (Joined p base l) seats) (put p (state_of (settle_if b (restored t entries (at no_partition partitions p).locks)) b) partitions)
 IsConsistent-join {listed} {seats} {partitions} t p base l entries b k new at_home below active =
     let seat = Joined p base l in
     let next = put t seat seats in
@@ -127,7 +127,7 @@ IsConsistent-join {listed} {seats} {partitions} t p base l entries b k new at_ho
 
 -- A command is taken
 
-pub IsConsistent-command : {listed : List (ℕ × ℕ)} {seats : Table Seat} {partitions : Table PartitionState} (t p n l : ℕ) (o : Operation) → IsConsistent listed seats partitions → find seats t ≡ Some (Joined p n l) → all_arrived listed seats p ≡ true → IsConsistent listed (put t (Joined p (n + 1) l) seats) (put p (state_of (settle (drafted t n o (at no_partition partitions p).locks)) true) partitions)
+pub IsConsistent-command : {listed : List (ℕ × ℕ)} {seats : Table TabSeat} {partitions : Table PartitionState} (t p n l : ℕ) (o : Operation) → IsConsistent listed seats partitions → find seats t ≡ Some (Joined p n l) → all_arrived listed seats p ≡ true → IsConsistent listed (put t (Joined p (n + 1) l) seats) (put p (state_of (settle (drafted t n o (at no_partition partitions p).locks)) true) partitions)
 IsConsistent-command {listed} {seats} {partitions} t p n l o k e active =
     let seat = Joined p (n + 1) l in
     let next = put t seat seats in
@@ -149,10 +149,10 @@ IsConsistent-command {listed} {seats} {partitions} t p n l o k e active =
 
 -- A tab dies
 
-abbrev HadPlace : List (ℕ × ℕ) → Table Seat → ℕ → ℕ → Type 0
+abbrev HadPlace : List (ℕ × ℕ) → Table TabSeat → ℕ → ℕ → Type 0
 HadPlace listed seats t p = ((n l : ℕ) × (find seats t ≡ Some (Joined p n l))) ⊎ ((find seats t ≡ None) × (listed_at t listed ≡ Some p))
 
-apart_dead : (listed : List (ℕ × ℕ)) (seats : Table Seat) (t p q : ℕ) → TabsRiseFrom 1 listed → HadPlace listed seats t p → q ≢ p → IsApart listed seats t Dead q
+apart_dead : (listed : List (ℕ × ℕ)) (seats : Table TabSeat) (t p q : ℕ) → TabsRiseFrom 1 listed → HadPlace listed seats t p → q ≢ p → IsApart listed seats t Dead q
 apart_dead listed seats t p q r had ne =
     ⊎_elim
     (λ (h : (n l : ℕ) × (find seats t ≡ Some (Joined p n l))). record {
@@ -165,7 +165,7 @@ apart_dead listed seats t p q r had ne =
     })
     had
 
-pub IsConsistent-dead : {listed : List (ℕ × ℕ)} {seats : Table Seat} {partitions : Table PartitionState} (partial : Table Partial) (g t p : ℕ) (b : Bool) → IsConsistent listed seats partitions → Had (broker_of g listed seats partitions partial) t p → b ≡ all_arrived listed (put t Dead seats) p → IsConsistent listed (put t Dead seats) (put p (state_of (settle_if b (ended t (at no_partition partitions p).locks)) b) partitions)
+pub IsConsistent-dead : {listed : List (ℕ × ℕ)} {seats : Table TabSeat} {partitions : Table PartitionState} (partial : Table Partial) (g t p : ℕ) (b : Bool) → IsConsistent listed seats partitions → Had (broker_of g listed seats partitions partial) t p → b ≡ all_arrived listed (put t Dead seats) p → IsConsistent listed (put t Dead seats) (put p (state_of (settle_if b (ended t (at no_partition partitions p).locks)) b) partitions)
 IsConsistent-dead {listed} {seats} {partitions} partial g t p b k had active =
     IsConsistent-put t Dead p _ k (λ q ne. apart_dead listed seats t p q k.listed_once had ne) (λ q n l e. cc)
     (record {
@@ -174,7 +174,7 @@ IsConsistent-dead {listed} {seats} {partitions} partial g t p b k had active =
     })
 
 -- The death of a tab without a partition keeps the invariant.
-pub IsConsistent-unknown : {listed : List (ℕ × ℕ)} {seats : Table Seat} {partitions : Table PartitionState} (t : ℕ) → IsConsistent listed seats partitions → find seats t ≡ None → listed_at t listed ≡ None → IsConsistent listed (put t Dead seats) partitions
+pub IsConsistent-unknown : {listed : List (ℕ × ℕ)} {seats : Table TabSeat} {partitions : Table PartitionState} (t : ℕ) → IsConsistent listed seats partitions → find seats t ≡ None → listed_at t listed ≡ None → IsConsistent listed (put t Dead seats) partitions
 IsConsistent-unknown {listed} {seats} t k e unlisted =
     IsConsistent-seat t Dead k
     (λ q. record {
@@ -188,7 +188,7 @@ IsConsistent-unknown {listed} {seats} t k e unlisted =
 row_itself : (s : PartitionState) → s.is_active ≡ true → newly_granted s.locks ≡ [] → state_of (settle s.locks) true ≡ s
 row_itself s active still = rw (settle_same s.locks still, ← active) refl
 
-pub IsConsistent-query : {listed : List (ℕ × ℕ)} {seats : Table Seat} {partitions : Table PartitionState} (t p n l : ℕ) → IsConsistent listed seats partitions → find seats t ≡ Some (Joined p n l) → all_arrived listed seats p ≡ true → newly_granted (at no_partition partitions p).locks ≡ [] → IsConsistent listed (put t (Joined p (n + 1) l) seats) partitions
+pub IsConsistent-query : {listed : List (ℕ × ℕ)} {seats : Table TabSeat} {partitions : Table PartitionState} (t p n l : ℕ) → IsConsistent listed seats partitions → find seats t ≡ Some (Joined p n l) → all_arrived listed seats p ≡ true → newly_granted (at no_partition partitions p).locks ≡ [] → IsConsistent listed (put t (Joined p (n + 1) l) seats) partitions
 IsConsistent-query {listed} {seats} {partitions} t p n l k e active still =
     let row = at no_partition partitions p in
     let itself = row_itself row (IsConsistent-active t p n l k e ∙ active) still in

@@ -16,54 +16,54 @@ use Rattle.wl_grammar.specs.declared.frame.Operation.{Operation}
 use Rattle.wl_grammar.specs.declared.frame.Outcome.{Outcome}
 use Rattle.wl_grammar.specs.declared.frame.Addressed.{Addressed}
 use Rattle.wl_broker_reports.specs.ReportParts.{Partial, kept_at, has_held}
-use Rattle.wl_broker.specs.declared.seat.Seat.{Seat}
-use Rattle.wl_broker.specs.declared.seat.Seat.TheVariants.{Joined, Dead}
+use Rattle.wl_broker.specs.declared.seat.TabSeat.{TabSeat}
+use Rattle.wl_broker.specs.declared.seat.TabSeat.TheVariants.{Joined, Dead}
 use Rattle.wl_broker.specs.Broker.{BrokerState, seat_of, limit_in, limit_of, is_joined, is_dead, is_active, is_misplaced, listed_at, elsewhere, seated_at, next_of, is_lock, is_listed, manager_of, later_answer, next_in, answer_of, outcome_at}
 use Rattle.wl_broker.specs.BrokerInvariant.{PartitionState, no_partition, all_arrived, broker_of, IsConsistent}
 use Rattle.wl_broker.proofs.Consistency.{IsConsistent-active}
 use Rattle.wl_broker.proofs.PartitionRows.{put_itself, put_put}
 use Rattle.wl_broker.proofs.BrokerSteps.{is_active-fields, manager_of-fields, later_is}
 
-pub consistent_as : {listed : List (ℕ × ℕ)} {seats seats' : Table Seat} {partitions partitions' : Table PartitionState} → seats' ≡ seats → partitions' ≡ partitions → IsConsistent listed seats partitions → IsConsistent listed seats' partitions'
+pub consistent_as : {listed : List (ℕ × ℕ)} {seats seats' : Table TabSeat} {partitions partitions' : Table PartitionState} → seats' ≡ seats → partitions' ≡ partitions → IsConsistent listed seats partitions → IsConsistent listed seats' partitions'
 consistent_as {listed} {seats} {seats'} {partitions} {partitions'} s p k =
     subst (λ ss. IsConsistent listed ss partitions') (sym s) (subst (λ ps. IsConsistent listed seats ps) (sym p) k)
 
-pub same_fields : (g : ℕ) (listed : List (ℕ × ℕ)) (partial : Table Partial) {seats seats' : Table Seat} {partitions partitions' : Table PartitionState} → seats' ≡ seats → partitions' ≡ partitions → broker_of g listed seats' partitions' partial ≡ broker_of g listed seats partitions partial
+pub same_fields : (g : ℕ) (listed : List (ℕ × ℕ)) (partial : Table Partial) {seats seats' : Table TabSeat} {partitions partitions' : Table PartitionState} → seats' ≡ seats → partitions' ≡ partitions → broker_of g listed seats' partitions' partial ≡ broker_of g listed seats partitions partial
 same_fields g listed partial {seats} {seats'} {partitions} {partitions'} s p =
     ap (λ ss. broker_of g listed ss partitions' partial) s ∙ ap (λ ps. broker_of g listed seats ps partial) p
 
 -- An `insert` of a seat is a `put`.
-pub seat_put : (t : ℕ) (s : Seat) (seats seats' : Table Seat) → seats' ≡ insert_entry nat_cmp seats t s → seats' ≡ put t s seats
+pub seat_put : (t : ℕ) (s : TabSeat) (seats seats' : Table TabSeat) → seats' ≡ insert_entry nat_cmp seats t s → seats' ≡ put t s seats
 seat_put t s seats seats' e = e ∙ insert_entry-put t s seats
 
-pub seat_there : (t : ℕ) (s : Seat) (seats seats' : Table Seat) → seats' ≡ insert_entry nat_cmp seats t s → IsSome (find seats' t)
+pub seat_there : (t : ℕ) (s : TabSeat) (seats seats' : Table TabSeat) → seats' ≡ insert_entry nat_cmp seats t s → IsSome (find seats' t)
 seat_there t s seats seats' e = ap (λ ss. is_some (find ss t)) (seat_put t s seats seats' e) ∙ ap is_some (find-put_same t s seats)
 
-no_row : (t : ℕ) (seats : Table Seat) → find seats t ≡ None → has_row seats t ≡ false
+no_row : (t : ℕ) (seats : Table TabSeat) → find seats t ≡ None → has_row seats t ≡ false
 no_row t seats e = sym (is_some-lookup Dead seats t) ∙ ap is_some (lookup-find seats t ∙ e)
 
 -- Restoring a seat undoes its insertion.
-pub given_back : (t : ℕ) (s : Seat) (before : Option Seat) (seats seats' seats'' : Table Seat) → before ≡ find seats t → IsStrictlySortedBy nat_cmp (keys_of seats) → seats' ≡ insert_entry nat_cmp seats t s → MatchOption before (seats'' ≡ remove_entry (is_at (nat_cmp t)) seats') (λ x. seats'' ≡ put t x seats') → seats'' ≡ seats
+pub given_back : (t : ℕ) (s : TabSeat) (before : Option TabSeat) (seats seats' seats'' : Table TabSeat) → before ≡ find seats t → IsStrictlySortedBy nat_cmp (keys_of seats) → seats' ≡ insert_entry nat_cmp seats t s → MatchOption before (seats'' ≡ remove_entry (is_at (nat_cmp t)) seats') (λ x. seats'' ≡ put t x seats') → seats'' ≡ seats
 given_back t s None seats seats' seats'' was o e back =
     back ∙ ap (remove_entry (is_at (nat_cmp t))) (seat_put t s seats seats' e) ∙ remove_entry-put t s seats (no_row t seats (sym was))
 given_back t s (Some x) seats seats' seats'' was o e back =
     back ∙ ap (put t x) (seat_put t s seats seats' e) ∙ put_put t s x seats ∙ put_itself t x seats o (sym was)
 
 -- The answer to a command that was taken before.
-pub again_is : (g : ℕ) (listed : List (ℕ × ℕ)) (seats : Table Seat) (partitions : Table PartitionState) (partial : Table Partial) (t p n : ℕ) (o : Operation) (upto : ℕ) (outcome : Outcome) (outs : List Addressed) → upto ≡ next_in (find seats t) → outcome ≡ outcome_at (at no_partition partitions p).locks t n o → outs ≡ answer_of g upto t n outcome ∷ [] → outs ≡ later_answer (broker_of g listed seats partitions partial) t p n o ∷ []
+pub again_is : (g : ℕ) (listed : List (ℕ × ℕ)) (seats : Table TabSeat) (partitions : Table PartitionState) (partial : Table Partial) (t p n : ℕ) (o : Operation) (upto : ℕ) (outcome : Outcome) (outs : List Addressed) → upto ≡ next_in (find seats t) → outcome ≡ outcome_at (at no_partition partitions p).locks t n o → outs ≡ answer_of g upto t n outcome ∷ [] → outs ≡ later_answer (broker_of g listed seats partitions partial) t p n o ∷ []
 again_is g listed seats partitions partial t p n o upto outcome outs u a e =
     rw (e, u, a, later_is (broker_of g listed seats partitions partial) t p n o, manager_of-fields g listed seats partitions partial p) refl
 
 -- The fields of a broker determine the seat of a tab.
-pub seat_seen : (g : ℕ) (listed : List (ℕ × ℕ)) (seats : Table Seat) (partitions : Table PartitionState) (partial : Table Partial) (b : BrokerState) (t : ℕ) (o : Option Seat) → broker_of g listed seats partitions partial ≡ b → o ≡ find seats t → seat_of b t ≡ o
+pub seat_seen : (g : ℕ) (listed : List (ℕ × ℕ)) (seats : Table TabSeat) (partitions : Table PartitionState) (partial : Table Partial) (b : BrokerState) (t : ℕ) (o : Option TabSeat) → broker_of g listed seats partitions partial ≡ b → o ≡ find seats t → seat_of b t ≡ o
 seat_seen g listed seats partitions partial b t o v e = ap (λ x. seat_of x t) (sym v) ∙ sym e
 
-pub active_seen : (g : ℕ) (listed : List (ℕ × ℕ)) (seats : Table Seat) (partitions : Table PartitionState) (partial : Table Partial) (b : BrokerState) (p : ℕ) → broker_of g listed seats partitions partial ≡ b → is_active b p ≡ true → all_arrived listed seats p ≡ true
+pub active_seen : (g : ℕ) (listed : List (ℕ × ℕ)) (seats : Table TabSeat) (partitions : Table PartitionState) (partial : Table Partial) (b : BrokerState) (p : ℕ) → broker_of g listed seats partitions partial ≡ b → is_active b p ≡ true → all_arrived listed seats p ≡ true
 active_seen g listed seats partitions partial b p v e =
     sym (is_active-fields g listed seats partitions partial p) ∙ ap (λ x. is_active x p) v ∙ e
 
 -- A tab that is not misplaced has joined in no other partition.
-pub placed_seen : (g : ℕ) (listed : List (ℕ × ℕ)) (seats : Table Seat) (partitions : Table PartitionState) (partial : Table Partial) (b : BrokerState) (t p : ℕ) → broker_of g listed seats partitions partial ≡ b → is_misplaced b t p ≡ false → elsewhere (seated_at (find seats t)) p ≡ false
+pub placed_seen : (g : ℕ) (listed : List (ℕ × ℕ)) (seats : Table TabSeat) (partitions : Table PartitionState) (partial : Table Partial) (b : BrokerState) (t p : ℕ) → broker_of g listed seats partitions partial ≡ b → is_misplaced b t p ≡ false → elsewhere (seated_at (find seats t)) p ≡ false
 unfolding is_misplaced
 placed_seen g listed seats partitions partial b t p v e =
     ap (λ x. elsewhere (seated_at (seat_of x t)) p) v ∙ (or_parts _ _ (or_parts _ _ e).1).0
@@ -72,19 +72,19 @@ pub listed_seen : (b : BrokerState) (t p : ℕ) → is_misplaced b t p ≡ false
 unfolding is_misplaced
 listed_seen b t p e = (or_parts _ _ e).0
 
-seated_as : (o : Option Seat) (p : ℕ) → is_joined o ≡ true → elsewhere (seated_at o) p ≡ false → o ≡ Some (Joined p (next_in o) (limit_in o))
+seated_as : (o : Option TabSeat) (p : ℕ) → is_joined o ≡ true → elsewhere (seated_at o) p ≡ false → o ≡ Some (Joined p (next_in o) (limit_in o))
 seated_as None p j e = absurd (false≢true j)
 seated_as (Some (Joined q n l)) p j e = ap (λ r. Some (Joined r n l)) (eqb-true q p (not-false _ e))
 seated_as (Some Dead) p j e = absurd (false≢true j)
 
-pub unseated : (o : Option Seat) → is_joined o ≡ false → is_dead o ≡ false → o ≡ None
+pub unseated : (o : Option TabSeat) → is_joined o ≡ false → is_dead o ≡ false → o ≡ None
 unseated None j d = refl
 unseated (Some (Joined q n l)) j d = absurd (false≢true (sym j))
 unseated (Some Dead) j d = absurd (false≢true (sym d))
 
 -- A tab that has joined and is not misplaced has joined in this partition. The partition's row
 -- states whether it is active.
-module _ (g : ℕ) (listed : List (ℕ × ℕ)) (seats : Table Seat) (partitions : Table PartitionState) (partial : Table Partial) (b : BrokerState) (t p : ℕ) (v : broker_of g listed seats partitions partial ≡ b) (placed : is_misplaced b t p ≡ false) (o : Option Seat) (same : o ≡ seat_of b t) (joined : is_joined o ≡ true) where
+module _ (g : ℕ) (listed : List (ℕ × ℕ)) (seats : Table TabSeat) (partitions : Table PartitionState) (partial : Table Partial) (b : BrokerState) (t p : ℕ) (v : broker_of g listed seats partitions partial ≡ b) (placed : is_misplaced b t p ≡ false) (o : Option TabSeat) (same : o ≡ seat_of b t) (joined : is_joined o ≡ true) where
   in_seats : o ≡ find seats t
   in_seats = same ∙ ap (λ x. seat_of x t) (sym v)
 
@@ -121,16 +121,16 @@ module _ (g : ℕ) (listed : List (ℕ × ℕ)) (seats : Table Seat) (partitions
       rw (← v, manager_of-fields g listed seats partitions partial p, ← r, ← in_seats, ← l) (sym e)
 
 -- The seat determines whether the tab has joined.
-pub joined_seen : (o o' : Option Seat) (r : Bool) → o ≡ o' → r ≡ is_joined o → is_joined o' ≡ r
+pub joined_seen : (o o' : Option TabSeat) (r : Bool) → o ≡ o' → r ≡ is_joined o → is_joined o' ≡ r
 joined_seen o o' r s e = ap is_joined (sym s) ∙ sym e
 
-pub dead_seen : (g : ℕ) (listed : List (ℕ × ℕ)) (seats : Table Seat) (partitions : Table PartitionState) (partial : Table Partial) (b : BrokerState) (t : ℕ) (o : Option Seat) (r : Bool) → broker_of g listed seats partitions partial ≡ b → o ≡ find seats t → r ≡ is_dead o → is_dead (seat_of b t) ≡ r
+pub dead_seen : (g : ℕ) (listed : List (ℕ × ℕ)) (seats : Table TabSeat) (partitions : Table PartitionState) (partial : Table Partial) (b : BrokerState) (t : ℕ) (o : Option TabSeat) (r : Bool) → broker_of g listed seats partitions partial ≡ b → o ≡ find seats t → r ≡ is_dead o → is_dead (seat_of b t) ≡ r
 dead_seen g listed seats partitions partial b t o r v s e = ap (λ x. is_dead (seat_of x t)) (sym v) ∙ ap is_dead (sym s) ∙ sym e
 
 pub newcomer_seen : (o o' : Option ℕ) (entries : List Entry) (r : Bool) → o ≡ o' → r ≡ (not (is_listed o) && has_held entries) → (not (is_listed o') && has_held entries) ≡ r
 newcomer_seen o o' entries r x q = rw (← x) (sym q)
 
-pub misplaced_seen : (g : ℕ) (listed : List (ℕ × ℕ)) (seats : Table Seat) (partitions : Table PartitionState) (partial : Table Partial) (b : BrokerState) (t p : ℕ) (place : Option ℕ) (o : Option Seat) (r : Bool) → broker_of g listed seats partitions partial ≡ b → place ≡ listed_at t listed → o ≡ find seats t → r ≡ (elsewhere place p || (elsewhere (seated_at o) p || elsewhere (kept_at (find partial t)) p)) → is_misplaced b t p ≡ r
+pub misplaced_seen : (g : ℕ) (listed : List (ℕ × ℕ)) (seats : Table TabSeat) (partitions : Table PartitionState) (partial : Table Partial) (b : BrokerState) (t p : ℕ) (place : Option ℕ) (o : Option TabSeat) (r : Bool) → broker_of g listed seats partitions partial ≡ b → place ≡ listed_at t listed → o ≡ find seats t → r ≡ (elsewhere place p || (elsewhere (seated_at o) p || elsewhere (kept_at (find partial t)) p)) → is_misplaced b t p ≡ r
 unfolding is_misplaced
 misplaced_seen g listed seats partitions partial b t p place o r v x s q = rw (← v, ← x, ← s) (sym q)
 

@@ -14,7 +14,7 @@ use Rattle.wl_grammar.specs.declared.frame.Upward.{Upward}
 use Rattle.wl_grammar.specs.declared.frame.Upward.TheVariants as up
 use Rattle.wl_grammar.specs.PartCount.{part_count}
 use Rattle.wl_broker_reports.specs.ReportParts.{Told, content_of, with_told, whole_of}
-use Rattle.wl_broker.specs.declared.seat.Seat.TheVariants.{Joined, Dead}
+use Rattle.wl_broker.specs.declared.seat.TabSeat.TheVariants.{Joined, Dead}
 use Rattle.wl_broker.specs.Broker.{BrokerState, started, seat_of, manager_of, partial_of, limit_of, is_active, is_dead, place_of, death_step, with_seat, settled_at, newly_at, keeping, drafted, first_answer, later_answer, snapshot_to, snapshot_part, snapshot_entries, grants_to}
 use Rattle.wl_broker.specs.BrokerLaws.{IsListedOnce, LeavesAlone}
 use Rattle.wl_broker.specs.Grants.{AreSettled, TakesOut, Grants, IsTo, IsOwnAnswer, to_tell, TellsGrants, TellsOfDeath}

@@ -9,14 +9,14 @@ use Rattle.wl_broker_reports.specs.declared.heading.PartHeader.{PartHeader}
 use Rattle.wl_broker_reports.specs.ReportParts.{Partial, all_below, fits, has_part, is_whole, whole_of, without_partial}
 use Rattle.wl_broker_reports.specs.PartialReports.{told, is_kept}
 use Rattle.wl_broker_reports.proofs.KeptParts.{there-kept}
-use Rattle.wl_broker.specs.declared.seat.Seat.{Seat}
+use Rattle.wl_broker.specs.declared.seat.TabSeat.{TabSeat}
 use Rattle.wl_broker.specs.Broker.{BrokerState, partial_of, join, keeping, join_if, Does}
 use Rattle.wl_broker.specs.BrokerInvariant.{PartitionState, broker_of, AwaitsParts}
 
 -- No part is kept of a tab that has arrived
 
 -- When a tab arrives, the parts of its report are discarded.
-pub AwaitsParts-seat : {seats : Table Seat} {partial : Table Partial} (t : ℕ) (s : Seat) → AwaitsParts seats partial → AwaitsParts (put t s seats) (without_partial t partial)
+pub AwaitsParts-seat : {seats : Table TabSeat} {partial : Table Partial} (t : ℕ) (s : TabSeat) → AwaitsParts seats partial → AwaitsParts (put t s seats) (without_partial t partial)
 AwaitsParts-seat {seats} {partial} t s k =
     record {
       rise = Rises-without t 0 partial k.rise;
@@ -27,7 +27,7 @@ AwaitsParts-seat {seats} {partial} t s k =
     }
 
 -- A new seat of a tab that has arrived keeps the invariant.
-pub AwaitsParts-again : {seats : Table Seat} {partial : Table Partial} (t : ℕ) (s old : Seat) → AwaitsParts seats partial → find seats t ≡ Some old → AwaitsParts (put t s seats) partial
+pub AwaitsParts-again : {seats : Table TabSeat} {partial : Table Partial} (t : ℕ) (s old : TabSeat) → AwaitsParts seats partial → find seats t ≡ Some old → AwaitsParts (put t s seats) partial
 AwaitsParts-again {seats} {partial} t s old k e =
     subst (λ ks. AwaitsParts (put t s seats) ks) (without_none t partial (k.not_come t old e)) (AwaitsParts-seat t s k)
 
@@ -35,7 +35,7 @@ none-some : {X : Type 0} {x : X} → None ≡ Some x → ⊥
 none-some e = cc
 
 -- Keeping a part of a tab that has not arrived keeps the invariant.
-pub AwaitsParts-kept : {seats : Table Seat} {partial : Table Partial} (t : ℕ) (x : Partial) → AwaitsParts seats partial → find seats t ≡ None → AwaitsParts seats (put t x partial)
+pub AwaitsParts-kept : {seats : Table TabSeat} {partial : Table Partial} (t : ℕ) (x : Partial) → AwaitsParts seats partial → find seats t ≡ None → AwaitsParts seats (put t x partial)
 AwaitsParts-kept {seats} {partial} t x k new =
     record {
       rise = Rises-put 0 t x partial (omega arith) k.rise;
@@ -45,7 +45,7 @@ AwaitsParts-kept {seats} {partial} t x k new =
           (cases_eq u t);
     }
 
-pub awaits_as : {seats seats' : Table Seat} {partial partial' : Table Partial} → seats' ≡ seats → partial' ≡ partial → AwaitsParts seats partial → AwaitsParts seats' partial'
+pub awaits_as : {seats seats' : Table TabSeat} {partial partial' : Table Partial} → seats' ≡ seats → partial' ≡ partial → AwaitsParts seats partial → AwaitsParts seats' partial'
 awaits_as {seats} {seats'} {partial} {partial'} s p k =
     subst (λ ss. AwaitsParts ss partial') (sym s) (subst (λ ks. AwaitsParts seats ks) (sym p) k)
 
@@ -61,13 +61,13 @@ keeps_part b t p k e = rw e refl
 
 -- Kept parts in the broker's fields
 
-pub partial_seen : (g : ℕ) (listed : List (ℕ × ℕ)) (seats : Table Seat) (partitions : Table PartitionState) (partial : Table Partial) (b : BrokerState) (t : ℕ) → broker_of g listed seats partitions partial ≡ b → partial_of b t ≡ find partial t
+pub partial_seen : (g : ℕ) (listed : List (ℕ × ℕ)) (seats : Table TabSeat) (partitions : Table PartitionState) (partial : Table Partial) (b : BrokerState) (t : ℕ) → broker_of g listed seats partitions partial ≡ b → partial_of b t ≡ find partial t
 partial_seen g listed seats partitions partial b t v = ap (λ (x : BrokerState). partial_of x t) (sym v)
 
-pub bad_seen : (g : ℕ) (listed : List (ℕ × ℕ)) (seats : Table Seat) (partitions : Table PartitionState) (partial : Table Partial) (b : BrokerState) (t : ℕ) (h : PartHeader) (entries : List Entry) (r : Bool) → broker_of g listed seats partitions partial ≡ b → r ≡ not (all_below h.base entries && fits (told h entries) (find partial t)) → not (all_below h.base entries && fits (told h entries) (partial_of b t)) ≡ r
+pub bad_seen : (g : ℕ) (listed : List (ℕ × ℕ)) (seats : Table TabSeat) (partitions : Table PartitionState) (partial : Table Partial) (b : BrokerState) (t : ℕ) (h : PartHeader) (entries : List Entry) (r : Bool) → broker_of g listed seats partitions partial ≡ b → r ≡ not (all_below h.base entries && fits (told h entries) (find partial t)) → not (all_below h.base entries && fits (told h entries) (partial_of b t)) ≡ r
 bad_seen g listed seats partitions partial b t h entries r v e = rw (← v) (sym e)
 
-pub there_seen : (g : ℕ) (listed : List (ℕ × ℕ)) (seats : Table Seat) (partitions : Table PartitionState) (partial : Table Partial) (b : BrokerState) (t : ℕ) (h : PartHeader) (entries : List Entry) (r : Bool) → broker_of g listed seats partitions partial ≡ b → r ≡ is_kept h.part (find partial t) → has_part (told h entries) (partial_of b t) ≡ r
+pub there_seen : (g : ℕ) (listed : List (ℕ × ℕ)) (seats : Table TabSeat) (partitions : Table PartitionState) (partial : Table Partial) (b : BrokerState) (t : ℕ) (h : PartHeader) (entries : List Entry) (r : Bool) → broker_of g listed seats partitions partial ≡ b → r ≡ is_kept h.part (find partial t) → has_part (told h entries) (partial_of b t) ≡ r
 there_seen g listed seats partitions partial b t h entries r v e =
     ap (λ (x : BrokerState). has_part (told h entries) (partial_of x t)) (sym v) ∙ there-kept (told h entries) (find partial t) ∙ sym e
 

@@ -5,8 +5,8 @@ use Rattle.std.proofs.lemmas.List.{take_more, drop_more, take-append-drop, lengt
 use Rattle.wl_draft.specs.Tables.{Table, at, find, put}
 use Rattle.wl_draft.proofs.TableLemmas.{find-put_same, find-put_other, at-put, at-find}
 use Rattle.wl_grammar.specs.Grammar.{TabsRiseFrom}
-use Rattle.wl_broker.specs.declared.seat.Seat.{Seat}
-use Rattle.wl_broker.specs.declared.seat.Seat.TheVariants.{Joined, Dead}
+use Rattle.wl_broker.specs.declared.seat.TabSeat.{TabSeat}
+use Rattle.wl_broker.specs.declared.seat.TabSeat.TheVariants.{Joined, Dead}
 use Rattle.wl_broker.specs.Broker.{has_arrived, listed_at}
 use Rattle.wl_broker.specs.BrokerInvariant.{all_arrived, missing_in, awaited_at, one_at, AreCounts}
 use Rattle.wl_broker.proofs.Arrivals.{has_come_some}
@@ -18,13 +18,13 @@ none_missing_step true true rest m e = e ∙ ap (λ (n : ℕ). eqb n 0) (omega a
 none_missing_step true false rest m e = sym (ne_eqb (1 + m) 0 (λ h. omega arith))
 none_missing_step false c rest m e = e ∙ ap (λ (n : ℕ). eqb n 0) (omega arith)
 
-pub none_missing : (listed : List (ℕ × ℕ)) (seats : Table Seat) (p : ℕ) → all_arrived listed seats p ≡ eqb (missing_in listed seats p) 0
+pub none_missing : (listed : List (ℕ × ℕ)) (seats : Table TabSeat) (p : ℕ) → all_arrived listed seats p ≡ eqb (missing_in listed seats p) 0
 none_missing [] seats p = refl
 none_missing (x ∷ xs) seats p = none_missing_step (eqb x.1 p) (has_arrived (find seats x.0)) _ _ (none_missing xs seats p)
 
 -- A tab arrives
 
-missing-put_behind : (listed : List (ℕ × ℕ)) (seats : Table Seat) (t : ℕ) (s : Seat) (k p : ℕ) → TabsRiseFrom k listed → t < k → missing_in listed (put t s seats) p ≡ missing_in listed seats p
+missing-put_behind : (listed : List (ℕ × ℕ)) (seats : Table TabSeat) (t : ℕ) (s : TabSeat) (k p : ℕ) → TabsRiseFrom k listed → t < k → missing_in listed (put t s seats) p ≡ missing_in listed seats p
 missing-put_behind [] seats t s k p r h = refl
 missing-put_behind (x ∷ xs) seats t s k p r h =
     let other = find-put_other t s seats x.0 (λ e. omega (arith, r.0)) in
@@ -39,12 +39,12 @@ none_here : (b : Bool) → ◌≡◌ {A = ℕ} 0 (cond (b && false) 1 0)
 none_here true = refl
 none_here false = refl
 
-one_is : (o : Option Seat) (q p : ℕ) → one_at (awaited_at o (Some q)) p ≡ cond (eqb q p && not (has_arrived o)) 1 0
+one_is : (o : Option TabSeat) (q p : ℕ) → one_at (awaited_at o (Some q)) p ≡ cond (eqb q p && not (has_arrived o)) 1 0
 one_is None q p = one_alone (eqb q p)
 one_is (Some (Joined r n l)) q p = none_here (eqb q p)
 one_is (Some Dead) q p = none_here (eqb q p)
 
-one_nowhere : (o : Option Seat) (p : ℕ) → one_at (awaited_at o None) p ≡ 0
+one_nowhere : (o : Option TabSeat) (p : ℕ) → one_at (awaited_at o None) p ≡ 0
 one_nowhere None p = refl
 one_nowhere (Some s) p = refl
 
@@ -52,7 +52,7 @@ come_here : (b : Bool) → ◌≡◌ {A = ℕ} (cond (b && not true) 1 0) 0
 come_here true = refl
 come_here false = refl
 
-missing-put_as : (x : ℕ × ℕ) (xs : List (ℕ × ℕ)) (seats : Table Seat) (t : ℕ) (s : Seat) (p : ℕ) (b : Bool) → eqb x.0 t ≡ b → TabsRiseFrom (x.0 + 1) xs → missing_in xs (put t s seats) p + one_at (awaited_at (find seats t) (listed_at t xs)) p ≡ missing_in xs seats p → missing_in (x ∷ xs) (put t s seats) p + one_at (awaited_at (find seats t) (cond b (Some x.1) (listed_at t xs))) p ≡ missing_in (x ∷ xs) seats p
+missing-put_as : (x : ℕ × ℕ) (xs : List (ℕ × ℕ)) (seats : Table TabSeat) (t : ℕ) (s : TabSeat) (p : ℕ) (b : Bool) → eqb x.0 t ≡ b → TabsRiseFrom (x.0 + 1) xs → missing_in xs (put t s seats) p + one_at (awaited_at (find seats t) (listed_at t xs)) p ≡ missing_in xs seats p → missing_in (x ∷ xs) (put t s seats) p + one_at (awaited_at (find seats t) (cond b (Some x.1) (listed_at t xs))) p ≡ missing_in (x ∷ xs) seats p
 missing-put_as x xs seats t s p true e r below =
     let same : x.0 ≡ t = eqb-true x.0 t e in
     let now : ◌≡◌ {A = ℕ} (cond (eqb x.1 p && not (has_arrived (find (put t s seats) x.0))) 1 0) 0 =
@@ -63,11 +63,11 @@ missing-put_as x xs seats t s p true e r below =
     omega (arith, now, rest, before)
 missing-put_as x xs seats t s p false e r below =
     let head : cond {A = ℕ} (eqb x.1 p && not (has_arrived (find (put t s seats) x.0))) 1 0 ≡ cond (eqb x.1 p && not (has_arrived (find seats x.0))) 1 0 =
-    ap (λ (o : Option Seat). cond {A = ℕ} (eqb x.1 p && not (has_arrived o)) 1 0) (find-put_other t s seats x.0 (eqb-false x.0 t e)) in
+    ap (λ (o : Option TabSeat). cond {A = ℕ} (eqb x.1 p && not (has_arrived o)) 1 0) (find-put_other t s seats x.0 (eqb-false x.0 t e)) in
     omega (arith, head, below)
 
 -- The number decreases by one if the tab is listed and had not arrived.
-missing-put : (listed : List (ℕ × ℕ)) (seats : Table Seat) (t : ℕ) (s : Seat) (k p : ℕ) → TabsRiseFrom k listed → missing_in listed (put t s seats) p + one_at (awaited_at (find seats t) (listed_at t listed)) p ≡ missing_in listed seats p
+missing-put : (listed : List (ℕ × ℕ)) (seats : Table TabSeat) (t : ℕ) (s : TabSeat) (k p : ℕ) → TabsRiseFrom k listed → missing_in listed (put t s seats) p + one_at (awaited_at (find seats t) (listed_at t listed)) p ≡ missing_in listed seats p
 missing-put [] seats t s k p r = omega (arith, one_nowhere (find seats t) p)
 missing-put (x ∷ xs) seats t s k p r =
     missing-put_as x xs seats t s p (eqb x.0 t) refl r.1 (missing-put xs seats t s (x.0 + 1) p r.1)
@@ -77,32 +77,32 @@ missing-put (x ∷ xs) seats t s k p r =
 abbrev HasArrived : Table ℕ → Table ℕ → Option ℕ → Type 0
 HasArrived missing missing' place = (p : ℕ) → at 0 missing' p ≡ at 0 missing p - one_at place p
 
-pub counts_as : (listed : List (ℕ × ℕ)) (seats seats' : Table Seat) (missing : Table ℕ) → seats' ≡ seats → AreCounts listed seats missing → AreCounts listed seats' missing
+pub counts_as : (listed : List (ℕ × ℕ)) (seats seats' : Table TabSeat) (missing : Table ℕ) → seats' ≡ seats → AreCounts listed seats missing → AreCounts listed seats' missing
 counts_as listed seats seats' missing s k = subst (λ ss. AreCounts listed ss missing) (sym s) k
 
 -- The counts stay correct when a missing tab arrives.
-pub AreCounts-arrival : (listed : List (ℕ × ℕ)) (seats : Table Seat) (missing missing' : Table ℕ) (t : ℕ) (s : Seat) (place : Option ℕ) → TabsRiseFrom 1 listed → AreCounts listed seats missing → place ≡ awaited_at (find seats t) (listed_at t listed) → HasArrived missing missing' place → AreCounts listed (put t s seats) missing'
+pub AreCounts-arrival : (listed : List (ℕ × ℕ)) (seats : Table TabSeat) (missing missing' : Table ℕ) (t : ℕ) (s : TabSeat) (place : Option ℕ) → TabsRiseFrom 1 listed → AreCounts listed seats missing → place ≡ awaited_at (find seats t) (listed_at t listed) → HasArrived missing missing' place → AreCounts listed (put t s seats) missing'
 AreCounts-arrival listed seats missing missing' t s place r k e h = λ p.
     let one : one_at place p ≡ one_at (awaited_at (find seats t) (listed_at t listed)) p = ap (λ o. one_at o p) e in
     omega (arith, h p, k p, one, missing-put listed seats t s 1 p r)
 
 -- The counts stay correct when a tab that has arrived gets another seat.
-pub AreCounts-again : (listed : List (ℕ × ℕ)) (seats : Table Seat) (missing : Table ℕ) (t : ℕ) (s old : Seat) → TabsRiseFrom 1 listed → AreCounts listed seats missing → find seats t ≡ Some old → AreCounts listed (put t s seats) missing
+pub AreCounts-again : (listed : List (ℕ × ℕ)) (seats : Table TabSeat) (missing : Table ℕ) (t : ℕ) (s old : TabSeat) → TabsRiseFrom 1 listed → AreCounts listed seats missing → find seats t ≡ Some old → AreCounts listed (put t s seats) missing
 AreCounts-again listed seats missing t s old r k e = λ p.
     let none : one_at (awaited_at (find seats t) (listed_at t listed)) p ≡ 0 = ap (λ o. one_at (awaited_at o (listed_at t listed)) p) e in
     omega (arith, k p, none, missing-put listed seats t s 1 p r)
 
 -- The count determines whether the partition is active after the tab arrives.
-pub active_once : (listed : List (ℕ × ℕ)) (seats : Table Seat) (missing : Table ℕ) (t : ℕ) (s : Seat) (place : Option ℕ) (p n : ℕ) → TabsRiseFrom 1 listed → AreCounts listed seats missing → place ≡ awaited_at (find seats t) (listed_at t listed) → n ≡ at 0 missing p - one_at place p → eqb n 0 ≡ all_arrived listed (put t s seats) p
+pub active_once : (listed : List (ℕ × ℕ)) (seats : Table TabSeat) (missing : Table ℕ) (t : ℕ) (s : TabSeat) (place : Option ℕ) (p n : ℕ) → TabsRiseFrom 1 listed → AreCounts listed seats missing → place ≡ awaited_at (find seats t) (listed_at t listed) → n ≡ at 0 missing p - one_at place p → eqb n 0 ≡ all_arrived listed (put t s seats) p
 active_once listed seats missing t s place p n r k e h =
     let one : one_at place p ≡ one_at (awaited_at (find seats t) (listed_at t listed)) p = ap (λ o. one_at o p) e in
     let same : n ≡ missing_in listed (put t s seats) p = omega (arith, h, k p, one, missing-put listed seats t s 1 p r) in
     ap (λ m. eqb m 0) same ∙ sym (none_missing listed (put t s seats) p)
 
 -- A tab with a partition is missing in that partition if it has not arrived.
-pub awaited_had : (o : Option Seat) (place : Option ℕ) (p : ℕ) → (((n l : ℕ) × (o ≡ Some (Joined p n l))) ⊎ ((o ≡ None) × (place ≡ Some p))) → awaited_at o (Some p) ≡ awaited_at o place
+pub awaited_had : (o : Option TabSeat) (place : Option ℕ) (p : ℕ) → (((n l : ℕ) × (o ≡ Some (Joined p n l))) ⊎ ((o ≡ None) × (place ≡ Some p))) → awaited_at o (Some p) ≡ awaited_at o place
 awaited_had None place p had =
-    ⊎_elim (λ (h : (n l : ℕ) × (None ≡ Some (Joined p n l))). cc) (λ (h : (◌≡◌ {A = Option Seat} None None) × (place ≡ Some p)). sym h.1) had
+    ⊎_elim (λ (h : (n l : ℕ) × (None ≡ Some (Joined p n l))). cc) (λ (h : (◌≡◌ {A = Option TabSeat} None None) × (place ≡ Some p)). sym h.1) had
 awaited_had (Some s) place p had = refl
 
 -- The list, read tab by tab

@@ -15,13 +15,13 @@ use Rattle.wl_draft.proofs.TableLemmas.{find-put_same, find-put_other}
 use Rattle.wl_grammar.specs.declared.frame.Operation.{Operation}
 use Rattle.wl_grammar.specs.declared.frame.Operation.TheVariants.{Request, Release, Abort, Query}
 use Rattle.wl_broker_reports.specs.ReportParts.{all_below}
-use Rattle.wl_broker.specs.declared.seat.Seat.{Seat}
+use Rattle.wl_broker.specs.declared.seat.TabSeat.{TabSeat}
 use Rattle.wl_broker.specs.Broker.{drafted}
 use Rattle.wl_broker.specs.BrokerInvariant.{taken_in, was_taken, AllRows}
 
 -- Locks requested by commands already taken
 
-pub was_taken-put : (seats : Table Seat) (t : ℕ) (s : Seat) (p k n : ℕ) → taken_in (find seats t) p ≤ taken_in (Some s) p → ltb n (taken_in (find seats k) p) ≡ true → ltb n (taken_in (find (put t s seats) k) p) ≡ true
+pub was_taken-put : (seats : Table TabSeat) (t : ℕ) (s : TabSeat) (p k n : ℕ) → taken_in (find seats t) p ≤ taken_in (Some s) p → ltb n (taken_in (find seats k) p) ≡ true → ltb n (taken_in (find (put t s seats) k) p) ≡ true
 was_taken-put seats t s p k n more h =
     ⊎_elim (λ (e : t ≡ k). subst (λ j. ltb n (taken_in (find (put t s seats) j) p) ≡ true) e
     (let same = find-put_same t s seats in
@@ -30,13 +30,13 @@ was_taken-put seats t s p k n more h =
     (λ (ne : t ≡ k → ⊥). rw (find-put_other t s seats k (λ e. ne (sym e))) h)
     (cases_eq t k)
 
-pub rows_taken-put : (seats : Table Seat) (t : ℕ) (s : Seat) (p : ℕ) (rows : List Row) → taken_in (find seats t) p ≤ taken_in (Some s) p → list_all (was_taken seats p) rows ≡ true → list_all (was_taken (put t s seats) p) rows ≡ true
+pub rows_taken-put : (seats : Table TabSeat) (t : ℕ) (s : TabSeat) (p : ℕ) (rows : List Row) → taken_in (find seats t) p ≤ taken_in (Some s) p → list_all (was_taken seats p) rows ≡ true → list_all (was_taken (put t s seats) p) rows ≡ true
 rows_taken-put seats t s p [] more h = refl
 rows_taken-put seats t s p (r ∷ rs) more h =
     let k = and_parts _ _ h in
     and_from _ _ (was_taken-put seats t s p r.client r.number more k.0) (rows_taken-put seats t s p rs more k.1)
 
-pub AllRows-put : (seats : Table Seat) (t : ℕ) (s : Seat) (p : ℕ) (m : Locks) → taken_in (find seats t) p ≤ taken_in (Some s) p → AllRows (was_taken seats p) m → AllRows (was_taken (put t s seats) p) m
+pub AllRows-put : (seats : Table TabSeat) (t : ℕ) (s : TabSeat) (p : ℕ) (m : Locks) → taken_in (find seats t) p ≤ taken_in (Some s) p → AllRows (was_taken seats p) m → AllRows (was_taken (put t s seats) p) m
 AllRows-put seats t s p m more h = (rows_taken-put seats t s p m.held more h.0, rows_taken-put seats t s p m.waiting more h.1)
 
 or_none : (x y : Bool) → x ≡ false → y ≡ false → (x || y) ≡ false
@@ -49,13 +49,13 @@ no_pair_as c n k r true e h le =
     absurd (omega (arith, h (eqb-true _ _ both.0), eqb-true _ _ both.1))
 no_pair_as c n k r false e h le = refl
 
-no_pair : (seats : Table Seat) (p t n : ℕ) (rows : List Row) → list_all (was_taken seats p) rows ≡ true → taken_in (find seats t) p ≤ n → has_pair t n rows ≡ false
+no_pair : (seats : Table TabSeat) (p t n : ℕ) (rows : List Row) → list_all (was_taken seats p) rows ≡ true → taken_in (find seats t) p ≤ n → has_pair t n rows ≡ false
 no_pair seats p t n [] h le = refl
 no_pair seats p t n (r ∷ rs) h le =
     let k = and_parts _ _ h in
     or_none _ _ (no_pair_as t n (taken_in (find seats t) p) r (is_pair t n r) refl (λ e. subst (λ j. r.number < taken_in (find seats j) p) e (ltb-true _ _ k.0)) le) (no_pair seats p t n rs k.1 le)
 
-pub new_pair : (seats : Table Seat) (p t n : ℕ) (m : Locks) → AllRows (was_taken seats p) m → taken_in (find seats t) p ≤ n → standing m t n ≡ Absent
+pub new_pair : (seats : Table TabSeat) (p t n : ℕ) (m : Locks) → AllRows (was_taken seats p) m → taken_in (find seats t) p ≤ n → standing m t n ≡ Absent
 new_pair seats p t n m h le = rw (no_pair seats p t n m.held h.0 le, no_pair seats p t n m.waiting h.1 le) refl
 
 -- Properties of all rows
@@ -124,7 +124,7 @@ AllRows-restored test t base entries m new below h = (
 )
 
 -- When a tab dies, its rows are removed.
-rows_without : (seats : Table Seat) (t p : ℕ) (s : Seat) (rows : List Row) → list_all (was_taken seats p) rows ≡ true → list_all (was_taken (put t s seats) p) (without_client t rows) ≡ true
+rows_without : (seats : Table TabSeat) (t p : ℕ) (s : TabSeat) (rows : List Row) → list_all (was_taken seats p) rows ≡ true → list_all (was_taken (put t s seats) p) (without_client t rows) ≡ true
 rows_without seats t p s [] h = refl
 rows_without seats t p s (r ∷ rs) h =
     let k = and_parts _ _ h in
@@ -134,6 +134,6 @@ rows_without seats t p s (r ∷ rs) h =
     (rows_without seats t p s rs k.1))
     (λ _. rows_without seats t p s rs k.1)
 
-pub AllRows-ended : (seats : Table Seat) (t p : ℕ) (s : Seat) (m : Locks) → AllRows (was_taken seats p) m → AllRows (was_taken (put t s seats) p) (ended t m)
+pub AllRows-ended : (seats : Table TabSeat) (t p : ℕ) (s : TabSeat) (m : Locks) → AllRows (was_taken seats p) m → AllRows (was_taken (put t s seats) p) (ended t m)
 unfolding ended
 AllRows-ended seats t p s m h = (rows_without seats t p s m.held h.0, rows_without seats t p s m.waiting h.1)

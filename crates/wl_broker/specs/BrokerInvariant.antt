@@ -10,8 +10,8 @@ use Rattle.wl_grammar.specs.Grammar.{TabsRiseFrom}
 use Rattle.wl_grammar.specs.declared.frame.Addressed.{Addressed}
 use Rattle.wl_grammar.specs.declared.frame.Outcome.TheVariants.{Granted}
 use Rattle.wl_broker_reports.specs.ReportParts.{Partial}
-use Rattle.wl_broker.specs.declared.seat.Seat.{Seat}
-use Rattle.wl_broker.specs.declared.seat.Seat.TheVariants.{Joined, Dead}
+use Rattle.wl_broker.specs.declared.seat.TabSeat.{TabSeat}
+use Rattle.wl_broker.specs.declared.seat.TabSeat.TheVariants.{Joined, Dead}
 use Rattle.wl_broker.specs.declared.answers.TabAnswer.{TabAnswer}
 use Rattle.wl_broker.specs.Broker.{BrokerState, seat_of, has_arrived, listed_at, next_in, answer_of}
 
@@ -39,16 +39,16 @@ is_grant_of client number g = g.client == client && g.number == number
 -- Invariants
 
 -- Each listed tab of the partition has arrived.
-abbrev pub all_arrived : List (ℕ × ℕ) → Table Seat → ℕ → Bool
+abbrev pub all_arrived : List (ℕ × ℕ) → Table TabSeat → ℕ → Bool
 all_arrived listed seats p = list_all (λ x. not (x.1 == p) || has_arrived (find seats x.0)) listed
 
 -- The number of listed tabs of the partition that have not arrived.
-abbrev pub missing_in : List (ℕ × ℕ) → Table Seat → ℕ → ℕ
+abbrev pub missing_in : List (ℕ × ℕ) → Table TabSeat → ℕ → ℕ
 missing_in [] seats p = 0
 missing_in (x ∷ xs) seats p = (if x.1 == p && not (has_arrived (find seats x.0)) then 1 else 0) + missing_in xs seats p
 
 -- The partition under which a tab is listed, as long as it has not arrived.
-abbrev pub awaited_at : Option Seat → Option ℕ → Option ℕ
+abbrev pub awaited_at : Option TabSeat → Option ℕ → Option ℕ
 awaited_at None place = place
 awaited_at (Some s) place = None
 
@@ -58,36 +58,36 @@ one_at None p = 0
 one_at (Some q) p = if q == p then 1 else 0
 
 -- The number of commands of a tab that were taken in the partition.
-abbrev pub taken_in : Option Seat → ℕ → ℕ
+abbrev pub taken_in : Option TabSeat → ℕ → ℕ
 taken_in None p = 0
 taken_in (Some (Joined q next limit)) p = if q == p then next else 0
 taken_in (Some Dead) p = 0
 
 -- The lock was requested by a command that was taken in the partition.
-abbrev pub was_taken : Table Seat → ℕ → Row → Bool
+abbrev pub was_taken : Table TabSeat → ℕ → Row → Bool
 was_taken seats p r = nat_lt r.number (taken_in (find seats r.client) p)
 
 abbrev pub AllRows : (Row → Bool) → Locks → Type 0
 AllRows test m = (list_all test m.held ≡ true) × (list_all test m.waiting ≡ true)
 
-pub record IsPartition (listed : List (ℕ × ℕ)) (seats : Table Seat) (p : ℕ) (s : PartitionState) : Type 0 where
+pub record IsPartition (listed : List (ℕ × ℕ)) (seats : Table TabSeat) (p : ℕ) (s : PartitionState) : Type 0 where
   pub active : s.is_active ≡ all_arrived listed seats p
   pub numbers : AllRows (was_taken seats p) s.locks
 
-pub record IsConsistent (listed : List (ℕ × ℕ)) (seats : Table Seat) (partitions : Table PartitionState) : Type 0 where
+pub record IsConsistent (listed : List (ℕ × ℕ)) (seats : Table TabSeat) (partitions : Table PartitionState) : Type 0 where
   pub listed_once : TabsRiseFrom 1 listed
   pub rise : Rises 0 partitions
   pub each : (p : ℕ) (s : PartitionState) → find partitions p ≡ Some s → IsPartition listed seats p s
   pub seated : (t p next limit : ℕ) → find seats t ≡ Some (Joined p next limit) → IsSome (find partitions p)
 
 -- The table counts, for each partition, the listed tabs that have not arrived.
-abbrev pub AreCounts : List (ℕ × ℕ) → Table Seat → Table ℕ → Type 0
+abbrev pub AreCounts : List (ℕ × ℕ) → Table TabSeat → Table ℕ → Type 0
 AreCounts listed seats missing = (p : ℕ) → at 0 missing p ≡ missing_in listed seats p
 
 -- No part is kept of a tab that has arrived.
-pub record AwaitsParts (seats : Table Seat) (partial : Table Partial) : Type 0 where
+pub record AwaitsParts (seats : Table TabSeat) (partial : Table Partial) : Type 0 where
   pub rise : Rises 0 partial
-  pub not_come : (t : ℕ) (s : Seat) → find seats t ≡ Some s → find partial t ≡ None
+  pub not_come : (t : ℕ) (s : TabSeat) → find seats t ≡ Some s → find partial t ≡ None
 
 -- Frames to send
 
@@ -105,12 +105,12 @@ replied g None = []
 replied g (Some r) = answer_of g r.upto r.tab r.number r.outcome ∷ []
 
 -- The frame of a grant. It states how many commands of the tab were taken.
-abbrev pub grant_of : ℕ → Table Seat → Grant → Addressed
+abbrev pub grant_of : ℕ → Table TabSeat → Grant → Addressed
 grant_of g seats x = answer_of g (next_in (find seats x.client)) x.client x.number Granted
 
 -- State of the definition
 
-abbrev pub broker_of : ℕ → List (ℕ × ℕ) → Table Seat → Table PartitionState → Table Partial → BrokerState
+abbrev pub broker_of : ℕ → List (ℕ × ℕ) → Table TabSeat → Table PartitionState → Table Partial → BrokerState
 broker_of g listed seats partitions partial =
     record { generation = g; listed = listed; seats = seats; managers = map (λ x. (x.0, x.1.locks)) partitions; partial = partial }
 

@@ -8,7 +8,7 @@ pub mod Grants
 pub mod BrokerInvariant
 pub mod BrokerLaws
 pub mod Outs
-pub mod BrokerRows
-pub mod ShardRows
+pub mod BrokerExamples
+pub mod ShardExamples
 pub mod Shards
 pub mod SentFrames

@@ -4,8 +4,8 @@ use Rattle.std.specs.Prelude.{◌≡◌, ℕ, ◌<◌, ◌%◌, List, [], ◌∷
 use Rattle.std.specs.List.{list_all, range_with_len, flat_map}
 use Rattle.wl_grammar.specs.declared.frame.Stamped.{Stamped}
 use Rattle.wl_grammar.specs.declared.frame.Addressed.{Addressed}
-use Rattle.wl_broker.specs.declared.seat.Seat.{Seat}
-use Rattle.wl_broker.specs.declared.seat.Seat.TheVariants.{Joined, Dead}
+use Rattle.wl_broker.specs.declared.seat.TabSeat.{TabSeat}
+use Rattle.wl_broker.specs.declared.seat.TabSeat.TheVariants.{Joined, Dead}
 use Rattle.wl_broker.specs.Broker.{BrokerState, started, hellos, place_of, Taking, Drops, Does, taking, death_step}
 use Rattle.wl_broker.specs.Events.{Event, Comes, Dies, run}
 
@@ -31,7 +31,7 @@ abbrev pub events_of : (ℕ → Bool) → List Event → List Event
 events_of mine events = filter (is_for mine) events
 
 -- A seat is visible in these partitions if its tab joined in one of them or is dead.
-abbrev pub is_seen : (ℕ → Bool) → Seat → Bool
+abbrev pub is_seen : (ℕ → Bool) → TabSeat → Bool
 is_seen mine (Joined partition next limit) = mine partition
 is_seen mine Dead = true
 

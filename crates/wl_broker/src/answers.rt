@@ -8,7 +8,7 @@ ghost use Rattle.wl_broker.specs.BrokerInvariant.{grant_of};
 ghost use Rattle.wl_limits.specs.declared.frames.TheConstants.{ENTRY_LIMIT};
 ghost use Rattle.wl_grammar.specs.PartCount.{part_count};
 
-use crate::seat::Seat;
+use crate::seat::TabSeat;
 use crate::seats::{next_in, seat_of};
 use std::alloc::{AllocError, Global};
 use std::collections::BTreeMap;
@@ -90,7 +90,7 @@ pub fn outcome(standing: Standing) -> Outcome
 pub fn push_grants(
     outs: &mut Vec<Addressed>,
     generation: u32,
-    seats: &BTreeMap<u16, Seat>,
+    seats: &BTreeMap<u16, TabSeat>,
     granted: &[Grant],
 )
     requires { vec_len outs.old + length granted.now ≤ vec_capacity outs.old }

@@ -7,7 +7,7 @@ ghost use Rattle.wl_grammar.specs.declared.frame.Operation.TheVariants.{Query};
 ghost use Rattle.wl_grammar.specs.Grammar.{TabsRiseFrom};
 ghost use Rattle.wl_broker_reports.specs.ReportParts.{fits, has_part, with_told, all_below};
 ghost use Rattle.wl_broker_reports.specs.PartialReports.{told, joining};
-ghost use Rattle.wl_broker.specs.declared.seat.Seat.TheVariants.{Joined, Dead};
+ghost use Rattle.wl_broker.specs.declared.seat.TabSeat.TheVariants.{Joined, Dead};
 ghost use Rattle.wl_broker.specs.Broker.{started, hellos, taking, death_step, Does, Drops, copied, repeated, IsTaken, is_active, is_dead, is_joined, seat_of, listed_at, elsewhere, is_misplaced, take_report_part, take_command, partial_of, join_if, keeping, join, perform, later_answer, next_of, buried_at, with_seat, manager_of};
 ghost use Rattle.wl_broker.specs.BrokerInvariant.{Had};
 
@@ -21,7 +21,7 @@ use crate::judging::{is_bad_report, is_held_by_newcomer, is_misplaced, is_out_of
 use crate::listed::{awaited_at, count_arrival, listed_at, missing_at, missing_without, read_list};
 use crate::outs::Outs;
 use crate::partition_locks::PartitionLocks;
-use crate::seat::Seat;
+use crate::seat::TabSeat;
 use crate::seats::{is_dead, is_joined, limit_in, next_in, put_back, seat_of, set_seat};
 use crate::spare_buffers::SpareBuffers;
 use std::alloc::{AllocError, Global};
@@ -42,7 +42,7 @@ pub struct Broker<T: LockTable> {
     listed: BTreeMap<u16, u16>,
     /// Number of listed tabs that have not arrived, by partition.
     missing: BTreeMap<u16, usize>,
-    seats: BTreeMap<u16, Seat>,
+    seats: BTreeMap<u16, TabSeat>,
     partitions: BTreeMap<u16, PartitionLocks<T>>,
     /// The incomplete reports, by tab.
     kept: BTreeMap<u16, PartialReport>,
@@ -182,8 +182,8 @@ impl<T: LockTable> Broker<T> {
         ensures err { OnErr result (self.new ≡ self.old) }
     {
         match seat_of(&self.seats, tab) {
-            Some(Seat::Dead) => self.say_nothing(copies),
-            Some(Seat::Joined { partition, .. }) => self.remove_tab(tab, partition, copies),
+            Some(TabSeat::Dead) => self.say_nothing(copies),
+            Some(TabSeat::Joined { partition, .. }) => self.remove_tab(tab, partition, copies),
             None => match listed_at(&self.listed, tab) {
                 Some(partition) => self.remove_tab(tab, partition, copies),
                 None => self.remove_unknown_tab(tab, copies),
@@ -212,7 +212,7 @@ impl<T: LockTable> Broker<T> {
         &mut self,
         tab: u16,
         partition: u16,
-        seat: Option<Seat>,
+        seat: Option<TabSeat>,
         place: Option<u16>,
         heading: PartHeader,
         entries: &[Entry],
@@ -252,7 +252,7 @@ impl<T: LockTable> Broker<T> {
         &mut self,
         tab: u16,
         partition: u16,
-        seat: Option<Seat>,
+        seat: Option<TabSeat>,
         number: u32,
         operation: &Operation,
         copies: usize,
@@ -371,7 +371,7 @@ impl<T: LockTable> Broker<T> {
     {
         let waiting = waiting_in(row_at(&self.partitions, partition));
         let mut all = self.rooms.prepare(copies, entries.len(), waiting)?;
-        let seat = Seat::Joined {
+        let seat = TabSeat::Joined {
             partition,
             next: heading.base,
             limit: heading.limit,
@@ -422,7 +422,7 @@ impl<T: LockTable> Broker<T> {
         let before = seat_of(&self.seats, tab);
         let waiting = waiting_in(row_at(&self.partitions, partition));
         let mut all = self.rooms.prepare(copies, 0, waiting)?;
-        self.seats.insert(tab, Seat::Dead)?;
+        self.seats.insert(tab, TabSeat::Dead)?;
         let place = awaited_at(before, partition);
         let is_active = missing_without(&self.missing, place, partition) == 0;
         match end_at(self.alloc, &mut self.partitions, partition, tab, is_active) {
@@ -455,7 +455,7 @@ impl<T: LockTable> Broker<T> {
         ensures err { OnErr result (self.new ≡ self.old) }
     {
         let mut all = self.rooms.prepare(copies, 0, 0)?;
-        self.seats.insert(tab, Seat::Dead)?;
+        self.seats.insert(tab, TabSeat::Dead)?;
         discard(&mut self.kept, tab);
         self.rooms
             .tell(&mut all, copies, self.generation, &self.seats, None, &[]);
@@ -541,7 +541,7 @@ impl<T: LockTable> Broker<T> {
             operation,
         )?;
         let next = number + 1;
-        let seat = Seat::Joined {
+        let seat = TabSeat::Joined {
             partition,
             next,
             limit,
@@ -591,7 +591,7 @@ impl<T: LockTable> Broker<T> {
             tab,
             number,
         )?;
-        let seat = Seat::Joined {
+        let seat = TabSeat::Joined {
             partition,
             next,
             limit,

@@ -7,7 +7,7 @@ ghost use Rattle.wl_broker_reports.specs.PartialReports.{told};
 ghost use Rattle.wl_broker.specs.Broker.{elsewhere, seated_at, is_listed, is_lock};
 ghost use Rattle.wl_limits.specs.declared.tabs.TheConstants.{LAST_NUMBER};
 
-use crate::seat::Seat;
+use crate::seat::TabSeat;
 use crate::seats::seated_at;
 use std::collections::BTreeMap;
 use wl_broker_reports::PartHeader;
@@ -29,7 +29,7 @@ fn elsewhere(place: Option<u16>, partition: u16) -> bool
 /// partition.
 pub fn is_misplaced(
     place: Option<u16>,
-    seat: Option<Seat>,
+    seat: Option<TabSeat>,
     kept: &BTreeMap<u16, PartialReport>,
     tab: u16,
     partition: u16,

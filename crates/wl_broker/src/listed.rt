@@ -7,7 +7,7 @@ ghost use Rattle.wl_grammar.specs.Grammar.{TabsRiseFrom};
 ghost use Rattle.wl_broker.specs.Broker.{listed_at};
 ghost use Rattle.wl_broker.specs.BrokerInvariant.{missing_in, awaited_at, one_at};
 
-use crate::seat::Seat;
+use crate::seat::TabSeat;
 use std::alloc::{AllocError, Global};
 use std::collections::BTreeMap;
 
@@ -39,7 +39,7 @@ pub fn listed_at(listed: &BTreeMap<u16, u16>, tab: u16) -> Option<u16>
 }
 
 /// Returns the partition that waits for the tab, or `None` if the tab has arrived.
-pub fn awaited_at(seat: Option<Seat>, partition: u16) -> Option<u16>
+pub fn awaited_at(seat: Option<TabSeat>, partition: u16) -> Option<u16>
     ensures { result ≡ awaited_at seat (Some partition) }
 {
     match seat {

@@ -1,6 +1,6 @@
-/// Seat of a tab that has joined or died.
+/// TabSeat of a tab that has joined or died.
 #[derive(Clone, Copy, Debug, PartialEq, Eq)]
-pub enum Seat {
+pub enum TabSeat {
     /// The tab has reported in this generation.
     Joined {
         partition: u16,

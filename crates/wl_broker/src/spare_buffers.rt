@@ -8,7 +8,7 @@ ghost use Rattle.wl_broker.specs.BrokerInvariant.{no_rooms, replied, grant_of};
 
 use crate::answers::{TabAnswer, push_grants};
 use crate::outs::Outs;
-use crate::seat::Seat;
+use crate::seat::TabSeat;
 use std::alloc::{AllocError, Global};
 use std::collections::BTreeMap;
 use std::marker::Model;
@@ -125,7 +125,7 @@ impl SpareBuffers {
     fn said(
         &mut self,
         generation: u32,
-        seats: &BTreeMap<u16, Seat>,
+        seats: &BTreeMap<u16, TabSeat>,
         own: Option<TabAnswer>,
         granted: &[Grant],
     ) -> Outs
@@ -146,7 +146,7 @@ impl SpareBuffers {
     fn said_in_list(
         &mut self,
         generation: u32,
-        seats: &BTreeMap<u16, Seat>,
+        seats: &BTreeMap<u16, TabSeat>,
         own: Option<TabAnswer>,
         granted: &[Grant],
     ) -> Vec<Addressed>
@@ -172,7 +172,7 @@ impl SpareBuffers {
         all: &mut Vec<Outs>,
         copies: usize,
         generation: u32,
-        seats: &BTreeMap<u16, Seat>,
+        seats: &BTreeMap<u16, TabSeat>,
         own: Option<TabAnswer>,
         granted: &[Grant],
     )

@@ -8,7 +8,7 @@ ghost use Rattle.wl_frames.specs.Stream.{Reads, Rest, Stop};
 ghost use Rattle.wl_frames.specs.declared.device.TheConstants.{READ_LIMIT, PIECE_LEN, BUNDLE_LEN};
 
 /// States that no two frames have the same encoding, and that no encoding is a prefix of another.
-pub fn law_spelling()
+pub fn law_encoding()
     ensures one_frame { (bytes : List ℕ) (f g : Frame) → IsBody bytes f → IsBody bytes g → f ≡ g }
     ensures length { (f : Frame) → IsWellFormed f → IsLength (length (body f)) }
     ensures apart { (f g : Frame) (x y : List ℕ) → IsWellFormed f
@@ -17,7 +17,7 @@ pub fn law_spelling()
 
 /// States that a stream is decoded in only one way, and that decoding it in pieces gives the same
 /// frames.
-pub fn law_reading()
+pub fn law_decoding()
     ensures one { (stream : List ℕ) (fs gs : List Frame) (s t : Stop)
         → Reads stream fs s → Reads stream gs t → (fs ≡ gs) × (s ≡ t) }
     ensures joins { (stream piece rest : List ℕ) (fs gs : List Frame) (s : Stop)

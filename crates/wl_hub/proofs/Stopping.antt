@@ -5,9 +5,9 @@ use Rattle.wl_kernel.specs.Kernel.{KernelState, may_stop, stopped}
 use Rattle.wl_world_messages.specs.declared.effect.Effect.TheVariants as said
 use Rattle.wl_world_messages.specs.declared.effect.Refusal.TheVariants as refusal
 use Rattle.wl_world_messages.specs.Refused.{refused}
-use Rattle.wl_kernel_supervisor.specs.Changes.{stop_change}
-use Rattle.wl_kernel_supervisor.specs.SupervisedStates.{SupervisedState, changed, after_stop}
-use Rattle.wl_kernel_supervisor.specs.Supervising.{stop_effect}
+use Rattle.wl_supervised_broker.specs.Changes.{stop_change}
+use Rattle.wl_supervised_broker.specs.SupervisedStates.{SupervisedState, changed, after_stop}
+use Rattle.wl_supervised_broker.specs.Supervising.{stop_effect}
 use Rattle.wl_hub.specs.Stored.{is_stop}
 
 last : (k : KernelState) (o : Option BrokerState) → is_some o ≡ true → is_stop (stop_effect k o) ≡ false → may_stop k ≡ false

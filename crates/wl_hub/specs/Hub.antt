@@ -23,9 +23,9 @@ use Rattle.wl_hub.specs.declared.receiving.Progress.TheVariants.{Idle, Told, Gre
 use Rattle.wl_hub.specs.declared.receiving.Verdict.{Verdict}
 use Rattle.wl_hub.specs.declared.receiving.Verdict.TheVariants.{Other}
 use Rattle.wl_hub.specs.Early.{verdict_of, noted, greeted_next, rest_after, postponed}
-use Rattle.wl_kernel_supervisor.specs.Supervising.{message_effect}
+use Rattle.wl_supervised_broker.specs.Supervising.{message_effect}
 use Rattle.wl_kernel.specs.declared.routes.Routed.TheVariants.{Broker, Tabs}
-use Rattle.wl_kernel_supervisor.specs.SupervisedStates.{SupervisedState, is_active_for, without_broker, with_kernel, after_message, frames_after_message, after_death, frames_at_death, after_stop, after_start, frames_at_start}
+use Rattle.wl_supervised_broker.specs.SupervisedStates.{SupervisedState, is_active_for, without_broker, with_kernel, after_message, frames_after_message, after_death, frames_at_death, after_stop, after_start, frames_at_start}
 
 pub record HubState : Type 0 where
   pub supervised : SupervisedState

@@ -16,8 +16,8 @@ use std::collections::VecDeque;
 use std::marker::Model;
 use wl_frames::{Feed, Frame, Hello};
 use wl_kernel::{OpenFault, Origins};
-use wl_kernel_supervisor::SupervisedBroker;
 use wl_origin::{Partition, partition, partition_pair};
+use wl_supervised_broker::SupervisedBroker;
 
 /// Numbers of a status page.
 #[derive(Clone, Copy, Debug, PartialEq, Eq)]

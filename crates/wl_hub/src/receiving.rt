@@ -17,7 +17,7 @@ use std::alloc::{AllocError, Global};
 use wl_broker::Dropped;
 use wl_frames::{Decoded, Feed, Frame, Hello};
 use wl_kernel::{RouteFault, Routed};
-use wl_kernel_supervisor::SupervisedBroker;
+use wl_supervised_broker::SupervisedBroker;
 use wl_world_messages::{Effect, Reason};
 
 /// Result of `advance`.

@@ -14,7 +14,7 @@ use Rattle.wl_agent.specs.Tab.{ask_refusal, asked}
 use Rattle.wl_kernel.specs.Kernel.{KernelState}
 use Rattle.wl_kernel.specs.Routes.{route_up_refusal}
 use Rattle.wl_hub.specs.Early.{greeted_next}
-use Rattle.wl_kernel_supervisor.specs.SupervisedStates.{is_active_for}
+use Rattle.wl_supervised_broker.specs.SupervisedStates.{is_active_for}
 use Rattle.wl_hub.specs.Hub.{page_refusal}
 use Rattle.wl_client.specs.Client.{ClientState, call_refusal, after_command, is_hello_of}
 use Rattle.wl_world_model.specs.declared.event.Event.{Event}

@@ -20,7 +20,7 @@ use Rattle.wl_agent.specs.declared.drop_reason.DropReason.TheVariants as unheard
 use Rattle.wl_agent.specs.declared.status.Status.{Status}
 use Rattle.wl_agent.specs.declared.status.Status.TheVariants.{Asked, Held, Querying}
 use Rattle.wl_agent.specs.Tab.{TabState, report_frames, status_of, operation_of, is_issued, ended, enter_first, enter_later, enter, report_of}
-use Rattle.wl_agent.specs.Delivery.{acknowledged_by, noted, becomes, told_lock, told_end, told_query, told_command, told_by_answer, part_refusal, parts_of, with_part_come, after_answer, after_part, has_entered, delivery}
+use Rattle.wl_agent.specs.Delivery.{acknowledged_by, noted, becomes, result_of_lock_answer, result_of_end_answer, result_of_query_answer, result_of_answer, told_by_answer, part_refusal, parts_of, with_part_come, after_answer, after_part, has_entered, delivery}
 use Rattle.wl_kernel.specs.Routes.{frame_of}
 use Rattle.wl_tab.specs.Tabs.{told}
 use Rattle.wl_library_model.specs.Simulation.{is_awaited, IsRepeated, AreLocksOf}
@@ -85,20 +85,20 @@ frame-locks m c a e =
 
 -- An answer to a repeat
 
-lock-over : (k : ℕ) (b : Bool) (s : Option Status) (o : Outcome) (a : TabState) → is_awaited s ≡ false → after_answer (told_lock k b s o) a ≡ a
+lock-over : (k : ℕ) (b : Bool) (s : Option Status) (o : Outcome) (a : TabState) → is_awaited s ≡ false → after_answer (result_of_lock_answer k b s o) a ≡ a
 lock-over k b (Some Asked) o a n = apart refl n
 lock-over k b (Some Held) o a n = refl
 lock-over k b s o a n = refl
 
-end-over : (k : ℕ) (o : Outcome) (a : TabState) → after_answer (told_end k o) a ≡ a
+end-over : (k : ℕ) (o : Outcome) (a : TabState) → after_answer (result_of_end_answer k o) a ≡ a
 end-over k outcome.Taken a = refl
 end-over k o a = refl
 
-query-over : (k : ℕ) (s : Option Status) (o : Outcome) (a : TabState) → is_awaited s ≡ false → after_answer (told_query k s o) a ≡ a
+query-over : (k : ℕ) (s : Option Status) (o : Outcome) (a : TabState) → is_awaited s ≡ false → after_answer (result_of_query_answer k s o) a ≡ a
 query-over k (Some (Querying parts)) o a n = apart refl n
 query-over k s o a n = refl
 
-command-over : (k : ℕ) (c : Operation) (s : Option Status) (o : Outcome) (a : TabState) → is_awaited s ≡ false → after_answer (told_command k c s o) a ≡ a
+command-over : (k : ℕ) (c : Operation) (s : Option Status) (o : Outcome) (a : TabState) → is_awaited s ≡ false → after_answer (result_of_answer k c s o) a ≡ a
 command-over k (Request mode b name) s o a n = lock-over k b s o a n
 command-over k (Release number) s o a n = end-over k o a
 command-over k (Abort number) s o a n = end-over k o a
@@ -106,7 +106,7 @@ command-over k Query s o a n = query-over k s o a n
 
 answer-over : (x : Answer) (a : TabState) → is_awaited (status_of a x.number) ≡ false → after_answer (told_by_answer x a) a ≡ a
 answer-over x a n =
-    either (λ d. after_answer d a ≡ a) (is_issued a x.number) (told_command x.number (operation_of a x.number) (status_of a x.number) x.outcome) (heard.Dropped unheard.Odd)
+    either (λ d. after_answer d a ≡ a) (is_issued a x.number) (result_of_answer x.number (operation_of a x.number) (status_of a x.number) x.outcome) (heard.Dropped unheard.Odd)
     (λ _. command-over x.number (operation_of a x.number) (status_of a x.number) x.outcome a n)
     (λ _. refl)
 

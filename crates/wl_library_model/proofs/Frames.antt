@@ -25,13 +25,13 @@ use Rattle.wl_kernel.specs.Kernel.{KernelState, is_opened, is_living, partition_
 use Rattle.wl_kernel.specs.Kernel.{tab_of as tab_of_kernel}
 use Rattle.wl_kernel.specs.Routes.{frame_of, is_from_tab, route_up_refusal, tab_refusal, routed_up, hearers, heard_of, hearers_beside}
 use Rattle.wl_kernel.specs.declared.fault.RouteFault.TheVariants.{NoTab, DeadTab as DeadLink, WrongKind}
-use Rattle.wl_kernel_supervisor.specs.Changes.{Change, taking_change, message_change}
-use Rattle.wl_kernel_supervisor.specs.SupervisedStates.{SupervisedState, is_active_for, changed, frames_of}
+use Rattle.wl_supervised_broker.specs.Changes.{Change, taking_change, message_change}
+use Rattle.wl_supervised_broker.specs.SupervisedStates.{SupervisedState, is_active_for, changed, frames_of}
 use Rattle.wl_kernel.specs.declared.routes.Routed.TheVariants.{Tabs}
 use Rattle.wl_world_messages.specs.declared.effect.Effect.{Effect}
 use Rattle.wl_world_messages.specs.declared.effect.Effect.TheVariants as said
 use Rattle.wl_world_messages.specs.declared.effect.Reason.TheVariants as reason
-use Rattle.wl_kernel_supervisor.specs.Supervising.{message_effect}
+use Rattle.wl_supervised_broker.specs.Supervising.{message_effect}
 use Rattle.wl_hub.specs.Early.{verdict_of, noted, greeted_next}
 use Rattle.wl_hub.specs.Hub.{HubState, stepped, routed_step, with_verdict, after_first, greeted, postponing, after_greeting, after_told, advanced}
 use Rattle.wl_hub.specs.Hub.{from_broker as hub_sends}

@@ -18,8 +18,8 @@ use Rattle.wl_grammar.specs.declared.frame.Addressed.{Addressed}
 use Rattle.wl_grammar.specs.Generation.{generation_of}
 use Rattle.wl_broker_reports.specs.ReportParts.{Told, Partial, at_once, in_part, content_of, has_held, all_below, fits, has_part, with_told, is_whole, whole_of}
 use Rattle.wl_broker_reports.proofs.KeptParts.{with_told-base}
-use Rattle.wl_broker.specs.declared.seat.Seat.{Seat}
-use Rattle.wl_broker.specs.declared.seat.Seat.TheVariants.{Joined, Dead}
+use Rattle.wl_broker.specs.declared.seat.TabSeat.{TabSeat}
+use Rattle.wl_broker.specs.declared.seat.TabSeat.TheVariants.{Joined, Dead}
 use Rattle.wl_broker.specs.declared.dropped.Dropped.TheVariants.{OldGeneration, LaterGeneration, NotJoined, Recovering, OutOfTurn, DeadTab, AlreadyJoined, HeldByNewcomer, BadReport, Misplaced, TooMany, PartTwice}
 use Rattle.wl_broker.specs.Broker.{BrokerState, Taking, Drops, Does, hello_to, hellos, started, seat_of, partial_of, is_joined, is_dead, next_of, next_in, limit_of, is_active, is_misplaced, is_listed, listed_at, is_lock, place_of, with_seat, settled_at, manager_of, later_answer, perform, take_command, keeping, join, join_if, take_report_part, take_inner, taking, buried_at, death_step}
 use Rattle.wl_draft.specs.Locks.{live}
@@ -64,7 +64,7 @@ on-broker w b outs f s = record {
 }
 
 -- The tab gets a seat in which the broker has counted the commands below its report's base.
-seated : (w : WorldState) (b : BrokerState) (t : ℕ) (seat : Seat) → SeatsFit w b → (IsHonest w t → is_joined (Some seat) ≡ true → (tab_of w t).report.base ≤ next_in (Some seat)) → SeatsFit w (with_seat t seat b)
+seated : (w : WorldState) (b : BrokerState) (t : ℕ) (seat : TabSeat) → SeatsFit w b → (IsHonest w t → is_joined (Some seat) ≡ true → (tab_of w t).report.base ≤ next_in (Some seat)) → SeatsFit w (with_seat t seat b)
 seated w b t seat f g = each_seat b t seat (λ u o. IsHonest w u → is_joined o ≡ true → (tab_of w u).report.base ≤ next_in o) g (λ u n. f u)
 
 settled : (w : WorldState) (b : BrokerState) (p : ℕ) (m : Locks) → SeatsFit w b → SeatsFit w (settled_at b p m)

@@ -12,8 +12,8 @@ use Rattle.wl_grammar.specs.declared.frame.Frame.TheVariants as frame
 use Rattle.wl_broker.specs.Broker.{BrokerState, hello_to}
 use Rattle.wl_kernel.specs.Kernel.{KernelState, is_opened, stopped, living_tabs}
 use Rattle.wl_kernel.specs.Routes.{frame_of}
-use Rattle.wl_kernel_supervisor.specs.Changes.{Change, death_change, stop_change, start_change}
-use Rattle.wl_kernel_supervisor.specs.SupervisedStates.{SupervisedState, changed, frames_of}
+use Rattle.wl_supervised_broker.specs.Changes.{Change, death_change, stop_change, start_change}
+use Rattle.wl_supervised_broker.specs.SupervisedStates.{SupervisedState, changed, frames_of}
 use Rattle.wl_hub.specs.Early.{first_of, greeted_next, after_first_of, rest_after, postponed_first, postponed}
 use Rattle.wl_hub.specs.Hub.{HubState, stepped, told_step, greeted, postponing, after_told, hub_stopped, hub_started, hub_down, hub_restarted}
 use Rattle.wl_hub.specs.Hub.{from_broker as hub_sends}

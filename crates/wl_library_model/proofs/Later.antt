@@ -18,7 +18,7 @@ use Rattle.wl_agent.specs.Tab.{TabState, born, status_of, issue, finish, enter_f
 use Rattle.wl_agent.specs.Delivery.{noted, has_entered, told_by_answer, after_answer, after_part, delivery}
 use Rattle.wl_kernel.specs.Kernel.{tab_in, open_refusal, opened, ended, killed, lives as lives_in}
 use Rattle.wl_kernel.specs.Routes.{frame_of}
-use Rattle.wl_kernel_supervisor.specs.Changes.{is_dead}
+use Rattle.wl_supervised_broker.specs.Changes.{is_dead}
 use Rattle.wl_limits.specs.declared.tabs.TheConstants.{COMMAND_LIMIT}
 use Rattle.wl_tab.specs.Tabs.{is_told, told}
 use Rattle.wl_world_messages.specs.declared.message.Message.{Message}

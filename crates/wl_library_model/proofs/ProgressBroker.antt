@@ -21,8 +21,8 @@ use Rattle.wl_grammar.specs.declared.frame.Upward.{Upward}
 use Rattle.wl_grammar.specs.declared.frame.Upward.TheVariants as up
 use Rattle.wl_grammar.specs.Generation.{generation_of}
 use Rattle.wl_broker_reports.specs.ReportParts.{Told, fits, has_part, with_told}
-use Rattle.wl_broker.specs.declared.seat.Seat.{Seat}
-use Rattle.wl_broker.specs.declared.seat.Seat.TheVariants.{Joined, Dead}
+use Rattle.wl_broker.specs.declared.seat.TabSeat.{TabSeat}
+use Rattle.wl_broker.specs.declared.seat.TabSeat.TheVariants.{Joined, Dead}
 use Rattle.wl_broker.specs.Broker.{BrokerState, Taking, Does, seat_of, partial_of, listed_at, is_listed, manager_of, is_joined, is_dead, next_of, limit_of, is_active, is_misplaced, answer_of, with_seat, settled_at, newly_at, grants_to, join, join_if, take_report_part, perform, take_inner, taking}
 use Rattle.wl_broker.proofs.Clients.{Own, Stands, Own-append, settle-Stands}
 use Rattle.wl_broker.proofs.Drops.{inner_taken, told_taken, command_taken}
@@ -62,7 +62,7 @@ grantable-held m r e =
 -- The broker
 
 -- A partition stays active when one of its tabs gets another seat.
-active-still : (b : BrokerState) (t p : ℕ) (seat : Seat) → is_active b p ≡ true → is_active (with_seat t seat b) p ≡ true
+active-still : (b : BrokerState) (t p : ℕ) (seat : TabSeat) → is_active b p ≡ true → is_active (with_seat t seat b) p ≡ true
 unfolding is_active
 active-still b t p seat a =
     all-In _ b.listed (λ x i. ⊎_elim
@@ -106,7 +106,7 @@ perform-grants b t p n mode name a e =
       generation = settled-generation seated p (queued r (manager_of b p));
     }
 
-alive : (s : Option Seat) → is_joined s ≡ true → is_dead s ≡ false
+alive : (s : Option TabSeat) → is_joined s ≡ true → is_dead s ≡ false
 alive None e = refl
 alive (Some (Joined p n l)) e = refl
 alive (Some Dead) e = apart e refl
@@ -164,7 +164,7 @@ stranger-placed : (b : BrokerState) (t p : ℕ) → IsStranger b t → is_mispla
 unfolding is_misplaced
 stranger-placed b t p s = rw (s.listed, s.seat, s.partial) refl
 
-settled-seat : (b : BrokerState) (t p : ℕ) (seat : Seat) (m : Locks) → seat_of (settled_at (with_seat t seat b) p m) t ≡ Some seat
+settled-seat : (b : BrokerState) (t p : ℕ) (seat : TabSeat) (m : Locks) → seat_of (settled_at (with_seat t seat b) p m) t ≡ Some seat
 unfolding settled_at
 settled-seat b t p seat m = find-put_same t seat b.seats
 

@@ -23,7 +23,7 @@ use Rattle.wl_agent.specs.declared.drop_reason.DropReason.TheVariants as unheard
 use Rattle.wl_agent.specs.declared.status.Status.{Status}
 use Rattle.wl_agent.specs.declared.status.Status.TheVariants.{Asked, Held, Querying}
 use Rattle.wl_agent.specs.Tab.{TabState, status_of, operation_of, is_issued, is_query, ended}
-use Rattle.wl_agent.specs.Delivery.{noted, becomes, told_asked, told_lock, told_end, told_query, told_command, told_by_answer, asking_refusal, part_refusal, parts_of, with_part_come, after_answer, after_part, has_entered, of_other, delivery}
+use Rattle.wl_agent.specs.Delivery.{noted, becomes, result_of_asked_lock_answer, result_of_lock_answer, result_of_end_answer, result_of_query_answer, result_of_answer, told_by_answer, asking_refusal, part_refusal, parts_of, with_part_come, after_answer, after_part, has_entered, of_other, delivery}
 use Rattle.wl_tab.specs.Tabs.{is_told, told}
 use Rattle.wl_client.specs.declared.client.Unsent.TheVariants as unsent
 use Rattle.wl_client.specs.Client.{ClientState, welcome_of, after_welcome, is_hello_of, after_delivery, after_frame, after_first}
@@ -120,27 +120,27 @@ IsAbout k (heard.Null j) = j ≡ k
 IsAbout k (heard.Lost j) = j ≡ k
 IsAbout k d = ⊤
 
-asked-about : (k : ℕ) (b : Bool) (o : Outcome) → IsAbout k (told_asked k b o)
+asked-about : (k : ℕ) (b : Bool) (o : Outcome) → IsAbout k (result_of_asked_lock_answer k b o)
 asked-about k b outcome.Granted = refl
 asked-about k b outcome.Waiting = either (IsAbout k) b (heard.Dropped unheard.Odd) (heard.Waiting k) (λ _. tt) (λ _. tt)
 asked-about k b outcome.Gone = either (IsAbout k) b (heard.Null k) (heard.Dropped unheard.Odd) (λ _. refl) (λ _. tt)
 asked-about k b outcome.Taken = tt
 
-lock-about : (k : ℕ) (b : Bool) (s : Option Status) (o : Outcome) → IsAbout k (told_lock k b s o)
+lock-about : (k : ℕ) (b : Bool) (s : Option Status) (o : Outcome) → IsAbout k (result_of_lock_answer k b s o)
 lock-about k b (Some Asked) o = asked-about k b o
 lock-about k b (Some Held) o = tt
 lock-about k b s o = tt
 
-end-about : (k : ℕ) (o : Outcome) → IsAbout k (told_end k o)
+end-about : (k : ℕ) (o : Outcome) → IsAbout k (result_of_end_answer k o)
 end-about k outcome.Taken = tt
 end-about k o = tt
 
-query-about : (k : ℕ) (s : Option Status) (o : Outcome) → IsAbout k (told_query k s o)
+query-about : (k : ℕ) (s : Option Status) (o : Outcome) → IsAbout k (result_of_query_answer k s o)
 query-about k (Some (Querying parts)) outcome.Gone = refl
 query-about k (Some (Querying parts)) o = tt
 query-about k s o = tt
 
-command-about : (k : ℕ) (c : Operation) (s : Option Status) (o : Outcome) → IsAbout k (told_command k c s o)
+command-about : (k : ℕ) (c : Operation) (s : Option Status) (o : Outcome) → IsAbout k (result_of_answer k c s o)
 command-about k (Request mode b name) s o = lock-about k b s o
 command-about k (Release j) s o = end-about k o
 command-about k (Abort j) s o = end-about k o
@@ -148,7 +148,7 @@ command-about k Query s o = query-about k s o
 
 answer-about : (x : Answer) (a : TabState) → IsAbout x.number (told_by_answer x a)
 answer-about x a =
-    either (IsAbout x.number) (is_issued a x.number) (told_command x.number (operation_of a x.number) (status_of a x.number) x.outcome) (heard.Dropped unheard.Odd)
+    either (IsAbout x.number) (is_issued a x.number) (result_of_answer x.number (operation_of a x.number) (status_of a x.number) x.outcome) (heard.Dropped unheard.Odd)
     (λ _. command-about x.number (operation_of a x.number) (status_of a x.number) x.outcome)
     (λ _. tt)
 
@@ -168,7 +168,7 @@ answer-rest (heard.Lost j) a = (refl, refl)
 answer-rest d a = (refl, refl)
 
 -- An answer to a request that is asked grants it or changes nothing.
-asked-moves : (n : ℕ) (o : Outcome) (a : TabState) → (status_of (after_answer (told_asked n false o) a) n ≡ status_of a n) ⊎ (status_of (after_answer (told_asked n false o) a) n ≡ Some Held)
+asked-moves : (n : ℕ) (o : Outcome) (a : TabState) → (status_of (after_answer (result_of_asked_lock_answer n false o) a) n ≡ status_of a n) ⊎ (status_of (after_answer (result_of_asked_lock_answer n false o) a) n ≡ Some Held)
 unfolding becomes
 asked-moves n outcome.Granted a = inr (find-put_same n Held a.statuses)
 asked-moves n outcome.Waiting a = inl refl
@@ -176,24 +176,24 @@ asked-moves n outcome.Gone a = inl refl
 asked-moves n outcome.Taken a = inl refl
 
 lock-moves : (n : ℕ) (o : Outcome) (a : TabState) → Wanted (status_of a n)
-    → (status_of (after_answer (told_lock n false (status_of a n) o) a) n ≡ status_of a n) ⊎ (status_of (after_answer (told_lock n false (status_of a n) o) a) n ≡ Some Held)
-lock-moves n o a (inl e) = subst (λ z. (status_of (after_answer (told_lock n false z o) a) n ≡ status_of a n) ⊎ (status_of (after_answer (told_lock n false z o) a) n ≡ Some Held)) (sym e) (asked-moves n o a)
-lock-moves n o a (inr e) = subst (λ z. (status_of (after_answer (told_lock n false z o) a) n ≡ status_of a n) ⊎ (status_of (after_answer (told_lock n false z o) a) n ≡ Some Held)) (sym e) (inl refl)
+    → (status_of (after_answer (result_of_lock_answer n false (status_of a n) o) a) n ≡ status_of a n) ⊎ (status_of (after_answer (result_of_lock_answer n false (status_of a n) o) a) n ≡ Some Held)
+lock-moves n o a (inl e) = subst (λ z. (status_of (after_answer (result_of_lock_answer n false z o) a) n ≡ status_of a n) ⊎ (status_of (after_answer (result_of_lock_answer n false z o) a) n ≡ Some Held)) (sym e) (asked-moves n o a)
+lock-moves n o a (inr e) = subst (λ z. (status_of (after_answer (result_of_lock_answer n false z o) a) n ≡ status_of a n) ⊎ (status_of (after_answer (result_of_lock_answer n false z o) a) n ≡ Some Held)) (sym e) (inl refl)
 
 module _ (g n : ℕ) (mode : Mode) (name : List ℕ) (a : TabState) (w : Waits g n mode name a) where
   abbrev Moves : Delivered → Type 0
   Moves d = (status_of (after_answer d a) n ≡ status_of a n) ⊎ (status_of (after_answer d a) n ≡ Some Held)
 
   -- An answer to the number itself.
-  own-moves : (o : Outcome) → Moves (cond (is_issued a n) (told_command n (operation_of a n) (status_of a n) o) (heard.Dropped unheard.Odd))
+  own-moves : (o : Outcome) → Moves (cond (is_issued a n) (result_of_answer n (operation_of a n) (status_of a n) o) (heard.Dropped unheard.Odd))
   own-moves o =
-      either Moves (is_issued a n) (told_command n (operation_of a n) (status_of a n) o) (heard.Dropped unheard.Odd)
-      (λ _. subst (λ c. Moves (told_command n c (status_of a n) o)) (sym w.operation) (lock-moves n o a w.status))
+      either Moves (is_issued a n) (result_of_answer n (operation_of a n) (status_of a n) o) (heard.Dropped unheard.Odd)
+      (λ _. subst (λ c. Moves (result_of_answer n c (status_of a n) o)) (sym w.operation) (lock-moves n o a w.status))
       (λ _. inl refl)
 
   answer-moves : (x : Answer) → Moves (told_by_answer x a)
   answer-moves x = ⊎_elim
-      (λ e. subst (λ k. Moves (cond (is_issued a k) (told_command k (operation_of a k) (status_of a k) x.outcome) (heard.Dropped unheard.Odd))) e (own-moves x.outcome))
+      (λ e. subst (λ k. Moves (cond (is_issued a k) (result_of_answer k (operation_of a k) (status_of a k) x.outcome) (heard.Dropped unheard.Odd))) e (own-moves x.outcome))
       (λ d. inl (answer-elsewhere (told_by_answer x a) x.number n a (answer-about x a) d))
       (cases_eq n x.number)
 
@@ -260,11 +260,11 @@ module _ (g n : ℕ) (mode : Mode) (name : List ℕ) where
   grant-holds upto a lt w =
       let entered : has_entered g a ≡ true = and_from _ _ (eq-eqb g a.entered (sym w.entered)) (ap not (ne_eqb a.entered 0 (λ e. let z : a.entered ≡ 0 = e in let m : a.entered ≡ g = w.entered in let l : 0 < g = lt in omega arith))) in
       ap (λ b. let z : TabState × Delivered = cond b (noted upto (after_answer (told_by_answer (record { generation = g; upto = upto; number = n; outcome = outcome.Granted }) a) a), told_by_answer (record { generation = g; upto = upto; number = n; outcome = outcome.Granted }) a) (a, of_other g a) in status_of z.0 n) entered
-      ∙ (ap (λ b. status_of (after_answer (cond b (told_command n (operation_of a n) (status_of a n) outcome.Granted) (heard.Dropped unheard.Odd)) a) n) w.issued
-      ∙ (ap (λ c. status_of (after_answer (told_command n c (status_of a n) outcome.Granted) a) n) w.operation
+      ∙ (ap (λ b. status_of (after_answer (cond b (result_of_answer n (operation_of a n) (status_of a n) outcome.Granted) (heard.Dropped unheard.Odd)) a) n) w.issued
+      ∙ (ap (λ c. status_of (after_answer (result_of_answer n c (status_of a n) outcome.Granted) a) n) w.operation
       ∙ ⊎_elim
-      (λ e. ap (λ s. status_of (after_answer (told_lock n false s outcome.Granted) a) n) e ∙ find-put_same n Held a.statuses)
-      (λ e. ap (λ s. status_of (after_answer (told_lock n false s outcome.Granted) a) n) e ∙ e)
+      (λ e. ap (λ s. status_of (after_answer (result_of_lock_answer n false s outcome.Granted) a) n) e ∙ find-put_same n Held a.statuses)
+      (λ e. ap (λ s. status_of (after_answer (result_of_lock_answer n false s outcome.Granted) a) n) e ∙ e)
       w.status))
 
   grant-told : (upto : ℕ) (a : TabState) → 0 < g → Waits g n mode name a → status_of (told (delivery (grant upto) a).0) n ≡ Some Held

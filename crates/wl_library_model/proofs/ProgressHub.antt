@@ -11,8 +11,8 @@ use Rattle.wl_kernel.specs.Routes.{tab_refusal, route_up_refusal, stamped}
 use Rattle.wl_kernel.specs.declared.fault.RouteFault.{RouteFault}
 use Rattle.wl_kernel.specs.declared.fault.RouteFault.TheVariants.{NoTab, DeadTab}
 use Rattle.wl_kernel.specs.declared.routes.Routed.TheVariants.{Broker, Tabs}
-use Rattle.wl_kernel_supervisor.specs.Changes.{taking_change, message_change}
-use Rattle.wl_kernel_supervisor.specs.SupervisedStates.{SupervisedState, is_active_for, changed, frames_of}
+use Rattle.wl_supervised_broker.specs.Changes.{taking_change, message_change}
+use Rattle.wl_supervised_broker.specs.SupervisedStates.{SupervisedState, is_active_for, changed, frames_of}
 use Rattle.wl_hub.specs.declared.receiving.Progress.TheVariants.{Idle, Greeted, Postponed}
 use Rattle.wl_hub.specs.Early.{greeted_next}
 use Rattle.wl_library_model.proofs.ProgressLinks.{fed}

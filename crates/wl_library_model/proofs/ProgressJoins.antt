@@ -11,8 +11,8 @@ use Rattle.wl_draft.proofs.Membership.{apart, either, list_any-In}
 use Rattle.wl_limits.specs.declared.tabs.TheConstants.{COMMAND_LIMIT}
 use Rattle.wl_grammar.specs.declared.frame.Frame.{Frame}
 use Rattle.wl_grammar.specs.declared.frame.Frame.TheVariants as frame
-use Rattle.wl_broker.specs.declared.seat.Seat.{Seat}
-use Rattle.wl_broker.specs.declared.seat.Seat.TheVariants.{Joined, Dead}
+use Rattle.wl_broker.specs.declared.seat.TabSeat.{TabSeat}
+use Rattle.wl_broker.specs.declared.seat.TabSeat.TheVariants.{Joined, Dead}
 use Rattle.wl_broker.specs.Broker.{BrokerState, manager_of, is_joined, next_in, limit_in, limit_of, listed_at, taking}
 use Rattle.wl_agent.specs.declared.delivered.Delivered.{Delivered}
 use Rattle.wl_agent.specs.declared.delivered.Delivered.TheVariants as heard_as
@@ -45,7 +45,7 @@ use Rattle.wl_world_model.specs.Apart.{is_in}
 use Rattle.wl_library_model.specs.Library.{Library, Line, client_of, Opens, HubReceives, HubAdvances, ClientSends, new_line, new_library, with_line, with_hub, is_taken, runs, sending, followed_by, step, run_steps}
 use Rattle.wl_library_model.specs.Events.{events}
 use Rattle.wl_library_model.specs.Simulation.{IsOnItsWayDown}
-use Rattle.wl_library_model.specs.Rows.{to_hub}
+use Rattle.wl_library_model.specs.Library.{to_hub}
 use Rattle.wl_library_model.specs.Progress.{heard, IsIdle, joined, IsReady, NewTabsJoin}
 use Rattle.wl_library_model.proofs.Carried.{Sim}
 use Rattle.wl_library_model.proofs.Simulated.{run-sim}
@@ -69,7 +69,7 @@ listed-none g t (x ∷ xs) n h =
     (λ e. apart (ap g (sym (eqb-true x.0 t e)) ∙ h x Here) n)
     (λ _. listed-none g t xs n (λ y i. h y (Behind i)))
 
-seated-opened : (g f : ℕ → Bool) (t : ℕ) (s : Seat) → Seated g f t s → g t ≡ true
+seated-opened : (g f : ℕ → Bool) (t : ℕ) (s : TabSeat) → Seated g f t s → g t ≡ true
 seated-opened g f t (Joined p n l) m = m.left
 seated-opened g f t Dead e = e
 

@@ -10,7 +10,7 @@ use Rattle.wl_grammar.specs.declared.frame.Frame.TheVariants as frame
 use Rattle.wl_client.specs.declared.client.Unsent.TheVariants as unsent
 use Rattle.wl_client.specs.Client.{ClientState, welcome_of, after_welcome, is_hello_of, after_delivery, after_frame, after_first, advanced}
 use Rattle.wl_kernel.specs.Kernel.{is_living}
-use Rattle.wl_kernel_supervisor.specs.SupervisedStates.{SupervisedState}
+use Rattle.wl_supervised_broker.specs.SupervisedStates.{SupervisedState}
 use Rattle.wl_hub.specs.Hub.{HubState}
 use Rattle.wl_hub.specs.Hub.{advanced as hub_advanced}
 use Rattle.wl_library_model.specs.Library.{Library, Line, HubReceives, HubAdvances, HubSends, ClientSends, ClientAdvances, with_line, with_hub, client_of, lives as lives_in, runs, hub_fed, hub_sends_from, client_fed, sending, followed_by, step, run_steps}

@@ -19,8 +19,8 @@ use Rattle.wl_grammar.specs.declared.frame.Upward.TheVariants as up
 use Rattle.wl_grammar.specs.Generation.{generation_of}
 use Rattle.wl_broadcast.specs.Channels.{ChannelState, open_refusal as channel_refusal, opened as channel_opened, post_refusal, posted, is_own as is_own_channel, read_at, closed_at}
 use Rattle.wl_broker_reports.specs.ReportParts.{Partial, Told, Whole, kept_at, at_once, in_part, has_held, all_below, fits, has_part, partition_or, with_told, is_whole, whole_of}
-use Rattle.wl_broker.specs.declared.seat.Seat.{Seat}
-use Rattle.wl_broker.specs.declared.seat.Seat.TheVariants.{Joined, Dead}
+use Rattle.wl_broker.specs.declared.seat.TabSeat.{TabSeat}
+use Rattle.wl_broker.specs.declared.seat.TabSeat.TheVariants.{Joined, Dead}
 use Rattle.wl_broker.specs.declared.dropped.Dropped.TheVariants.{OldGeneration, LaterGeneration, NotJoined, Recovering, OutOfTurn, DeadTab, AlreadyJoined, HeldByNewcomer, BadReport, Misplaced, TooMany, PartTwice}
 use Rattle.wl_broker.specs.Broker.{BrokerState, Taking, Drops, Does, started, seat_of, partial_of, manager_of, is_joined, is_dead, next_of, limit_of, is_active, is_listed, listed_at, elsewhere, seated_at, is_misplaced, place_of, with_seat, settled_at, later_answer, is_lock, keeping, join, join_if, take_report_part, perform, take_command, take_inner, taking, buried_at, death_step}
 use Rattle.wl_limits.specs.declared.tabs.TheConstants.{COMMAND_LIMIT, LAST_NUMBER}
@@ -101,7 +101,7 @@ abbrev Takes : WorldState → Taking → Type 0
 Takes w (Drops reason) = ⊤
 Takes w (Does b outs) = Places w b
 
-seated-places : (w : WorldState) (b : BrokerState) (t : ℕ) (seat : Seat) → Places w b → IsPlace w t (seated_at (Some seat)) → Places w (with_seat t seat b)
+seated-places : (w : WorldState) (b : BrokerState) (t : ℕ) (seat : TabSeat) → Places w b → IsPlace w t (seated_at (Some seat)) → Places w (with_seat t seat b)
 seated-places w b t seat x f u = record {
   listed = (x u).listed;
   seated = each_seat b t seat (λ n o. IsPlace w n (seated_at o)) f (λ n d. (x n).seated) u;

@@ -36,7 +36,7 @@ use Rattle.wl_library_model.specs.Library.{Library, Line, HubReceives, HubAdvanc
 use Rattle.wl_library_model.specs.Events.{events, events_from}
 use Rattle.wl_library_model.specs.Simulation.{IsOnItsWayDown, AreLocksOf}
 use Rattle.wl_library_model.specs.Promises.{IsHolding}
-use Rattle.wl_library_model.specs.Rows.{to_hub}
+use Rattle.wl_library_model.specs.Library.{to_hub}
 use Rattle.wl_library_model.specs.Progress.{heard, IsQuiet, IsIdle, HasJoined, HasRoom, place, locks_beside, IsFree, granted, RequestsAreGranted}
 use Rattle.wl_library_model.proofs.Carried.{Sim}
 use Rattle.wl_library_model.proofs.Simulated.{steps-sim, run-sim}

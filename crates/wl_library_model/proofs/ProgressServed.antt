@@ -13,7 +13,7 @@ use Rattle.wl_world_model.proofs.apart.RunsApart.{reached}
 use Rattle.wl_library_model.specs.Library.{Library, Step, Opens, HubSends, ClientReceives, ClientAdvances, new_library, client_of, runs, step, run_steps}
 use Rattle.wl_library_model.specs.Events.{events}
 use Rattle.wl_library_model.specs.Promises.{IsHolding}
-use Rattle.wl_library_model.specs.Rows.{to_hub}
+use Rattle.wl_library_model.specs.Library.{to_hub}
 use Rattle.wl_library_model.specs.Progress.{sent_out, handled, received, IsQuiet, IsIdle, HasJoined, HasRoom, IsFree, granted, joined, NewTabsAreServed}
 use Rattle.wl_library_model.proofs.Simulated.{run-sim}
 use Rattle.wl_library_model.proofs.ProgressRequests.{requests-are_granted}

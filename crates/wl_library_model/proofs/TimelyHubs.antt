@@ -9,8 +9,8 @@ use Rattle.wl_kernel.specs.Kernel.{KernelState, OpenedTab, living_tabs}
 use Rattle.wl_kernel.specs.Routes.{route_up_refusal, routed_up}
 use Rattle.wl_kernel.specs.declared.routes.Routed.{Routed}
 use Rattle.wl_kernel.specs.declared.routes.Routed.TheVariants.{Broker, Tabs}
-use Rattle.wl_kernel_supervisor.specs.Changes.{Change, stop_change, start_change, message_change, taking_change, death_change}
-use Rattle.wl_kernel_supervisor.specs.SupervisedStates.{SupervisedState, is_active_for, changed}
+use Rattle.wl_supervised_broker.specs.Changes.{Change, stop_change, start_change, message_change, taking_change, death_change}
+use Rattle.wl_supervised_broker.specs.SupervisedStates.{SupervisedState, is_active_for, changed}
 use Rattle.wl_hub.specs.Early.{greeted_next}
 use Rattle.wl_hub.specs.Hub.{HubState, Step, routed_step, after_first, greeted, postponing, after_greeting, after_told, advanced, hub_stopped, hub_down, hub_restarted}
 

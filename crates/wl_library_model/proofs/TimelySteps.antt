@@ -21,7 +21,7 @@ use Rattle.wl_hub.specs.Early.{greeted_next}
 use Rattle.wl_hub.specs.Hub.{page_refusal}
 use Rattle.wl_world_messages.specs.declared.message.Message.TheVariants.{Across}
 use Rattle.wl_world_model.specs.declared.event.Event.{Event}
-use Rattle.wl_kernel_supervisor.specs.SupervisedStates.{is_active_for}
+use Rattle.wl_supervised_broker.specs.SupervisedStates.{is_active_for}
 use Rattle.wl_world_model.specs.declared.event.Event.TheVariants as event
 use Rattle.wl_world_model.specs.declared.event.Forged.{Forged}
 use Rattle.wl_world_model.specs.World.{WorldState, channels_of, lives, run}

@@ -25,7 +25,7 @@ use Rattle.wl_broadcast.specs.Channels.{name_at, post_frame, open_refusal, opene
 use Rattle.wl_kernel.specs.Routes.{frame_of, route_up_refusal, routed_up, hearers, heard_of}
 use Rattle.wl_kernel.specs.Welcome.{texts_of, welcome}
 use Rattle.wl_kernel.specs.declared.routes.Routed.TheVariants.{Tabs}
-use Rattle.wl_kernel_supervisor.specs.SupervisedStates.{SupervisedState, is_active_for}
+use Rattle.wl_supervised_broker.specs.SupervisedStates.{SupervisedState, is_active_for}
 use Rattle.wl_tab.specs.TabChannels.{number_refusal, posting_refusal}
 use Rattle.wl_client.specs.declared.client.Unsent.{Unsent}
 use Rattle.wl_client.specs.declared.client.Unsent.TheVariants as unsent

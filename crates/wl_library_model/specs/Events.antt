@@ -10,7 +10,7 @@ use Rattle.wl_grammar.specs.declared.frame.Downward.{Downward}
 use Rattle.wl_grammar.specs.declared.frame.Downward.TheVariants as down
 use Rattle.wl_kernel.specs.Kernel.{KernelState, living_tabs}
 use Rattle.wl_kernel.specs.Routes.{route_up_refusal}
-use Rattle.wl_kernel_supervisor.specs.SupervisedStates.{is_active_for}
+use Rattle.wl_supervised_broker.specs.SupervisedStates.{is_active_for}
 use Rattle.wl_hub.specs.Early.{greeted_next}
 use Rattle.wl_hub.specs.Hub.{page_refusal}
 use Rattle.wl_client.specs.Client.{ClientState, is_hello_of}

@@ -1,5 +1,5 @@
 -- A program that links the library, as one state machine: a hub, the clients of its tabs, and the links between them.
-use Rattle.std.specs.Prelude.{ℕ, List, [], ◌∷◌, ◌++◌, Bool, not, ◌&&◌, ◌==◌, take, drop, option_map, Option, Some, None, is_some, Result, if◌then◌else◌}
+use Rattle.std.specs.Prelude.{ℕ, List, [], ◌∷◌, ◌++◌, Bool, not, ◌&&◌, ◌==◌, take, drop, option_map, Option, Some, None, is_some, replicate, Result, if◌then◌else◌}
 use Rattle.std.specs.List.{list_any}
 use Rattle.wl_origin.specs.Order.{Pair}
 use Rattle.wl_origin.specs.declared.fault.OriginFault.{OriginFault}
@@ -256,3 +256,13 @@ step (Forges t f) l = forges t f l
 abbrev pub run_steps : List Step → Library → Library
 run_steps [] l = l
 run_steps (x ∷ xs) l = run_steps xs (step x l)
+
+-- Steps of a link
+
+-- The next `n` frames of the hub reach the client, which handles them.
+abbrev pub to_client : ℕ → ℕ → List Step
+to_client t n = replicate n HubSends ++ ClientReceives t n ∷ replicate n (ClientAdvances t)
+
+-- The client takes its next `n` items, and the hub handles the frames of its link, `m` in number.
+abbrev pub to_hub : ℕ → ℕ → ℕ → List Step
+to_hub t n m = replicate n (ClientSends t) ++ HubReceives t m ∷ replicate m HubAdvances

@@ -10,10 +10,11 @@ use Rattle.wl_agent.specs.Tab.{is_supported, ask_refusal}
 use Rattle.wl_kernel.specs.Kernel.{partition_number}
 use Rattle.wl_hub.specs.declared.receiving.Progress.TheVariants.{Idle}
 use Rattle.wl_hub.specs.Hub.{page_refusal, progress_of}
-use Rattle.wl_world_model.specs.WorldRows.{a, p}
+use Rattle.wl_world_model.specs.WorldExamples.{a, p}
 use Rattle.wl_library_model.specs.Library.{Library, Step, Opens, Restarts, HubSends, Asks, ClientReceives, ClientAdvances, new_library, client_of, runs, run_steps}
 use Rattle.wl_library_model.specs.Promises.{IsHolding}
-use Rattle.wl_library_model.specs.Rows.{to_hub, joins}
+use Rattle.wl_library_model.specs.Library.{to_hub}
+use Rattle.wl_library_model.specs.Examples.{joins}
 
 -- Deliveries
 

@@ -12,7 +12,7 @@ use Rattle.wl_agent.specs.Tab.{TabState, born, status_of, is_asked, is_querying}
 use Rattle.wl_draft.specs.Membership.{In}
 use Rattle.wl_limits.specs.declared.tabs.TheConstants.{COMMAND_LIMIT}
 use Rattle.wl_kernel.specs.Kernel.{is_opened}
-use Rattle.wl_kernel_supervisor.specs.Changes.{is_dead}
+use Rattle.wl_supervised_broker.specs.Changes.{is_dead}
 use Rattle.wl_world_messages.specs.declared.message.Sender.{Sender}
 use Rattle.wl_world_messages.specs.declared.message.Sender.TheVariants.{Kernel, Broker}
 use Rattle.wl_world_messages.specs.declared.message.Message.{Message}

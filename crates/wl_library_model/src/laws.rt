@@ -10,8 +10,9 @@ ghost use Rattle.wl_library_model.specs.Promises.{ApartForAll, CommandsInOrderFo
 /// - A step is a public call of the hub or of a tab's client, or something that a tab that was taken over does.
 /// - The events of a list of steps are given by a definition that maps each step to events of the world.
 pub fn law_library()
-    // The library is the world after the steps' events: it has the same kernel and broker and the same locks, and each
-    // frame on its way is a message in the world's bag, a welcome, a post, a repeated command or its answer.
+    // The library is the world after the steps' events: it has the same kernel and broker and the same locks. Each frame
+    // on its way from an honest tab, or to a living one, is a message in the world's bag, a welcome, a post, a repeated
+    // command or its answer.
     ensures events { IsRunOfItsEvents }
 
     // If clients of living honest tabs of one partition hold two different locks of one name, both are shared.

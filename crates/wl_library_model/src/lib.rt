@@ -4,7 +4,7 @@
 //! steps are the public calls of `wl_hub` and `wl_client`.
 #![tactic(auto)]
 
+pub mod examples;
 pub mod laws;
 pub mod progress;
-pub mod rows;
 pub mod timely;

@@ -14,7 +14,7 @@ use crate::event::{BookEvent, Reply};
 use crate::lane::{Generation, Lane, ShardReceipts, gather};
 use crate::marking::compare;
 use crate::receipt::{CloseFault, History, NotStepped, Receipt, Step};
-use crate::room;
+use crate::reservation;
 use crate::shared_event::{EventHandles, SharedEvent, handles_of};
 use std::alloc::{AllocError, Global};
 use std::marker::Model;
@@ -64,7 +64,7 @@ pub(crate) fn handles_with_room(
     ensures first { IfOk result (λ h. h.first ≡ event) }
     ensures second { IfOk result (λ h. h.second ≡ event) }
 {
-    room::for_one(receipts, reserve_step)?;
+    reservation::for_one(receipts, reserve_step)?;
     handles_of(alloc, event)
 }
 
@@ -176,7 +176,7 @@ impl<J: Generation> Book<J> {
         ensures spent { (result ≡ Err NotStepped.GenerationSpent) ↔ (length self.old ≡ J.limit) }
         ensures err { OnErr result ((self.new ≡ self.old) × (share.new.amount ≡ share.old.amount)) }
     {
-        if let Err(fault) = room::for_step(
+        if let Err(fault) = reservation::for_step(
             self.is_spent(),
             self.limit,
             &mut self.steps,

@@ -71,7 +71,8 @@ impl<J: Generation> Lane<J> {
         self.receipts.as_slice()
     }
 
-    pub(crate) fn into_share(self) -> Share<J>
+    /// Returns the lane's share of the ledger, and drops its receipts.
+    pub(crate) fn into_ledger_share(self) -> Share<J>
         ensures parts { result.parts ≡ 1 }
         ensures amount { result.amount ≡ length self }
     {
@@ -110,7 +111,7 @@ pub(crate) fn gather<J: Generation>(spare: Share<J>, lanes: Vec<Lane<J>>) -> Sha
     let mut all = spare;
     let mut lanes = lanes;
     while let Some(lane) = lanes.pop() {
-        all.merge(lane.into_share());
+        all.merge(lane.into_ledger_share());
     }
     all
 }

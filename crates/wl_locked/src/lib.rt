@@ -16,7 +16,7 @@ pub mod locked;
 mod locking;
 mod marking;
 pub mod receipt;
-mod room;
+mod reservation;
 mod shard_groups;
 pub mod shard_lane;
 pub mod sharded;

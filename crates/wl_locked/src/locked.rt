@@ -14,7 +14,7 @@ use crate::event::{BookEvent, Reply};
 use crate::lane::{Generation, Lane, ShardReceipts};
 use crate::locking::lock;
 use crate::receipt::{CloseFault, History, NotStepped, Receipt};
-use crate::room::receipts_at_once;
+use crate::reservation::receipts_at_once;
 use std::alloc::{AllocError, Global};
 use std::sync::ledger::{Blank, Share};
 use std::sync::{Mutex, Wait};

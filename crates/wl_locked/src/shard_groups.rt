@@ -89,10 +89,10 @@ impl<
             × (self.new.third.amount ≡ self.old.third.amount + length lanes.third)
             × (self.new.fourth.amount ≡ self.old.fourth.amount + length lanes.fourth) }
     {
-        self.first.merge(lanes.first.into_share());
-        self.second.merge(lanes.second.into_share());
-        self.third.merge(lanes.third.into_share());
-        self.fourth.merge(lanes.fourth.into_share());
+        self.first.merge(lanes.first.into_ledger_share());
+        self.second.merge(lanes.second.into_ledger_share());
+        self.third.merge(lanes.third.into_ledger_share());
+        self.fourth.merge(lanes.fourth.into_ledger_share());
     }
 }
 

@@ -4,7 +4,7 @@ use Rattle.url.specs.Host.{owned_host}
 use Rattle.url.specs.Origin.{Triple}
 use Rattle.wl_limits.specs.declared.texts.TheConstants.{ORIGIN_LIMIT}
 use Rattle.wl_origin.specs.Partition.{origin_text}
-use Rattle.wl_origin.specs.declared.triple.TupleOrigin.TheInside.{Inside}
+use Rattle.wl_origin.specs.declared.tuple_origin.TupleOrigin.TheInside.{Inside}
 
 abbrev pub triple_of : Inside → Triple
 triple_of p = (string_bytes p.scheme, owned_host p.host, p.port)

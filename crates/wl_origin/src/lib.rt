@@ -2,10 +2,10 @@
 #![tactic(auto)]
 
 pub mod fault;
-pub mod pair;
+pub mod origin_pair;
 pub mod parse;
-mod triple;
+mod tuple_origin;
 
 pub use fault::OriginFault;
-pub use pair::Partition;
+pub use origin_pair::Partition;
 pub use parse::{partition, partition_pair};

@@ -5,8 +5,8 @@ ghost use Rattle.wl_origin.specs.Partition.{origin_of_text, partition_of, partit
 ghost use Rattle.wl_limits.specs.declared.texts.TheConstants.{URL_LIMIT};
 
 use crate::fault::OriginFault;
-use crate::pair::Partition;
-use crate::triple::TupleOrigin;
+use crate::origin_pair::Partition;
+use crate::tuple_origin::TupleOrigin;
 use std::alloc::Global;
 use url::Url;
 use wl_limits::texts::URL_LIMIT;

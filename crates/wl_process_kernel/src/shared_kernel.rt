@@ -163,8 +163,8 @@ impl SharedKernel {
         })
     }
 
-    /// Returns the board seat used for looks at this tab. Several tabs share a seat.
-    pub(crate) fn seat_of(&self, tab: u16) -> Result<Arc<Mutex<BoardSeat>>, AllocError> {
+    /// Returns the board seat with which threads look whether this tab lives. Several tabs share a seat.
+    pub(crate) fn liveness_seat(&self, tab: u16) -> Result<Arc<Mutex<BoardSeat>>, AllocError> {
         match self.seats.get(usize::from(tab % SEAT_LIMIT)) {
             Some(seat) => Arc::try_clone(seat),
             None => Err(AllocError),

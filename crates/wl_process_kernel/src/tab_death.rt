@@ -109,7 +109,7 @@ impl SharedKernel {
     pub(crate) fn announce_death<R: Host>(&self, rt: &R, tab: u16, death: &DeathNotice, status: u8)
         requires { death.now ≡ tab }
     {
-        if let Ok(seat) = self.seat_of(tab) {
+        if let Ok(seat) = self.liveness_seat(tab) {
             seat.lock(rt).mark_dead(tab);
         }
         let killed = self.supervisor.lock(rt).kill(tab);

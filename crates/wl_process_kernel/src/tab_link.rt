@@ -32,7 +32,7 @@ fn read_link<R: Host>(
         return Ok(ReadEnd::Read);
     };
     let batch = RefCell::new(UplinkBatch::new(alloc));
-    let mut lives = SharedSeat::new(shared.seat_of(tab)?);
+    let mut lives = SharedSeat::new(shared.liveness_seat(tab)?);
     let mut uplink = TabUplink {
         shared,
         batch: &batch,
@@ -89,7 +89,7 @@ fn write_link<R: Host>(
     };
     let OutboxConsumer { outbox, mut pass } = consumer;
     let buffer = LinkBuffer::new(alloc, link);
-    let seat = SharedSeat::new(shared.seat_of(process.tab)?);
+    let seat = SharedSeat::new(shared.liveness_seat(process.tab)?);
     let mut lives = FlushBeforeWait {
         buffer: &buffer,
         tab_outbox,

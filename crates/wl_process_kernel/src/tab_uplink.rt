@@ -42,14 +42,14 @@ impl UplinkBatch {
             return;
         }
         shared.flush(rt, &mut self.gathered);
-        let elapsed = self.since_sent(rt);
+        let elapsed = self.restart_stopwatch(rt);
         self.pace.send(self.load, elapsed);
         self.load = Load::NOTHING;
     }
 
-    /// Returns the nanoseconds since the tab last sent data. Returns `u64::MAX` before the first
-    /// data and if the clock fails.
-    fn since_sent<R: Clock>(&mut self, rt: &R) -> u64 {
+    /// Returns the nanoseconds since the last call, when the tab last sent data. Returns `u64::MAX` at
+    /// the first call and if the clock fails.
+    fn restart_stopwatch<R: Clock>(&mut self, rt: &R) -> u64 {
         let now = Instant::now(rt).ok();
         match (now, std::mem::replace(&mut self.sent, now)) {
             (Some(now), Some(sent)) => {

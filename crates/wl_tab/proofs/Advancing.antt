@@ -14,7 +14,7 @@ use Rattle.wl_agent.specs.declared.token.Token.TheVariants as token
 use Rattle.wl_agent.specs.Issued.{Issued}
 use Rattle.wl_agent.specs.SnapshotParts.{PartsState}
 use Rattle.wl_agent.specs.Tab.{TabState, status_of, operation_of, is_probe, ended, is_querying}
-use Rattle.wl_agent.specs.Tokens.{is_own, is_asking, told_query, told_by_status, after_query}
+use Rattle.wl_agent.specs.Tokens.{is_own, is_asking, result_of_query_answer, told_by_status, after_query}
 use Rattle.wl_agent.specs.AgentInvariant.{RowsFit, Stands, can_become}
 use Rattle.wl_tab.specs.declared.locks.live_command.LiveCommand.{LiveCommand}
 use Rattle.wl_tab.specs.Tabs.{is_told, told}
@@ -198,7 +198,7 @@ tells_query : (run : Run) (k : ℕ) (s : Status) → operation_of run.agent k �
 tells_query run k s op own issued st =
     let q : Issued = record { tab = run.agent.tab; number = k } in
     let mine = asks_own run.agent k s op own issued st in
-    let fate_is : fate_of run.agent (token.Asking q) ≡ fate_by_query (told_by_status (Some s) q) = ap (λ b. cond b (fate_by_query (told_query run.agent q)) (fate.Stays (token.Asking q))) mine ∙ ap (λ (o : Option Status). fate_by_query (told_by_status o q)) st in
+    let fate_is : fate_of run.agent (token.Asking q) ≡ fate_by_query (told_by_status (Some s) q) = ap (λ b. cond b (fate_by_query (result_of_query_answer run.agent q)) (fate.Stays (token.Asking q))) mine ∙ ap (λ (o : Option Status). fate_by_query (told_by_status o q)) st in
     let left_is : after_telling (token.Asking q) run.agent ≡ cond (is_querying (Some s)) run.agent (ended k run.agent) = ap (λ b. cond b (after_query k run.agent) run.agent) mine ∙ ap (λ (o : Option Status). cond (is_querying o) run.agent (ended k run.agent)) st in
     ap (with_fate run (kept_as Query (token.Asking q))) fate_is ∙ moved_on (fate_by_query (told_by_status (Some s) q)) q left_is
   where

@@ -19,7 +19,7 @@ use Rattle.wl_agent.specs.declared.status.Status.{Status}
 use Rattle.wl_agent.specs.declared.status.Status.TheVariants.{Asked, Held, Querying, Whole, Lost}
 use Rattle.wl_agent.specs.SnapshotParts.{PartsState, with_part, is_whole, snapshot_of}
 use Rattle.wl_agent.specs.Tab.{TabState, status_of, operation_of, is_issued, is_querying, is_probe, is_asked_probe, unless_asked, carried, ended, enter_first, enter_later}
-use Rattle.wl_agent.specs.Delivery.{delivery, noted, becomes, told_by_answer, told_command, told_lock, told_asked, told_end, told_query, told_asked_query, after_answer, after_part, part_refusal, parts_of, with_part_come}
+use Rattle.wl_agent.specs.Delivery.{delivery, noted, becomes, told_by_answer, result_of_answer, result_of_lock_answer, result_of_asked_lock_answer, result_of_end_answer, result_of_query_answer, result_of_asked_query_answer, after_answer, after_part, part_refusal, parts_of, with_part_come}
 use Rattle.wl_agent.proofs.Cases.{delivered_as, Fits, told_fits}
 use Rattle.wl_agent.proofs.Deliveries.{not-refused}
 use Rattle.wl_tab.specs.Tabs.{is_told}
@@ -195,7 +195,7 @@ AnswerFits x a (told.Whole k) = ⊥
 AnswerFits x a (told.Entered report) = ⊥
 AnswerFits x a d = Unit {0}
 
-null_asked : (x : Answer) (a : TabState) (b : Bool) (o : Outcome) → status_of a x.number ≡ Some Asked → is_probe (operation_of a x.number) ≡ b → AnswerFits x a (told_asked x.number b o)
+null_asked : (x : Answer) (a : TabState) (b : Bool) (o : Outcome) → status_of a x.number ≡ Some Asked → is_probe (operation_of a x.number) ≡ b → AnswerFits x a (result_of_asked_lock_answer x.number b o)
 null_asked x a b outcome.Granted s p = tt
 null_asked x a true outcome.Waiting s p = tt
 null_asked x a false outcome.Waiting s p = tt
@@ -203,7 +203,7 @@ null_asked x a true outcome.Gone s p = (s, p)
 null_asked x a false outcome.Gone s p = tt
 null_asked x a b outcome.Taken s p = tt
 
-null_lock : (x : Answer) (a : TabState) (b : Bool) (s : Option Status) → status_of a x.number ≡ s → is_probe (operation_of a x.number) ≡ b → AnswerFits x a (told_lock x.number b s x.outcome)
+null_lock : (x : Answer) (a : TabState) (b : Bool) (s : Option Status) → status_of a x.number ≡ s → is_probe (operation_of a x.number) ≡ b → AnswerFits x a (result_of_lock_answer x.number b s x.outcome)
 null_lock x a b None e p = tt
 null_lock x a b (Some Asked) e p = null_asked x a b x.outcome e p
 null_lock x a b (Some Held) e p = tt
@@ -211,19 +211,19 @@ null_lock x a b (Some (Querying q)) e p = tt
 null_lock x a b (Some (Whole q)) e p = tt
 null_lock x a b (Some Lost) e p = tt
 
-null_end : (x : Answer) (a : TabState) (o : Outcome) → AnswerFits x a (told_end x.number o)
+null_end : (x : Answer) (a : TabState) (o : Outcome) → AnswerFits x a (result_of_end_answer x.number o)
 null_end x a outcome.Granted = tt
 null_end x a outcome.Waiting = tt
 null_end x a outcome.Gone = tt
 null_end x a outcome.Taken = tt
 
-null_asked_query : (x : Answer) (a : TabState) (o : Outcome) → AnswerFits x a (told_asked_query x.number o)
+null_asked_query : (x : Answer) (a : TabState) (o : Outcome) → AnswerFits x a (result_of_asked_query_answer x.number o)
 null_asked_query x a outcome.Granted = tt
 null_asked_query x a outcome.Waiting = tt
 null_asked_query x a outcome.Gone = tt
 null_asked_query x a outcome.Taken = tt
 
-null_query : (x : Answer) (a : TabState) (s : Option Status) → AnswerFits x a (told_query x.number s x.outcome)
+null_query : (x : Answer) (a : TabState) (s : Option Status) → AnswerFits x a (result_of_query_answer x.number s x.outcome)
 null_query x a None = tt
 null_query x a (Some Asked) = tt
 null_query x a (Some Held) = tt
@@ -231,7 +231,7 @@ null_query x a (Some (Querying p)) = null_asked_query x a x.outcome
 null_query x a (Some (Whole p)) = tt
 null_query x a (Some Lost) = tt
 
-null_command : (x : Answer) (a : TabState) (o : Operation) → operation_of a x.number ≡ o → AnswerFits x a (told_command x.number o (status_of a x.number) x.outcome)
+null_command : (x : Answer) (a : TabState) (o : Operation) → operation_of a x.number ≡ o → AnswerFits x a (result_of_answer x.number o (status_of a x.number) x.outcome)
 null_command x a (Request mode b name) e = null_lock x a b (status_of a x.number) refl (ap is_probe e)
 null_command x a (Release n) e = null_end x a x.outcome
 null_command x a (Abort n) e = null_end x a x.outcome
@@ -239,7 +239,7 @@ null_command x a Query e = null_query x a (status_of a x.number)
 
 pub null_fits : (x : Answer) (a : TabState) → AnswerFits x a (told_by_answer x a)
 null_fits x a =
-    either (AnswerFits x a) (is_issued a x.number) (told_command x.number (operation_of a x.number) (status_of a x.number) x.outcome) (told.Dropped unheard.Odd) (λ e. null_command x a (operation_of a x.number) refl) (λ e. tt)
+    either (AnswerFits x a) (is_issued a x.number) (result_of_answer x.number (operation_of a x.number) (status_of a x.number) x.outcome) (told.Dropped unheard.Odd) (λ e. null_command x a (operation_of a x.number) refl) (λ e. tt)
 
 lost_moves : (o : Operation) (s : Option Status) → is_querying s ≡ true → (t : Status) × (s ≡ Some t) × Moves o t (Some Lost) × ((p : PartsState) → Moves o t (Some (Querying p))) × ((w : Snapshot) → Moves o t (Some (Whole w)))
 lost_moves o None e = let bad : ⊥ = cc in absurd bad

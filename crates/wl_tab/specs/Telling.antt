@@ -10,7 +10,7 @@ use Rattle.wl_agent.specs.declared.token.ProbeSettled.TheVariants as probe
 use Rattle.wl_agent.specs.declared.token.QuerySettled.{QuerySettled}
 use Rattle.wl_agent.specs.declared.token.QuerySettled.TheVariants as query
 use Rattle.wl_agent.specs.Tab.{TabState}
-use Rattle.wl_agent.specs.Tokens.{is_own, is_pending, is_probing, is_asking, told_pending, told_probe, told_query, after_query}
+use Rattle.wl_agent.specs.Tokens.{is_own, is_pending, is_probing, is_asking, told_pending, told_probe, result_of_query_answer, after_query}
 use Rattle.wl_tab.specs.declared.locks.live_command.LiveCommand.{LiveCommand}
 use Rattle.wl_tab.specs.TabTokens.{kept_as}
 use Rattle.wl_tab.specs.declared.locks.settling.Settlement.{Settlement}
@@ -40,7 +40,7 @@ fate_of a (token.Probe p) =
     if is_own is_probing a p.tab p.number then fate_by_probe (told_probe a p) else fate.Stays (token.Probe p)
 fate_of a (token.HeldLock lock) = fate.Stays (token.HeldLock lock)
 fate_of a (token.Asking q) =
-    if is_own is_asking a q.tab q.number then fate_by_query (told_query a q) else fate.Stays (token.Asking q)
+    if is_own is_asking a q.tab q.number then fate_by_query (result_of_query_answer a q) else fate.Stays (token.Asking q)
 
 -- The tab after one of its tokens is settled.
 abbrev pub after_telling : Token → TabState → TabState

@@ -138,7 +138,7 @@ impl LockTable for IndexedTable {
 
     fn grantable(&self, client: u16, number: u32) -> bool {
         match self.index.clients.first_waiting(client, number) {
-            Some(order) => self.index.is_next(order),
+            Some(order) => self.index.is_grantable(order),
             None => false,
         }
     }

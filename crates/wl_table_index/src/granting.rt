@@ -13,8 +13,8 @@ use crate::index::Index;
 use wl_draft::{Grant, Name};
 
 impl Index {
-    // Returns the order number of the name's grantable request.
-    fn next_of(&self, place: usize, name: &Name) -> Option<u128>
+    // Returns the order number of the first request that waits for the name, if it is grantable.
+    fn grantable_request(&self, place: usize, name: &Name) -> Option<u128>
         requires { IsIndexed self.now }
         ensures { result ≡ next_in name.now self.now.held.items self.now.waiting.items }
     {
@@ -34,12 +34,12 @@ impl Index {
     }
 
     /// Returns whether the request with this order number is grantable.
-    pub fn is_next(&self, order: u128) -> bool
+    pub fn is_grantable(&self, order: u128) -> bool
         requires { IsIndexed self.now }
         ensures { result ≡ is_next order self.now.held.items self.now.waiting.items }
     {
         match self.waiting.get(order) {
-            Some(row) => match self.next_of(self.waiting.line_of(order), &row.name) {
+            Some(row) => match self.grantable_request(self.waiting.line_of(order), &row.name) {
                 Some(next) => next == order,
                 None => false,
             },
@@ -119,7 +119,7 @@ impl Index {
         ensures lean { IsLean self.old → IsLean self.new }
     {
         while let Some(order) = candidates.pop() {
-            if self.is_next(order) {
+            if self.is_grantable(order) {
                 self.grant(order, candidates, granted);
             }
         }

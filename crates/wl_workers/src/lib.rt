@@ -5,7 +5,7 @@ pub mod desk;
 pub mod lane_threads;
 pub mod lanes;
 pub mod laws;
-pub mod lives;
+pub mod liveness;
 pub mod tab_reader;
 pub mod tab_writer;
 pub mod uplink;
@@ -15,7 +15,7 @@ pub use lane_threads::{Job, run_lanes};
 pub use lanes::{
     Desk, EVENT_LIMIT, Gate, Intake, LaneEnd, LaneEndCause, Outlet, OutletFault, lane,
 };
-pub use lives::{AfterBell, BoardSeat, Lives, SharedSeat};
+pub use liveness::{AfterBell, BoardSeat, Lives, SharedSeat};
 pub use tab_reader::ReadEnd;
 pub use tab_writer::WriteEnd;
 pub use uplink::Uplink;

@@ -8,7 +8,7 @@ ghost use Rattle.wl_frames.specs.Faults.{of_read};
 ghost use Rattle.wl_workers.specs.declared.tab_reader.ReadEnd.TheVariants as ends;
 ghost use Rattle.wl_workers.specs.TabReader.{ended, dead_look, HandsUp, IsProperPrefix, EndsAfter, Passes, NeedsEnd, ReadsTab, Closes, IsPieceEnd};
 
-use crate::lives::{Lives, finds_dead};
+use crate::liveness::{Lives, finds_dead};
 use crate::uplink::Uplink;
 use std::alloc::Global;
 use std::io::Read;

@@ -7,7 +7,7 @@ ghost use Rattle.wl_outbox.specs.Passes.{IsOf, IsSamePass, takes};
 ghost use Rattle.wl_workers.specs.Looks.{LooksOnly, FoundDead};
 ghost use Rattle.wl_workers.specs.TabWriter.{WritesFrames, WritesTab};
 
-use crate::lives::{Lives, finds_dead};
+use crate::liveness::{Lives, finds_dead};
 use std::alloc::Global;
 use std::io::Write;
 use std::rt::Clock;

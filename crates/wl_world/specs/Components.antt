@@ -15,7 +15,7 @@ use Rattle.wl_world_messages.specs.declared.message.Message.{Message}
 use Rattle.wl_tab.specs.declared.channels.ChannelRefusal.{ChannelRefusal}
 use Rattle.wl_tab.specs.declared.channels.ChannelRefusal.TheVariants as channel_refusal
 use Rattle.wl_tab.specs.Tabs.{channels_in}
-use Rattle.wl_kernel_supervisor.specs.SupervisedStates.{SupervisedState}
+use Rattle.wl_supervised_broker.specs.SupervisedStates.{SupervisedState}
 use Rattle.wl_world_model.specs.World.{WorldState}
 use Rattle.wl_world_model.specs.Sends.{stamped, report_messages, to_hearers}
 use Rattle.wl_world_model.specs.declared.event.Event.{Event}

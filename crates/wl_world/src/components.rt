@@ -19,7 +19,7 @@ use crate::sending::from_broker;
 use std::alloc::{AllocError, Global};
 use std::collections::BTreeMap;
 use std::marker::Model;
-use wl_kernel_supervisor::{SupervisedBroker, SupervisorOutcome};
+use wl_supervised_broker::{SupervisedBroker, SupervisorOutcome};
 use wl_tab::{Holding, TabChannels, TabLocks};
 use wl_world_messages::{Bag, Effect, Message, Refusal};
 

@@ -8,4 +8,4 @@ pub mod world;
 
 pub use wl_tab::holding;
 pub use wl_world_messages::message;
-pub use wl_world_model::{event, laws, reply, rows};
+pub use wl_world_model::{event, examples, laws, reply};

@@ -24,11 +24,12 @@ pub fn run(alloc: Global, events: &[Event]) -> Result<World, AllocError>
     ensures own { IfOk result (λ w. Own events.now w.world) }
     // An honest tab's commands are taken in order and each once.
     ensures commands { IfOk result (λ w. CommandsInOrder events.now w.world) }
-    // A granted answer is sent only for a lock that is held after some prefix of the taken list.
+    // A granted answer is sent only for a lock that the broker of its generation has held.
     ensures granted { IfOk result (λ w. GrantedWereHeld events.now w.world) }
     // Each newly granted lock is sent a granted answer.
     ensures grants { IfOk result (λ w. GrantsWereSent events.now w.world) }
-    // The broker's locks are the draft's commands folded over the taken list.
+    // While a generation is up, its broker's locks are the draft's operations folded over the commands, reports and
+    // deaths that it took.
     ensures fold { IfOk result (λ w. ManagerIsFold events.now w.world) }
     // A channel object takes posts of one source with strictly rising numbers.
     ensures heard_rising { IfOk result (λ w. HeardRising events.now) }

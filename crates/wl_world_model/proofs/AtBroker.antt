@@ -3,7 +3,7 @@ use Rattle.std.proofs.Common.{ℕ, List, Some, map}
 use Rattle.wl_grammar.specs.declared.frame.Addressed.{Addressed}
 use Rattle.wl_broker.specs.Broker.{BrokerState, started, hellos, Taking, death_step}
 use Rattle.wl_kernel.specs.Kernel.{placed}
-use Rattle.wl_kernel_supervisor.specs.Changes.{taking_change}
+use Rattle.wl_supervised_broker.specs.Changes.{taking_change}
 use Rattle.wl_world_model.specs.World.{WorldState, StepResult, from_broker, supervised}
 
 abbrev pub with_broker : BrokerState → WorldState → WorldState

@@ -23,7 +23,7 @@ use Rattle.wl_world_messages.specs.declared.message.Message.TheVariants.{Up, Dow
 use Rattle.wl_world_messages.specs.declared.sent.Sent.{Sent}
 use Rattle.wl_world_messages.specs.Messages.{is_sent, sent, sending}
 use Rattle.wl_tab.specs.Arrivals.{arrival}
-use Rattle.wl_kernel_supervisor.specs.Supervising.{up_or, kill_effect, death_effect, stop_effect, start_effect, message_effect}
+use Rattle.wl_supervised_broker.specs.Supervising.{up_or, kill_effect, death_effect, stop_effect, start_effect, message_effect}
 use Rattle.wl_world_model.specs.declared.event.Event.{Event}
 use Rattle.wl_world_model.specs.declared.event.Event.TheVariants as event
 use Rattle.wl_world_model.specs.declared.event.Forged.{Forged}

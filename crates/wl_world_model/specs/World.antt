@@ -23,7 +23,7 @@ use Rattle.wl_world_messages.specs.declared.message.Message.TheVariants.{Up, Dow
 use Rattle.wl_world_messages.specs.Messages.{is_sent, sent_all}
 use Rattle.wl_limits.specs.declared.tabs.TheConstants.{COMMAND_LIMIT}
 use Rattle.wl_tab.specs.Tabs.{tab_in, channels_in, told}
-use Rattle.wl_kernel_supervisor.specs.Changes.{Change, start_change, stop_change, message_change, death_change}
+use Rattle.wl_supervised_broker.specs.Changes.{Change, start_change, stop_change, message_change, death_change}
 use Rattle.wl_limits.specs.declared.brokers.TheConstants.{LAST_GENERATION}
 use Rattle.wl_world_model.specs.declared.event.Event.{Event}
 use Rattle.wl_world_model.specs.declared.event.Event.TheVariants as event

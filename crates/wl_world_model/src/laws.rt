@@ -77,7 +77,7 @@ pub fn law_safety()
     ensures one_sends { DeathsSentByOneShard }
     // The hellos of all shards, by rising shard, are the hellos of the list in another order.
     ensures hellos { HellosOfShards }
-    // For any order of arrival at two shards, some single list gives each shard its messages in order, if all
+    // For any orders of arrival at the shards, some single list gives each shard its messages in order, if all
     // shards saw the deaths in one order.
     ensures order { InOneOrder }
 {}

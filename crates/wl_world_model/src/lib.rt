@@ -4,6 +4,6 @@
 #![tactic(auto)]
 
 pub mod event;
+pub mod examples;
 pub mod laws;
 pub mod reply;
-pub mod rows;

@@ -21,7 +21,7 @@ use wl_frames::device::{Sink, Source};
 use wl_frames::{Frame, FrameFault, Hello};
 use wl_kernel::RouteFault;
 use wl_outbox::{Outbox, Parcel, Pass};
-use wl_workers::lives::{AfterBell, BoardSeat, Lives, SharedSeat};
+use wl_workers::liveness::{AfterBell, BoardSeat, Lives, SharedSeat};
 use wl_workers::tab_reader::{ReadEnd, tab_reader};
 use wl_workers::tab_writer::{WriteEnd, tab_writer};
 use wl_workers::uplink::Uplink;

@@ -6,7 +6,7 @@ ghost use Rattle.wl_agent.specs.AgentInvariant.{CanFollow};
 ghost use Rattle.wl_grammar.specs.declared.frame.Frame.TheVariants as frame;
 
 use crate::agent::Agent;
-use crate::answers::told_command;
+use crate::answers::result_of_answer;
 use crate::delivered::Delivered;
 use crate::drop_reason::DropReason;
 use crate::operations::is_query_at;
@@ -108,7 +108,7 @@ impl Agent {
         ensures follows { CanFollow result self.now }
     {
         match self.issued.get(answer.number as usize) {
-            Some(operation) => told_command(
+            Some(operation) => result_of_answer(
                 answer.number,
                 operation,
                 self.statuses.get(answer.number),

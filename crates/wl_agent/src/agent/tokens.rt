@@ -4,7 +4,7 @@ ghost use Rattle.std.specs.Prelude.{◌≡◌, true, false, length, IfOk, OnOk, 
 ghost use Rattle.wl_draft.specs.Refusals.{RefusesOnlyBy};
 ghost use Rattle.wl_grammar.specs.Grammar.{IsOperation};
 ghost use Rattle.wl_agent.specs.Tab.{released, aborted, finish, reserves_number, status_of};
-ghost use Rattle.wl_agent.specs.Tokens.{is_pending, is_probing, is_holding, is_asking, is_own, told_pending, told_probe, told_query, after_query, abort_refusal};
+ghost use Rattle.wl_agent.specs.Tokens.{is_pending, is_probing, is_holding, is_asking, is_own, told_pending, told_probe, result_of_query_answer, after_query, abort_refusal};
 
 use crate::agent::Agent;
 use crate::operations::{is_probe_at, is_query_at, is_request_at};
@@ -58,7 +58,7 @@ impl Agent {
     /// Returns the state of a query, and ends its number unless it is still asked. Fails if the
     /// token is foreign, and then returns it. Does not allocate.
     pub fn settle_query(&mut self, asking: Asking) -> Result<QuerySettled, Foreign<Asking>>
-        ensures told { IfOk result (λ told. told ≡ told_query self.old asking) }
+        ensures told { IfOk result (λ told. told ≡ result_of_query_answer self.old asking) }
         ensures ok { OnOk result (self.new ≡ after_query asking.number self.old) }
         ensures own { OnOk result (is_own is_asking self.old asking.tab asking.number ≡ true) }
         ensures foreign { OnErr result (is_own is_asking self.old asking.tab asking.number ≡ false) }

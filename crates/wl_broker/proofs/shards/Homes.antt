@@ -11,8 +11,8 @@ use Rattle.wl_broker.proofs.Clients.{Own, Stands, newly-Own, settle-Stands, rest
 use Rattle.wl_grammar.specs.declared.frame.Addressed.{Addressed}
 use Rattle.wl_grammar.specs.declared.frame.Upward.{Upward}
 use Rattle.wl_broker_reports.specs.ReportParts.{Partial, Told, with_told, whole_of}
-use Rattle.wl_broker.specs.declared.seat.Seat.{Seat}
-use Rattle.wl_broker.specs.declared.seat.Seat.TheVariants.{Joined, Dead}
+use Rattle.wl_broker.specs.declared.seat.TabSeat.{TabSeat}
+use Rattle.wl_broker.specs.declared.seat.TabSeat.TheVariants.{Joined, Dead}
 use Rattle.wl_broker.specs.Broker.{BrokerState, started, seat_of, manager_of, is_active, with_seat, settled_at, newly_at, listed_at, seated_at, or_else, limit_of, place_of, partial_of, keeping, death_step}
 use Rattle.wl_broker.proofs.Takings.{Takes, joins, keeps, repeats, performs, Buries, again, stranger, ends, burial-Buries}
 
@@ -27,7 +27,7 @@ newly_at-Own Q b p m s = either (Own Q) (is_active b p) (newly_granted m) [] (λ
 
 -- The broker
 
-abbrev pub Seated : (ℕ → ℕ) → ℕ → Seat → Type 0
+abbrev pub Seated : (ℕ → ℕ) → ℕ → TabSeat → Type 0
 Seated home t (Joined p n l) = home t ≡ p
 Seated home t Dead = Unit {0}
 
@@ -37,7 +37,7 @@ AtHome home p m = Stands (λ t. home t ≡ p) m
 
 pub record Homes (home : ℕ → ℕ) (b : BrokerState) : Type 0 where
   pub listed : (x : ℕ × ℕ) → In x b.listed → home x.0 ≡ x.1
-  pub seats : (x : ℕ × Seat) → In x b.seats → Seated home x.0 x.1
+  pub seats : (x : ℕ × TabSeat) → In x b.seats → Seated home x.0 x.1
   pub managers : (x : ℕ × Locks) → In x b.managers → AtHome home x.0 x.1
   pub partial : (x : ℕ × Partial) → In x b.partial → home x.0 ≡ x.1.partition
   pub seats_rise : Rises 0 b.seats
@@ -70,10 +70,10 @@ module _ (home : ℕ → ℕ) where
           (λ e. subst (λ q. AtHome home q x.1) (eqb-true x.0 p e) (i x Here))
           (λ _. go xs (λ y j. i y (Later j)))
 
-  pub with_seat-Homes : (t : ℕ) (s : Seat) (b : BrokerState) → Seated home t s → Homes home b → Homes home (with_seat t s b)
+  pub with_seat-Homes : (t : ℕ) (s : TabSeat) (b : BrokerState) → Seated home t s → Homes home b → Homes home (with_seat t s b)
   with_seat-Homes t s b m h = record {
     listed = h.listed;
-    seats = λ x i. ⊎_elim (λ e. subst (λ (z : ℕ × Seat). Seated home z.0 z.1) (sym e) m) (λ j. h.seats x j) (put-cases t s b.seats i);
+    seats = λ x i. ⊎_elim (λ e. subst (λ (z : ℕ × TabSeat). Seated home z.0 z.1) (sym e) m) (λ j. h.seats x j) (put-cases t s b.seats i);
     managers = h.managers;
     partial = λ x i. h.partial x (In-filter_cases (λ (row : ℕ × Partial). not (row.0 == t)) b.partial i).0;
     seats_rise = Rises-put 0 t s b.seats (omega arith) h.seats_rise;
@@ -125,7 +125,7 @@ module _ (home : ℕ → ℕ) where
   unfolding place_of
   place_of-Placed b t h = go (seat_of b t) refl
     where
-      go : (s : Option Seat) → seat_of b t ≡ s → Placed home t (or_else (seated_at s) (listed_at t b.listed))
+      go : (s : Option TabSeat) → seat_of b t ≡ s → Placed home t (or_else (seated_at s) (listed_at t b.listed))
       go None e = listed_at-Placed t b.listed h.listed
       go (Some (Joined p n l)) e = h.seats (t, Joined p n l) (find-In b.seats t (Joined p n l) e)
       go (Some Dead) e = listed_at-Placed t b.listed h.listed

@@ -12,7 +12,7 @@ use Rattle.wl_draft.proofs.Membership.{apart, either, by_test, In-nil, In-cons_c
 use Rattle.wl_draft.specs.Membership.{In, Here, Later}
 use Rattle.wl_grammar.specs.declared.frame.Stamped.{Stamped}
 use Rattle.wl_grammar.specs.declared.frame.Addressed.{Addressed}
-use Rattle.wl_broker.specs.declared.seat.Seat.TheVariants.{Dead}
+use Rattle.wl_broker.specs.declared.seat.TabSeat.TheVariants.{Dead}
 use Rattle.wl_broker.specs.Broker.{BrokerState, started, hello_to, hellos, is_dead, seat_of, place_of, with_seat, buried_at, Taking, Drops, Does, taking, death_step}
 use Rattle.wl_broker.specs.Events.{Event, Comes, Dies, broker_after, happens, run}
 use Rattle.wl_broker.specs.Shards.{shard_of, is_of, is_for, events_of, seen_at, taking_at, stands_in, named_by, places, stands_once, StandsOnce, one_broker, shard_broker, SeenAtEachShard, AnsweredByItsShard, DeathsSentByShards, DeathsSentByOneShard, HellosOfShards}

@@ -22,8 +22,8 @@ use Rattle.wl_grammar.specs.declared.frame.Upward.{Upward}
 use Rattle.wl_grammar.specs.declared.frame.Upward.TheVariants as up
 use Rattle.wl_grammar.specs.declared.frame.Downward.TheVariants as down
 use Rattle.wl_broker_reports.specs.ReportParts.{has_held, all_below, Partial, Told, Whole, kept_at, at_once, in_part, fits, has_part, with_told, is_whole, whole_of}
-use Rattle.wl_broker.specs.declared.seat.Seat.{Seat}
-use Rattle.wl_broker.specs.declared.seat.Seat.TheVariants.{Joined, Dead}
+use Rattle.wl_broker.specs.declared.seat.TabSeat.{TabSeat}
+use Rattle.wl_broker.specs.declared.seat.TabSeat.TheVariants.{Joined, Dead}
 use Rattle.wl_broker.specs.declared.dropped.Dropped.TheVariants.{OldGeneration, LaterGeneration, NotJoined, Recovering, OutOfTurn, DeadTab, AlreadyJoined, HeldByNewcomer, BadReport, Misplaced, TooMany, PartTwice}
 use Rattle.wl_grammar.specs.Generation.{generation_of}
 use Rattle.wl_broker.specs.Broker.{BrokerState, seat_of, manager_of, is_joined, is_dead, has_arrived, next_in, next_of, is_active, with_seat, settled_at, newly_at, answer_to, grants_to, outcome_of, snapshot_entries, snapshot_part, snapshot_to, first_answer, later_answer, listed_at, is_listed, elsewhere, seated_at, or_else, is_lock, limit_in, limit_of, is_misplaced, place_of, drafted, Taking, Drops, Does, join, perform, partial_of, keeping, join_if, take_report_part, take_command, take_inner, taking, buried_at, death_step}
@@ -36,7 +36,7 @@ use Rattle.wl_limits.specs.declared.tabs.TheConstants.{LAST_NUMBER}
 use Rattle.wl_grammar.specs.PartCount.{part_count}
 
 -- The seats that are visible in these partitions.
-abbrev seat_test : (ℕ → Bool) → ℕ × Seat → Bool
+abbrev seat_test : (ℕ → Bool) → ℕ × TabSeat → Bool
 seat_test f row = is_seen f row.1
 
 abbrev part_test : (ℕ → Bool) → ℕ × Partial → Bool
@@ -51,7 +51,7 @@ module _ (home : ℕ → ℕ) (f : ℕ → Bool) where
   for-seat : (b : BrokerState) (t : ℕ) → f (home t) ≡ true → Homes home b → seat_of (seen_at f b) t ≡ seat_of b t
   for-seat b t e h = seen-seat b t h ∙ go (seat_of b t) refl
     where
-      go : (s : Option Seat) → seat_of b t ≡ s → sieved (seat_test f) t s ≡ s
+      go : (s : Option TabSeat) → seat_of b t ≡ s → sieved (seat_test f) t s ≡ s
       go None is = refl
       go (Some Dead) is = refl
       go (Some (Joined p n l)) is = cond-true _ _ _ (sym (ap f (h.seats (t, Joined p n l) (find-In b.seats t (Joined p n l) is))) ∙ e)
@@ -60,7 +60,7 @@ module _ (home : ℕ → ℕ) (f : ℕ → Bool) where
   for-dead : (b : BrokerState) (t : ℕ) → Homes home b → is_dead (seat_of (seen_at f b) t) ≡ is_dead (seat_of b t)
   for-dead b t h = ap is_dead (seen-seat b t h) ∙ go (seat_of b t)
     where
-      go : (s : Option Seat) → is_dead (sieved (seat_test f) t s) ≡ is_dead s
+      go : (s : Option TabSeat) → is_dead (sieved (seat_test f) t s) ≡ is_dead s
       go None = refl
       go (Some Dead) = refl
       go (Some (Joined p n l)) = either (λ z. is_dead z ≡ false) (f p) (Some (Joined p n l)) None (λ _. refl) (λ _. refl)
@@ -69,7 +69,7 @@ module _ (home : ℕ → ℕ) (f : ℕ → Bool) where
   lost-seat : (b : BrokerState) (t : ℕ) → f (home t) ≡ false → Homes home b → seated_at (seat_of (seen_at f b) t) ≡ None
   lost-seat b t e h = ap seated_at (seen-seat b t h) ∙ go (seat_of b t) refl
     where
-      go : (s : Option Seat) → seat_of b t ≡ s → seated_at (sieved (seat_test f) t s) ≡ None
+      go : (s : Option TabSeat) → seat_of b t ≡ s → seated_at (sieved (seat_test f) t s) ≡ None
       go None is = refl
       go (Some Dead) is = refl
       go (Some (Joined p n l)) is = ap seated_at (cond-false _ _ _ (sym (ap f (h.seats (t, Joined p n l) (find-In b.seats t (Joined p n l) is))) ∙ e))
@@ -124,7 +124,7 @@ module _ (home : ℕ → ℕ) (f : ℕ → Bool) where
 
   -- A message of these partitions
 
-  own-with_seat : (t : ℕ) (s : Seat) (b : BrokerState) → is_seen f s ≡ true → Homes home b → with_seat t s (seen_at f b) ≡ seen_at f (with_seat t s b)
+  own-with_seat : (t : ℕ) (s : TabSeat) (b : BrokerState) → is_seen f s ≡ true → Homes home b → with_seat t s (seen_at f b) ≡ seen_at f (with_seat t s b)
   own-with_seat t s b e h =
       ap₂ (λ z ks. record (seen_at f b) { seats = z; partial = ks })
       (sym (put-kept (seat_test f) t s 0 b.seats e h.seats_rise)) (filter-swap (λ (row : ℕ × Partial). not (row.0 == t)) (part_test f) b.partial)
@@ -263,11 +263,11 @@ module _ (home : ℕ → ℕ) (f : ℕ → Bool) where
   -- A message of another partition
 
   -- A living tab of another partition has no visible seat.
-  none-seen : (b : BrokerState) (t : ℕ) → f (home t) ≡ false → is_dead (seat_of b t) ≡ false → Homes home b → (s : Seat) → find b.seats t ≡ Some s → is_seen f s ≡ false
+  none-seen : (b : BrokerState) (t : ℕ) → f (home t) ≡ false → is_dead (seat_of b t) ≡ false → Homes home b → (s : TabSeat) → find b.seats t ≡ Some s → is_seen f s ≡ false
   none-seen b t e alive h (Joined p n l) is = sym (ap f (h.seats (t, Joined p n l) (find-In b.seats t (Joined p n l) is))) ∙ e
   none-seen b t e alive h Dead is = apart (ap is_dead is) alive
 
-  out-with_seat : (t : ℕ) (s : Seat) (b : BrokerState) → f (home t) ≡ false → is_seen f s ≡ false → is_dead (seat_of b t) ≡ false → Homes home b → seen_at f (with_seat t s b) ≡ seen_at f b
+  out-with_seat : (t : ℕ) (s : TabSeat) (b : BrokerState) → f (home t) ≡ false → is_seen f s ≡ false → is_dead (seat_of b t) ≡ false → Homes home b → seen_at f (with_seat t s b) ≡ seen_at f b
   out-with_seat t s b e n alive h =
       ap₂ (λ z ks. record (seen_at f b) { seats = z; partial = ks })
       (put-lost (seat_test f) t s b.seats n (none-seen b t e alive h))

@@ -17,7 +17,7 @@ use Rattle.wl_world_messages.specs.declared.message.Message.{Message}
 use Rattle.wl_tab.specs.declared.channels.ChannelRefusal.{ChannelRefusal}
 use Rattle.wl_tab.specs.Tabs.{channels_in}
 use Rattle.wl_tab.specs.TabChannels.{number_refusal, posting_refusal}
-use Rattle.wl_kernel_supervisor.specs.SupervisedStates.{SupervisedState}
+use Rattle.wl_supervised_broker.specs.SupervisedStates.{SupervisedState}
 use Rattle.wl_world_model.specs.World.{WorldState, StepResult, channels_of, lives, becomes, unchanged, posts, reads}
 use Rattle.wl_world_model.specs.Replies.{posting, reached, hearing, letter_of, alive_or}
 use Rattle.wl_world.specs.Merging.{merged, number_in, posted_said, hearing_said}

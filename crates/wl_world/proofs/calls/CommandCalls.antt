@@ -10,7 +10,7 @@ use Rattle.wl_world_messages.specs.declared.message.Message.{Message}
 use Rattle.wl_tab.specs.declared.locks.AbortResult.TheVariants as a
 use Rattle.wl_tab.specs.Tabs.{tab_in}
 use Rattle.wl_tab.specs.TabTokens.{abortion}
-use Rattle.wl_kernel_supervisor.specs.SupervisedStates.{SupervisedState}
+use Rattle.wl_supervised_broker.specs.SupervisedStates.{SupervisedState}
 use Rattle.wl_world_model.specs.World.{WorldState, StepResult, tab_of, lives, acts, issues_command, asks, queries, aborts, releases, resends, if_allowed}
 use Rattle.wl_world_model.specs.Sends.{issued_messages, resent}
 use Rattle.wl_world_model.specs.Replies.{resending, some_resent}

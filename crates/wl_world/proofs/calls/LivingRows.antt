@@ -8,8 +8,8 @@ use Rattle.wl_broker.specs.Broker.{BrokerState}
 use Rattle.wl_broadcast.specs.Channels.{ChannelState, no_channels}
 use Rattle.wl_agent.specs.Tab.{TabState}
 use Rattle.wl_kernel.specs.Kernel.{KernelState, lives as lives_in, is_living, open_refusal, opened, killed}
-use Rattle.wl_kernel_supervisor.specs.Changes.{Change, stop_change}
-use Rattle.wl_kernel_supervisor.specs.SupervisedStates.{SupervisedState, with_kernel, changed, after_stop}
+use Rattle.wl_supervised_broker.specs.Changes.{Change, stop_change}
+use Rattle.wl_supervised_broker.specs.SupervisedStates.{SupervisedState, with_kernel, changed, after_stop}
 use Rattle.wl_world_messages.specs.declared.message.Message.{Message}
 use Rattle.wl_world_model.specs.World.{WorldState, lives}
 use Rattle.wl_world.specs.Components.{OwnRows, HasRows, IsRowed, world_of}

@@ -15,7 +15,7 @@ use Rattle.wl_world_messages.specs.declared.message.Message.TheVariants.{Across}
 use Rattle.wl_world_messages.specs.Messages.{is_sent}
 use Rattle.wl_tab.specs.Tabs.{tab_in, told}
 use Rattle.wl_tab.specs.Arrivals.{told_said, arrival}
-use Rattle.wl_kernel_supervisor.specs.SupervisedStates.{SupervisedState}
+use Rattle.wl_supervised_broker.specs.SupervisedStates.{SupervisedState}
 use Rattle.wl_world_model.specs.World.{WorldState, StepResult, lives, acts, becomes, takes_frame, arrives, if_allowed}
 use Rattle.wl_world_model.specs.Sends.{report_if_entered}
 use Rattle.wl_world.specs.Components.{world_of, report_if_said}

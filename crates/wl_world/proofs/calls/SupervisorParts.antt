@@ -7,8 +7,8 @@ use Rattle.wl_agent.specs.Tab.{TabState}
 use Rattle.wl_broker.specs.Broker.{BrokerState}
 use Rattle.wl_kernel.specs.Kernel.{open_refusal, opened, may_stop, stopped}
 use Rattle.wl_world_messages.specs.declared.message.Message.{Message}
-use Rattle.wl_kernel_supervisor.specs.SupervisedStates.{SupervisedState, changed, frames_of}
-use Rattle.wl_kernel_supervisor.specs.Changes.{Change}
+use Rattle.wl_supervised_broker.specs.SupervisedStates.{SupervisedState, changed, frames_of}
+use Rattle.wl_supervised_broker.specs.Changes.{Change}
 use Rattle.wl_world_model.specs.World.{with_kernel as kernel_deed, WorldState, from_broker, supervised, unchanged, if_allowed, with_rows, opens_as, stops}
 use Rattle.wl_world.specs.Components.{world_of}
 

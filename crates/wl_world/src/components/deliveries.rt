@@ -9,7 +9,7 @@ ghost use Rattle.wl_world_messages.specs.Messages.{is_sent};
 ghost use Rattle.wl_agent.specs.Delivery.{delivery};
 ghost use Rattle.wl_tab.specs.Tabs.{tab_in, told};
 ghost use Rattle.wl_tab.specs.Arrivals.{arrival};
-ghost use Rattle.wl_kernel_supervisor.specs.Supervising.{message_effect};
+ghost use Rattle.wl_supervised_broker.specs.Supervising.{message_effect};
 ghost use Rattle.wl_world_model.specs.World.{lives, takes_frame, arrives, arrives_at_broker, if_allowed, tab_of};
 ghost use Rattle.wl_world_model.specs.Replies.{alive_or, delivering};
 ghost use Rattle.wl_world.specs.Components.{report_if_said};

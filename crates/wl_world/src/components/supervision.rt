@@ -5,7 +5,7 @@ ghost use Rattle.wl_agent.specs.Tab.{born};
 ghost use Rattle.wl_kernel.specs.Kernel.{open_refusal};
 ghost use Rattle.wl_limits.specs.declared.tabs.TheConstants.{COMMAND_LIMIT};
 ghost use Rattle.wl_world_messages.specs.declared.effect.Refusal.TheVariants.{Open};
-ghost use Rattle.wl_kernel_supervisor.specs.Supervising.{kill_effect, death_effect, stop_effect, start_effect};
+ghost use Rattle.wl_supervised_broker.specs.Supervising.{kill_effect, death_effect, stop_effect, start_effect};
 ghost use Rattle.wl_world_model.specs.World.{opens_as, opens, opens_two, kills, tells, stops, starts, greets};
 ghost use Rattle.wl_world_model.specs.Replies.{opening, opening_two, greeting};
 

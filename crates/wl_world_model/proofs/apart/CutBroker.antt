@@ -19,8 +19,8 @@ use Rattle.wl_grammar.specs.declared.frame.Upward.{Upward}
 use Rattle.wl_grammar.specs.declared.frame.Upward.TheVariants as up
 use Rattle.wl_grammar.specs.declared.frame.Downward.TheVariants as down
 use Rattle.wl_broker_reports.specs.ReportParts.{has_held, all_below, Partial, Told, Whole, kept_at, at_once, in_part, fits, has_part, with_told, is_whole, whole_of}
-use Rattle.wl_broker.specs.declared.seat.Seat.{Seat}
-use Rattle.wl_broker.specs.declared.seat.Seat.TheVariants.{Joined, Dead}
+use Rattle.wl_broker.specs.declared.seat.TabSeat.{TabSeat}
+use Rattle.wl_broker.specs.declared.seat.TabSeat.TheVariants.{Joined, Dead}
 use Rattle.wl_broker.specs.declared.dropped.Dropped.TheVariants.{OldGeneration, LaterGeneration, NotJoined, Recovering, OutOfTurn, DeadTab, AlreadyJoined, HeldByNewcomer, BadReport, Misplaced, TooMany, PartTwice}
 use Rattle.wl_grammar.specs.Generation.{generation_of}
 use Rattle.wl_broker.specs.Broker.{BrokerState, seat_of, manager_of, is_joined, is_dead, has_arrived, next_in, next_of, is_active, with_seat, settled_at, newly_at, answer_to, grants_to, outcome_of, snapshot_entries, snapshot_part, snapshot_to, first_answer, later_answer, listed_at, is_listed, elsewhere, seated_at, or_else, is_lock, limit_in, limit_of, is_misplaced, place_of, drafted, Taking, Drops, Does, join, perform, partial_of, keeping, join_if, take_report_part, take_command, take_inner, taking, buried_at, death_step}
@@ -81,7 +81,7 @@ module _ (g f : ℕ → Bool) where
 
   -- The partition's own messages
 
-  own-with_seat : (t : ℕ) (s : Seat) (b : BrokerState) → f t ≡ true → Fits g f b → with_seat t s (broker_for f b) ≡ broker_for f (with_seat t s b)
+  own-with_seat : (t : ℕ) (s : TabSeat) (b : BrokerState) → f t ≡ true → Fits g f b → with_seat t s (broker_for f b) ≡ broker_for f (with_seat t s b)
   own-with_seat t s b e h = ap₂ (λ z ks. record (broker_for f b) { seats = z; partial = ks }) (sym (only-insert_sorted f t s 0 b.seats e h.seats_rise)) (filter-swap (λ (row : ℕ × Partial). not (row.0 == t)) (λ (row : ℕ × Partial). f row.0) b.partial)
 
   for-partial : (b : BrokerState) (t : ℕ) → f t ≡ true → partial_of (broker_for f b) t ≡ partial_of b t
@@ -240,7 +240,7 @@ module _ (g f : ℕ → Bool) where
 
   -- Messages of other partitions
 
-  out-with_seat : (t : ℕ) (s : Seat) (b : BrokerState) → f t ≡ false → broker_for f (with_seat t s b) ≡ broker_for f b
+  out-with_seat : (t : ℕ) (s : TabSeat) (b : BrokerState) → f t ≡ false → broker_for f (with_seat t s b) ≡ broker_for f b
   out-with_seat t s b e = ap₂ (λ z ks. record (broker_for f b) { seats = z; partial = ks }) (only-put_out f t s b.seats e) (filter-spare f t b.partial e)
 
   out-keeping : (t : ℕ) (k : Partial) (b : BrokerState) → f t ≡ false → broker_for f (keeping t k b) ≡ broker_for f b

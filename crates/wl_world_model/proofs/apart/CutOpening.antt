@@ -11,8 +11,8 @@ use Rattle.wl_origin.specs.Order.{Pair, pair_eq}
 use Rattle.wl_origin.proofs.OrderLemmas.{pair_eq-decides}
 use Rattle.wl_draft.specs.Tables.{Table}
 use Rattle.wl_draft.specs.Locks.{Locks}
-use Rattle.wl_broker.specs.declared.seat.Seat.{Seat}
-use Rattle.wl_broker.specs.declared.seat.Seat.TheVariants.{Joined, Dead}
+use Rattle.wl_broker.specs.declared.seat.TabSeat.{TabSeat}
+use Rattle.wl_broker.specs.declared.seat.TabSeat.TheVariants.{Joined, Dead}
 use Rattle.wl_broker.specs.Broker.{BrokerState}
 use Rattle.wl_kernel.specs.declared.fault.OpenFault.TheVariants.{NumberTaken, TooManyLiving, PartitionFull}
 use Rattle.wl_kernel.specs.Kernel.{KernelState, OpenedTab, tab_of as opened_tab, is_of, is_opened, living_tabs, living_of, living_limit, partition_limit, open_refusal, new_tab, opened as kernel_opened, ended, killed}
@@ -82,7 +82,7 @@ module _ (g f g' f' : ℕ → Bool) (old : (k : ℕ) → g k ≡ true → g' k �
   old-Mates : (k q : ℕ) → Mates g f k q → Mates g' f' k q
   old-Mates k q m = record { left = old k m.left; right = old q m.right; alike = same k m.left ∙ m.alike ∙ sym (same q m.right) }
 
-  old-Seated : (t : ℕ) (s : Seat) → Seated g f t s → Seated g' f' t s
+  old-Seated : (t : ℕ) (s : TabSeat) → Seated g f t s → Seated g' f' t s
   old-Seated t (Joined p n l) m = old-Mates t p m
   old-Seated t Dead e = old t e
 
@@ -111,7 +111,7 @@ module _ (g f g' f' : ℕ → Bool) (old : (k : ℕ) → g k ≡ true → g' k �
   posted-same (Down v x) e = same x.tab e
   posted-same (Across t x) m = same t m.left
 
-  seated-same : (t : ℕ) (s : Seat) → Seated g f t s → f' t ≡ f t
+  seated-same : (t : ℕ) (s : TabSeat) → Seated g f t s → f' t ≡ f t
   seated-same t (Joined p n l) m = same t m.left
   seated-same t Dead e = same t e
 

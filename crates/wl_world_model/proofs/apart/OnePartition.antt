@@ -17,8 +17,8 @@ use Rattle.wl_grammar.specs.declared.frame.Stamped.{Stamped}
 use Rattle.wl_grammar.specs.declared.frame.Upward.{Upward}
 use Rattle.wl_grammar.specs.declared.frame.Upward.TheVariants as up
 use Rattle.wl_broker_reports.specs.ReportParts.{has_held, all_below, Partial, Told as ToldBy, Whole, at_once, in_part, fits, has_part, with_told, is_whole, whole_of}
-use Rattle.wl_broker.specs.declared.seat.Seat.{Seat}
-use Rattle.wl_broker.specs.declared.seat.Seat.TheVariants.{Joined, Dead}
+use Rattle.wl_broker.specs.declared.seat.TabSeat.{TabSeat}
+use Rattle.wl_broker.specs.declared.seat.TabSeat.TheVariants.{Joined, Dead}
 use Rattle.wl_broker.specs.declared.dropped.Dropped.TheVariants.{OldGeneration, LaterGeneration, NotJoined, Recovering, OutOfTurn, DeadTab, AlreadyJoined, HeldByNewcomer, BadReport, Misplaced, TooMany, PartTwice}
 use Rattle.wl_grammar.specs.Generation.{generation_of}
 use Rattle.wl_broker.specs.Broker.{BrokerState, seat_of, manager_of, is_joined, is_dead, next_of, is_active, with_seat, settled_at, newly_at, answer_to, grants_to, snapshot_entries, snapshot_part, snapshot_to, first_answer, later_answer, listed_at, is_listed, seated_at, or_else, is_lock, limit_of, is_misplaced, place_of, drafted, Taking, Drops, Does, join, perform, partial_of, keeping, join_if, take_report_part, take_command, take_inner, taking, buried_at, death_step}
@@ -38,7 +38,7 @@ pub record Mates (g f : ℕ → Bool) (k q : ℕ) : Type 0 where
 pub mates-right : {g f : ℕ → Bool} {k q : ℕ} → Mates g f k q → Mates g f q q
 mates-right m = record { left = m.right; right = m.right; alike = refl }
 
-abbrev pub Seated : (g f : ℕ → Bool) → ℕ → Seat → Type 0
+abbrev pub Seated : (g f : ℕ → Bool) → ℕ → TabSeat → Type 0
 Seated g f t (Joined p n l) = Mates g f t p
 Seated g f t Dead = g t ≡ true
 
@@ -47,7 +47,7 @@ Managed g f p m = Mates g f p p × Stands (λ t. Mates g f t p) m
 
 pub record Fits (g f : ℕ → Bool) (b : BrokerState) : Type 0 where
   pub listed : (x : ℕ × ℕ) → In x b.listed → Mates g f x.0 x.1
-  pub seats : (x : ℕ × Seat) → In x b.seats → Seated g f x.0 x.1
+  pub seats : (x : ℕ × TabSeat) → In x b.seats → Seated g f x.0 x.1
   pub managers : (x : ℕ × Locks) → In x b.managers → Managed g f x.0 x.1
   pub seats_rise : Rises 0 b.seats
   pub managers_rise : Rises 0 b.managers
@@ -103,10 +103,10 @@ module _ (g f : ℕ → Bool) where
           (λ e. subst (λ q. Stands (λ t. Mates g f t q) x.1) (eqb-true x.0 p e) (i x Here).1)
           (λ _. go xs (λ y j. i y (Later j)))
 
-  pub with_seat-Fits : (t : ℕ) (s : Seat) (b : BrokerState) → Seated g f t s → Fits g f b → Fits g f (with_seat t s b)
+  pub with_seat-Fits : (t : ℕ) (s : TabSeat) (b : BrokerState) → Seated g f t s → Fits g f b → Fits g f (with_seat t s b)
   with_seat-Fits t s b m h = record {
     listed = h.listed;
-    seats = λ x i. ⊎_elim (λ e. subst (λ (z : ℕ × Seat). Seated g f z.0 z.1) (sym e) m) (λ j. h.seats x j) (put-cases t s b.seats i);
+    seats = λ x i. ⊎_elim (λ e. subst (λ (z : ℕ × TabSeat). Seated g f z.0 z.1) (sym e) m) (λ j. h.seats x j) (put-cases t s b.seats i);
     managers = h.managers;
     seats_rise = Rises-put 0 t s b.seats (omega arith) h.seats_rise;
     managers_rise = h.managers_rise;
@@ -229,7 +229,7 @@ module _ (g f : ℕ → Bool) where
   unfolding place_of
   place_of-Placed b t h = go (seat_of b t) refl
     where
-      go : (s : Option Seat) → seat_of b t ≡ s → Placed t (or_else (seated_at s) (listed_at t b.listed))
+      go : (s : Option TabSeat) → seat_of b t ≡ s → Placed t (or_else (seated_at s) (listed_at t b.listed))
       go None e = listed_at-Placed t b.listed h.listed
       go (Some (Joined p n l)) e = h.seats (t, Joined p n l) (find-In b.seats t (Joined p n l) e)
       go (Some Dead) e = listed_at-Placed t b.listed h.listed

@@ -10,8 +10,8 @@ use Rattle.wl_grammar.specs.declared.frame.Upward.{Upward}
 use Rattle.wl_grammar.specs.declared.frame.Upward.TheVariants as up
 use Rattle.wl_grammar.specs.declared.frame.Stamped.{Stamped}
 use Rattle.wl_broker_reports.specs.ReportParts.{at_once, in_part}
-use Rattle.wl_broker.specs.declared.seat.Seat.{Seat}
-use Rattle.wl_broker.specs.declared.seat.Seat.TheVariants.{Joined}
+use Rattle.wl_broker.specs.declared.seat.TabSeat.{TabSeat}
+use Rattle.wl_broker.specs.declared.seat.TabSeat.TheVariants.{Joined}
 use Rattle.wl_broker.specs.declared.dropped.Dropped.TheVariants.{OldGeneration, LaterGeneration, NotJoined, Recovering, OutOfTurn, DeadTab, Misplaced, TooMany}
 use Rattle.wl_grammar.specs.Generation.{generation_of}
 use Rattle.wl_broker.specs.Broker.{BrokerState, manager_of, is_joined, next_of, limit_of, is_active, is_misplaced, is_lock, with_seat, settled_at, newly_at, Drops, Does, drafted, first_answer, later_answer, perform, take_command, take_inner, taking}
@@ -87,7 +87,7 @@ perform-sound : (w : WorldState) (b : BrokerState) → Sound (with_broker b w) �
     → Follows w b (perform b t p n c)
 unfolding perform
 perform-sound w b s t p n c true-one here place sits active =
-    let seat : Seat = Joined p (n + 1) (limit_of b t) in
+    let seat : TabSeat = Joined p (n + 1) (limit_of b t) in
     let here_now = or_left (has_joined b t) (is_named_dead b t) sits in
     let b' = with_seat t seat b in
     let m = drafted t n c (manager_of b p) in

@@ -2,7 +2,7 @@
 use Rattle.std.proofs.Common.{◌≡◌, inl, inr, ⊎_elim, ℕ, true, false, Option, Some, None, List, [], map, refl, ap, ◌∙◌}
 use Rattle.wl_draft.specs.Locks.{ended}
 use Rattle.wl_grammar.specs.declared.frame.Addressed.{Addressed}
-use Rattle.wl_broker.specs.declared.seat.Seat.TheVariants.{Dead}
+use Rattle.wl_broker.specs.declared.seat.TabSeat.TheVariants.{Dead}
 use Rattle.wl_broker.specs.Broker.{BrokerState, seat_of, manager_of, is_dead, place_of, with_seat, newly_at, buried_at, death_step}
 use Rattle.wl_world_messages.specs.Messages.{sent_all}
 use Rattle.wl_draft.proofs.Membership.{apart, either, In-nil}

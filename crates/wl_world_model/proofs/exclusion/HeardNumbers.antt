@@ -16,7 +16,7 @@ use Rattle.wl_agent.specs.declared.status.Status.{Status}
 use Rattle.wl_agent.specs.declared.status.Status.TheVariants.{Asked, Held, Querying, Whole, Lost}
 use Rattle.wl_agent.specs.SnapshotParts.{PartsState, with_part, is_whole, snapshot_of}
 use Rattle.wl_agent.specs.Tab.{TabState, status_of, operation_of, is_issued, is_held, reserves_number, ended, is_asked_probe, unless_asked, carried}
-use Rattle.wl_agent.specs.Delivery.{noted, becomes, told_asked, told_lock, told_end, told_asked_query, told_query, told_command, told_by_answer, part_refusal, parts_of, with_part_come, after_answer, after_part}
+use Rattle.wl_agent.specs.Delivery.{noted, becomes, result_of_asked_lock_answer, result_of_lock_answer, result_of_end_answer, result_of_asked_query_answer, result_of_query_answer, result_of_answer, told_by_answer, part_refusal, parts_of, with_part_come, after_answer, after_part}
 use Rattle.wl_draft.proofs.Membership.{apart, either, In-map_cases, In-filter_cases}
 use Rattle.wl_tab.specs.Tabs.{is_told, told}
 use Rattle.wl_world_model.proofs.Tables.{each_found}
@@ -144,30 +144,30 @@ module _ (a : TabState) (r : Rises 0 a.statuses) (k : ℕ) where
   abbrev Granting : Outcome → ℕ → Type 0
   Granting o j = (k ≡ j) × (o ≡ outcome.Granted)
 
-  asked-kept : (if_available : Bool) (o : Outcome) → status_of a k ≡ Some Asked → LiveCommand a (after_answer (told_asked k if_available o) a) (Granting o)
+  asked-kept : (if_available : Bool) (o : Outcome) → status_of a k ≡ Some Asked → LiveCommand a (after_answer (result_of_asked_lock_answer k if_available o) a) (Granting o)
   asked-kept b outcome.Granted e = becomes-kept k Held a (Granting outcome.Granted) r (λ _. ap reserves_number e) (λ _. (refl, refl))
   asked-kept b outcome.Waiting e = either (λ d. LiveCommand a (after_answer d a) (Granting outcome.Waiting)) b (heard.Dropped unheard.Odd) (heard.Waiting k) (λ _. same-kept a _ r) (λ _. same-kept a _ r)
   asked-kept b outcome.Gone e = either (λ d. LiveCommand a (after_answer d a) (Granting outcome.Gone)) b (heard.Null k) (heard.Dropped unheard.Odd) (λ _. ended-kept k a _ r) (λ _. same-kept a _ r)
   asked-kept b outcome.Taken e = same-kept a _ r
 
-  lock-kept : (if_available : Bool) (s : Option Status) (o : Outcome) → status_of a k ≡ s → LiveCommand a (after_answer (told_lock k if_available s o) a) (Granting o)
+  lock-kept : (if_available : Bool) (s : Option Status) (o : Outcome) → status_of a k ≡ s → LiveCommand a (after_answer (result_of_lock_answer k if_available s o) a) (Granting o)
   lock-kept b (Some Asked) o e = asked-kept b o e
   lock-kept b (Some Held) o e = same-kept a _ r
   lock-kept b s o e = same-kept a _ r
 
-  end-kept : (o : Outcome) → LiveCommand a (after_answer (told_end k o) a) (Granting o)
+  end-kept : (o : Outcome) → LiveCommand a (after_answer (result_of_end_answer k o) a) (Granting o)
   end-kept outcome.Taken = same-kept a _ r
   end-kept o = same-kept a _ r
 
-  asked_query-kept : (o : Outcome) → LiveCommand a (after_answer (told_asked_query k o) a) (Granting o)
+  asked_query-kept : (o : Outcome) → LiveCommand a (after_answer (result_of_asked_query_answer k o) a) (Granting o)
   asked_query-kept outcome.Gone = becomes-kept k Lost a _ r (λ l. apart l refl) (λ h. apart h refl)
   asked_query-kept o = same-kept a _ r
 
-  query-kept : (s : Option Status) (o : Outcome) → LiveCommand a (after_answer (told_query k s o) a) (Granting o)
+  query-kept : (s : Option Status) (o : Outcome) → LiveCommand a (after_answer (result_of_query_answer k s o) a) (Granting o)
   query-kept (Some (Querying parts)) o = asked_query-kept o
   query-kept s o = same-kept a _ r
 
-  command-kept : (c : Operation) (s : Option Status) (o : Outcome) → status_of a k ≡ s → LiveCommand a (after_answer (told_command k c s o) a) (Granting o)
+  command-kept : (c : Operation) (s : Option Status) (o : Outcome) → status_of a k ≡ s → LiveCommand a (after_answer (result_of_answer k c s o) a) (Granting o)
   command-kept (Request mode if_available name) s o e = lock-kept if_available s o e
   command-kept (Release number) s o e = end-kept o
   command-kept (Abort number) s o e = end-kept o
@@ -176,7 +176,7 @@ module _ (a : TabState) (r : Rises 0 a.statuses) (k : ℕ) where
 pub answer-kept : (x : Answer) (a : TabState) → Rises 0 a.statuses → LiveCommand a (after_answer (told_by_answer x a) a) (λ j. (x.number ≡ j) × (x.outcome ≡ outcome.Granted))
 answer-kept x a r =
     either (λ d. LiveCommand a (after_answer d a) (λ j. (x.number ≡ j) × (x.outcome ≡ outcome.Granted))) (is_issued a x.number)
-    (told_command x.number (operation_of a x.number) (status_of a x.number) x.outcome) (heard.Dropped unheard.Odd)
+    (result_of_answer x.number (operation_of a x.number) (status_of a x.number) x.outcome) (heard.Dropped unheard.Odd)
     (λ _. command-kept a r x.number (operation_of a x.number) (status_of a x.number) x.outcome refl)
     (λ _. same-kept a _ r)
 

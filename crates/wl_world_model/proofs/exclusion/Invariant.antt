@@ -15,7 +15,7 @@ use Rattle.wl_grammar.specs.declared.frame.Downward.{Downward}
 use Rattle.wl_grammar.specs.declared.frame.Downward.TheVariants as down
 use Rattle.wl_broker_reports.specs.ReportParts.{Partial, Told, content_of}
 use Rattle.wl_grammar.specs.Generation.{generation_of}
-use Rattle.wl_broker.specs.declared.seat.Seat.{Seat}
+use Rattle.wl_broker.specs.declared.seat.TabSeat.{TabSeat}
 use Rattle.wl_broker.specs.Broker.{BrokerState, started, seat_of, manager_of, partial_of, is_joined, is_dead, has_arrived, is_lock}
 use Rattle.wl_agent.specs.declared.status.Status.{Status}
 use Rattle.wl_agent.specs.Tab.{TabState, born, report_bodies, status_of, operation_of, name_of, mode_of, is_held, reserves_number}
@@ -215,7 +215,7 @@ MessagePart w t x o q = record {
 }
 
 -- The broker's view of tab `t`.
-abbrev pub SeatPart : WorldState → ℕ → TabState → Option OpenedTab → ℕ → Option Seat → Option Partial → Type 0
+abbrev pub SeatPart : WorldState → ℕ → TabState → Option OpenedTab → ℕ → Option TabSeat → Option Partial → Type 0
 SeatPart w t x o q seat stored = record {
   -- The stored parts belong to the report that an honest tab made on entering this generation.
   partial : (k : Partial) → stored ≡ Some k → (is_some o ≡ true) × (IsHonest w t → KeepsOf (generation w) x k);

@@ -20,7 +20,7 @@ use Rattle.wl_agent.specs.declared.status.Status.{Status}
 use Rattle.wl_agent.specs.declared.status.Status.TheVariants.{Asked, Held, Querying}
 use Rattle.wl_agent.specs.SnapshotParts.{PartsState, with_part, is_whole}
 use Rattle.wl_agent.specs.Tab.{TabState, status_of, operation_of, is_issued}
-use Rattle.wl_agent.specs.Delivery.{noted, told_asked, told_lock, told_end, told_asked_query, told_query, told_command, told_by_answer, part_refusal, parts_of, told_by_come, told_unless, told_by_part, after_answer, after_part, has_entered, of_other, delivery}
+use Rattle.wl_agent.specs.Delivery.{noted, result_of_asked_lock_answer, result_of_lock_answer, result_of_end_answer, result_of_asked_query_answer, result_of_query_answer, result_of_answer, told_by_answer, part_refusal, parts_of, told_by_come, told_unless, told_by_part, after_answer, after_part, has_entered, of_other, delivery}
 use Rattle.wl_kernel.specs.Routes.{hearers, frame_of}
 use Rattle.wl_world_messages.specs.declared.message.Sender.{Sender}
 use Rattle.wl_world_messages.specs.declared.message.Message.{Message}
@@ -41,30 +41,30 @@ module _ (w : WorldState) (t : ℕ) (y : TabState) where
   abbrev Silent : Delivered → Type 0
   Silent d = report_if_entered w.kernel t y d ≡ []
 
-  asked-silent : (k : ℕ) (b : Bool) (o : Outcome) → Silent (told_asked k b o)
+  asked-silent : (k : ℕ) (b : Bool) (o : Outcome) → Silent (result_of_asked_lock_answer k b o)
   asked-silent k b outcome.Granted = refl
   asked-silent k b outcome.Waiting = either Silent b (heard.Dropped unheard.Odd) (heard.Waiting k) (λ _. refl) (λ _. refl)
   asked-silent k b outcome.Gone = either Silent b (heard.Null k) (heard.Dropped unheard.Odd) (λ _. refl) (λ _. refl)
   asked-silent k b outcome.Taken = refl
 
-  lock-silent : (k : ℕ) (b : Bool) (s : Option Status) (o : Outcome) → Silent (told_lock k b s o)
+  lock-silent : (k : ℕ) (b : Bool) (s : Option Status) (o : Outcome) → Silent (result_of_lock_answer k b s o)
   lock-silent k b (Some Asked) o = asked-silent k b o
   lock-silent k b (Some Held) o = refl
   lock-silent k b s o = refl
 
-  end-silent : (k : ℕ) (o : Outcome) → Silent (told_end k o)
+  end-silent : (k : ℕ) (o : Outcome) → Silent (result_of_end_answer k o)
   end-silent k outcome.Taken = refl
   end-silent k o = refl
 
-  asked_query-silent : (k : ℕ) (o : Outcome) → Silent (told_asked_query k o)
+  asked_query-silent : (k : ℕ) (o : Outcome) → Silent (result_of_asked_query_answer k o)
   asked_query-silent k outcome.Gone = refl
   asked_query-silent k o = refl
 
-  query-silent : (k : ℕ) (s : Option Status) (o : Outcome) → Silent (told_query k s o)
+  query-silent : (k : ℕ) (s : Option Status) (o : Outcome) → Silent (result_of_query_answer k s o)
   query-silent k (Some (Querying parts)) o = asked_query-silent k o
   query-silent k s o = refl
 
-  command-silent : (k : ℕ) (c : Operation) (s : Option Status) (o : Outcome) → Silent (told_command k c s o)
+  command-silent : (k : ℕ) (c : Operation) (s : Option Status) (o : Outcome) → Silent (result_of_answer k c s o)
   command-silent k (Request mode if_available name) s o = lock-silent k if_available s o
   command-silent k (Release number) s o = end-silent k o
   command-silent k (Abort number) s o = end-silent k o
@@ -72,7 +72,7 @@ module _ (w : WorldState) (t : ℕ) (y : TabState) where
 
   answer-silent : (x : Answer) (a : TabState) → Silent (told_by_answer x a)
   answer-silent x a =
-      either Silent (is_issued a x.number) (told_command x.number (operation_of a x.number) (status_of a x.number) x.outcome) (heard.Dropped unheard.Odd)
+      either Silent (is_issued a x.number) (result_of_answer x.number (operation_of a x.number) (status_of a x.number) x.outcome) (heard.Dropped unheard.Odd)
       (λ _. command-silent x.number (operation_of a x.number) (status_of a x.number) x.outcome) (λ _. refl)
 
   unless-silent : (o : Option DropReason) (x : Part) (parts : PartsState) → Silent (told_unless o (told_by_come x parts))

@@ -7,8 +7,8 @@ use Rattle.wl_draft.specs.Locks.{Locks, row_of, rows_of, held_of, waiting_of, re
 use Rattle.wl_draft.specs.Tables.{Table, find, put}
 use Rattle.wl_grammar.specs.declared.frame.Upward.{Upward}
 use Rattle.wl_broker_reports.specs.ReportParts.{has_held, all_below, Partial, Told, Whole, content_of, fits, has_part, with_told, is_whole, whole_of}
-use Rattle.wl_broker.specs.declared.seat.Seat.{Seat}
-use Rattle.wl_broker.specs.declared.seat.Seat.TheVariants.{Joined}
+use Rattle.wl_broker.specs.declared.seat.TabSeat.{TabSeat}
+use Rattle.wl_broker.specs.declared.seat.TabSeat.TheVariants.{Joined}
 use Rattle.wl_broker.specs.declared.dropped.Dropped.TheVariants.{AlreadyJoined, HeldByNewcomer, BadReport, PartTwice}
 use Rattle.wl_grammar.specs.Generation.{generation_of}
 use Rattle.wl_broker.specs.Broker.{BrokerState, seat_of, manager_of, is_joined, has_arrived, listed_at, is_listed, with_seat, newly_at, Drops, Does, partial_of, join, keeping, join_if, take_report_part}
@@ -41,7 +41,7 @@ module _ (w : WorldState) (b : BrokerState) (s : Sound (with_broker b w)) (t p :
   abbrev restored_locks : Locks
   restored_locks = restored t r.entries (manager_of b p)
 
-  abbrev seat : Seat
+  abbrev seat : TabSeat
   seat = Joined p r.base r.limit
 
   abbrev joined_broker : BrokerState

@@ -1,9 +1,9 @@
--- Seats at the broker: when a tab joins, issues a command or is named dead, the broker replaces its seat and removes its
+-- TabSeats at the broker: when a tab joins, issues a command or is named dead, the broker replaces its seat and removes its
 -- stored report parts.
 use Rattle.std.proofs.Common.{◌≡◌, ◌≢◌, ℕ, true, false, Option, Some, refl}
 use Rattle.wl_draft.specs.declared.row.Row.{Row}
-use Rattle.wl_broker.specs.declared.seat.Seat.{Seat}
-use Rattle.wl_broker.specs.declared.seat.Seat.TheVariants.{Joined, Dead}
+use Rattle.wl_broker.specs.declared.seat.TabSeat.{TabSeat}
+use Rattle.wl_broker.specs.declared.seat.TabSeat.TheVariants.{Joined, Dead}
 use Rattle.wl_broker.specs.Broker.{BrokerState, seat_of, manager_of, is_joined, is_dead, has_arrived, with_seat}
 use Rattle.wl_draft.specs.Membership.{In}
 use Rattle.wl_draft.proofs.Membership.{apart}
@@ -16,13 +16,13 @@ use Rattle.wl_world_model.proofs.exclusion.HeldAfterSettling.{Compatible-fewer}
 use Rattle.wl_world_model.proofs.exclusion.Invariant.{Sound, SoundSeats, Covered, Claim, Counts, Fits, stands, reported, carried, generation, came, was_opened, row_at}
 use Rattle.wl_world_model.proofs.exclusion.UnchangedParts.{broker-step}
 
-arrived : (x : Seat) → has_arrived (Some x) ≡ true
+arrived : (x : TabSeat) → has_arrived (Some x) ≡ true
 arrived (Joined partition next limit) = refl
 arrived Dead = refl
 
-module _ (b : BrokerState) (t : ℕ) (seat : Seat) where
+module _ (b : BrokerState) (t : ℕ) (seat : TabSeat) where
   -- A property holds of every seat if it holds of the new one and of all others.
-  pub each_seat : (P : ℕ → Option Seat → Type 0) → P t (Some seat) → ((u : ℕ) → t ≢ u → P u (seat_of b u)) → (u : ℕ) → P u (seat_of (with_seat t seat b) u)
+  pub each_seat : (P : ℕ → Option TabSeat → Type 0) → P t (Some seat) → ((u : ℕ) → t ≢ u → P u (seat_of b u)) → (u : ℕ) → P u (seat_of (with_seat t seat b) u)
   each_seat P now elsewhere u = each_found P t seat b.seats now elsewhere u
 
   -- Each tab that had come still counts as having come.
@@ -35,7 +35,7 @@ module _ (b : BrokerState) (t : ℕ) (seat : Seat) where
   pub still-fits : (w : WorldState) (p : ℕ) (r : Row) → Fits (with_broker b w) p r → Fits (with_broker (with_seat t seat b) w) p r
   still-fits w p r f = (f.0, f.1, still r.client f.2, f.3)
 
-module _ (w : WorldState) (b : BrokerState) (s : Sound (with_broker b w)) (t : ℕ) (seat : Seat)
+module _ (w : WorldState) (b : BrokerState) (s : Sound (with_broker b w)) (t : ℕ) (seat : TabSeat)
     (joined : IsHonest w t → is_joined (Some seat) ≡ true → (tab_of w t).entered ≡ generation w)
     (dead : is_dead (Some seat) ≡ true → (lives w t ≡ false) × (was_opened w t ≡ true)) where
   -- The seats stay sound, whether the broker holds the tab's locks or not.

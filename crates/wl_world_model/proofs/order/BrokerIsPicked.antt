@@ -7,8 +7,8 @@ use Rattle.std.proofs.lemmas.Bool.{cases_eq, eqb-true}
 use Rattle.wl_draft.specs.declared.row.Row.{Row}
 use Rattle.wl_draft.specs.Locks.{newly_granted_if, settle, settle_if, has_pair}
 use Rattle.wl_grammar.specs.declared.frame.Operation.{Operation}
-use Rattle.wl_broker.specs.declared.seat.Seat.{Seat}
-use Rattle.wl_broker.specs.declared.seat.Seat.TheVariants.{Joined, Dead}
+use Rattle.wl_broker.specs.declared.seat.TabSeat.{TabSeat}
+use Rattle.wl_broker.specs.declared.seat.TabSeat.TheVariants.{Joined, Dead}
 use Rattle.wl_draft.specs.Tables.{find}
 use Rattle.wl_broker_reports.specs.ReportParts.{Partial, without_partial}
 use Rattle.wl_broker.specs.Broker.{BrokerState, seat_of, manager_of, has_arrived as seat_has_come, is_active}
@@ -25,7 +25,7 @@ use Rattle.wl_world_model.proofs.order.OneMoreItem.{item, of_partition-push_same
 use Rattle.wl_world_model.proofs.order.RunsOfCommands.{Ordered}
 
 -- The seat that a tab's items determine.
-abbrev pub seat_by : ℕ → List Item → Option Seat
+abbrev pub seat_by : ℕ → List Item → Option TabSeat
 seat_by p mine = cond (has_death mine) (Some Dead) (cond (has_report mine) (Some (Joined p (next_of mine) (limit_of mine))) None)
 
 seat_by-come : (d r : Bool) (p n l : ℕ) → seat_has_come (cond d (Some Dead) (cond r (Some (Joined p n l)) None)) ≡ (r || d)

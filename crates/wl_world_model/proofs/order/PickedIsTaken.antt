@@ -14,8 +14,8 @@ use Rattle.wl_grammar.specs.declared.frame.Addressed.{Addressed}
 use Rattle.wl_grammar.specs.declared.frame.Upward.{Upward}
 use Rattle.wl_grammar.specs.declared.frame.Upward.TheVariants as up
 use Rattle.wl_broker_reports.specs.ReportParts.{Partial, kept_at, Told, at_once, in_part, fits, has_part, with_told, is_whole, whole_of, has_held, all_below}
-use Rattle.wl_broker.specs.declared.seat.Seat.{Seat}
-use Rattle.wl_broker.specs.declared.seat.Seat.TheVariants.{Joined, Dead}
+use Rattle.wl_broker.specs.declared.seat.TabSeat.{TabSeat}
+use Rattle.wl_broker.specs.declared.seat.TabSeat.TheVariants.{Joined, Dead}
 use Rattle.wl_broker.specs.declared.dropped.Dropped.{Dropped}
 use Rattle.wl_broker.specs.declared.dropped.Dropped.TheVariants.{OldGeneration, LaterGeneration, NotJoined, Recovering, OutOfTurn, DeadTab, AlreadyJoined, HeldByNewcomer, BadReport, Misplaced, TooMany, PartTwice}
 use Rattle.wl_grammar.specs.Generation.{generation_of}
@@ -60,7 +60,7 @@ listed_at-none t x (y ∷ xs) =
     (λ e s. cc)
     (λ e s i. ⊎_elim (λ j. eqb-false y.0 t e (ap (λ (z : ℕ × ℕ). z.0) (sym j))) (λ j. listed_at-none t x xs s j) (In-cons_cases i))
 
-seated-cases : (s : Option Seat) (l : Option ℕ) → ((n : ℕ) × (q : ℕ) × (h : ℕ) × (s ≡ Some (Joined q n h)) × (or_else (seated_at s) l ≡ Some q)) ⊎ ((is_joined s ≡ false) × (or_else (seated_at s) l ≡ l))
+seated-cases : (s : Option TabSeat) (l : Option ℕ) → ((n : ℕ) × (q : ℕ) × (h : ℕ) × (s ≡ Some (Joined q n h)) × (or_else (seated_at s) l ≡ Some q)) ⊎ ((is_joined s ≡ false) × (or_else (seated_at s) l ≡ l))
 seated-cases None l = inr (refl, refl)
 seated-cases (Some (Joined q n h)) l = inl (n, q, h, refl, refl)
 seated-cases (Some Dead) l = inr (refl, refl)
@@ -198,7 +198,7 @@ module _ (part : ℕ → ℕ) (opened : ℕ → Bool) (g : ℕ) (b : BrokerState
       (λ o. nowhere (seat_of b t) o.0)
       (seated-cases (seat_of b t) None))) (sym tie.partial))
     where
-      nowhere : (s : Option Seat) → is_joined s ≡ false → elsewhere (seated_at s) p ≡ false
+      nowhere : (s : Option TabSeat) → is_joined s ≡ false → elsewhere (seated_at s) p ≡ false
       nowhere None e = refl
       nowhere (Some (Joined q n l)) e = apart refl e
       nowhere (Some Dead) e = refl

@@ -11,7 +11,7 @@ use Rattle.wl_grammar.specs.declared.frame.Operation.{Operation}
 use Rattle.wl_grammar.specs.declared.frame.Operation.TheVariants.{Request, Release, Abort, Query}
 use Rattle.wl_grammar.specs.declared.frame.Outcome.TheVariants.{Granted}
 use Rattle.wl_broker_reports.specs.ReportParts.{Whole, all_below}
-use Rattle.wl_broker.specs.declared.seat.Seat.TheVariants.{Joined, Dead}
+use Rattle.wl_broker.specs.declared.seat.TabSeat.TheVariants.{Joined, Dead}
 use Rattle.wl_broker.specs.Broker.{BrokerState, manager_of, is_joined, is_dead, is_lock, drafted, outcome_of, answer_to, first_answer}
 use Rattle.wl_draft.specs.Membership.{In, Here, Later}
 use Rattle.wl_draft.proofs.Membership.{apart, either, In-nil, In-cons_cases, In-head, In-append_right, In-append_cases, In-one, In-map_cases, In-filter_cases, list_all-In}
@@ -143,7 +143,7 @@ first-lock b t p n (Release k) l h = apart l refl
 first-lock b t p n (Abort k) l h = apart l refl
 first-lock b t p n Query l h = apart l refl
 
--- Seats
+-- TabSeats
 
 seat-joined : (d e : Bool) (q n l : ℕ) → is_joined (cond d (Some Dead) (cond e (Some (Joined q n l)) None)) ≡ true → (d ≡ false) × (e ≡ true)
 seat-joined true e q n l j = apart j refl

@@ -14,8 +14,8 @@ use Rattle.wl_grammar.specs.declared.frame.Addressed.{Addressed}
 use Rattle.wl_grammar.specs.declared.frame.Downward.{Downward}
 use Rattle.wl_grammar.specs.declared.frame.Downward.TheVariants as down
 use Rattle.wl_broker_reports.specs.ReportParts.{without_partial, Whole, all_below}
-use Rattle.wl_broker.specs.declared.seat.Seat.{Seat}
-use Rattle.wl_broker.specs.declared.seat.Seat.TheVariants.{Joined}
+use Rattle.wl_broker.specs.declared.seat.TabSeat.{TabSeat}
+use Rattle.wl_broker.specs.declared.seat.TabSeat.TheVariants.{Joined}
 use Rattle.wl_broker.specs.Broker.{BrokerState, seat_of, manager_of, is_joined, is_dead, next_in, next_of as broker_next, limit_in, limit_of as broker_limit, is_active, with_seat, settled_at, newly_at, answer_to, grants_to, snapshot_entries, snapshot_part, snapshot_to, first_answer, is_lock, drafted, Taking, Drops, Does, join, perform}
 use Rattle.wl_world_messages.specs.declared.message.Sender.TheVariants.{Broker}
 use Rattle.wl_world_messages.specs.declared.message.Message.{Message}
@@ -98,7 +98,7 @@ module _ (part : ℕ → ℕ) (opened : ℕ → Bool) (g : ℕ) (b : BrokerState
 
   -- One more item of any kind
 
-  module _ (a : Act) (seat : Seat) (first : List Addressed) (rows : List Row)
+  module _ (a : Act) (seat : TabSeat) (first : List Addressed) (rows : List Row)
       (now : seat_by (part t) (of_tab t k.items ++ item t p a ∷ []) ≡ Some seat)
       (ordered : Ordered (honest t) (issued t) (of_tab t k.items ++ item t p a ∷ []))
       (new : (r : Row) → Stands r (done t a (manager_of b p)) → (n l : ℕ) × (seat_of (settled_at (with_seat t seat b) p (done t a (manager_of b p))) r.client ≡ Some (Joined p n l)) × (r.number < n))
@@ -163,7 +163,7 @@ module _ (part : ℕ → ℕ) (opened : ℕ → Bool) (g : ℕ) (b : BrokerState
   unfolding join
   join-follows r nj nd below le =
       let f = fresh-facts (part t) (of_tab t k.items) (ap is_joined (sym (tie.seats t)) ∙ nj) (ap is_dead (sym (tie.seats t)) ∙ nd) in
-      let seat : Seat = Joined p r.base r.limit in
+      let seat : TabSeat = Joined p r.base r.limit in
       let m = restored t r.entries (manager_of b p) in
       let s = (settled-fields (with_seat t seat b) p m).2 in
       item-follows (Reports r) seat [] (newly_at (with_seat t seat b) p m)
@@ -199,7 +199,7 @@ module _ (part : ℕ → ℕ) (opened : ℕ → Bool) (g : ℕ) (b : BrokerState
   unfolding perform
   perform-follows n c j turn is =
       let f = joined-facts (part t) (of_tab t k.items) (ap is_joined (sym (tie.seats t)) ∙ j) in
-      let seat : Seat = Joined p (n + 1) (broker_limit b t) in
+      let seat : TabSeat = Joined p (n + 1) (broker_limit b t) in
       let m = drafted t n c (manager_of b p) in
       let later = settled_at (with_seat t seat b) p m in
       let s = (settled-fields (with_seat t seat b) p m).2 in

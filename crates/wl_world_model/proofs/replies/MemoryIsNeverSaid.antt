@@ -33,7 +33,7 @@ use Rattle.wl_agent.specs.declared.status.Status.{Status}
 use Rattle.wl_agent.specs.declared.status.Status.TheVariants.{Asked, Held, Querying}
 use Rattle.wl_agent.specs.SnapshotParts.{PartsState, with_part, is_whole as all_came, fits as fits_in}
 use Rattle.wl_agent.specs.Tab.{TabState, status_of, live_refusal, ask_refusal, operation_of, is_supported, live_limit, live_numbers, has_numbers, is_issued, is_query, is_asked}
-use Rattle.wl_agent.specs.Delivery.{told_asked, told_lock, told_end, told_asked_query, told_query, told_command, told_by_answer, parts_refusal, asking_refusal, part_refusal, parts_of, told_unless, told_by_come, told_by_part, of_other, delivery, has_entered, noted, after_answer, after_part}
+use Rattle.wl_agent.specs.Delivery.{result_of_asked_lock_answer, result_of_lock_answer, result_of_end_answer, result_of_asked_query_answer, result_of_query_answer, result_of_answer, told_by_answer, parts_refusal, asking_refusal, part_refusal, parts_of, told_unless, told_by_come, told_by_part, of_other, delivery, has_entered, noted, after_answer, after_part}
 use Rattle.wl_kernel.specs.declared.fault.OpenFault.{OpenFault}
 use Rattle.wl_kernel.specs.declared.fault.StartFault.{StartFault}
 use Rattle.wl_kernel.specs.Kernel.{KernelState, open_refusal, absence, start_refusal, is_opened, living_tabs, living_of, living_limit, partition_limit, list_limit, rises, stranger, missing, may_stop}
@@ -45,7 +45,7 @@ use Rattle.wl_world_messages.specs.Refused.{refused_or}
 use Rattle.wl_world_messages.specs.declared.message.Message.{Message}
 use Rattle.wl_world_messages.specs.declared.message.Message.TheVariants.{Up, Down, Across}
 use Rattle.wl_tab.specs.Arrivals.{told_said, arrival}
-use Rattle.wl_kernel_supervisor.specs.Supervising.{up_or, stop_effect, start_effect, taken_said, taking_said, message_effect}
+use Rattle.wl_supervised_broker.specs.Supervising.{up_or, stop_effect, start_effect, taken_said, taking_said, message_effect}
 use Rattle.wl_world_model.specs.declared.event.Event.{Event}
 use Rattle.wl_world_model.specs.declared.event.Event.TheVariants as event
 use Rattle.wl_world_model.specs.World.{WorldState, tab_of, channels_of, lives, is_corrupt}
@@ -186,30 +186,30 @@ module _ (f : Frame) (a b : TabState) where
   other-never : (g : ℕ) → Never (told_said f a b) (of_other g a)
   other-never g = by_test (told_said f a b) (nat_lt g a.entered) (now refl) (now refl)
 
-  asked-never : (k : ℕ) (i : Bool) (o : Outcome) → Never (told_said f a b) (told_asked k i o)
+  asked-never : (k : ℕ) (i : Bool) (o : Outcome) → Never (told_said f a b) (result_of_asked_lock_answer k i o)
   asked-never k i outcome.Granted = now refl
   asked-never k i outcome.Waiting = by_test (told_said f a b) i (now refl) (now refl)
   asked-never k i outcome.Gone = by_test (told_said f a b) i (now refl) (now refl)
   asked-never k i outcome.Taken = now refl
 
-  lock-never : (k : ℕ) (i : Bool) (s : Option Status) (o : Outcome) → Never (told_said f a b) (told_lock k i s o)
+  lock-never : (k : ℕ) (i : Bool) (s : Option Status) (o : Outcome) → Never (told_said f a b) (result_of_lock_answer k i s o)
   lock-never k i (Some Asked) o = asked-never k i o
   lock-never k i (Some Held) o = now refl
   lock-never k i s o = now refl
 
-  end-never : (k : ℕ) (o : Outcome) → Never (told_said f a b) (told_end k o)
+  end-never : (k : ℕ) (o : Outcome) → Never (told_said f a b) (result_of_end_answer k o)
   end-never k outcome.Taken = now refl
   end-never k o = now refl
 
-  gone-never : (k : ℕ) (o : Outcome) → Never (told_said f a b) (told_asked_query k o)
+  gone-never : (k : ℕ) (o : Outcome) → Never (told_said f a b) (result_of_asked_query_answer k o)
   gone-never k outcome.Gone = now refl
   gone-never k o = now refl
 
-  query-never : (k : ℕ) (s : Option Status) (o : Outcome) → Never (told_said f a b) (told_query k s o)
+  query-never : (k : ℕ) (s : Option Status) (o : Outcome) → Never (told_said f a b) (result_of_query_answer k s o)
   query-never k (Some (Querying parts)) o = gone-never k o
   query-never k s o = now refl
 
-  answered-never : (k : ℕ) (c : Operation) (s : Option Status) (o : Outcome) → Never (told_said f a b) (told_command k c s o)
+  answered-never : (k : ℕ) (c : Operation) (s : Option Status) (o : Outcome) → Never (told_said f a b) (result_of_answer k c s o)
   answered-never k (Request mode i name) s o = lock-never k i s o
   answered-never k (Release n) s o = end-never k o
   answered-never k (Abort n) s o = end-never k o

@@ -33,7 +33,7 @@ use Rattle.wl_world_messages.specs.declared.message.Message.TheVariants.{Up, Dow
 use Rattle.wl_world_messages.specs.Messages.{is_sent, sent_all}
 use Rattle.wl_tab.specs.Tabs.{channels_in}
 use Rattle.wl_tab.specs.Arrivals.{arrival, told_said}
-use Rattle.wl_kernel_supervisor.specs.Supervising.{message_effect, start_effect, stop_effect, taken_said, taking_said, death_effect}
+use Rattle.wl_supervised_broker.specs.Supervising.{message_effect, start_effect, stop_effect, taken_said, taking_said, death_effect}
 use Rattle.wl_broadcast.proofs.Numbered.{is_open_at-suc}
 use Rattle.wl_world_model.specs.declared.event.Event.{Event}
 use Rattle.wl_world_model.specs.declared.event.Event.TheVariants as event

@@ -3,7 +3,7 @@ use Rattle.std.specs.Prelude.{◌==◌}
 use Rattle.std.specs.List.{list_all}
 use Rattle.std.proofs.lemmas.Bool.{or_left}
 use Rattle.wl_draft.specs.Tables.{Table, find}
-use Rattle.wl_broker.specs.declared.seat.Seat.{Seat}
+use Rattle.wl_broker.specs.declared.seat.TabSeat.{TabSeat}
 use Rattle.wl_broker.specs.Broker.{has_arrived, is_active}
 use Rattle.wl_broker.proofs.laws.law_recovery.Goals as goal
 
@@ -12,7 +12,7 @@ all-left_out : {X : Type 0} (test : X → Bool) (kept : Bool) (x : X) (xs ys : L
 all-left_out test true x xs ys passes e = ap (λ rest. test x && rest) e
 all-left_out test false x xs ys passes e = ap (λ passed. passed && list_all test xs) (passes refl) ∙ e
 
-all-own : (seats : Table Seat) (p : ℕ) (xs : List (ℕ × ℕ)) → list_all (λ x. not (x.1 == p) || has_arrived (find seats x.0)) xs ≡ list_all (λ x. not (x.1 == p) || has_arrived (find seats x.0)) (filter (λ x. x.1 == p) xs)
+all-own : (seats : Table TabSeat) (p : ℕ) (xs : List (ℕ × ℕ)) → list_all (λ x. not (x.1 == p) || has_arrived (find seats x.0)) xs ≡ list_all (λ x. not (x.1 == p) || has_arrived (find seats x.0)) (filter (λ x. x.1 == p) xs)
 all-own seats p [] = refl
 all-own seats p (x ∷ xs) =
     all-left_out (λ x. not (x.1 == p) || has_arrived (find seats x.0)) (x.1 == p) x xs (filter (λ x. x.1 == p) xs) (λ other. or_left _ _ (ap not other)) (all-own seats p xs)

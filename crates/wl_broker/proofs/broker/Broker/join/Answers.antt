@@ -2,8 +2,8 @@ use Rattle.std.proofs.Common.{◌≡◌, ◌+◌, ◌≤◌, List, Option, None,
 use Rattle.wl_draft.specs.Tables.{Table, at}
 use Rattle.wl_draft.specs.declared.row.Grant.{Grant}
 use Rattle.wl_broker_reports.specs.PartialReports.{joining}
-use Rattle.wl_broker.specs.declared.seat.Seat.{Seat}
-use Rattle.wl_broker.specs.declared.seat.Seat.TheVariants.{Joined}
+use Rattle.wl_broker.specs.declared.seat.TabSeat.{TabSeat}
+use Rattle.wl_broker.specs.declared.seat.TabSeat.TheVariants.{Joined}
 use Rattle.wl_broker.specs.Broker.{BrokerState, seat_of, listed_at, elsewhere}
 use Rattle.wl_broker.specs.BrokerInvariant.{PartitionState, no_partition, all_arrived, awaited_at}
 use Rattle.wl_broker.proofs.Consistency.{IsConsistent-join}
@@ -30,7 +30,7 @@ invariant_of-self-in-Ok g c =
     let seats = seat_put c.args.tab (Joined c.args.partition h.base h.limit) b.seats.entries _ c.in_ok-insert.ensures.entries in
     let new = ap (λ (x : BrokerState). seat_of x c.args.tab) c.self.view_is ∙ c.requires.new in
     let placed = ap (λ (x : BrokerState). elsewhere (listed_at c.args.tab x.listed) c.args.partition) c.self.view_is ∙ c.requires.placed in
-    let place = c.requires.place ∙ ap (λ (x : BrokerState). listed_at c.args.tab x.listed) (sym c.self.view_is) ∙ ap (λ (o : Option Seat). awaited_at o (listed_at c.args.tab b.listed.entries)) (sym new) in
+    let place = c.requires.place ∙ ap (λ (x : BrokerState). listed_at c.args.tab x.listed) (sym c.self.view_is) ∙ ap (λ (o : Option TabSeat). awaited_at o (listed_at c.args.tab b.listed.entries)) (sym new) in
     let active = active_once b.listed.entries b.seats.entries b.missing.entries c.args.tab (Joined c.args.partition h.base h.limit) c.args.place c.args.partition c.missing_without-is_active.result c.self.invariant.0.listed_once c.self.invariant.2 place c.missing_without-is_active.ensures in (
       consistent_as seats c.in-Ok.ensures.ok (IsConsistent-join c.args.tab c.args.partition h.base h.limit c.args.entries.now (eqb c.missing_without-is_active.result 0) c.self.invariant.0 new placed c.requires.below active),
       awaits_as seats c.discard.ensures (AwaitsParts-seat c.args.tab (Joined c.args.partition h.base h.limit) c.self.invariant.1),
@@ -51,11 +51,11 @@ returns-in-Ok-clause-joined g c =
     let b = c.self.inside in
     let h = c.args.heading in
     let new = ap (λ (x : BrokerState). seat_of x c.args.tab) c.self.view_is ∙ c.requires.new in
-    let place = c.requires.place ∙ ap (λ (x : BrokerState). listed_at c.args.tab x.listed) (sym c.self.view_is) ∙ ap (λ (o : Option Seat). awaited_at o (listed_at c.args.tab b.listed.entries)) (sym new) in
+    let place = c.requires.place ∙ ap (λ (x : BrokerState). listed_at c.args.tab x.listed) (sym c.self.view_is) ∙ ap (λ (o : Option TabSeat). awaited_at o (listed_at c.args.tab b.listed.entries)) (sym new) in
     let seats = seat_put c.args.tab (Joined c.args.partition h.base h.limit) b.seats.entries _ c.in_ok-insert.ensures.entries in
     let active =
     active_once b.listed.entries b.seats.entries b.missing.entries c.args.tab (Joined c.args.partition h.base h.limit) c.args.place c.args.partition c.missing_without-is_active.result c.self.invariant.0.listed_once c.self.invariant.2 place c.missing_without-is_active.ensures
-    ∙ ap (λ (ss : Table Seat). all_arrived b.listed.entries ss c.args.partition) (sym seats) in
+    ∙ ap (λ (ss : Table TabSeat). all_arrived b.listed.entries ss c.args.partition) (sym seats) in
     let granted = c.deref.ensures.value ∙ c.in-Ok.ensures.grants in
     rw (← c.self.view_is)
     (copied_as _ _ _ _ _ (join_does b.generation b.listed.entries b.seats.entries b.partitions.entries b.kept.entries c.args.tab c.args.partition (joining h c.args.entries.now) (eqb c.missing_without-is_active.result 0) c.deref.result.now _ _ _ _ seats active granted c.in-Ok.ensures.ok c.discard.ensures refl) c.tell.ensures)

@@ -9,7 +9,7 @@ use Rattle.wl_broker.specs.Broker.{BrokerState, seat_of, manager_of, outcome_at,
 use Rattle.wl_broker.specs.BrokerInvariant.{PartitionState, no_partition, grant_of}
 use Rattle.wl_broker.proofs.BrokerSteps.{change_does, manager_of-fields}
 use Rattle.wl_broker.proofs.Consistency.{IsConsistent-active, IsConsistent-new, IsConsistent-command}
-use Rattle.wl_broker.specs.declared.seat.Seat.TheVariants.{Joined}
+use Rattle.wl_broker.specs.declared.seat.TabSeat.TheVariants.{Joined}
 use Rattle.wl_broker.proofs.Missing.{counts_as, AreCounts-again}
 use Rattle.wl_broker.proofs.KeptParts.{AwaitsParts-again, awaits_as}
 use Rattle.wl_broker.proofs.Fields.{consistent_as, active_seen}

@@ -4,7 +4,7 @@ use Rattle.wl_broker.specs.BrokerInvariant.{no_partition}
 use Rattle.wl_broker.specs.Broker.{BrokerState, seat_of}
 use Rattle.wl_broker.proofs.BrokerSteps.{query_does}
 use Rattle.wl_broker.proofs.Consistency.{IsConsistent-active, IsConsistent-query}
-use Rattle.wl_broker.specs.declared.seat.Seat.TheVariants.{Joined}
+use Rattle.wl_broker.specs.declared.seat.TabSeat.TheVariants.{Joined}
 use Rattle.wl_broker.proofs.Missing.{counts_as, AreCounts-again}
 use Rattle.wl_broker.proofs.Copies.{copied_as}
 use Rattle.wl_broker.proofs.KeptParts.{AwaitsParts-again, awaits_as}

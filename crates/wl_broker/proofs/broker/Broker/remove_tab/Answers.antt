@@ -1,8 +1,8 @@
 use Rattle.std.proofs.Common.{◌≡◌, ◌≤◌, List, Option, Some, eqb, length, refl, sym, ap, ◌∙◌, subst, arith}
 use Rattle.wl_draft.specs.Tables.{Table, at}
 use Rattle.wl_draft.specs.declared.row.Grant.{Grant}
-use Rattle.wl_broker.specs.declared.seat.Seat.{Seat}
-use Rattle.wl_broker.specs.declared.seat.Seat.TheVariants.{Dead}
+use Rattle.wl_broker.specs.declared.seat.TabSeat.{TabSeat}
+use Rattle.wl_broker.specs.declared.seat.TabSeat.TheVariants.{Dead}
 use Rattle.wl_broker.specs.Broker.{BrokerState}
 use Rattle.wl_broker.specs.BrokerInvariant.{PartitionState, no_partition, all_arrived, Had, awaited_at}
 use Rattle.wl_broker.proofs.Consistency.{IsConsistent-dead}
@@ -26,7 +26,7 @@ invariant_of-self-in-Ok g c =
     let b = c.self.inside in
     let seats = seat_put c.args.tab Dead b.seats.entries _ c.in_ok-insert.ensures.entries in
     let had = subst (λ (x : BrokerState). Had x c.args.tab c.args.partition) (sym c.self.view_is) c.requires in
-    let place = c.awaited_at-place.ensures ∙ ap (λ (o : Option Seat). awaited_at o (Some c.args.partition)) c.seat_of-before.ensures ∙ awaited_had _ _ c.args.partition had in
+    let place = c.awaited_at-place.ensures ∙ ap (λ (o : Option TabSeat). awaited_at o (Some c.args.partition)) c.seat_of-before.ensures ∙ awaited_had _ _ c.args.partition had in
     let active = active_once b.listed.entries b.seats.entries b.missing.entries c.args.tab Dead c.awaited_at-place.result c.args.partition c.missing_without-is_active.result c.self.invariant.0.listed_once c.self.invariant.2 place c.missing_without-is_active.ensures in (
       consistent_as seats c.in-Ok.ensures.ok (IsConsistent-dead b.kept.entries b.generation c.args.tab c.args.partition (eqb c.missing_without-is_active.result 0) c.self.invariant.0 had active),
       awaits_as seats c.discard.ensures (AwaitsParts-seat c.args.tab Dead c.self.invariant.1),
@@ -45,11 +45,11 @@ pub returns-in-Ok-clause-buried : goal.returns-in-Ok-clause-buried
 returns-in-Ok-clause-buried g c =
     let b = c.self.inside in
     let had = subst (λ (x : BrokerState). Had x c.args.tab c.args.partition) (sym c.self.view_is) c.requires in
-    let place = c.awaited_at-place.ensures ∙ ap (λ (o : Option Seat). awaited_at o (Some c.args.partition)) c.seat_of-before.ensures ∙ awaited_had _ _ c.args.partition had in
+    let place = c.awaited_at-place.ensures ∙ ap (λ (o : Option TabSeat). awaited_at o (Some c.args.partition)) c.seat_of-before.ensures ∙ awaited_had _ _ c.args.partition had in
     let seats = seat_put c.args.tab Dead b.seats.entries _ c.in_ok-insert.ensures.entries in
     let active =
     active_once b.listed.entries b.seats.entries b.missing.entries c.args.tab Dead c.awaited_at-place.result c.args.partition c.missing_without-is_active.result c.self.invariant.0.listed_once c.self.invariant.2 place c.missing_without-is_active.ensures
-    ∙ ap (λ (ss : Table Seat). all_arrived b.listed.entries ss c.args.partition) (sym seats) in
+    ∙ ap (λ (ss : Table TabSeat). all_arrived b.listed.entries ss c.args.partition) (sym seats) in
     rw (← c.self.view_is)
     (repeated_as _ _ _ _ _ (bury_does b.generation b.listed.entries b.seats.entries b.partitions.entries b.kept.entries c.args.tab c.args.partition (eqb c.missing_without-is_active.result 0) c.deref.result.now _ _ _ _ seats active (c.deref.ensures.value ∙ c.in-Ok.ensures.grants) c.in-Ok.ensures.ok c.discard.ensures refl) c.tell.ensures)
 

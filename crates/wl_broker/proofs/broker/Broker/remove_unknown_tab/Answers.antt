@@ -1,6 +1,6 @@
 use Rattle.std.proofs.Common.{Option, None, refl, sym, ap, ◌∙◌, arith}
-use Rattle.wl_broker.specs.declared.seat.Seat.{Seat}
-use Rattle.wl_broker.specs.declared.seat.Seat.TheVariants.{Dead}
+use Rattle.wl_broker.specs.declared.seat.TabSeat.{TabSeat}
+use Rattle.wl_broker.specs.declared.seat.TabSeat.TheVariants.{Dead}
 use Rattle.wl_broker.specs.Broker.{BrokerState, seat_of, listed_at}
 use Rattle.wl_broker.specs.BrokerInvariant.{awaited_at}
 use Rattle.wl_broker.proofs.BrokerSteps.{stranger_buried}
@@ -19,7 +19,7 @@ invariant_of-self-2 g c =
     let seats = seat_put c.args.tab Dead b.seats.entries _ c.in_ok-insert.ensures.entries in (
       consistent_as seats refl (IsConsistent-unknown c.args.tab c.self.invariant.0 new unlisted),
       awaits_as seats c.discard.ensures (AwaitsParts-seat c.args.tab Dead c.self.invariant.1),
-      counts_as _ _ _ _ seats (AreCounts-arrival b.listed.entries b.seats.entries b.missing.entries b.missing.entries c.args.tab Dead None c.self.invariant.0.listed_once c.self.invariant.2 (sym (ap (λ (o : Option Seat). awaited_at o (listed_at c.args.tab b.listed.entries)) new ∙ unlisted)) (λ p. omega arith)),
+      counts_as _ _ _ _ seats (AreCounts-arrival b.listed.entries b.seats.entries b.missing.entries b.missing.entries c.args.tab Dead None c.self.invariant.0.listed_once c.self.invariant.2 (sym (ap (λ (o : Option TabSeat). awaited_at o (listed_at c.args.tab b.listed.entries)) new ∙ unlisted)) (λ p. omega arith)),
     )
 
 pub returns-clause-buried : goal.returns-clause-buried

@@ -3,7 +3,7 @@ use Rattle.std.proofs.Math.Path.{ap₂}
 use Rattle.std.proofs.lemmas.Result.{IfOk-weaker}
 use Rattle.wl_limits.specs.declared.tabs.TheConstants.{LAST_NUMBER}
 use Rattle.wl_grammar.specs.declared.frame.Addressed.{Addressed}
-use Rattle.wl_broker.specs.declared.seat.Seat.TheVariants.{Joined}
+use Rattle.wl_broker.specs.declared.seat.TabSeat.TheVariants.{Joined}
 use Rattle.wl_broker.specs.Broker.{BrokerState, Taking, copied, IsTaken, next_of}
 use Rattle.wl_broker.proofs.Drops.{not_joined, recovering, out_of_turn, taken_before, too_many, command_taken, perform_taken}
 use Rattle.wl_broker.proofs.Fields.{joined_seen, seated_here, joined_here, next_here, active_here, turn_here, live_here, waiting_here, if_ok_mapped, if_err_always}

@@ -12,7 +12,7 @@ returns-in-Some c =
     let t = c.self.inside.index in
     let first = first-of t c.args.client c.args.number (Some c.in-Some.order) c.self.invariant.index c.in-Some.ensures in
     let e : grantable (locks_in t.held.items t.waiting.items) c.args.client c.args.number ≡ is_next c.in-Some.order t.held.items t.waiting.items = grantable-first c.args.client c.args.number t.held.items [] t.waiting.items c.self.invariant.index.waiting_rise ∙ ap (λ o. option_map_or (λ k. is_next k t.held.items t.waiting.items) o false) first in
-    rw (← c.self.view_is) (c.is_next.ensures ∙ sym e)
+    rw (← c.self.view_is) (c.is_grantable.ensures ∙ sym e)
 
 pub returns-in-None : goal.returns-in-None
 returns-in-None c =

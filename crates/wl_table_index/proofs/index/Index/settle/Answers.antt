@@ -16,7 +16,7 @@ grant-requires-clause-small c =
     let o = c.in-Some.order in
     let h = l.self.held.items in
     let w = l.self.waiting.items in
-    let g = next-grant l.candidates.items h w o i.indexed.waiting_rise i.candidates (least-popped l.candidates.items c.pop.new.self.items o c.in-Some.ensures.items c.in-Some.ensures.least) (sym c.is_next.ensures ∙ c.if-is_next.true) in
+    let g = next-grant l.candidates.items h w o i.indexed.waiting_rise i.candidates (least-popped l.candidates.items c.pop.new.self.items o c.in-Some.ensures.items c.in-Some.ensures.least) (sym c.is_grantable.ensures ∙ c.if-is_grantable.true) in
     omega (arith, i.small, length-without o g.row w i.indexed.waiting_rise (grant-find h w o g i.indexed.waiting_rise))
 
 pub grant-requires-clause-room : goal.grant-requires-clause-room
@@ -26,7 +26,7 @@ grant-requires-clause-room c =
     let o = c.in-Some.order in
     let h = l.self.held.items in
     let w = l.self.waiting.items in
-    let g = next-grant l.candidates.items h w o i.indexed.waiting_rise i.candidates (least-popped l.candidates.items c.pop.new.self.items o c.in-Some.ensures.items c.in-Some.ensures.least) (sym c.is_next.ensures ∙ c.if-is_next.true) in
+    let g = next-grant l.candidates.items h w o i.indexed.waiting_rise i.candidates (least-popped l.candidates.items c.pop.new.self.items o c.in-Some.ensures.items c.in-Some.ensures.least) (sym c.is_grantable.ensures ∙ c.if-is_grantable.true) in
     omega (arith, i.room, length-without o g.row w i.indexed.waiting_rise (grant-find h w o g i.indexed.waiting_rise))
 
 pub grant-requires-clause-others : goal.grant-requires-clause-others
@@ -34,19 +34,19 @@ grant-requires-clause-others c =
     let l = c.loop-order in
     others-popped l.candidates.items c.pop.new.self.items l.self.held.items l.self.waiting.items c.in-Some.order l.invariant.candidates c.in-Some.ensures.items
 
-pub loop-order-smaller-then-is_next : goal.loop-order-smaller-then-is_next
-loop-order-smaller-then-is_next c =
+pub loop-order-smaller-then-is_grantable : goal.loop-order-smaller-then-is_grantable
+loop-order-smaller-then-is_grantable c =
     let l = c.loop-order in
     let i = l.invariant in
     let o = c.in-Some.order in
     let h = l.self.held.items in
     let w = l.self.waiting.items in
     let rise = i.indexed.waiting_rise in
-    let g = next-grant l.candidates.items h w o rise i.candidates (least-popped l.candidates.items c.pop.new.self.items o c.in-Some.ensures.items c.in-Some.ensures.least) (sym c.is_next.ensures ∙ c.if-is_next.true) in
+    let g = next-grant l.candidates.items h w o rise i.candidates (least-popped l.candidates.items c.pop.new.self.items o c.in-Some.ensures.items c.in-Some.ensures.least) (sym c.is_grantable.ensures ∙ c.if-is_grantable.true) in
     rw c.grant.ensures.waiting (omega (arith, length-without o g.row w rise (grant-find h w o g rise), c.grant.ensures.candidates_len, c.in-Some.ensures.len))
 
-pub loop-order-preserved-then-is_next : goal.loop-order-preserved-then-is_next
-loop-order-preserved-then-is_next c =
+pub loop-order-preserved-then-is_grantable : goal.loop-order-preserved-then-is_grantable
+loop-order-preserved-then-is_grantable c =
     let l = c.loop-order in
     let i = l.invariant in
     let o = c.in-Some.order in
@@ -54,7 +54,7 @@ loop-order-preserved-then-is_next c =
     let w = l.self.waiting.items in
     let k = order_at l.self.next l.self.held.slot in
     let rise = i.indexed.waiting_rise in
-    let g = next-grant l.candidates.items h w o rise i.candidates (least-popped l.candidates.items c.pop.new.self.items o c.in-Some.ensures.items c.in-Some.ensures.least) (sym c.is_next.ensures ∙ c.if-is_next.true) in
+    let g = next-grant l.candidates.items h w o rise i.candidates (least-popped l.candidates.items c.pop.new.self.items o c.in-Some.ensures.items c.in-Some.ensures.least) (sym c.is_grantable.ensures ∙ c.if-is_grantable.true) in
     let f = grant-find h w o g rise in
     let len = length-without o g.row w rise f in
     let held : c.grant.new.self.held.items ≡ h ++ (k, g.row) ∷ [] = c.grant.ensures.held g.row f in
@@ -81,7 +81,7 @@ loop-order-preserved c =
       indexed = i.indexed;
       small = i.small;
       room = i.room;
-      candidates = candidates-passed c.pop.new.self.items h w o i.indexed.waiting_rise (sym c.is_next.ensures ∙ c.if-is_next.false) others;
+      candidates = candidates-passed c.pop.new.self.items h w o i.indexed.waiting_rise (sym c.is_grantable.ensures ∙ c.if-is_grantable.false) others;
       settled = i.settled;
       newly_granted = i.newly_granted;
       lean = i.lean;

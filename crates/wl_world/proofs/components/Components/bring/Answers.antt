@@ -1,8 +1,8 @@
 use Rattle.std.proofs.Common.{List, map, ap, ◌∙◌}
 use Rattle.std.proofs.lemmas.Result.{IfOk-weaker}
 use Rattle.wl_grammar.specs.declared.frame.Addressed.{Addressed}
-use Rattle.wl_kernel_supervisor.specs.Changes.{message_change}
-use Rattle.wl_kernel_supervisor.specs.SupervisedStates.{SupervisedState}
+use Rattle.wl_supervised_broker.specs.Changes.{message_change}
+use Rattle.wl_supervised_broker.specs.SupervisedStates.{SupervisedState}
 use Rattle.wl_world_model.specs.World.{WorldState, from_broker, arrives_at_broker}
 use Rattle.wl_world.specs.Components.{world_of}
 use Rattle.wl_world.proofs.calls.SupervisorParts.{always, changed-world, changed-sends}

@@ -1,7 +1,7 @@
 use Rattle.std.proofs.Common.{ap, ◌∙◌}
 use Rattle.wl_draft.specs.Tables.{put}
 use Rattle.wl_broadcast.specs.Channels.{ChannelState}
-use Rattle.wl_kernel_supervisor.specs.SupervisedStates.{SupervisedState}
+use Rattle.wl_supervised_broker.specs.SupervisedStates.{SupervisedState}
 use Rattle.wl_world.proofs.calls.LivingRows.{kernel-rowed, opens-rowed}
 use Rattle.wl_world.proofs.components.Components.open_with.Goals as goal
 use Rattle.wl_world.proofs.components.Components.open_with.Goals.{in-Ok+in_ok-put_row-in-Ok+in_ok-put_row-in-Ok-2, in-Err+in_ok-open_refusal-in-Err}

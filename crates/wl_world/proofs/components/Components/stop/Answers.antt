@@ -1,6 +1,6 @@
 use Rattle.std.proofs.Common.{sym, ap, ◌∙◌}
-use Rattle.wl_kernel_supervisor.specs.Changes.{stop_change}
-use Rattle.wl_kernel_supervisor.specs.SupervisedStates.{SupervisedState}
+use Rattle.wl_supervised_broker.specs.Changes.{stop_change}
+use Rattle.wl_supervised_broker.specs.SupervisedStates.{SupervisedState}
 use Rattle.wl_world_model.specs.World.{WorldState, stops}
 use Rattle.wl_world.specs.Components.{world_of}
 use Rattle.wl_world.proofs.calls.LivingRows.{stops-rowed}

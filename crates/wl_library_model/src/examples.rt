@@ -1,0 +1,12 @@
+//! Worked conversation, computed on the machine's definition.
+
+ghost use Rattle.wl_library_model.specs.Examples.{Bereaved, Contended, ContendedIsThese, Restarted, Talked};
+
+/// Results of a conversation of two clients.
+pub fn law_examples()
+    ensures events { ContendedIsThese }
+    ensures contended { Contended }
+    ensures restarted { Restarted }
+    ensures bereaved { Bereaved }
+    ensures talked { Talked }
+{}
