@@ -175,8 +175,10 @@ progress_at (f ∷ fs) c = if c.is_welcomed || is_some (welcome_of f) then Handl
 abbrev pub progress_of : ClientState → Progress
 progress_of c = progress_at c.arrived c
 
+-- No frame waited, and the frames of a piece have arrived from the hub.
 pub record IsReceived (piece : List ℕ) (old new : ClientState) (fault : Option FrameFault) : Type 0 where
   pub feeding : Feeding
   pub frames : List Frame
+  pub idle : old.arrived ≡ []
   pub decodes : Decodes old.feeding feeding piece frames fault
   pub now : new ≡ record old { feeding = feeding; arrived = frames }

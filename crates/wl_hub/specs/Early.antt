@@ -1,5 +1,5 @@
 -- Tabs whose commands came too early: the broker dropped them, since the tab's partition recovered.
-use Rattle.std.specs.Prelude.{◌≡◌, ℕ, ◌-◌, List, [], ◌∷◌, ◌++◌, Bool, nat_eq, ◌==◌, length, Option, Some, None, if◌then◌else◌}
+use Rattle.std.specs.Prelude.{ℕ, ◌-◌, List, [], ◌∷◌, ◌++◌, Bool, ◌==◌, length, Option, Some, None, if◌then◌else◌}
 use Rattle.std.specs.List.{list_any}
 use Rattle.wl_broker.specs.declared.dropped.Dropped.TheVariants.{Recovering}
 use Rattle.wl_world_messages.specs.declared.effect.Effect.{Effect}

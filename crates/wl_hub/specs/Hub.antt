@@ -207,10 +207,11 @@ pub record IsFed (t : ℕ) (piece : List ℕ) (old new : List (ℕ × Feeding)) 
   pub decodes : Decodes before after piece frames fault
   pub now : new ≡ insert_entry nat_eq old t after
 
--- The frames of a piece have arrived from its tab.
+-- No frame waited, and the frames of a piece have arrived from its tab.
 pub record IsReceived (t : ℕ) (piece : List ℕ) (old new : HubState) (fault : Option FrameFault) : Type 0 where
   pub feeds : List (ℕ × Feeding)
   pub frames : List Frame
+  pub idle : old.arrived ≡ []
   pub fed : IsFed t piece old.feeds feeds frames fault
   pub now : new ≡ record old { feeds = feeds; sender = t; arrived = frames }
 
