@@ -6,7 +6,7 @@ BENCH = crates/bench_core/out/bench_core
 HUB = crates/wlb_hub/out/libwlb_hub.a
 CLIENT = crates/wlb_client/out/libwlb_client.a
 
-# Ends a target if there is no such command. The second word says where it comes from.
+# Ends a target if there is no command $(1). The text $(2) says where to get it.
 need = @command -v $(1) > /dev/null || { echo "make $@: there is no command $(1): $(2)" >&2; exit 1; }
 need_rt = $(call need,rt,install the Rattle kit)
 proving = @echo "Building $@, with a proof of each crate below it that was not proved on this machine before: all take some processor hours."
@@ -47,13 +47,14 @@ MODULES = js/dist
 wasm: $(if $(ARCHIVES),,$(HUB) $(CLIENT)) ## builds the WebAssembly modules of the JavaScript package in the folder `js/dist`
 	python3 tools/wasm.py $(MODULES) $(or $(ARCHIVES),$(dir $(HUB) $(CLIENT)))
 
-js-test: ## runs the tests of the JavaScript package with the modules of `make wasm`, and what `make lib` and the gate have built
+js-test: ## runs the tests of the JavaScript package, over the builds of `make wasm`, `make lib` and the gate
 	$(need_node)
 	node --test js/test
 
 WPT ?=
+CONFORMANCE ?=
 
-conformance: ## runs the web-platform-tests of the folder WPT over the JavaScript package
+conformance: ## runs the web-platform-tests of the folder WPT over the JavaScript package, with the options CONFORMANCE
 	$(need_node)
 	node js/conformance/run.js $(CONFORMANCE) "$(WPT)"
 
@@ -83,6 +84,8 @@ refuse: ## runs the tests of the crate TESTS (with WORD in their names) with eac
 	@test -d crates/$(TESTS)/src || { echo "make $@: TESTS has to name a crate of tests: there is no folder crates/$(TESTS)" >&2; exit 1; }
 	cd crates/$(TESTS) && rt test
 	python3 tools/refuse.py crates/$(TESTS)/out/$(TESTS)_tests $(WORD)
+
+CRATES ?=
 
 mutants: ## kills the mutants of CRATES, or of all crates
 	python3 tools/mutants.py $(CRATES)

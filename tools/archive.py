@@ -4,8 +4,7 @@ It takes the libraries below as `rt ci` has left them in this checkout, and has 
 lib` does not use these libraries: it proves all of them once more. So this tool calls `rt lib` only if `rt ci` has not left them.
 
 Beside the archive it leaves `NAME.bc`, the LLVM module that the compiler was given. `tools/wasm.py` makes the WebAssembly module of
-it. For that it names the first processor of the kit's list, for which the module has no instructions of x86-64. `rt lib` leaves no
-module.
+it. For that it names the baseline processor `x86-64`, so the module has no special instructions. `rt lib` leaves no module.
 """
 
 import argparse

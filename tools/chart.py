@@ -1,8 +1,8 @@
 """Draws the run of a sim's script as a sequence chart.
 
-Tabs, kernel and broker have a lane each, and time runs down. Each line of the script has a row, with what it prints. A message is an
+Tabs, kernel and broker have a lifeline each, and time runs down. Each line of the script has a row, with what it prints. A message is an
 arrow from the row in which it was sent to the row in which it came. Generations of the broker are bands, and held locks are thick
-bars on the lane of their tab. docs/SCRIPTS.md has the language.
+bars on the lifeline of their tab. docs/SCRIPTS.md has the language.
 
 The chart is an SVG file. With `--html` it is a page by itself, which shows the whole text of a message under the pointer or finger.
 `--all` writes the charts of the examples to docs/charts, and `--check` compares them with those of the program: it prints each chart

@@ -3,7 +3,7 @@
 The modules are made of what `tools/archive.py` has left in the folders ARCHIVES, so nothing is proved again. The tests compare them
 with the C libraries of the same archives, and also run over processes of PROGRAM, the program `wlb`.
 
-The tool prints the tests that have failed. Otherwise it prints a line for each part that this machine cannot run, with the reason:
+The tool prints the tests that have failed. Otherwise it prints how many tests were skipped, or why nothing runs:
 
 - Without Node of version 20 or later, nothing runs.
 - Without the compiler's modules beside the archives, nothing runs: `rt lib` leaves none.

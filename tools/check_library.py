@@ -91,17 +91,17 @@ class Installed:
         return run([program, *words], env=self.environment)
 
 
-def run(words, **how):
+def run(words, seconds=SECONDS, **how):
     """Runs a program in a session of its own. Ends all processes of the session that are left, also when its time is up."""
     words = [str(word) for word in words]
     pipes = {"stdin": subprocess.DEVNULL, "stdout": subprocess.PIPE, "stderr": subprocess.PIPE, "text": True}
     process = subprocess.Popen(words, start_new_session=True, **pipes, **how)
     try:
-        stdout, stderr = process.communicate(timeout=SECONDS)
+        stdout, stderr = process.communicate(timeout=seconds)
     except subprocess.TimeoutExpired:
         os.killpg(process.pid, signal.SIGKILL)
         stdout, stderr = process.communicate()
-        differences.append(f"{' '.join(words)}: it did not end within {SECONDS} seconds")
+        differences.append(f"{' '.join(words)}: it did not end within {seconds} seconds")
     with contextlib.suppress(ProcessLookupError):
         os.killpg(process.pid, signal.SIGKILL)
         differences.append(f"{' '.join(words)}: a process was left")
@@ -268,7 +268,8 @@ def check_refused_calls(installed):
         archive = installed.prefix / "lib" / f"lib{name}.a"
         ran = run([*words, "-Wl,--wrap=malloc,--wrap=realloc", "-Wl,--whole-archive", archive, "-Wl,--no-whole-archive"])
         same(f"cc refuse_numbered.c lib{name}.a", "standard error", ran.stderr, "")
-    ran = run([sys.executable, TOOLS / "refused_calls.py", folder])
+    words = ["--all"] if installed.refuses_all else []
+    ran = run([sys.executable, TOOLS / "refused_calls.py", *words, folder], seconds=None if words else SECONDS)
     differences.extend(ran.stdout.splitlines())
     same("refused_calls.py", "standard error", ran.stderr, "")
 
@@ -324,6 +325,7 @@ def main():
     parser.add_argument("--only", metavar="WORD", default="", help="run only the checks whose names contain this word")
     parser.add_argument("--megabytes", metavar="N", type=argument_types.amount, default=10, help="the bytes that hub and client each receive")
     parser.add_argument("--seed", metavar="SEED", type=argument_types.number(0), default=1, help="the number from which the bytes are drawn")
+    parser.add_argument("--all", action="store_true", help="refuse every allocation of hub and client, not a sample")
     parser.add_argument("--tell", action="store_true", help="print what the fuzzer has done")
     given = parser.parse_args()
     for name in ("cc", "pkg-config"):
@@ -336,6 +338,7 @@ def main():
     with tempfile.TemporaryDirectory(prefix="wlb-") as folder:
         installed = Installed(folder, given.archives)
         installed.megabytes, installed.seed, installed.is_told = given.megabytes, given.seed, given.tell
+        installed.refuses_all = given.all
         for check in chosen:
             check(installed)
     for difference in differences:

@@ -5,7 +5,7 @@ The checks stand in `sim_tests`, by topic:
     play        rows of scripts, each line with its output (`sim_tests/rows`)
     limits      scripts that reach a limit and exceed it by one, and long scripts
     parts       tabs that report in parts
-    ends        lines of another form
+    ends        refused lines
     stops       stops and deaths behind each line of rows
     random_events   no two locks that are held conflict after random events
 

@@ -1,8 +1,8 @@
-"""Mutation tests: kills the mutants in `mutants/`, which change one place of a proved crate.
+"""Mutation tests: kills the mutants in `mutants/`, which are small changes of a proved crate.
 
-A mutant of `mutants/CRATE` has the form of the edits that `rt` tries in `crates/CRATE/must-fail`, and three more
+A mutant of `mutants/CRATE` has the form of the edits that `rt` tries in `crates/CRATE/must-fail`, and four more
 lines. `after: TEXT` before an old text means its first occurrence behind TEXT. `refused: PATH` names the function
-whose proof has to fail. `gate: yes` has the gate try the mutant.
+whose proof has to fail. `gate: yes` has the gate try the mutant. `error: CODE` is explained below.
 
 `rt` tries one edit after another, each in a check of its crate. The proof of a function uses the contracts of the
 functions that it calls, never their code. So this tool copies a crate, changes each function once, and checks only
@@ -20,8 +20,9 @@ function keeps its contract, with an empty loop for its body and a hole for its 
 - A mutant fails if the prover accepts it, if it cannot be read, or if each unproved goal has no name or cites a name
   that the mutant took away.
 
-Without CRATE, the tool tries the mutants of all crates, one process for each processor. It builds the libraries below
-a crate first, by `rt lib`. The status is 0 if every mutant was killed.
+Without CRATE, the tool tries the mutants of all crates, `RT_JOBS` crates at once or one for each processor. It uses the
+libraries that `rt ci` has left, or else builds those below a crate first, by `rt lib`. The status is 0 if every mutant was
+killed.
 """
 
 import argparse
@@ -35,10 +36,12 @@ import subprocess
 import sys
 import tempfile
 
+import jobs
+
 
 ROOT = os.path.dirname(os.path.dirname(os.path.abspath(__file__)))
 MUTANTS = os.path.join(ROOT, "mutants")
-WORKERS = len(os.sched_getaffinity(0))
+WORKERS = jobs.count()
 
 
 def text_of(path):
@@ -392,9 +395,12 @@ def rlib(crate):
     return os.path.join(ROOT, "crates", crate, "out", "rlib", f"{crate}.rlib")
 
 
-def is_of_gate(crate):
-    """Returns whether `rt ci` has built the library. A library that it put back has a stamp."""
-    return os.path.isdir(rlib(crate)) and not os.path.isfile(os.path.join(os.path.dirname(rlib(crate)), "stamp"))
+def is_left_by_gate(crate):
+    """Returns whether `rt ci` has built the library of the crate's files as they are. A library that it put back has a stamp."""
+    if not os.path.isdir(rlib(crate)) or os.path.isfile(os.path.join(os.path.dirname(rlib(crate)), "stamp")):
+        return False
+    paths = (os.path.join(at, it) for folder in folders_of(crate) for at, _, names in os.walk(folder) for it in [".", *names])
+    return all(os.path.getmtime(it) <= os.path.getmtime(rlib(crate)) for it in paths)
 
 
 def command_of(crate, named):
@@ -610,14 +616,13 @@ def size(crate):
     return sum(os.path.getsize(it) for it in files)
 
 
-def build_libraries(crates, named, is_gate):
-    """Builds the libraries below the crates. The gate uses those that `rt ci` left."""
+def build_libraries(crates, named):
+    """Builds the libraries below the crates, unless `rt ci` has left all of them."""
     needed = {dep for crate in crates for dep in below(crate, named)}
-    lacking = sorted(it for it in needed if not is_of_gate(it))
-    if is_gate and not lacking:
+    lacking = sorted(it for it in needed if not is_left_by_gate(it))
+    if not lacking:
         return
-    if is_gate:
-        print(f"builds {len(needed)} libraries first, since `rt ci` has not left {' '.join(lacking)}", file=sys.stderr)
+    print(f"builds {len(needed)} libraries first, since `rt ci` has not left {' '.join(lacking)}", file=sys.stderr)
     for dep in sorted(needed, key=lambda it: len(below(it, named))):
         subprocess.run(["rt", "lib"], cwd=os.path.join(ROOT, "crates", dep), stdout=subprocess.DEVNULL, check=True)
 
@@ -626,8 +631,7 @@ def arguments():
     parser = argparse.ArgumentParser(description=__doc__, formatter_class=argparse.RawDescriptionHelpFormatter)
     parser.add_argument("crates", nargs="*", metavar="CRATE", help="a folder of mutants/; all of them by default")
     modes = parser.add_mutually_exclusive_group()
-    gate_help = "try the mutants of the gate alone, over the libraries that `rt ci` left"
-    modes.add_argument("--gate", action="store_true", help=gate_help)
+    modes.add_argument("--gate", action="store_true", help="try the mutants of the gate alone")
     modes.add_argument("--control", action="store_true", help="run the control alone: prove every copy without its mutants")
     modes.add_argument("--fit", action="store_true", help="try nothing: print each mutant that does not fit its file")
     given = parser.parse_args()
@@ -647,7 +651,7 @@ def main():
     named = libraries()
     tried = {crate: [it for it in mutants_of(crate) if it.is_of_gate or not given.gate] for crate in crates}
     crates = sorted((crate for crate in crates if tried[crate]), key=size, reverse=True)
-    build_libraries(crates, named, given.gate)
+    build_libraries(crates, named)
     trials = [Trial(crate, named, together(tried[crate]), given.control) for crate in crates]
     passed = failed = 0
     with concurrent.futures.ThreadPoolExecutor(WORKERS) as pool:

@@ -24,10 +24,11 @@ import sys
 import tempfile
 
 import argument_types
+import jobs
 
 HERE = os.path.dirname(os.path.abspath(__file__))
 TOP = os.path.dirname(HERE)
-WORKERS = len(os.sched_getaffinity(0))
+WORKERS = jobs.count()
 SECONDS = 120
 BINARY = argument_types.executable("`rt test` in crates/NAME builds crates/NAME/out/NAME_tests")
 # Bytes of the smallest allocation that counts as large.
