@@ -1,6 +1,6 @@
 /* wlb.h: hub and client of the Web Locks broker `wlb`.
  *
- * A browser process owns one hub. A renderer owns one client for each of its tabs. The hub has the kernel and the broker (lock
+ * A browser process owns one hub. A renderer owns one client for each of its tabs. The hub has the router and the broker (lock
  * manager) of all tabs; a client has the locks and the channels of one tab. Both take bytes from a link and give bytes for the
  * link. They have no thread, socket, clock or global state: the caller has the link and the loop. docs/EMBEDDING.md is the guide,
  * examples/c has two whole programs, and docs/PROTOCOL.md has the bytes.
@@ -10,7 +10,8 @@
  * the URL Standard. Tabs of different partitions share neither locks nor messages.
  *
  *   tab          documents of one partition in one renderer, which share one client
- *   number       a command of a tab, counted from 0. The number of a request or a probe also names its lock
+ *   number       a command of a tab (request, probe, query, release or abort), counted from 0. A probe is a request with
+ *                `ifAvailable`. The number of a request or a probe also names its lock
  *   generation   one life of the broker, counted from 1. A client reports its locks to each new one
  *
  * Rules for all functions:
@@ -18,8 +19,8 @@
  *   Threads      At most one call at a time on a handle, from any thread. Calls on different handles may overlap.
  *   Handles      A handle is a struct of the caller, initialized by WLB_EMPTY. Its fields are private. A pointer to a handle is
  *                never NULL. A copy of the struct must not be used after a call on the original. A handle may be moved.
- *   Ownership    The caller owns all memory that it passes, and no function keeps a pointer to it. What a call writes overlaps
- *                nothing else that the call is passed.
+ *   Ownership    The caller owns all memory that it passes, and no function keeps a pointer to it. Memory that a call
+ *                writes to must not overlap any other argument's memory.
  *   Lengths      A pointer with a length may be NULL if the length is 0. Any other pointer is never NULL.
  *   Results      An output parameter is written only by a call that returns WLB_OK, unless the function says otherwise.
  *   Refusals     A call that returns another status than WLB_OK changes nothing, unless the function says otherwise.
@@ -139,15 +140,16 @@ int32_t wlb_hub_new(wlb_hub *hub);
 /* Frees the hub. The handle holds nothing afterwards. A handle that holds nothing stays as it is. */
 void wlb_hub_free(wlb_hub *hub);
 
-/* Opens a tab of a top-level document with this URL: its own origin is also its top-level origin. The caller chooses the number.
- * The hub puts out the tab's welcome. If a broker is up, the hub also puts out its generation.
+/* Opens a tab of a top-level document: its own origin, that of the URL `own`, is also its top-level origin. Pass the
+ * document's origin in the browser, such as https://a.test/, not its URL: in a sandbox the URL has a wrong origin. The caller
+ * chooses the number. The hub puts out the tab's welcome. If a broker is up, the hub also puts out its generation.
  * WLB_OK, WLB_MEMORY, WLB_NO_HANDLE, WLB_BAD_TEXT, WLB_BAD_URL, WLB_OPAQUE_ORIGIN: a page of an opaque origin gets no tab, and
  * its calls fail with "SecurityError"; WLB_NUMBER_TAKEN, WLB_TOO_MANY_LIVING, WLB_PARTITION_FULL. */
 int32_t wlb_hub_open(wlb_hub *hub, uint16_t tab, const uint8_t *own, size_t own_length);
 
-/* Opens a tab of documents with the URL `own` in frames under a top-level document with the URL `top`. The tab may have
- * WLB_PAIR_LIVE_NUMBERS live numbers. If both URLs have one origin, the partition is that of wlb_hub_open. Otherwise the same as
- * wlb_hub_open, with the same statuses. */
+/* Opens a tab of documents with the origin of the URL `own`, in frames under a top-level document with that of `top`. The tab
+ * may have WLB_PAIR_LIVE_NUMBERS live numbers. If both URLs have one origin, the partition is that of wlb_hub_open. In all
+ * else it is wlb_hub_open, with its statuses. */
 int32_t wlb_hub_open_pair(wlb_hub *hub, uint16_t tab, const uint8_t *top, size_t top_length, const uint8_t *own,
                           size_t own_length);
 
@@ -165,9 +167,9 @@ int32_t wlb_hub_close(wlb_hub *hub, uint16_t tab);
  * WLB_NO_HANDLE, WLB_NO_TAB */
 int32_t wlb_hub_receive(wlb_hub *hub, uint16_t tab, const uint8_t *bytes, size_t length);
 
-/* Does one piece of work: tells the broker of a death, greets a tab again whose commands came before its partition was active,
- * or handles the oldest frame that waits. Deaths come first. Call it after wlb_hub_close, too. While no broker is up,
- * deaths wait, and frames for the broker are dropped; clients put them out again in the next generation.
+/* Does one piece of work: tells the broker of a death, asks a tab to send again the commands that came while its partition
+ * recovered (see wlb_hub_restart), or handles the oldest frame that waits. Deaths come first. Call it after wlb_hub_close, too.
+ * While no broker is up, deaths wait, and frames for the broker are dropped; clients put them out again in the next generation.
  * WLB_OK         something was done: call again
  * WLB_IDLE       there is nothing to do
  * WLB_MEMORY     call again
@@ -186,8 +188,8 @@ int32_t wlb_hub_advance(wlb_hub *hub);
 int32_t wlb_hub_next_output(wlb_hub *hub, uint16_t *tab, uint8_t *out, size_t capacity, size_t *length);
 
 /* Starts the broker of the next generation with all living tabs. The first call starts the first one. A broker that is up is
- * stopped first and loses its state. Each client reports its locks to the new broker. A partition grants nothing until all its
- * living tabs have reported or are closed. Commands that come before are sent again by the clients.
+ * stopped first and loses its state. Each client reports its locks to the new broker. A partition recovers, and grants nothing,
+ * until all its living tabs have reported or are closed. The broker drops earlier commands; their clients send them again.
  * WLB_OK
  * WLB_MEMORY               no broker is up: call again
  * WLB_GENERATIONS_USED_UP  the broker stays up
@@ -219,10 +221,10 @@ typedef struct wlb_client {
 /* Kinds of events. */
 enum wlb_event_kind {
     WLB_WELCOMED = 1,      /* the hub has opened the tab. number: the tab */
-    WLB_ENTERED = 2,       /* a generation has begun. number: the generation; count: numbers that ended with the last one. They
-                              are probes that got no lock and queries that get no answer: see wlb_client_item */
+    WLB_ENTERED = 2,       /* a generation has begun. number: the generation; count: numbers that the restart ended, which are
+                              probes that got no lock and queries that get no answer: see wlb_client_item */
     WLB_GRANTED = 3,       /* the tab holds a lock. number: of its request or probe */
-    WLB_WAITING = 4,       /* a request waits, which may be said again. number: of the request */
+    WLB_WAITING = 4,       /* a request waits. The event may come again. number: of the request */
     WLB_NOT_AVAILABLE = 5, /* a probe got no lock (Web Locks, `ifAvailable`). number: of the probe */
     WLB_LOST = 6,          /* a query gets no answer: its snapshot is too large, or it was sent again. number: of the query */
     WLB_ANSWERED = 7,      /* a query is answered. number: of the query; count: entries of the snapshot, see wlb_client_entry */
@@ -308,7 +310,8 @@ int32_t wlb_client_probe(wlb_client *client, const uint8_t *name, size_t name_le
  * WLB_OK, WLB_MEMORY, WLB_NO_HANDLE, WLB_NOT_WELCOMED, WLB_TOO_MANY, WLB_NUMBERS_USED_UP. */
 int32_t wlb_client_query(wlb_client *client, uint32_t *number);
 
-/* Aborts a request that is not held (Web Locks, `signal`). The number is over and has no further event. A probe cannot be aborted.
+/* Aborts a request that is not held (Web Locks, `signal`). The number is over and gets no new event. A probe cannot be
+ * aborted.
  * WLB_OK; WLB_HELD: the lock is held; WLB_NOTHING: no such request is live; WLB_MEMORY, WLB_NO_HANDLE, WLB_NOT_WELCOMED. */
 int32_t wlb_client_abort(wlb_client *client, uint32_t number);
 
