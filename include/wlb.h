@@ -140,16 +140,16 @@ int32_t wlb_hub_new(wlb_hub *hub);
 /* Frees the hub. The handle holds nothing afterwards. A handle that holds nothing stays as it is. */
 void wlb_hub_free(wlb_hub *hub);
 
-/* Opens a tab of a top-level document: its own origin, that of the URL `own`, is also its top-level origin. Pass the
- * document's origin in the browser, such as https://a.test/, not its URL: in a sandbox the URL has a wrong origin. The caller
- * chooses the number. The hub puts out the tab's welcome. If a broker is up, the hub also puts out its generation.
+/* Opens a tab of a top-level document. The origin of the URL `own` is its own origin and its top-level origin. Pass the document's
+ * origin in the browser, such as https://a.test/, not its URL: in a sandbox the URL has a wrong origin. The caller chooses the
+ * number. The hub puts out the tab's welcome. If a broker is up, the hub also puts out its generation.
  * WLB_OK, WLB_MEMORY, WLB_NO_HANDLE, WLB_BAD_TEXT, WLB_BAD_URL, WLB_OPAQUE_ORIGIN: a page of an opaque origin gets no tab, and
  * its calls fail with "SecurityError"; WLB_NUMBER_TAKEN, WLB_TOO_MANY_LIVING, WLB_PARTITION_FULL. */
 int32_t wlb_hub_open(wlb_hub *hub, uint16_t tab, const uint8_t *own, size_t own_length);
 
-/* Opens a tab of documents with the origin of the URL `own`, in frames under a top-level document with that of `top`. The tab
- * may have WLB_PAIR_LIVE_NUMBERS live numbers. If both URLs have one origin, the partition is that of wlb_hub_open. In all
- * else it is wlb_hub_open, with its statuses. */
+/* Opens a tab of documents in frames. The origin of the URL `own` is their own origin, and the origin of the URL `top` is that of
+ * the document at the top. If both are the same, the partition is that of wlb_hub_open. The tab may have WLB_PAIR_LIVE_NUMBERS
+ * live numbers. In all else it is wlb_hub_open, with its statuses. */
 int32_t wlb_hub_open_pair(wlb_hub *hub, uint16_t tab, const uint8_t *top, size_t top_length, const uint8_t *own,
                           size_t own_length);
 
