@@ -140,8 +140,8 @@ int32_t wlb_hub_new(wlb_hub *hub);
 /* Frees the hub. The handle holds nothing afterwards. A handle that holds nothing stays as it is. */
 void wlb_hub_free(wlb_hub *hub);
 
-/* Opens a tab of a top-level document. The origin of the URL `own` is its own origin and its top-level origin. Pass the document's
- * origin in the browser, such as https://a.test/, not its URL: in a sandbox the URL has a wrong origin. The caller chooses the
+/* Opens a tab of a top-level document. The origin of the URL `own` is its own origin and its top-level origin. As `own` pass the
+ * origin that the browser gives the document, such as https://a.test/. Its own URL may have another one. The caller chooses the
  * number. The hub puts out the tab's welcome. If a broker is up, the hub also puts out its generation.
  * WLB_OK, WLB_MEMORY, WLB_NO_HANDLE, WLB_BAD_TEXT, WLB_BAD_URL, WLB_OPAQUE_ORIGIN: a page of an opaque origin gets no tab, and
  * its calls fail with "SecurityError"; WLB_NUMBER_TAKEN, WLB_TOO_MANY_LIVING, WLB_PARTITION_FULL. */
@@ -169,7 +169,7 @@ int32_t wlb_hub_receive(wlb_hub *hub, uint16_t tab, const uint8_t *bytes, size_t
 
 /* Does one piece of work: tells the broker of a death, asks a tab to send again the commands that came while its partition
  * recovered (see wlb_hub_restart), or handles the oldest frame that waits. Deaths come first. Call it after wlb_hub_close, too.
- * While no broker is up, deaths wait, and frames for the broker are dropped; clients put them out again in the next generation.
+ * While no broker is up, deaths wait, and frames for the broker are dropped; clients report anew to the next generation.
  * WLB_OK         something was done: call again
  * WLB_IDLE       there is nothing to do
  * WLB_MEMORY     call again
@@ -189,7 +189,7 @@ int32_t wlb_hub_next_output(wlb_hub *hub, uint16_t *tab, uint8_t *out, size_t ca
 
 /* Starts the broker of the next generation with all living tabs. The first call starts the first one. A broker that is up is
  * stopped first and loses its state. Each client reports its locks to the new broker. A partition recovers, and grants nothing,
- * until all its living tabs have reported or are closed. The broker drops earlier commands; their clients send them again.
+ * until all its living tabs have reported or are closed. Until then the broker drops commands; clients send them again.
  * WLB_OK
  * WLB_MEMORY               no broker is up: call again
  * WLB_GENERATIONS_USED_UP  the broker stays up

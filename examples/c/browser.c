@@ -36,7 +36,7 @@ enum {
     SLEEP_US = 1000               // microseconds between a renderer's read of the counter and its write
 };
 
-static const char URL[] = "https://a.test/page", LOCK[] = "counter", DEAF_LOCK[] = "deaf";
+static const char URL[] = "https://a.test/", LOCK[] = "counter", DEAF_LOCK[] = "deaf";
 
 static _Noreturn void fail(const char *what) {
     perror(what);
