@@ -148,8 +148,8 @@ void wlb_hub_free(wlb_hub *hub);
 int32_t wlb_hub_open(wlb_hub *hub, uint16_t tab, const uint8_t *own, size_t own_length);
 
 /* Opens a tab of documents in frames. The origin of the URL `own` is their own origin, and the origin of the URL `top` is that of
- * the document at the top. If both are the same, the partition is that of wlb_hub_open. The tab may have WLB_PAIR_LIVE_NUMBERS
- * live numbers. In all else it is wlb_hub_open, with its statuses. */
+ * the document at the top. With one origin for both, the tab is in the partition of wlb_hub_open. The tab may have
+ * WLB_PAIR_LIVE_NUMBERS live numbers. In all else the call is as wlb_hub_open, with its statuses. */
 int32_t wlb_hub_open_pair(wlb_hub *hub, uint16_t tab, const uint8_t *top, size_t top_length, const uint8_t *own,
                           size_t own_length);
 
