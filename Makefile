@@ -94,6 +94,7 @@ test: ## the gate: proves every crate, kills mutants, runs every test and the pr
 	$(need_rt)
 	@python3 tools/mutants.py --fit
 	@python3 tools/definitions.py --check
+	@python3 tools/check_documents.py
 	RT_JOBS=$${RT_JOBS:-$$(nproc)} rt ci
 	@python3 tools/mutants.py --gate
 	@python3 tools/refuse.py --gate
