@@ -1,4 +1,23 @@
-// Bytes of a message: the values that structuredClone copies, except platform objects. README.md has the form.
+// Bytes of a message: the values that structuredClone copies, except platform objects.
+//
+// A message has the byte 1, the version, and then one value. A value is a tag, an ASCII letter, and its content. Numbers are
+// big-endian; length, count and index are u32.
+//
+//   u n t f   undefined, null, true, false
+//   d         number: float64
+//   i         bigint: length, and hexadecimal digits in lower case after `-` if it is negative
+//   s         string without lone surrogates: length, and UTF-8
+//   w         string with lone surrogates: length, and 16-bit units
+//   o         object: count, and pairs of a key (a string) and a value
+//   a         array: u32 length of the array, and then as an object
+//   O         object of a boolean, number, string or bigint: the primitive value
+//   D         Date: float64 of its time
+//   R         RegExp: source and flags, two strings
+//   M S       Map, Set: count of values, and the values; those of a Map are keys and values by turns
+//   B         ArrayBuffer: length, and the bytes
+//   V         typed array, DataView: u8 type, its place in VIEWS; the buffer, a value; u32 offset, u32 length
+//   E         Error: u8 type, its place in ERRORS; message, stack and cause, three values
+//   r         object that came before: index. Objects are counted from 0, each at its tag
 
 const VERSION = 1;
 const encoder = new TextEncoder();
