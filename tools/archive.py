@@ -1,10 +1,10 @@
 """Builds a static library of `wlb`, `wlb_hub` or `wlb_client`, as `crates/NAME/out/libNAME.a`.
 
-It takes the libraries below as `rt ci` has left them in this checkout, and has `rattle build` prove the static library again. `rt
-lib` does not use these libraries: it proves all of them once more. So this tool calls `rt lib` only if `rt ci` has not left them.
+It takes the libraries below as `rt ci` has left them in this checkout, if these are newer than their files, and else builds all of
+them by `rt lib`. Then `rattle build` proves and builds the static library.
 
 Beside the archive it leaves `NAME.bc`, the LLVM module that the compiler was given. `tools/wasm.py` makes the WebAssembly module of
-it. For that it names the baseline processor `x86-64`, so the module has no special instructions. `rt lib` leaves no module.
+it. For that it names the baseline processor `x86-64`, so the module has no special instructions.
 """
 
 import argparse
@@ -17,8 +17,8 @@ import sys
 import tempfile
 
 import argument_types
+from rlibs import TOP, below, build_missing, kit_folder, listed, rlib_of
 
-TOP = pathlib.Path(__file__).resolve().parent.parent
 CPU = "x86-64"
 KEEPING_CLANG = """#!/bin/sh
 for word in "$@"; do
@@ -28,52 +28,9 @@ exec {clang} "$@"
 """
 
 
-def rlib_of(library):
-    """Returns where `rt ci` leaves a library."""
-    return TOP / "crates" / library / "out" / "rlib" / f"{library}.rlib"
-
-
 def module_of(name):
     """Returns where this tool leaves the LLVM module of a static library."""
     return TOP / "crates" / name / "out" / f"{name}.bc"
-
-
-def missing(name):
-    """Returns the libraries below a crate that `rt ci` has not left."""
-    crates = listed()
-    return [library for library in below(name, crates) if library in crates and not rlib_of(library).exists()]
-
-
-def kit_folder():
-    """Returns the folder of the kit: that of its first document."""
-    argument_types.need_command("rt", "the Rattle kit has it")
-    said = subprocess.run(["rt", "doc"], capture_output=True, text=True, check=True).stdout
-    return pathlib.Path(said.splitlines()[0]).parent
-
-
-def listed():
-    """Returns the libraries that each crate of `crates.txt` stands on."""
-    found = {}
-    for line in (TOP / "crates.txt").read_text(encoding="utf-8").splitlines():
-        head, _, below = line.partition("#")[0].partition(":")
-        if head.strip():
-            found[head.split()[0]] = below.split()
-    return found
-
-
-def below(name, crates):
-    """Returns all libraries below a crate, each after those that it stands on."""
-    order = []
-
-    def visit(library):
-        for lower in crates.get(library, []):
-            visit(lower)
-        if library not in order:
-            order.append(library)
-
-    for library in crates[name]:
-        visit(library)
-    return order
 
 
 def rattle_words(name, kit):
@@ -111,9 +68,7 @@ def keeping_toolchain(kit, room):
 def build(name, jobs):
     """Builds the static library, and returns the status."""
     folder = TOP / "crates" / name
-    if missing(name):
-        argument_types.need_command("rt", "the Rattle kit has it")
-        return subprocess.run(["rt", "lib"], cwd=folder, stdout=subprocess.DEVNULL, check=False).returncode
+    build_missing([name])
     kit, archive = kit_folder(), folder / "out" / f"lib{name}.a"
     archive.parent.mkdir(exist_ok=True)
     with tempfile.TemporaryDirectory() as place:
@@ -125,7 +80,7 @@ def build(name, jobs):
             return ran.returncode
         modules = list((room / "kept").iterdir())
         if len(modules) != 1:
-            sys.exit(f"archive: the compiler was given {len(modules)} modules of {name}, not one: this tool does not fit the kit")
+            sys.exit(f"archive: the compiler was given {len(modules)} modules of {name}, not one: install the kit that README.md names")
         shutil.move(modules[0], module_of(name))
     return 0
 
@@ -133,7 +88,7 @@ def build(name, jobs):
 def main():
     parser = argparse.ArgumentParser(description=__doc__, formatter_class=argparse.RawDescriptionHelpFormatter)
     parser.add_argument("name", choices=["wlb_hub", "wlb_client"], help="the library")
-    parser.add_argument("--jobs", metavar="N", type=argument_types.number(1), default=os.cpu_count(), help="jobs of rattle (all processors)")
+    parser.add_argument("--jobs", metavar="N", type=argument_types.number(1), default=os.cpu_count(), help="jobs of rattle (one for each processor)")
     given = parser.parse_args()
     sys.exit(build(given.name, given.jobs))
 

@@ -6,7 +6,7 @@ with the C libraries of the same archives, and also run over processes of PROGRA
 The tool prints the tests that have failed. Otherwise it prints how many tests were skipped, or why nothing runs:
 
 - Without Node of version 20 or later, nothing runs.
-- Without the compiler's modules beside the archives, nothing runs: `rt lib` leaves none.
+- Without the compiler's modules beside the archives, nothing runs: `tools/archive.py` leaves them there.
 
 The status is 1 if a test has failed.
 """
@@ -58,7 +58,7 @@ def main():
         left_out(f"nothing is tested: there is no `node` of version {OLDEST} or later")
         return 0
     if not all(any((folder / f"{name}.bc").is_file() for folder in given.archives) for name in wasm.LIBRARIES):
-        left_out("nothing is tested: the compiler's modules are not beside the archives")
+        left_out("nothing is tested: there is no wlb_hub.bc or wlb_client.bc beside the archives: `python3 tools/archive.py NAME` makes one")
         return 0
     with tempfile.TemporaryDirectory(prefix="wlb-") as place:
         modules, libraries = pathlib.Path(place, "modules"), pathlib.Path(place, "libraries")

@@ -22,8 +22,8 @@ import sys
 import tempfile
 import time
 
-import archive
 import argument_types
+import rlibs
 
 TOP = pathlib.Path(__file__).resolve().parent.parent
 
@@ -64,7 +64,8 @@ class Program:
             yield Ended(ran.stdout, ran.stderr.decode(), ran.returncode)
 
 
-# The sim alone compiles in little more than half of the time of `wlb`. It has the output and the statuses of `wlb sim`.
+# The sim alone compiles in little more than half of the time of `wlb`. It has the output of `wlb sim`, and its statuses but for too
+# many reads.
 SIM, SIM_LIBRARIES = "sim_alone", ["wl_script", "wl_frames"]
 SIM_MAIN = """//! Plays a script of the sim from standard input.
 
@@ -132,8 +133,8 @@ def tried(folder, cases, words, count):
 
 def sim_folder(room):
     """Makes a repository with the crate of the sim alone and copies of the crates below it. Returns the crate's folder."""
-    crates = {**archive.listed(), SIM: SIM_LIBRARIES}
-    used = [name for name in [*archive.below(SIM, crates), SIM] if name in crates]
+    crates = {**rlibs.listed(), SIM: SIM_LIBRARIES}
+    used = [*rlibs.own_below([SIM], crates), SIM]
     (room / "crates.txt").write_text("".join(f"{name}: {' '.join(crates[name])}\n" for name in used), encoding="utf-8")
     for name in used[:-1]:
         shutil.copytree(TOP / "crates" / name / "src", room / "crates" / name / "src")
@@ -256,7 +257,7 @@ class Body:
         return repr(self.take(self.number(1)).decode())
 
     def long_text(self):
-        return repr(self.take(self.number(2)))
+        return repr(self.take(self.number(2))).removeprefix("b")
 
 
 def operation(body):

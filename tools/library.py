@@ -19,8 +19,8 @@ import sys
 import tempfile
 
 import argument_types
+from rlibs import TOP, kit_folder
 
-TOP = pathlib.Path(__file__).resolve().parent.parent
 HEADER = TOP / "include" / "wlb.h"
 LIBRARIES = ["wlb_hub", "wlb_client"]
 # The version of the interface. The first part is that of the shared libraries.
@@ -42,12 +42,10 @@ def run(*words):
 
 
 def kit_archive():
-    """Returns the kit's archive of functions over the C library. It lies in the folder `c` beside the kit's documents."""
-    argument_types.need_command("rt", "the Rattle kit has it")
-    said = subprocess.run(["rt", "doc"], capture_output=True, text=True, check=True).stdout
-    archive = pathlib.Path(said.splitlines()[0]).parent / "c" / "liblibc_c.a"
+    """Returns the kit's archive of functions over the C library."""
+    archive = kit_folder() / "c" / "liblibc_c.a"
     if not archive.is_file():
-        sys.exit(f"library: the kit has no {archive}")
+        sys.exit(f"library: the kit has no {archive}: install the kit that README.md names")
     return archive
 
 
@@ -115,7 +113,7 @@ def install(build, prefix, below):
 
 def main():
     parser = argparse.ArgumentParser(description=__doc__, formatter_class=argparse.RawDescriptionHelpFormatter)
-    parser.add_argument("--prefix", metavar="PREFIX", type=pathlib.Path, default="/usr/local", help="where to install")
+    parser.add_argument("--prefix", metavar="PREFIX", type=pathlib.Path, default="/usr/local", help="where to install (/usr/local)")
     parts = parser.add_subparsers(dest="part", required=True)
     builder = parts.add_parser("build", help="make the libraries")
     builder.add_argument("build", metavar="BUILD", type=argument_types.new_folder, help="the folder that is written")

@@ -10,15 +10,15 @@ these functions (`--only`). A mutant is killed by a goal of the contract of the 
 function keeps its contract, with an empty loop for its body and a hole for its proof.
 
 - The control comes first: the tool checks each copy without its mutants. A function that is not proved there shows
-  nothing, so its mutants fail. Both checks share what was proved, so the control costs only what it adds.
+  nothing, so its mutants count as not killed. Both checks share their proofs, so the control costs little.
 - The second mutant of a function stands in a twin: the same function under another name, with its clauses and its
   proof. The control proves the twin, too. A function of a trait has no twin; its second mutant comes in a later copy.
 - If a mutant spoils a function that another one calls, the tool tries the other again without it.
 - The tool tries a mutant of a definition alone. A goal of the function that `refused: PATH` names, or a lemma, has to
   kill it.
 - A mutant with a line `error: CODE` must not compile, with this error of the compiler and no other.
-- A mutant fails if the prover accepts it, if it cannot be read, or if each unproved goal has no name or cites a name
-  that the mutant took away.
+- A mutant is not killed if the prover accepts it or cannot read it. The same holds if each unproved goal has no name,
+  or cites a name that the mutant took away.
 
 Without CRATE, the tool tries the mutants of all crates, `RT_JOBS` crates at once or one for each processor. It uses the
 libraries that `rt ci` has left, or else builds those below a crate first, by `rt lib`. The status is 0 if every mutant was
@@ -37,6 +37,7 @@ import sys
 import tempfile
 
 import jobs
+import rlibs
 
 
 ROOT = os.path.dirname(os.path.dirname(os.path.abspath(__file__)))
@@ -143,11 +144,12 @@ class Change:
     new: str
 
     def place_in(self, text, mutant):
-        if text.count(self.after or self.old) != 1:
-            raise ValueError(f"{mutant} does not fit its file")
+        anchor = self.after or self.old
+        if text.count(anchor) != 1:
+            raise ValueError(f"{mutant}: {self.path} has {anchor!r} {text.count(anchor)} times, not once: update the edit")
         place = text.find(self.old, text.index(self.after))
         if place < 0:
-            raise ValueError(f"{mutant} does not fit its file")
+            raise ValueError(f"{mutant}: {self.path} has no {self.old!r} behind {self.after!r}: update the edit")
         return place
 
     def made_in(self, text, mutant):
@@ -230,8 +232,11 @@ def read_mutant(crate, name):
         word, _, text = line.partition(": ")
         if word == "file":
             path = text
+            file = os.path.join(ROOT, "crates", crate, path)
+            if not os.path.isfile(file):
+                raise ValueError(f"{mutant}: there is no file crates/{crate}/{path}: update the edit")
             if path not in texts:
-                texts[path] = text_of(os.path.join(ROOT, "crates", crate, path))
+                texts[path] = text_of(file)
         elif word == "refused":
             mutant.asked.append(text)
         elif word == "gate":
@@ -375,42 +380,14 @@ def changed(mutants, is_control=False):
     return texts
 
 
-def libraries():
-    """Returns the dependencies of each crate of the repository."""
-    found = {}
-    for line in text_of(os.path.join(ROOT, "crates.txt")).split("\n"):
-        words, colon, names = line.partition("#")[0].partition(":")
-        if colon:
-            found[words.split()[0]] = names.split()
-    return found
-
-
-def below(crate, named):
-    """Returns the crates of the repository below a crate."""
-    own = [it for it in named[crate] if it in named]
-    return {*own, *(it for dep in own for it in below(dep, named))}
-
-
-def rlib(crate):
-    return os.path.join(ROOT, "crates", crate, "out", "rlib", f"{crate}.rlib")
-
-
-def is_left_by_gate(crate):
-    """Returns whether `rt ci` has built the library of the crate's files as they are. A library that it put back has a stamp."""
-    if not os.path.isdir(rlib(crate)) or os.path.isfile(os.path.join(os.path.dirname(rlib(crate)), "stamp")):
-        return False
-    paths = (os.path.join(at, it) for folder in folders_of(crate) for at, _, names in os.walk(folder) for it in [".", *names])
-    return all(os.path.getmtime(it) <= os.path.getmtime(rlib(crate)) for it in paths)
-
-
 def command_of(crate, named):
     """Returns the command that checks a copy of the crate's folder."""
-    kit = os.path.dirname(subprocess.run(["rt", "doc"], capture_output=True, text=True, check=True).stdout.strip())
+    kit = rlibs.kit_folder()
     words = [f"{kit}/bin/rattle", "check", "--crate-name", crate, "src/lib.rt", "--jobs", "1"]
     words += ["--antt-project", f"{kit}/rattle/logic/antt-project.json", "--logic-built", f"{kit}/logic_built"]
     for name in ["std", *named[crate]]:
-        words += ["--extern", f"{name}={rlib(name) if name in named else f'{kit}/rlibs/{name}.rlib'}"]
-    for folder in [f"{kit}/rlibs", *sorted(os.path.dirname(rlib(it)) for it in below(crate, named))]:
+        words += ["--extern", f"{name}={rlibs.rlib_of(name) if name in named else f'{kit}/rlibs/{name}.rlib'}"]
+    for folder in [f"{kit}/rlibs", *(rlibs.rlib_of(it).parent for it in rlibs.own_below([crate], named))]:
         words += ["-L", f"dependency={folder}"]
     return words
 
@@ -480,8 +457,8 @@ class Trial:
     def said(self, mutants, texts, asked):
         """Checks these functions, or all, in a copy of the crate with these texts, and returns the output."""
         shutil.rmtree(self.folder, ignore_errors=True)
-        for part in filter(os.path.isdir, folders_of(self.crate)):
-            shutil.copytree(part, os.path.join(self.folder, os.path.basename(part)))
+        for part in rlibs.parts_of(self.crate):
+            shutil.copytree(part, os.path.join(self.folder, part.name))
         for twin in filter(None, (it.twin for it in mutants)):
             self.copy_proof(twin)
         for path, text in texts.items():
@@ -605,26 +582,9 @@ def unfit(crates):
     return said
 
 
-def folders_of(crate):
-    """Returns the folders that a check of a crate reads."""
-    return [os.path.join(ROOT, "crates", crate, part) for part in ("src", "specs", "proofs")]
-
-
 def size(crate):
     """Returns the size of a crate's text. The largest crates are tried first."""
-    files = (os.path.join(at, it) for folder in folders_of(crate) for at, _, names in os.walk(folder) for it in names)
-    return sum(os.path.getsize(it) for it in files)
-
-
-def build_libraries(crates, named):
-    """Builds the libraries below the crates, unless `rt ci` has left all of them."""
-    needed = {dep for crate in crates for dep in below(crate, named)}
-    lacking = sorted(it for it in needed if not is_left_by_gate(it))
-    if not lacking:
-        return
-    print(f"builds {len(needed)} libraries first, since `rt ci` has not left {' '.join(lacking)}", file=sys.stderr)
-    for dep in sorted(needed, key=lambda it: len(below(it, named))):
-        subprocess.run(["rt", "lib"], cwd=os.path.join(ROOT, "crates", dep), stdout=subprocess.DEVNULL, check=True)
+    return sum(file.stat().st_size for folder in rlibs.parts_of(crate) for file in folder.rglob("*"))
 
 
 def arguments():
@@ -648,10 +608,10 @@ def main():
         said = unfit(crates)
         print("\n".join(said), end="\n" if said else "")
         return 1 if said else 0
-    named = libraries()
+    named = rlibs.listed()
     tried = {crate: [it for it in mutants_of(crate) if it.is_of_gate or not given.gate] for crate in crates}
     crates = sorted((crate for crate in crates if tried[crate]), key=size, reverse=True)
-    build_libraries(crates, named)
+    rlibs.build_missing(crates)
     trials = [Trial(crate, named, together(tried[crate]), given.control) for crate in crates]
     passed = failed = 0
     with concurrent.futures.ThreadPoolExecutor(WORKERS) as pool:

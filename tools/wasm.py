@@ -18,8 +18,8 @@ import sys
 import tempfile
 
 import argument_types
-from archive import kit_folder
-from library import TOP, functions_of
+from rlibs import TOP, kit_folder
+from library import functions_of
 from lower import lower
 
 LIBRARIES = ["wlb_hub", "wlb_client"]
@@ -49,7 +49,7 @@ def module_of(name, folders):
         module = folder / f"{name}.bc"
         if module.is_file():
             return module
-    sys.exit(f"wasm: no {name}.bc in {' '.join(map(str, folders))}: run `rt ci`, and then `python3 tools/archive.py {name}`")
+    sys.exit(f"wasm: no {name}.bc in {' '.join(map(str, folders))}: `python3 tools/archive.py {name}` makes it")
 
 
 def retargeted(text, name):
@@ -57,7 +57,7 @@ def retargeted(text, name):
     for what, pattern, new in EDITS:
         text, count = re.subn(pattern, new, text, flags=re.MULTILINE)
         if not count:
-            sys.exit(f"wasm: the module of {name} does not say its {what}: this tool does not fit the kit")
+            sys.exit(f"wasm: the module of {name} does not say its {what}: install the kit that README.md names")
     native = sorted(set(re.findall(r"@llvm\.x86\.[\w.]+", text)))
     if native:
         sys.exit(f"wasm: the module of {name} calls {', '.join(native)}, which WebAssembly does not have")
