@@ -9,7 +9,7 @@ CLIENT = crates/wlb_client/out/libwlb_client.a
 # Ends a target if there is no command $(1). The text $(2) says where to get it.
 need = @command -v $(1) > /dev/null || { echo "make $@: there is no command $(1): $(2)" >&2; exit 1; }
 need_rt = $(call need,rt,install the Rattle kit)
-proving = @echo "Building $@, with a proof of each crate below it that was not proved on this machine before: all take some processor hours."
+proving = @echo "Building $@. This proves each crate below it that has no proof in this checkout yet: processor-hours for all of them."
 need_node = $(call need,node,install Node of version 20 or later)
 
 help: ## lists the targets
@@ -18,7 +18,7 @@ help: ## lists the targets
 # Example that `make demo` plays.
 EXAMPLE ?= examples/lock_moves_on.sim
 
-demo: ## plays EXAMPLE, a script or frames: with the built program, or else compiled in minutes, with nothing proved
+demo: ## plays EXAMPLE, a script or frames: with the built program if it is up to date, or else compiled in minutes, with nothing proved
 	@python3 tools/demo.py $(EXAMPLE) $$(make -sq $(WLB) && echo $(WLB))
 
 try: ## plays EXAMPLE, always compiled with nothing proved
@@ -36,7 +36,7 @@ BUILD ?= build
 # Folders with static libraries that were built elsewhere.
 ARCHIVES ?=
 
-lib: $(if $(ARCHIVES),,$(HUB) $(CLIENT)) ## builds the C libraries in the folder `build`
+lib: $(if $(ARCHIVES),,$(HUB) $(CLIENT)) ## builds the C libraries in the folder BUILD
 	python3 tools/library.py --prefix $(PREFIX) build $(BUILD) $(or $(ARCHIVES),$(dir $(HUB) $(CLIENT)))
 
 install: lib ## installs the header and the C libraries under PREFIX
@@ -47,9 +47,9 @@ MODULES = js/dist
 wasm: $(if $(ARCHIVES),,$(HUB) $(CLIENT)) ## builds the WebAssembly modules of the JavaScript package in the folder `js/dist`
 	python3 tools/wasm.py $(MODULES) $(or $(ARCHIVES),$(dir $(HUB) $(CLIENT)))
 
-js-test: ## runs the tests of the JavaScript package, over the builds of `make wasm`, `make lib` and the gate
+js-test: ## runs the tests of the JavaScript package, over the results of `make wasm`, `make lib` and `make build`
 	$(need_node)
-	node --test js/test
+	node --test js/test/*.test.js
 
 WPT ?=
 CONFORMANCE ?=
@@ -65,7 +65,7 @@ MINUTES ?= 10
 SEED ?= 1
 JS_SECONDS ?= 60
 
-soak: $(WLB) ## kills brokers and tabs at random moments, for MINUTES, plays hostile tabs, and then the JavaScript package
+soak: $(WLB) ## kills brokers and tabs at random for MINUTES, then plays hostile tabs, then the JavaScript package for JS_SECONDS
 	python3 tools/soak.py $(MINUTES) $(SEED) $(WLB)
 	python3 tools/hostile.py $(SEED) $(WLB)
 	python3 tools/js.py $(WLB) soak.js --seconds $(JS_SECONDS) --seed $(SEED)
@@ -78,16 +78,15 @@ fuzz: $(WLB) ## gives desk, broker and sim MEGABYTES of random and mutated input
 
 TESTS ?= test_tables
 WORD ?=
+REFUSED = crates/$(TESTS)/out/$(TESTS)_tests
 
-refuse: ## runs the tests of the crate TESTS (with WORD in their names) with each allocation refused in turn
-	$(need_rt)
-	@test -d crates/$(TESTS)/src || { echo "make $@: TESTS has to name a crate of tests: there is no folder crates/$(TESTS)" >&2; exit 1; }
-	cd crates/$(TESTS) && rt test
-	python3 tools/refuse.py crates/$(TESTS)/out/$(TESTS)_tests $(WORD)
+refuse: $(REFUSED) ## runs the tests of the crate TESTS (with WORD in their names) with each allocation refused in turn
+	python3 tools/refuse.py $(REFUSED) $(WORD)
 
 CRATES ?=
 
 mutants: ## kills the mutants of CRATES, or of all crates
+	$(need_rt)
 	python3 tools/mutants.py $(CRATES)
 
 test: ## the gate: proves every crate, kills mutants, runs every test and the program itself
@@ -120,3 +119,9 @@ $(HUB) $(CLIENT): crates.txt $(wildcard crates/wl*/src/*.rt crates/wl*/src/*/*.r
 	$(need_rt)
 	$(proving)
 	python3 tools/archive.py $(patsubst lib%.a,%,$(notdir $@))
+
+$(REFUSED): crates.txt $(wildcard crates/*/src/*.rt crates/*/src/*/*.rt crates/*/specs/*.antt)
+	$(need_rt)
+	@test -d crates/$(TESTS)/src || { echo "make: TESTS has to name a crate of tests: there is no folder crates/$(TESTS)" >&2; exit 1; }
+	$(proving)
+	cd crates/$(TESTS) && rt test > /dev/null

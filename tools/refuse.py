@@ -4,9 +4,10 @@ A test repeats each call that runs out of memory, and checks that the refused ca
 whichever allocation fails. The tool runs each test by itself, once for each of its allocations. One run refuses one allocation.
 
 The kit's `rt try --test --fail-alloc N` refuses one allocation of all tests of a crate, in a build with nothing proved. This
-tool takes the tests one by one, refuses every allocation, and runs the proved binary at full speed.
+tool refuses every allocation, and runs the proved binary at full speed, `RT_JOBS` tests at once or one for each processor.
 
-`--gate` refuses a sample: at most 60 allocations of each test in the crates `test_*`, spread evenly. It also runs the tests of
+`--gate` refuses a sample: at most 60 allocations of each test in the crates `test_*`, spread evenly, or four if its lanes wait for
+each other. It also runs the tests of
 the book with every allocation of a megabyte or more refused, since a history has to do without them.
 
 A test with threads may allocate in another order in each run, so there a number names no certain allocation. The status is 0
@@ -100,22 +101,36 @@ def names_of(tests, words):
     return [name for name in names if not words or any(word in name for word in words)]
 
 
-def refuse_all(tests, name, library, most=0, has_large=False):
-    """Runs a test once for each of its allocations, or for `most` of them, spread evenly, and perhaps once without large ones."""
-    whole = run(tests, name, library, 0)
-    if whole.status:
-        return Result(0, 0, collections.Counter([f"with all memory: {whole.said}"]))
-    tries = min(whole.count, most or whole.count)
-    failures = collections.Counter()
-    if has_large:
-        large = run(tests, name, library, 0, LARGE)
-        if large.status:
-            failures[f"with large allocations refused: {large.said}"] += 1
-    for place in range(tries):
-        ran = run(tests, name, library, place * whole.count // tries + 1)
-        if ran.status:
-            failures[ran.said] += 1
-    return Result(whole.count, tries, failures)
+@dataclasses.dataclass(frozen=True)
+class Task:
+    """A test, the most of its allocations to refuse (0: all), and whether it also has to do without large ones."""
+
+    tests: str
+    name: str
+    most: int = 0
+    has_large: bool = False
+
+    def numbers(self, count):
+        """Returns the numbers of the allocations to refuse, spread evenly over all `count` of them."""
+        tries = min(count, self.most or count)
+        return [place * count // tries + 1 for place in range(tries)]
+
+
+def refuse_all(tasks, library):
+    """Plays the tests side by side, each once for every allocation to refuse. Yields each task with its result, in turn."""
+    with concurrent.futures.ThreadPoolExecutor(WORKERS) as pool:
+        wholes = pool.map(lambda it: run(it.tests, it.name, library, 0), tasks)
+        begun = []
+        for task, whole in zip(tasks, wholes):
+            numbers = [] if whole.status else task.numbers(whole.count)
+            refused = [pool.submit(run, task.tests, task.name, library, number) for number in numbers]
+            large = [pool.submit(run, task.tests, task.name, library, 0, LARGE)] if task.has_large and not whole.status else []
+            begun.append((task, whole, refused, large))
+        for task, whole, refused, large in begun:
+            failures = collections.Counter([f"with all memory: {whole.said}"] if whole.status else [])
+            failures.update(it.result().said for it in refused if it.result().status)
+            failures.update(f"with large allocations refused: {it.result().said}" for it in large if it.result().status)
+            yield task, Result(whole.count, len(refused), failures)
 
 
 def tell(name, result):
@@ -131,10 +146,8 @@ def refuse_in(tests, words):
     if not names:
         print(f"no test of {tests} has one of these words in its name")
     with tempfile.TemporaryDirectory(prefix="refuse-") as place:
-        library = build(place)
-        for name in names:
-            result = refuse_all(tests, name, library)
-            tell(name, result)
+        for task, result in refuse_all([Task(tests, name) for name in names], build(place)):
+            tell(task.name, result)
             passed = passed and not result.failures
     return passed
 
@@ -151,31 +164,35 @@ def binary_of(crate):
     return os.path.join(TOP, "crates", crate, "out", f"{crate}_tests")
 
 
+def tasks_of_gate(crate):
+    """Returns the tasks of a crate in the gate."""
+    tests, slow, large = binary_of(crate), SLOW.get(crate, ()), WITHOUT_LARGE.get(crate, ())
+    names = names_of(tests, [])
+    return [Task(tests, it, SLOW_SAMPLE if it.startswith(slow) else SAMPLE, it.startswith(large)) for it in names]
+
+
+def unused_fronts(crate, tasks):
+    """Returns a message for each front of names in the lists of this tool that no test of the crate has."""
+    fronts = (*SLOW.get(crate, ()), *WITHOUT_LARGE.get(crate, ()))
+    unused = [front for front in fronts if not any(task.name.startswith(front) for task in tasks)]
+    return [f"{crate}: no test has a name that begins with {front}" for front in unused]
+
+
 def refuse_in_gate():
     """Refuses a sample of each test's allocations, prints the failures and a line of totals, and returns whether all passed."""
-    passed = failed = refused = 0
     for crate in crates_of_tests():
         if not os.path.exists(binary_of(crate)):
             sys.exit(f"refuse: there is no {binary_of(crate)}: `rt ci` builds it")
-    with tempfile.TemporaryDirectory(prefix="refuse-") as place, concurrent.futures.ThreadPoolExecutor(WORKERS) as pool:
-        library, begun = build(place), {}
-        for crate in crates_of_tests():
-            tests = binary_of(crate)
-            names = names_of(tests, [])
-            for front in (*SLOW.get(crate, ()), *WITHOUT_LARGE.get(crate, ())):
-                if not any(name.startswith(front) for name in names):
-                    failed += 1
-                    print(f"{crate}: no test has a name that begins with {front}", flush=True)
-            for name in names:
-                most = SLOW_SAMPLE if name.startswith(SLOW.get(crate, ())) else SAMPLE
-                has_large = name.startswith(WITHOUT_LARGE.get(crate, ()))
-                begun[pool.submit(refuse_all, tests, name, library, most, has_large)] = f"{crate} {name}"
-        for done in concurrent.futures.as_completed(begun):
-            result = done.result()
+    tasks = {crate: tasks_of_gate(crate) for crate in crates_of_tests()}
+    faults = [fault for crate in tasks for fault in unused_fronts(crate, tasks[crate])]
+    passed, failed, refused = 0, len(faults), 0
+    print("\n".join(faults), end="\n" if faults else "", flush=True)
+    with tempfile.TemporaryDirectory(prefix="refuse-") as place:
+        for task, result in refuse_all([task for crate in tasks for task in tasks[crate]], build(place)):
             refused += result.tries
             if result.failures:
                 failed += 1
-                tell(begun[done], result)
+                tell(f"{os.path.basename(task.tests)} {task.name}", result)
             else:
                 passed += 1
     used = resource.getrusage(resource.RUSAGE_CHILDREN)
