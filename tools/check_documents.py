@@ -3,7 +3,7 @@
 A link has to lead to a file, and its anchor to a heading of that file. A path such as `tools/x.py` or `crates/x/src/y.rt`, and a
 target such as `make x`, has to exist. A line outside of tables and of code has at most 130 characters.
 
-Prints each fault with its file and line. The status is 1 if there is one.
+Prints each fault with its file and line. The status is 1 if there is one. It needs `git` and a clone.
 """
 
 import argparse

@@ -4,12 +4,12 @@ It installs the header and the libraries into a temporary folder by `make instal
 plays them, with and without sanitizers: `in_process` has to print the file beside it, and each run of `browser` has to lose no
 update, also if the browser process is refused memory at random. The program in `README.md` has to run. It compares the header's
 limits and statuses with the constants of the crates, the header's functions with the names that the shared libraries export, and
-compiles the header as C++. `check_vectors.py` plays the test vectors of the protocol through the shared libraries. `library_edges.c`
-plays the edge cases of every function, and `fuzz_library.c` gives hub and client random and mutated bytes under the address sanitizer.
+compiles the header as C++. `check_vectors.py` plays the test vectors of the protocol through the shared libraries, and
+`refused_calls.py` plays them with allocations refused. `library_edges.c` plays the edge cases of every function, and `fuzz_library.c` gives hub and client random and mutated bytes under the address sanitizer.
 The fuzzer has to find the wrong libraries of `wrong_library.c`.
 
-It prints each difference, and nothing if there is none. The status is 1 if there is a difference. It needs `make`, a C compiler
-`cc`, `nm` and `pkg-config`. Without a C++ compiler `c++` it leaves that part out.
+It prints each difference, and nothing if there is none. The status is 1 if there is a difference. It needs `make`, `rt`, a C compiler
+`cc`, the binutils and `pkg-config`. Without a C++ compiler `c++` it leaves that part out.
 """
 
 import argparse
@@ -117,7 +117,7 @@ def builds_of(installed, source):
 
 
 def same_names(name, what, found, wanted):
-    same(name, f"the list of {what} too much", sorted(set(found) - set(wanted)), [])
+    same(name, f"the list of unexpected {what}", sorted(set(found) - set(wanted)), [])
     same(name, f"the list of missing {what}", sorted(set(wanted) - set(found)), [])
 
 
@@ -323,7 +323,7 @@ def main():
     parser = argparse.ArgumentParser(description=__doc__, formatter_class=argparse.RawDescriptionHelpFormatter)
     parser.add_argument("archives", metavar="ARCHIVES", type=argument_types.folder, nargs="*", help="a folder with static libraries")
     parser.add_argument("--only", metavar="WORD", default="", help="run only the checks whose names contain this word")
-    parser.add_argument("--megabytes", metavar="N", type=argument_types.amount, default=10, help="the bytes that hub and client each receive")
+    parser.add_argument("--megabytes", metavar="N", type=argument_types.amount, default=10, help="megabytes that hub and client each receive (10)")
     parser.add_argument("--seed", metavar="SEED", type=argument_types.number(0), default=1, help="the number from which the bytes are drawn")
     parser.add_argument("--all", action="store_true", help="refuse every allocation of hub and client, not a sample")
     parser.add_argument("--tell", action="store_true", help="print what the fuzzer has done")

@@ -1,9 +1,14 @@
 """Runs `wlb` as its users do, and compares output, standard error and status with the expected ones.
 
-It covers what no test of a crate can call: `main`, the exit statuses and standard error. It plays the desk on whole,
-cut and refused input; desk and sim by turns with a peer that waits for each answer; a million fresh names through the
-desk; each example in `examples/` with the output beside it; refused scripts; devices that fail; and wrong command
-lines. It prints each difference, and nothing if there is none.
+It covers `main`, the exit statuses and standard error, which no test of a crate can call:
+
+- the desk on whole, cut and refused input;
+- desk and sim with a peer that waits for each answer;
+- a million fresh names through the desk;
+- each example in `examples/` with the output beside it;
+- refused scripts, failing devices, wrong command lines.
+
+It prints each difference, and nothing if there is none.
 """
 
 import contextlib

@@ -1,7 +1,8 @@
-"""Plays the test vectors of the protocol, `docs/vectors/protocol.json`, against the real thing.
+"""Plays the test vectors of the protocol, `docs/vectors/protocol.json`, through `wlb desk` and the C libraries.
 
-The head of the file says what its parts are. The tool has an encoder of its own, by the tables of docs/PROTOCOL.md, and checks
-with it that each frame's bytes are those of its value. Then it plays
+The list `about` in the file explains its parts. The tool has an encoder of its own, by the tables of docs/PROTOCOL.md, and checks
+with it that each frame's bytes are those of its value. It compares the exchange in docs/PROTOCOL.md with the first conversation.
+Then it plays
 
 - `frames` and `faults` through `wlb desk`, which decodes all kinds of frames, and refuses kinds that no kernel sends;
 - `brokers` through `wlb desk`, which tells nobody why it drops a message;

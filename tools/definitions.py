@@ -48,7 +48,7 @@ STANDARDS = {
         {'9.5, "Broadcasting to other browsing contexts"': ["9.5", "Broadcasting to other browsing contexts", "BroadcastChannel"]},
     ),
     "RFC 6454": (
-        "RFC 6454, on the URL Standard's origins",
+        "RFC 6454, with the origins of the URL Standard",
         "https://www.rfc-editor.org/rfc/rfc6454",
         {
             '3, "Principles of the Same-Origin Policy"': ["3"],
@@ -99,12 +99,13 @@ TERMS = [
     ("frame, well-formed; its bytes", "wl_grammar/specs/Grammar.antt", ["IsWellFormed", "body", "spelling"]),
     ("reading of a stream of bytes", "wl_frames/specs/Stream.antt", ["Reads", "Stop"]),
     ("tab: commands, statuses, generation", "wl_agent/specs/Tab.antt", ["TabState", "enter", "report_of", "due"]),
-    ("what a tab makes of a frame", "wl_agent/specs/Delivery.antt", ["delivery"]),
+    ("effect of a frame on a tab", "wl_agent/specs/Delivery.antt", ["delivery"]),
     ("report, which may come in parts", "wl_broker_reports/specs/ReportParts.antt", ["Told", "Partial", "Whole"]),
     ("broker: recovery, drops, answers", "wl_broker/specs/Broker.antt", ["started", "is_active", "taking", "death_step"]),
     ("shard", "wl_broker/specs/Shards.antt", ["SeenAtEachShard", "InOneOrder"]),
     ("kernel: tabs, partition numbers, generations", "wl_kernel/specs/Kernel.antt", ["KernelState", "opened", "killed", "start_refusal"]),
     ("route of a frame through the kernel", "wl_kernel/specs/Routes.antt", ["routed_up", "route_down_refusal"]),
+    ("laws of the kernel", "wl_kernel/specs/KernelLaws.antt", ["OpensOnce", "DeadForGood", "HeardByTheOthers"]),
     ("supervisor: whether a broker is up", "wl_kernel/specs/SupervisorStates.antt", ["IsReached", "begun", "halted"]),
     (
         "start, stop, message, death",
@@ -116,11 +117,19 @@ TERMS = [
     ("reply to an event", "wl_world_model/specs/Replies.antt", ["reply_of"]),
     ("holding, honest, own", "wl_world_model/specs/Holdings.antt", ["IsHolding", "IsHonest", "Own"]),
     ("taken list of a generation, and its locks", "wl_world_model/specs/Orders.antt", ["picked", "managed"]),
+    (
+        "order of commands, grants, locks of a generation",
+        "wl_world_model/specs/Orders.antt",
+        ["CommandsInOrder", "GrantedWereHeld", "GrantsWereSent", "ManagerIsFold"],
+    ),
     ("compromised tab", "wl_world_model/specs/Hostile.antt", ["HonestIfUnnamed", "MovesOwnAlone"]),
     ("hub", "wl_hub/specs/Hub.antt", ["HubState", "advanced", "hub_restarted"]),
     ("client", "wl_client/specs/Client.antt", ["ClientState", "advanced"]),
     ("library: hub, clients and links; step", "wl_library_model/specs/Library.antt", ["Library", "Step", "step"]),
     ("events of a step", "wl_library_model/specs/Events.antt", ["events"]),
+    ("library and run in step", "wl_library_model/specs/Simulation.antt", ["IsRunOfItsEvents"]),
+    ("progress", "wl_library_model/specs/Progress.antt", ["RequestsAreGranted", "NewTabsJoin", "NewTabsAreServed"]),
+    ("channels without an opening amid a post", "wl_library_model/specs/Timely.antt", ["ChannelsAreRuns"]),
     ("board, and the words of its seats", "wl_board/specs/BoardRule.antt", ["IsOrderly"]),
     ("outbox", "wl_outbox/specs/OutboxRule.antt", ["IsOrderly"]),
     ("book, receipt, history", "wl_locked/specs/History.antt", ["IsReplay"]),
@@ -136,9 +145,9 @@ TERMS = [
 HEAD = """# Definitions
 
 Contracts cite definitions, most of them in `specs/` of a crate. This page leads from a section of a standard to its
-definitions. `python3 tools/definitions.py` writes it from their comments and its own lists, and the gate compares both. Files
-stand under `crates`. `GUARANTEES.md` has the order in which to read the definitions behind the promises; `GLOSSARY.md` explains
-the words.
+definitions. `tools/definitions.py` writes it from the comments of the definitions and lists of its own; `make test` compares it.
+Files stand under `crates`. `GUARANTEES.md` has the order in which to read the definitions behind the promises; `GLOSSARY.md`
+explains the words.
 """
 
 CITATION = re.compile(r"\(([^()]*)\)")

@@ -667,7 +667,7 @@ def arguments():
     usage = "%(prog)s [-h] MEGABYTES SEED PROGRAM\n       %(prog)s [-h] --wrong SEED PROGRAM"
     parser = argparse.ArgumentParser(usage=usage, description=__doc__, formatter_class=argparse.RawDescriptionHelpFormatter)
     parser.add_argument("--wrong", action="store_true", help="give the cases to wrong programs")
-    parser.add_argument("megabytes", metavar="MEGABYTES", nargs="?", type=argument_types.amount, help="the amount of input to be accepted")
+    parser.add_argument("megabytes", metavar="MEGABYTES", nargs="?", type=argument_types.amount, help="megabytes of input that the programs have to accept")
     parser.add_argument("seed", metavar="SEED", help="the text from which the cases are drawn")
     parser.add_argument("program", metavar="PROGRAM", type=argument_types.program, help="the program `wlb`")
     given = parser.parse_args()

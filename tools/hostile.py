@@ -11,12 +11,18 @@ in Python and write as fast as they can.
 
 The tool prints the rates of both origins, in locks a second and as a ratio to those without a hostile tab. The goal for the
 other origin is a half. A missed goal is printed and is no fault, since no rate is promised. The hostile tab's own origin may
-wait as long as that tab lives (docs/SCRIPTS.md, "Compromised tabs"). So the tool kills the hostile tab two seconds
+wait as long as that tab lives (docs/THREATS.md, "A compromised tab"). So the tool kills the hostile tab two seconds
 after the end of the other origin, and then the tabs of its own origin have to end, too.
 
-The status is 1 if there is a fault: a lost addition, an honest tab or a kernel with another status than 0, a kernel that does
-not end in time, a line on the kernel's standard error, a kernel or broker with more than 256 MiB of memory, or a process that
-is left. `--wrong` plays honest tabs that do not request their lock; then the status is 0 if the counters show it. SEED
+The status is 1 if there is a fault:
+
+- an addition is lost;
+- an honest tab or a kernel has another status than 0;
+- a kernel does not end in time, or writes to standard error;
+- a kernel or broker takes more than 256 MiB of memory;
+- a process is left.
+
+`--wrong` plays honest tabs that do not request their lock; then the status is 0 if the counters show it. SEED
 determines the frames of the hostile tabs. All files lie in a temporary directory. The tool needs `/proc`.
 """
 

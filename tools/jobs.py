@@ -1,10 +1,10 @@
-"""How many processes a tool runs side by side."""
+"""Number of processes that a tool runs at once."""
 
 import os
 
 
 def count():
-    """Returns the number in `RT_JOBS`, by which `rt ci` goes too, or else the number of processors."""
+    """Returns the number in `RT_JOBS`, which `rt ci` uses, too, or else the number of processors."""
     given = os.environ.get("RT_JOBS", "")
     if given.isdigit() and int(given):
         return int(given)

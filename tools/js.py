@@ -36,7 +36,7 @@ def run(program, script, *words):
         left_out(f"{script} is left out: there is no `node` of version {OLDEST} or later")
         return 0
     if not (TOP / "js" / "dist" / "wlb_hub32.wasm").exists():
-        left_out(f"{script} is left out: run `make wasm`")
+        left_out(f"{script} is left out: there is no js/dist/wlb_hub32.wasm: `make wasm` makes it")
         return 0
     environment = {**os.environ, "WLB_PROGRAM": os.path.abspath(program)}
     return subprocess.run(["node", TOP / "js" / "lab" / script, *words], env=environment, check=False).returncode

@@ -779,7 +779,7 @@ def arguments():
     usage = "%(prog)s [-h] MINUTES SEED PROGRAM\n       %(prog)s [-h] --wrong {hasty,forgetful} SEED PROGRAM"
     parser = argparse.ArgumentParser(usage=usage, description=__doc__, formatter_class=argparse.RawDescriptionHelpFormatter)
     parser.add_argument("--wrong", choices=["hasty", "forgetful"], help="play one kernel with tabs that break the rules")
-    parser.add_argument("minutes", metavar="MINUTES", nargs="?", type=argument_types.amount, help="the minutes of the whole")
+    parser.add_argument("minutes", metavar="MINUTES", nargs="?", type=argument_types.amount, help="minutes that the tool runs")
     parser.add_argument("seed", metavar="SEED", help="the text from which scripts and kills are drawn")
     parser.add_argument("program", metavar="PROGRAM", type=argument_types.program, help="the program `wlb`")
     given = parser.parse_args()

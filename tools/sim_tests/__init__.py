@@ -1,1 +1,1 @@
-"""Checks of `check_processes.py` that play scripts of the sim, by topic. `docs/SCRIPTS.md` has the language."""
+"""Checks of `check_sim.py` that play scripts of the sim, by topic. `docs/SCRIPTS.md` has the language."""
