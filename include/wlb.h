@@ -189,7 +189,8 @@ int32_t wlb_hub_next_output(wlb_hub *hub, uint16_t *tab, uint8_t *out, size_t ca
 
 /* Starts the broker of the next generation with all living tabs. The first call starts the first one. A broker that is up is
  * stopped first and loses its state. Each client reports its locks to the new broker. A partition recovers, and grants nothing,
- * until all its living tabs have reported or are closed. Until then the broker drops commands; clients send them again.
+ * until each of its tabs that lived at this call has reported or is closed. Until then the broker drops commands; clients send
+ * them again.
  * WLB_OK
  * WLB_MEMORY               no broker is up: call again
  * WLB_GENERATIONS_USED_UP  the broker stays up
@@ -226,7 +227,7 @@ enum wlb_event_kind {
     WLB_GRANTED = 3,       /* the tab holds a lock. number: of its request or probe */
     WLB_WAITING = 4,       /* a request waits. The event may come again. number: of the request */
     WLB_NOT_AVAILABLE = 5, /* a probe got no lock (Web Locks, `ifAvailable`). number: of the probe */
-    WLB_LOST = 6,          /* a query gets no answer: its snapshot is too large, or it was sent again. number: of the query */
+    WLB_LOST = 6,          /* a query gets no answer: it was sent again. number: of the query */
     WLB_ANSWERED = 7,      /* a query is answered. number: of the query; count: entries of the snapshot, see wlb_client_entry */
     WLB_POSTED = 8,        /* a post has come. count: channels that have it in their inbox, see wlb_client_item */
     WLB_OTHER = 9          /* reserved: no event has this kind */

@@ -1,6 +1,6 @@
 // The environment of a tab of the suite: a page with testharness.js, or a frame, a popup or a worker of one, in a thread or a process of
-// its own. These are stand-ins for what the tests use of a browser, and no more. A context has a name; messages between contexts go by
-// the runner.
+// its own. It imitates only those parts of a browser that the tests use. A context has a name; the runner passes messages between
+// contexts.
 
 import fs from 'node:fs';
 import path from 'node:path';
@@ -134,7 +134,7 @@ export function become(context, spec) {
     constructor(ctx) { this.ctx = ctx; }
     postMessage(data) { post(this.ctx, data); }
     close() { kill(this.ctx, 'exit'); }
-    // Only so much of a same-origin frame's locks as the tests call from outside.
+    // Only the call that the tests make on a same-origin frame's locks.
     get navigator() {
       return { locks: { request: (name, callback) => {
         const id = this.#calls.size;
@@ -184,10 +184,10 @@ export function become(context, spec) {
     run(fs.readFileSync(fileOf(whole), 'utf8'), fileOf(whole));
   };
 
-  // ---- what comes from the runner
+  // ---- messages of the runner
 
   const elements = new Map();
-  /** Tells when the broker has taken all that this tab has asked for: it answers a query behind that. */
+  /** Tells the runner when the broker has taken this tab's earlier commands: it then answers a query. */
   const stepped = () => tab.locks.query().catch(() => {}).then(() => tell({ op: 'stepped' }));
   context.come = message => {
     switch (message.op) {
@@ -307,7 +307,7 @@ export function become(context, spec) {
       if (this.ctx) this.removed();
       if (spec.framesAreLocal || this.sandbox) return this.navigateHere();
       const isBlank = this.#src === 'about:blank' && this.srcdoc === undefined;
-      // A frame that is sent away to about:blank has no locks any more, and needs no tab.
+      // A frame that was navigated to about:blank has no locks and needs no tab.
       if (isBlank && !this.#isFirst) return task(() => this.dispatchEvent(new Event('load')));
       this.#isFirst = false;
       const target = isBlank || this.srcdoc !== undefined ? url.href : this.#src;
@@ -316,7 +316,7 @@ export function become(context, spec) {
       this.contentWindow = windowOf(this.ctx);
       elements.set(this.ctx, this);
     }
-    /** A frame in this thread: a realm of its own, with a tab of its own or with that of the page. A sandboxed one has no tab. */
+    /** A frame in this thread: its own realm, with its own tab or the page's. A sandboxed frame has no tab. */
     async navigateHere() {
       const target = new URL(this.#src, url), local = {}, inner = [];
       if (spec.framesHaveTabs) this.tab = await context.openTab(target.href);
@@ -380,10 +380,10 @@ export function become(context, spec) {
     });
   };
 
-  // ---- what it is
+  // ---- start of the context
 
   if (spec.as === 'page') {
-    // Before there is a document, so that it takes itself for a shell's and draws nothing.
+    // testharness.js runs before there is a document, so it takes this for a shell and draws nothing.
     run(fs.readFileSync(path.join(suite, 'resources/testharness.js'), 'utf8'), 'testharness.js');
     makeDocument();
     for (const verb of ['promise_test', 'async_test', 'test']) {

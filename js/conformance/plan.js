@@ -8,7 +8,7 @@ export const FOLDERS = [locks, channels];
 /** Origins of the suite: its own, and one of another site. */
 export const HOSTS = { own: A, other: B };
 
-// `tabs`: the tabs of a test beside that of its page, as [origin at the top, own origin, count].
+// `tabs`: tabs that a test needs besides its page's, as [top origin, own origin, count].
 export const RUN = [
   { file: `${locks}acquire.https.any.js` },
   { file: `${locks}held.https.any.js` },

@@ -1,4 +1,4 @@
-// A process of the suite: a tab that waits until the runner says what it is.
+// A process of the suite: a tab that waits for its role from the runner.
 
 import { enter } from '../lab/kernel_tab.js';
 import { become } from './environment.js';

@@ -9,7 +9,7 @@ export class Processes {
   inStep;
   #kernel;
   #idle = []; // {tab, top, own}
-  #comes = new Map(); // tab -> function that takes what its context tells
+  #comes = new Map(); // tab -> function for its context's messages
 
   static async open(test, arePairs) {
     const processes = new Processes(), wanted = [[HOSTS.own, HOSTS.own, 1], ...(test.tabs ?? [])];

@@ -1,15 +1,15 @@
-// Runs the web-locks and broadcastchannel folders of the web-platform-tests over this package. Each page, frame and worker of a test is
-// a tab of its own: a thread with a MessagePort to a host in the main thread, or with --processes a process that `wlb kernel` has
-// started.
+// Runs the web-locks and broadcastchannel folders of the web-platform-tests over this package. Unless plan.js says otherwise, each page,
+// frame and worker of a test is a tab of its own: a thread with a MessagePort to a host in the main thread, or with --processes a
+// process that `wlb kernel` has started.
 //
 // usage: node js/conformance/run.js WPT [--processes] [--only TEXT] [--pairs] [--restart MS] [--repeat N] [--seed N] [--timeout MS]
 //        [--quiet]
 //
 //   WPT        a checkout of the web-platform-tests, or the folder testing/web-platform/tests of a Firefox source
-//   --pairs    also run each test with tabs that have 1,024 live numbers
-//   --restart  restart the broker at random moments, so many milliseconds apart on average; with --processes kill its process
+//   --pairs    also run each test with tabs that may have 1,024 locks, requests and queries
+//   --restart  restart the broker at random, every MS milliseconds on average; with --processes kill its process
 //
-// It prints PASS, FAIL, KNOWN or SKIP for each subtest, and the totals. The status is 1 if a subtest has failed that is not known to.
+// It prints PASS, FAIL, KNOWN or SKIP for each subtest, and the totals. The status is 1 if a subtest has failed that is not listed as known.
 
 import fs from 'node:fs';
 import path from 'node:path';
@@ -123,8 +123,8 @@ class Run {
   }
 
   /**
-   * Hands a message on. Tabs of different processes have no order among them. So if a test asks for the order of what its frames do, all
-   * messages wait in one line: behind a message to a frame, until the broker has taken what that has made the frame ask for.
+   * Hands a message on. Tabs of different processes have no common order. If a test needs the order of its frames, messages wait in one
+   * line. A message to a frame holds the line until the broker has taken the frame's commands.
    */
   #pass(to, message) {
     if (!to || to.isEnding) return;

@@ -1,4 +1,4 @@
-// A thread of the suite: a tab that waits until the runner says what it is.
+// A thread of the suite: a tab that waits for its role from the runner.
 
 import { parentPort, workerData } from 'node:worker_threads';
 import { LinkBundle, connect } from '../src/index.js';

@@ -19,7 +19,7 @@ export class Threads {
     return threads;
   }
 
-  /** Starts a context of the origin `own` under `top`, and returns how to reach it. `come` is called with what it tells. */
+  /** Starts a context of the origin `own` under `top`, and returns functions to reach it. Calls `come` with its messages. */
   start(spec, top, own, come, fail) {
     const { port1, port2 } = new MessageChannel();
     const accept = (link, { url }) => this.#host.accept(link, { url, top: top !== own || this.#arePairs ? top : undefined });
@@ -38,7 +38,7 @@ export class Threads {
     return true;
   }
 
-  /** Ends all contexts, and returns what is not as it should be. */
+  /** Ends all contexts, and returns faults. */
   async close() {
     this.#isOver = true;
     await Promise.all(this.#workers.map(worker => worker.terminate()));

@@ -23,7 +23,7 @@ const quoted = text => `'${text.replaceAll("'", "'\\''")}'`;
 
 const PROGRAM = path.resolve(process.env.WLB_PROGRAM ?? built);
 
-/** Whether there is the program `wlb`: that of WLB_PROGRAM, or what the gate has built. */
+/** Returns whether the program exists: WLB_PROGRAM, or crates/wlb/out/wlb. */
 export const hasProgram = () => fs.existsSync(PROGRAM);
 
 function program() {
@@ -31,7 +31,7 @@ function program() {
   return PROGRAM;
 }
 
-/** Whether a process runs that has this path among its arguments. Its number may be that of another process by now. */
+/** Returns whether this process has the path among its arguments. Another process may have got its number. */
 function isOf(number, folder) {
   try {
     return fs.readFileSync(`/proc/${number}/cmdline`, 'utf8').split('\0').some(word => word.startsWith(folder));
@@ -54,9 +54,9 @@ export class Kernel {
   #changed = new Set();
 
   /**
-   * Starts a kernel. `script` is the module of a tab's process. Each of `opens` is {url, top, data, pause}: the process of that tab gets
-   * `data`, and the kernel pauses for so many milliseconds behind it. An id is a place in this list. `come(tab, message)` is called with
-   * what tabs tell.
+   * Starts a kernel. `script` is the module of a tab's process. Each of `opens` is {url, top, data, pause}: `data` goes to the tab's
+   * process, and then the kernel pauses for `pause` milliseconds. An id is a place in this list. Calls `come(tab, message)` with the
+   * messages of tabs.
    */
   constructor(script, opens, come, { lanes = 2, shards = 2, limit = 65536 } = {}) {
     this.#come = come;
@@ -103,7 +103,7 @@ export class Kernel {
     });
   }
 
-  /** Waits until so many tabs are there. Fails if the kernel ends before. */
+  /** Waits until `count` tabs have connected. Fails if the kernel ends first. */
   async ready(count) {
     const all = new Promise(resolve => {
       const check = () => { if (this.tabs.size >= count) resolve(); };
@@ -136,7 +136,7 @@ export class Kernel {
     }
   }
 
-  /** Returns whether the kernel does not end. It is late when no tab has come for `ms` milliseconds: its script may still open some. */
+  /** Returns whether the kernel still runs after `ms` milliseconds without a new tab. */
   async #isLate(ms) {
     for (let came = -1; came < this.tabs.size;) {
       came = this.tabs.size;
@@ -145,7 +145,7 @@ export class Kernel {
     return true;
   }
 
-  /** Has all tabs leave, waits for the kernel's end, and returns what is not as it should be. */
+  /** Ends all tabs, waits for the kernel's end, and returns faults. */
   async end() {
     const faults = [];
     for (const tab of this.tabs.values()) this.send(tab, { op: 'exit' });

@@ -7,8 +7,8 @@ import { receive, send } from './control.js';
 import { clientModule } from './lab.js';
 
 /**
- * Connects to the kernel that has started this process, and to the runner, which says what the tab is to do. `wrap` makes another link
- * of the tab's own.
+ * Connects to the kernel that has started this process, and to the runner, which gives the tab its work. `wrap` may replace the tab's
+ * link.
  */
 export async function enter(come, wrap = link => link) {
   const [, , , , socket, file] = process.argv;

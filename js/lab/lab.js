@@ -1,4 +1,4 @@
-// Hosts and tabs for the tests and the conformance runner. WLB_MODULES names another folder of the modules than that of `make wasm`.
+// Hosts and tabs for the tests and the conformance runner. WLB_MODULES names another folder of the modules than `js/dist`.
 
 import fs from 'node:fs';
 import path from 'node:path';
@@ -42,7 +42,7 @@ export class Lab {
   }
 }
 
-/** A link that sends so many milliseconds late. */
+/** A link that sends `milliseconds` late. */
 export function late(link, milliseconds) {
   return { ...link, send: bytes => { setTimeout(() => link.send(bytes), milliseconds); } };
 }
@@ -66,7 +66,7 @@ export async function hold(tab, name, options = {}) {
   return { lock, ended, release: until.resolve, fail: until.reject };
 }
 
-/** Waits until a query of the tab shows so many held locks and requests of a name, and returns that snapshot. */
+/** Waits until a query shows `held` locks and `pending` requests of a name, and returns that snapshot. */
 export async function seen(tab, name, held, pending) {
   for (;;) {
     const snapshot = await tab.locks.query();
@@ -75,7 +75,7 @@ export async function seen(tab, name, held, pending) {
   }
 }
 
-/** Whether a lock is to be had at once. */
+/** Returns whether a lock is available. */
 export function isAvailable(tab, name, mode = 'exclusive') {
   return tab.locks.request(name, { mode, ifAvailable: true }, lock => lock !== null);
 }

@@ -1,4 +1,4 @@
-// Plays operations on a hub and its clients with the modules. The operations, and what is printed, are those of lab/native.c.
+// Plays operations on a hub and its clients with the modules. Operations and output match lab/native.c.
 
 import { Client, Hub } from '../src/index.js';
 import { STATUSES } from '../src/module.js';
@@ -15,7 +15,7 @@ function eventText(event) {
   return ` [${[KINDS.indexOf(event.kind), number, items.length, ...items].join(' ')}]`;
 }
 
-/** Returns what the operations print. */
+/** Returns the output of the operations. */
 export async function play(operations) {
   const clients = new Map();
   let hub, text = '';

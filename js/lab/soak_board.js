@@ -1,4 +1,4 @@
-// Shared memory of the stress over threads: what each line of a tab holds, and counters that only locks protect.
+// Shared memory of the stress over threads: the locks that each line holds, and counters under locks.
 
 import { LINES, NAMES } from './soak_lines.js';
 
@@ -52,7 +52,7 @@ export class Board {
     Atomics.store(this.#cells, row + RAISING, 0);
   }
 
-  /** Sections of a name that were noted, and killed lines of which nothing says whether they have raised the counter. */
+  /** Sections noted for a name, and killed lines that may or may not have raised the counter. */
   notes(name) {
     let sum = 0, unclear = 0;
     for (let line = 0; line < ROWS; line++) {

@@ -1,4 +1,4 @@
-// What the tabs of the stress do: each has some lines, which request, probe, abort and query at random.
+// Actions of the stress's tabs. Each tab has lines that request, probe, abort and query at random.
 
 export const NAMES = 3, LINES = 3;
 
@@ -11,14 +11,13 @@ export function dice(seed) {
   };
 }
 
-/** The most milliseconds of a section. A client that forgets its locks has to hold them when the broker is restarted. */
+/** Longest section, in milliseconds. A client that forgets its locks needs long ones, to hold a lock at a restart. */
 export const longest = (wrong, usual) => (wrong === 'forgetful' ? 60 : usual);
 
 export const pause = milliseconds => new Promise(resolve => (milliseconds ? setTimeout(resolve, milliseconds) : setImmediate(resolve)));
 
 /**
- * Plays the lines of a tab until `isOver()`. `section(line, name, mode)` is what they do under a lock. Returns how many there were of
- * each kind.
+ * Plays the lines of a tab until `isOver()`. `section(line, name, mode)` runs under the lock. Returns counts by kind.
  */
 export async function play(locks, random, section, isOver) {
   const sums = { sections: 0, probes: 0, aborts: 0, queries: 0 };
@@ -73,7 +72,7 @@ export function hasty(locks) {
 
 const REPORT = 2, HELD = 1, HEAD = 16;
 
-/** The link of a client that does not report what it holds. */
+/** Link of a client that leaves held locks out of its reports. */
 export function forgetful(link) {
   return { ...link, send: bytes => link.send(withoutHeld(bytes)) };
 }

@@ -1,5 +1,5 @@
 // The stress over processes: Node processes as the tabs of `wlb kernel`, while brokers are killed. Some tabs count: an exclusive section
-// adds to the number in a file that only its lock protects. Others hold and wait, and are killed. All write down when they were in which
+// adds to the number in a file that only its lock protects. Others hold and wait, and are killed. All log when they enter and leave a
 // section.
 
 import fs from 'node:fs';
@@ -8,7 +8,7 @@ import path from 'node:path';
 import { Kernel, sleep } from './kernel.js';
 import { NAMES, dice } from './soak_lines.js';
 
-// The most milliseconds that a tab lives before it is killed, and the most pause of a kernel's script.
+// Longest life of a victim, and longest pause of a script, in milliseconds.
 const LIFE = 400, PAUSE = 10000;
 
 export async function soakProcesses({ seconds, tabs, seed, restart, kill, patience, wrong }) {

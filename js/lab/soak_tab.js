@@ -10,7 +10,7 @@ const come = () => { isOver = true; };
 const { tab, data, tell } = await enter(come, (link, { wrong }) => (wrong === 'forgetful' ? forgetful(link) : link));
 const { folder, slot, seed, counts, wrong } = data;
 const random = dice(seed), log = fs.openSync(path.join(folder, `log${slot}`), 'a');
-/** Times of the system's monotonic clock are those of all processes. */
+/** Logs a line with the time. All processes share the system's monotonic clock. */
 const note = (...words) => fs.writeSync(log, `${words.join(' ')} ${process.hrtime.bigint()}\n`);
 
 async function section(line, name, mode) {

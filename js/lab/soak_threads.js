@@ -10,7 +10,7 @@ import { NAMES, dice } from './soak_lines.js';
 
 const LATE = Symbol('late');
 
-/** Plays for so many seconds, and returns faults and what was done. */
+/** Plays for `seconds`, and returns faults and counts. */
 export async function soakThreads({ seconds, tabs, seed, restart, kill, patience, wrong }) {
   const host = await Host.create(hubModule), board = new Board(Board.memory()), random = dice(seed);
   const workers = new Map(); // slot -> {worker, ended}

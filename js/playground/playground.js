@@ -12,7 +12,7 @@ const PAUSE = 1100;
 const names = new Map(); // tab -> name of a lock that was typed into its field
 let world = await World.create(modules), steps = [], timer = null;
 
-// ---- what happens
+// ---- actions
 
 function deliverAll() {
   while (world.deliverNext());
@@ -55,7 +55,7 @@ async function play() {
   await next();
 }
 
-// ---- what is seen
+// ---- drawing
 
 function element(name, words = {}, ...children) {
   const made = Object.assign(document.createElement(name), words);

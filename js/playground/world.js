@@ -7,7 +7,7 @@ const view = frame => new DataView(frame.buffer, frame.byteOffset);
 const OPERATIONS = [null, 'request', 'release', 'abort', 'query'];
 const ANSWERS = [null, 'waiting', 'granted', 'gone', 'taken'];
 
-/** Says what a frame is (docs/PROTOCOL.md). */
+/** Describes a frame (docs/PROTOCOL.md). */
 export function describe(frame) {
   const data = view(frame), number = () => data.getUint32(10);
   switch (frame[5]) {
@@ -97,7 +97,7 @@ export class World {
     this.#collect();
   }
 
-  /** Has a tab send again all that the broker has not answered. */
+  /** Sends again all messages of a tab that the broker has not answered. */
   resend(number) {
     this.tabs.get(number).client.resend();
     this.#collect();

@@ -7,7 +7,7 @@ import { expose, exposeHandler } from './webidl.js';
 
 const refusal = (name, message) => new DOMException(message, name);
 
-/** Returns the error of a page for a refusal of the client. */
+/** Converts a WlbError into the error that the page gets. */
 function errorOf(error) {
   if (!(error instanceof WlbError)) return error;
   switch (error.code) {

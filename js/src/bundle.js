@@ -3,9 +3,8 @@
 import { Ending, PORT, listen, need, whole } from './transports.js';
 
 /**
- * The links of a renderer: one for each of its documents, all over one MessagePort. What is sent over them keeps its order, as pages
- * expect it of frames that share an event loop. `opened` is called with each link that the other side opens, and with its details, any
- * value that can be posted. The details are those of the other side, so a host has to check them. It must not throw.
+ * Links of one event loop over one MessagePort, which keeps the order of all frames. Calls `opened` with each link that the other side
+ * opens, and with its details, any value that can be posted. A host has to check the details. `opened` must not throw.
  */
 export class LinkBundle {
   #port;

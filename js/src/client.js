@@ -12,7 +12,7 @@ const KINDS = [null, 'welcomed', 'entered', 'granted', 'waiting', 'notAvailable'
 export class Client {
   #part;
 
-  /** Makes a client from `wlb_client.wasm`: its bytes, its URL, a Response, or a compiled module. */
+  /** Makes a client from the module `wlb/client.wasm`: its bytes, its URL, a Response, or the compiled module. */
   static async create(source = CLIENT) { return new Client(await Part.create(source, 'client')); }
 
   constructor(part) { this.#part = part; }
@@ -22,7 +22,7 @@ export class Client {
    *
    * Events: {kind: 'welcomed', tab}, {kind: 'entered', generation, ended: [number ..]}, {kind: 'granted' | 'waiting' |
    * 'notAvailable' | 'lost', number}, {kind: 'answered', number, entries: [{tab, mode, isHeld, name} ..]}, {kind: 'posted',
-   * channels: [channel ..]}, {kind: 'other'}.
+   * channels: [channel ..]}, {kind: 'other'}, which is reserved: no event has it.
    */
   receive(bytes, tell) {
     for (const piece of pieces(bytes)) {

@@ -6,8 +6,8 @@ import { HUB, WlbError } from './module.js';
 import { LINK, need } from './transports.js';
 
 /**
- * A hub whose tabs are links. Everything happens in the calls of the links: a host has no timer. `source` of `create` is
- * `wlb_hub.wasm`: its bytes, its URL, a Response, or a compiled module.
+ * A hub whose tabs are links. It has no timer, and works only inside calls of its links and its owner. `source` of `create` is the
+ * module `wlb/hub.wasm`: its bytes, its URL, a Response, or the compiled module.
  */
 export class Host {
   #hub;
@@ -23,9 +23,9 @@ export class Host {
   constructor(hub) { this.#hub = hub; }
 
   /**
-   * Gives a link a tab, and returns the tab's number. `url` is that of the document or worker. `top` is that of the document at the top,
-   * for one in a frame. If the link ends, the tab is closed, so a link must not end before its tab has stopped. A tab that is refused
-   * throws a WlbError, and its link is closed. So it is if `url` is missing, which throws a TypeError.
+   * Makes a tab of a link, and returns its number. `url` is the URL of the document or worker; for a document in a frame, `top` is the
+   * top-level document's URL. When the link ends, the host closes the tab, so a link must not end before its tab has stopped. A refused
+   * tab throws a WlbError, a missing `url` a TypeError. Both close the link.
    */
   accept(link, options) {
     need(link, LINK, 'accept needs a link, such as portLink(port)');
@@ -68,7 +68,7 @@ export class Host {
     this.#send();
   }
 
-  /** Restarts the broker. Held locks stay held, and requests stay in their queues. */
+  /** Restarts the broker. Held locks stay held. The requests of each tab keep their order. */
   restart() {
     this.#hub.restart();
     this.#send();

@@ -7,13 +7,13 @@ const encoder = new TextEncoder();
 /**
  * The kernel and the broker of all tabs. It has no link and no timer: the caller gives it the bytes of each tab and sends its output.
  *
- * A call that is refused throws a WlbError, whose `code` is a status of include/wlb.h. After the code 'MEMORY' the hub has lost a part
- * of its input, and should be replaced.
+ * A call that is refused throws a WlbError, whose `code` is a status of include/wlb.h. If `receive` or `close` throws 'MEMORY', replace
+ * the hub: a part of its input is lost or waits. Other calls can be repeated.
  */
 export class Hub {
   #part;
 
-  /** Makes a hub from `wlb_hub.wasm`: its bytes, its URL, a Response, or a compiled module. */
+  /** Makes a hub from the module `wlb/hub.wasm`: its bytes, its URL, a Response, or the compiled module. */
   static async create(source = HUB) { return new Hub(await Part.create(source, 'hub')); }
 
   constructor(part) { this.#part = part; }
@@ -69,7 +69,7 @@ export class Hub {
     }
   }
 
-  /** Whether a tab was opened and is not closed. */
+  /** Returns whether a tab was opened and is not closed. */
   isLiving(tab) { return this.#part.call('is_living', numberOf(tab)) !== 0; }
 
   /** Numbers of the hub: the generation of the broker or 0, living tabs, dead tabs that the broker was not told of, and frames. */
@@ -79,7 +79,7 @@ export class Hub {
     return { generation: part.u32(0), living: part.u32(4), untold: part.u32(8), outputs: part.u64(16) };
   }
 
-  /** Frees the hub. Each later call has the code 'NO_HANDLE'. */
+  /** Frees the hub. Later calls throw 'NO_HANDLE'; `isLiving` returns false. */
   free() { this.#part.free(); }
 }
 

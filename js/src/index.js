@@ -1,4 +1,4 @@
-// The package: everything of it that runs in browsers and in Node.
+// Exports of the package. Socket links need Node; SharedWorker links need a browser.
 
 export { compile, WlbError } from './module.js';
 export { Hub } from './hub.js';

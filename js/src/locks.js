@@ -1,4 +1,4 @@
-// LockManager and Lock of the Web Locks API, over the agent of a tab. The numbers are those of the draft's section 3.2.
+// LockManager and Lock of the Web Locks API, over the agent of a tab. Step numbers are from section 3.2 of the draft.
 
 import { WlbError } from './module.js';
 import { encodeName, decodeName } from './names.js';
@@ -91,7 +91,7 @@ function check(agent, name, { ifAvailable, mode, signal, steal }) {
   if (steal) throw refusal('NotSupportedError', 'steal is not supported');
 }
 
-/** Returns the error of a page for a refusal of the client. */
+/** Converts a WlbError into the error that the page gets. */
 function errorOf(error) {
   if (!(error instanceof WlbError)) return error;
   switch (error.code) {
@@ -191,7 +191,7 @@ class Request {
     this.#onabort = null;
   }
 
-  /** Returns a promise of what the callback returns. */
+  /** Calls the callback, and returns a promise of its result. */
   #call(lock) {
     try {
       const callback = this.#callback;

@@ -1,22 +1,24 @@
-// Bytes of a message: the values that structuredClone copies, except platform objects.
+// Bytes of a message: a value as structuredClone copies it, if each part of it has a form below.
 //
 // A message has the byte 1, the version, and then one value. A value is a tag, an ASCII letter, and its content. Numbers are
-// big-endian; length, count and index are u32.
+// big-endian; length (of bytes), count and index are u32.
 //
 //   u n t f   undefined, null, true, false
 //   d         number: float64
 //   i         bigint: length, and hexadecimal digits in lower case after `-` if it is negative
 //   s         string without lone surrogates: length, and UTF-8
 //   w         string with lone surrogates: length, and 16-bit units
-//   o         object: count, and pairs of a key (a string) and a value
+//   o         object: count, and pairs of a key (a value `s` or `w`) and a value
 //   a         array: u32 length of the array, and then as an object
 //   O         object of a boolean, number, string or bigint: the primitive value
-//   D         Date: float64 of its time
-//   R         RegExp: source and flags, two strings
-//   M S       Map, Set: count of values, and the values; those of a Map are keys and values by turns
+//   D         Date: float64, milliseconds since 1970 or NaN
+//   R         RegExp: source and flags, two values `s` or `w`
+//   M         Map: count of keys and values together, then key, value, key, value ..
+//   S         Set: count, and the values
 //   B         ArrayBuffer: length, and the bytes
-//   V         typed array, DataView: u8 type, its place in VIEWS; the buffer, a value; u32 offset, u32 length
-//   E         Error: u8 type, its place in ERRORS; message, stack and cause, three values
+//   V         typed array, DataView: u8 type, its place in VIEWS; the buffer, a value; u32 offset in bytes; u32 length in elements
+//             (DataView: in bytes). Elements have the sender's byte order, little-endian on all usual machines
+//   E         Error: u8 type, its place in ERRORS (0 for an unknown name); message, stack and cause, three values, undefined if absent
 //   r         object that came before: index. Objects are counted from 0, each at its tag
 
 const VERSION = 1;
@@ -28,7 +30,7 @@ const VIEWS = [
 ];
 const ERRORS = ['Error', 'EvalError', 'RangeError', 'ReferenceError', 'SyntaxError', 'TypeError', 'URIError'];
 
-/** Returns the bytes of a value. Throws what structuredClone throws, and a DataCloneError for a value without a form. */
+/** Returns the bytes of a value. Throws the errors of structuredClone, and a DataCloneError if a part has no form. */
 export function serialize(value) {
   const writer = new Writer();
   writer.value(structuredClone(value));
@@ -43,7 +45,7 @@ export function deserialize(bytes) {
   return value;
 }
 
-/** Type of an object, by what it can do and not by its prototype. */
+/** Returns the class of a clone, also of one from another realm, where `instanceof` is false. */
 function typeOf(object) {
   return Object.prototype.toString.call(object).slice(8, -1);
 }

@@ -128,7 +128,7 @@ export class Part {
   /** Address and capacity for bytes that a call writes. */
   get out() { return [this.#room, BigInt(FRAME_BYTES)]; }
 
-  /** Returns a copy of the bytes that a call has written. The call has put their length behind an offset of `result`. */
+  /** Returns a copy of the bytes that a call has written. The call has put their length at an offset of `result`. */
   written(at) {
     const length = Number(this.dataView().getBigUint64(Number(this.result) + at, true)), from = Number(this.#room);
     return this.#memory().slice(from, from + length);
@@ -139,7 +139,7 @@ export class Part {
   u32(at) { return this.dataView().getUint32(Number(this.result) + at, true); }
   u64(at) { return Number(this.dataView().getBigUint64(Number(this.result) + at, true)); }
 
-  /** Address behind an offset of `result`. */
+  /** Address at an offset of `result`. */
   at(offset) { return this.result + BigInt(offset); }
 
   /** Frees what the handle holds. */
@@ -165,7 +165,7 @@ export class Part {
   }
 }
 
-/** A text or an ArrayBuffer would be copied as zeros, or as nothing. Bytes may come of another realm. */
+/** A text or an ArrayBuffer would be copied as zeros, or as nothing. Bytes may come from another realm. */
 function checkBytes(bytes) {
   if (!ArrayBuffer.isView(bytes) || bytes.BYTES_PER_ELEMENT !== 1) throw new TypeError('names, frames and data have to be Uint8Arrays');
 }

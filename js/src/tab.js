@@ -9,8 +9,8 @@ import { Tasks } from './tasks.js';
 import { LINK, need } from './transports.js';
 
 /**
- * Makes a tab over a link to a hub, and waits for the hub's welcome. Rejects if the link ends first. `source` is `wlb_client.wasm`: its bytes, its URL, a Response, or
- * a compiled module.
+ * Makes a tab over a link to a host, and waits for the welcome. Rejects if the link ends first. `source` is the module
+ * `wlb/client.wasm`: its bytes, its URL, a Response, or the compiled module.
  */
 export async function connect(link, source = CLIENT) {
   need(link, LINK, 'connect needs a link, such as portLink(port) or await connectSocket(path)');
@@ -26,7 +26,7 @@ export async function connect(link, source = CLIENT) {
 /** The locks and channels of one tab. */
 export class Tab {
   #agent;
-  /** What a page has as `navigator.locks`. */
+  /** `navigator.locks` of the page. */
   locks;
   /** The class BroadcastChannel of this tab. */
   BroadcastChannel;
@@ -53,18 +53,18 @@ export class Tab {
   close() { this.#agent.close(); }
 }
 
-// Milliseconds without an answer of the broker after which a tab sends again what it waits for. The pause doubles up to the last one,
-// and begins anew when a number is decided or a generation is entered.
+// First and last pause, in milliseconds, before a tab sends unanswered messages again. The pause doubles, and begins anew when a number
+// is decided or a generation is entered.
 const FIRST_PAUSE = 20, LAST_PAUSE = 640;
 
-/** The proved client with its link. The functions that a number's fate is told to are called at once, and must not throw. */
+/** The proved client with its link. It calls the functions in `#told` at once; they must not throw. */
 export class Agent {
   #client;
   #link;
   #splitter = new Splitter();
-  #told = new Map(); // number -> function that is told what becomes of it
+  #told = new Map(); // number -> function that receives its result
   #waiting = new Set(); // numbers that are neither held nor over
-  #hasHeard = false; // of the broker of this generation, anything but its hello
+  #hasHeard = false; // whether this generation's broker has sent more than a hello
   #pause = FIRST_PAUSE;
   #timer = null;
   #takens = []; // [number, function] by rising number
@@ -119,7 +119,7 @@ export class Agent {
         this.generation = event.generation;
         this.#hasHeard = false;
         this.#pause = FIRST_PAUSE;
-        // The report to this generation says what became of all commands before it.
+        // The report to this generation covers all commands before it.
         this.#taken(this.#issued);
         for (const number of event.ended) this.#settle(number, 'ended');
         return undefined;
@@ -167,8 +167,8 @@ export class Agent {
   }
 
   /**
-   * Sends again what the broker has not answered, after a pause that becomes longer. A broker drops commands while a tab of the
-   * partition has not reported. Over a link that loses frames, reports and answers may be lost, too.
+   * Sends unanswered messages again, after a pause that becomes longer. A broker drops commands while a tab of the partition has not
+   * reported. Over a link that loses frames, reports and answers may be lost, too.
    */
   #arm() {
     if (this.#timer || this.isClosed || !this.generation) return;
@@ -178,7 +178,7 @@ export class Agent {
       this.#timer = null;
       this.#pause = Math.min(2 * this.#pause, LAST_PAUSE);
       if (this.isClosed) return;
-      // A report is not answered, and a tab without a command would not hear whether it has come.
+      // Nothing answers a report, so a tab without commands sends a query.
       if (this.#link.losesFrames && !this.#hasHeard && this.#issued <= this.#acknowledged) this.#ping();
       this.#client.resend();
       this.#collect();
@@ -200,7 +200,7 @@ export class Agent {
     this.#link.send(joined(frames));
   }
 
-  /** Ends the link. What was sent before is still sent: the link has ended when `closed` is resolved. */
+  /** Ends the link after sending all frames. `closed` resolves at the link's end. */
   close() {
     this.#flush();
     this.#stop();
@@ -255,7 +255,7 @@ export class Agent {
     this.#collect();
   }
 
-  /** Releases a lock. `then` is called when the broker has taken it: whatever comes to the broker from then on finds it done. */
+  /** Releases a lock. Calls `then` when every later command finds the lock released. */
   release(number, then = () => {}) {
     this.#told.delete(number);
     if (this.isClosed) return then();

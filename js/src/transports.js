@@ -22,12 +22,12 @@ export function listen(port, type, run) {
   else port.on(type, run);
 }
 
-/** Bytes that have a buffer of their own: a message has the whole buffer of its bytes. */
+/** Returns bytes with a buffer of their own, since postMessage copies the whole buffer. */
 export function whole(bytes) {
   return bytes.byteLength === bytes.buffer.byteLength ? bytes : Uint8Array.from(bytes);
 }
 
-/** End of a link. It is told once, also if it came before `listen`: else a tab would wait for ever. */
+/** End of a link. It calls its listener once, even if the link ended before `listen`. */
 export class Ending {
   isOver = false;
   #error = null;
@@ -95,13 +95,16 @@ export function socketLink(socket) {
     },
     close() {
       socket.end();
-      // The end of the other side comes behind its bytes, and nobody else reads them if the link was not started.
+      // The other side's end follows its bytes. A link that was not started would never read them.
       socket.resume();
     },
   };
 }
 
-/** Connects to the Unix socket of `wlb kernel` (Node), which drops frames when a queue is full. */
+/**
+ * Connects to the Unix socket of a host or of `wlb kernel` (Node). The kernel drops frames when a queue is full, so the link has
+ * `losesFrames`.
+ */
 export async function connectSocket(path) {
   const { connect } = await import('node:net');
   const socket = connect(path), link = { ...socketLink(socket), losesFrames: true };

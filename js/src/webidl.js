@@ -1,6 +1,6 @@
 // Parts of the Web IDL standard that the interfaces of this package share.
 
-/** Only this package makes objects of interfaces without a constructor. */
+/** Key to constructors that only this package may call. */
 export const INTERNAL = Symbol('internal');
 
 export function illegal() {

@@ -1,4 +1,4 @@
-// LockManager: what the draft of Web Locks says, in one tab and between tabs.
+// LockManager by the draft of Web Locks, in one tab and between tabs.
 
 import assert from 'node:assert/strict';
 import test from 'node:test';

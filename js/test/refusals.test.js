@@ -19,7 +19,7 @@ const wrong = text => error => {
   return true;
 };
 
-/** A link that nobody is behind. It counts how often it is closed. */
+/** A link without another side. It counts calls of `close`. */
 function deadLink() {
   const link = { closed: 0, start() {}, send() {}, close() { link.closed++; } };
   return link;

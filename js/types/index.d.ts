@@ -67,7 +67,7 @@ export interface Link {
   losesFrames?: boolean;
 }
 
-/** What a link needs of a MessagePort: of a browser, of node:worker_threads, or of Electron (`on`). */
+/** Functions that a link uses of a MessagePort of a browser, of node:worker_threads, or of Electron (`on`). */
 export interface Port {
   postMessage(message: any): void;
   start(): void;
@@ -82,7 +82,7 @@ export function socketLink(socket: any): Link;
 /** Rejects with the error of node:net, for instance ENOENT or ECONNREFUSED if nobody listens. */
 export function connectSocket(path: string): Promise<Link>;
 export function linkPair(): [Link, Link];
-/** Several links over one MessagePort, which keeps the order of what is sent over all of them. */
+/** Several links over one MessagePort, which keeps the order of all frames. */
 export class LinkBundle {
   constructor(port: Port, opened?: ((link: Link, details: unknown) => void) | null);
   open(details: unknown): Link;
@@ -109,18 +109,22 @@ export interface HubNumbers {
 export class Host {
   static create(hub?: ModuleSource): Promise<Host>;
   constructor(hub: Hub);
-  /** Throws a WlbError or a TypeError for a tab that is refused, and closes its link. */
+  /** Makes a tab of a link, and returns its number. Throws a WlbError or a TypeError for a refused tab, and closes its link. */
   accept(link: Link, options: { url: string; top?: string }): number;
+  /** Closes a tab that has stopped. */
   close(tab: number): void;
+  /** Restarts the broker. */
   restart(): void;
   status(): HubNumbers;
 }
 
 export class Tab {
   private constructor();
+  /** The `clientId` of a query, as a number. */
   readonly id: number;
   readonly origin: string;
   readonly generation: number;
+  /** Resolves when the link has ended. */
   readonly closed: Promise<Error | null>;
   readonly locks: LockManager;
   readonly BroadcastChannel: new (name: string) => BroadcastChannel;
