@@ -129,7 +129,7 @@ TERMS = [
     ("events of a step", "wl_library_model/specs/Events.antt", ["events"]),
     ("library and run in step", "wl_library_model/specs/Simulation.antt", ["IsRunOfItsEvents"]),
     ("progress", "wl_library_model/specs/Progress.antt", ["RequestsAreGranted", "NewTabsJoin", "NewTabsAreServed"]),
-    ("channels without an opening amid a post", "wl_library_model/specs/Timely.antt", ["ChannelsAreRuns"]),
+    ("channels, if no tab opens while a post is on its way", "wl_library_model/specs/Timely.antt", ["ChannelsAreRuns"]),
     ("board, and the words of its seats", "wl_board/specs/BoardRule.antt", ["IsOrderly"]),
     ("outbox", "wl_outbox/specs/OutboxRule.antt", ["IsOrderly"]),
     ("book, receipt, history", "wl_locked/specs/History.antt", ["IsReplay"]),
@@ -144,10 +144,9 @@ TERMS = [
 
 HEAD = """# Definitions
 
-Contracts cite definitions, most of them in `specs/` of a crate. This page leads from a section of a standard to its
-definitions. `tools/definitions.py` writes it from the comments of the definitions and lists of its own; `make test` compares it.
-Files stand under `crates`. `GUARANTEES.md` has the order in which to read the definitions behind the promises; `GLOSSARY.md`
-explains the words.
+Index from sections of standards to the definitions that contracts cite, in files under `crates`. `tools/definitions.py` writes
+it, mostly from comments; `make test` compares it. [GUARANTEES](GUARANTEES.md#for-auditors) has the order in which to read the
+definitions behind the promises; [GLOSSARY](GLOSSARY.md) explains the words.
 """
 
 CITATION = re.compile(r"\(([^()]*)\)")

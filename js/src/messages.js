@@ -16,10 +16,10 @@
 //   M         Map: count of keys and values together, then key, value, key, value ..
 //   S         Set: count, and the values
 //   B         ArrayBuffer: length, and the bytes
-//   V         typed array, DataView: u8 type, its place in VIEWS; the buffer, a value; u32 offset in bytes; u32 length in elements
-//             (DataView: in bytes). Elements have the sender's byte order, little-endian on all usual machines
-//   E         Error: u8 type, its place in ERRORS (0 for an unknown name); message, stack and cause, three values, undefined if absent
-//   r         object that came before: index. Objects are counted from 0, each at its tag
+//   V         typed array, DataView: u8 type, its place in VIEWS, from 0; the buffer, a value; u32 offset in bytes; u32 length in
+//             elements (DataView: in bytes). Elements have the sender's byte order, little-endian on all usual machines
+//   E         Error: u8 type, its place in ERRORS, from 0 (0 for an unknown name); message, stack and cause, values, `u` if absent
+//   r         object that came before: index. Values with the tags `o` to `E` are counted from 0, each at its tag
 
 const VERSION = 1;
 const encoder = new TextEncoder();
