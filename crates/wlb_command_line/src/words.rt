@@ -48,7 +48,7 @@ fn program<'a>(alloc: Global) -> Result<Command<'a>, AllocError>
     Command::new(alloc, "wlb")
         .about("The lock broker of a browser's tabs")
         .after_help(
-            "Without a command, wlb does what wlb desk does.\n\nExample: wlb sim < examples/lock_moves_on.sim",
+            "Without a command, wlb runs wlb desk.\n\nExample: wlb sim < examples/lock_moves_on.sim",
         )
         .subcommand(desk(alloc))?
         .subcommand(sim(alloc))?
@@ -61,7 +61,7 @@ fn desk<'a>(alloc: Global) -> Command<'a>
     ensures { HasGrammar (new_app (codes "desk")) result }
 {
     Command::new(alloc, "desk").about(
-        "Reads frames from standard input and writes the broker's to standard output",
+        "Reads frames from standard input and writes the broker's answers to standard output",
     )
 }
 
@@ -69,7 +69,7 @@ fn sim<'a>(alloc: Global) -> Command<'a>
     ensures { HasGrammar (new_app (codes "sim")) result }
 {
     Command::new(alloc, "sim").about(
-        "Plays a script from standard input and prints what tabs, broker and kernel reply",
+        "Plays a script from standard input and prints the replies of tabs, broker and kernel",
     )
 }
 
@@ -77,7 +77,7 @@ fn kernel<'a>(alloc: Global) -> Result<Command<'a>, AllocError>
     ensures { IfOk result (HasGrammar kernel_command) }
 {
     let directory = text_option(alloc, "dir", "DIR").help(
-        "The directory where the sockets are made, one for each process",
+        "Directory of the sockets, one for each process",
     );
     let kernel = Command::new(alloc, "kernel")
         .about(
@@ -121,7 +121,7 @@ fn lanes<'a>(alloc: Global) -> Arg<'a>
 {
     let numbers = value_parser!(u16).range(1..=i64::from(LANE_LIMIT));
     number_option(alloc, "lanes", "N", numbers).help(
-        "How many lanes the broker has, each a thread: 1 to 16",
+        "Number of the broker's lanes (threads): 1 to 16",
     )
 }
 
@@ -130,7 +130,7 @@ fn shards<'a>(alloc: Global) -> Arg<'a>
 {
     let numbers = value_parser!(u16).range(1..=i64::from(SHARD_LIMIT));
     number_option(alloc, "shards", "S", numbers).help(
-        "How many shards the broker's locks are kept in: 1 to 16",
+        "Number of shards (parts) of the broker's locks: 1 to 16",
     )
 }
 
@@ -139,23 +139,21 @@ fn limit<'a>(alloc: Global) -> Arg<'a>
 {
     let numbers = value_parser!(u32).range(1..=i64::from(STEP_LIMIT));
     number_option(alloc, "limit", "N", numbers).help(
-        "How many steps a generation of the broker has in a shard at most: 1 to 65536",
+        "Largest number of steps of a generation in each shard: 1 to 65536",
     )
 }
 
 fn socket<'a>(alloc: Global) -> Arg<'a>
     ensures { HasRule (text_option (codes "socket")) result }
 {
-    text_option(alloc, "socket", "PATH").help(
-        "The path of the socket that the kernel made, to connect to",
-    )
+    text_option(alloc, "socket", "PATH").help("Path of the socket that the kernel has made")
 }
 
 fn script<'a>(alloc: Global) -> Arg<'a>
     ensures { HasRule (placed (codes "script")) result }
 {
     placed(alloc, "script", "SCRIPT").help(
-        "The path of the script, a text with one command in each line",
+        "Path of the script, a text with one command in each line",
     )
 }
 
