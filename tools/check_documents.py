@@ -20,7 +20,9 @@ LINK = re.compile(r"\]\(([^)\s]+)\)")
 PATH = re.compile(r"(?<![\w/.-])((?:crates|docs|examples|include|js|mutants|tools|vectors|wlb?_\w+)/[\w./-]*\w)")
 # A placeholder such as NAME, or a folder that the build makes.
 NOT_KEPT = re.compile(r"[A-Z]{3}|/(?:out|dist)\b")
-TARGET = re.compile(r"\bmake ([a-z][a-z-]*)")
+# In code, a target follows `make` at the head of a line; in text, in backticks.
+TARGET = re.compile(r"^\s*make ([a-z][a-z-]*)")
+QUOTED_TARGET = re.compile(r"`make ([a-z][a-z-]*)")
 
 
 def documents():
@@ -72,8 +74,7 @@ def faults_of(path):
             homes = (TOP, path.parent, TOP / "crates")
             if not NOT_KEPT.search(name) and not any((home / name).exists() for home in homes):
                 yield number, f"there is no file {name}"
-        # In text, a target stands in backticks; in code it begins a command.
-        for target in TARGET.findall(line) if is_code else re.findall(r"`make ([a-z][a-z-]*)", line):
+        for target in (TARGET if is_code else QUOTED_TARGET).findall(line):
             if target not in known:
                 yield number, f"the Makefile has no target {target}"
         if len(line) > LINE and not is_code and not line.startswith("|"):

@@ -5,8 +5,8 @@ plays them, with and without sanitizers: `in_process` has to print the file besi
 update, also if the browser process is refused memory at random. The program in `README.md` has to run. It compares the header's
 limits and statuses with the constants of the crates, the header's functions with the names that the shared libraries export, and
 compiles the header as C++. `check_vectors.py` plays the test vectors of the protocol through the shared libraries, and
-`refused_calls.py` plays them with allocations refused. `library_edges.c` plays the edge cases of every function, and `fuzz_library.c` gives hub and client random and mutated bytes under the address sanitizer.
-The fuzzer has to find the wrong libraries of `wrong_library.c`.
+`refused_calls.py` plays them with allocations refused. `library_edges.c` plays the edge cases of every function, and
+`fuzz_library.c` gives hub and client random and mutated bytes under the address sanitizer. The fuzzer has to find the wrong libraries of `wrong_library.c`.
 
 It prints each difference, and nothing if there is none. The status is 1 if there is a difference. It needs `make`, `rt`, a C compiler
 `cc`, the binutils and `pkg-config`. Without a C++ compiler `c++` it leaves that part out.

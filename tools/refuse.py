@@ -7,8 +7,8 @@ The kit's `rt try --test --fail-alloc N` refuses one allocation of all tests of 
 tool refuses every allocation, and runs the proved binary at full speed, `RT_JOBS` tests at once or one for each processor.
 
 `--gate` refuses a sample: at most 60 allocations of each test in the crates `test_*`, spread evenly, or four if its lanes wait for
-each other. It also runs the tests of
-the book with every allocation of a megabyte or more refused, since a history has to do without them.
+each other. It also runs the tests of the book with every allocation of a megabyte or more refused, since a history has to do
+without them.
 
 A test with threads may allocate in another order in each run, so there a number names no certain allocation. The status is 0
 if every test passed. The tool needs `cc` and glibc.
@@ -108,7 +108,7 @@ class Task:
     tests: str
     name: str
     most: int = 0
-    has_large: bool = False
+    without_large: bool = False
 
     def numbers(self, count):
         """Returns the numbers of the allocations to refuse, spread evenly over all `count` of them."""
@@ -124,7 +124,7 @@ def refuse_all(tasks, library):
         for task, whole in zip(tasks, wholes):
             numbers = [] if whole.status else task.numbers(whole.count)
             refused = [pool.submit(run, task.tests, task.name, library, number) for number in numbers]
-            large = [pool.submit(run, task.tests, task.name, library, 0, LARGE)] if task.has_large and not whole.status else []
+            large = [pool.submit(run, task.tests, task.name, library, 0, LARGE)] if task.without_large and not whole.status else []
             begun.append((task, whole, refused, large))
         for task, whole, refused, large in begun:
             failures = collections.Counter([f"with all memory: {whole.said}"] if whole.status else [])
