@@ -1,6 +1,7 @@
-//! Modules: steps of one lane, lanes on threads over shards, ends of a lane, the lanes of the broker's process, and the
-//! statuses of faults.
+//! Modules: steps of a book, steps of one lane, lanes on threads over shards, ends of a lane, the lanes of the broker's process, and
+//! the statuses of faults.
 
+mod books;
 mod events;
 mod lane_ends;
 mod lanes;

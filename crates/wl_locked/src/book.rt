@@ -15,7 +15,7 @@ use crate::lane::{Generation, Lane, ShardReceipts, gather};
 use crate::marking::compare;
 use crate::receipt::{CloseFault, History, NotStepped, Receipt, Step};
 use crate::reservation;
-use crate::shared_event::{EventHandles, SharedEvent, handles_of};
+use crate::shared_event::{EventHandles, SharedEvent};
 use std::alloc::{AllocError, Global};
 use std::marker::Model;
 use std::sync::ledger;
@@ -60,17 +60,15 @@ pub(crate) fn handles_with_room(
 ) -> Result<EventHandles, AllocError>
     ensures receipts { receipts.new.items ≡ receipts.old.items }
     ensures room { OnOk result (vec_len receipts.new < vec_capacity receipts.new) }
-    ensures stored { IfOk result (λ h. h.stored ≡ event) }
-    ensures first { IfOk result (λ h. h.first ≡ event) }
-    ensures second { IfOk result (λ h. h.second ≡ event) }
+    ensures event { IfOk result (λ h. h ≡ event) }
 {
     reservation::for_one(receipts, reserve_step)?;
-    handles_of(alloc, event)
+    EventHandles::new(alloc, event)
 }
 
 impl<J: Generation> Book<J> {
-    /// Creates a book without steps.
-    pub(crate) fn open(
+    /// Creates a book without steps. `spare` is a share without parts.
+    pub fn open(
         alloc: Global,
         broker: Broker<IndexedTable>,
         limit: u32,
@@ -108,7 +106,7 @@ impl<J: Generation> Book<J> {
     pub fn step(
         &mut self,
         share: &mut Share<J>,
-        event: BookEvent,
+        event: EventHandles,
     ) -> Result<(Receipt, Receipt), NotStepped>
         requires { 0 < share.old.parts }
         ensures equal { IfOk result (λ r. r.0 ≡ r.1) }
@@ -125,18 +123,20 @@ impl<J: Generation> Book<J> {
         ensures spent { (result ≡ Err NotStepped.GenerationSpent) ↔ (length self.old ≡ J.limit) }
         ensures err { OnErr result ((self.new ≡ self.old) × (share.new.amount ≡ share.old.amount)) }
     {
-        let Ok(event) = handles_of(self.alloc, event) else {
-            return Err(self.without_memory());
-        };
-        let (place, mut replies) = self.store(share, event.stored)?;
+        let EventHandles {
+            stored,
+            first,
+            second,
+        } = event;
+        let (place, mut replies) = self.store(share, stored)?;
         let one = Receipt {
             place,
-            event: event.first,
+            event: first,
             reply: replies.next(),
         };
         let other = Receipt {
             place,
-            event: event.second,
+            event: second,
             reply: replies.last(),
         };
         Ok((one, other))
@@ -157,7 +157,7 @@ impl<J: Generation> Book<J> {
     /// Steps the broker and stores the step. Returns the step's place and two copies of its reply.
     ///
     /// All memory is allocated before the broker is stepped, so a failure changes nothing.
-    pub(crate) fn store(
+    fn store(
         &mut self,
         share: &mut Share<J>,
         event: SharedEvent,

@@ -32,6 +32,6 @@ pub use receipt::{CloseFault, History, NotStepped, Receipt, Step};
 pub use shard_lane::ShardLane;
 pub use sharded::Sharded;
 pub use shards::{Blanks, SHARD_LIMIT, Shards};
-pub use shared_event::SharedEvent;
+pub use shared_event::{EventHandles, SharedEvent};
 pub use wl_broker::{Dropped, Frames, Memory, Outs};
 pub use work::{Work, deal, shard_of};

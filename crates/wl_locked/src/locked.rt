@@ -138,21 +138,9 @@ impl<J: Generation> LockedBroker<J> {
         else {
             return Err(lock(&self.book, rt).without_memory());
         };
-        let answered = lock(&self.book, rt).store(&mut lane.share, event.stored);
-        // The lock is released here: neither building receipts nor dropping a refused event needs
-        // it.
-        let (place, mut replies) = answered?;
-        let kept = Receipt {
-            place,
-            event: event.second,
-            reply: replies.next(),
-        };
+        let (answered, kept) = lock(&self.book, rt).step(&mut lane.share, event)?;
         lane.receipts.push_reserved(kept);
-        Ok(Receipt {
-            place,
-            event: event.first,
-            reply: replies.last(),
-        })
+        Ok(answered)
     }
 
     /// Closes the broker and returns its history if it matches the lanes' receipts. Allocates

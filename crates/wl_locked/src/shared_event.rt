@@ -69,26 +69,38 @@ impl Eq for SharedEvent {
     ghost laws = { laws-law };
 }
 
-/// Handles of one event, for its step and the step's two receipts.
+/// Handles of one event, for its step and the step's two receipts. Its value in contracts is the
+/// event.
 #[derive(Drop)]
-pub(crate) struct EventHandles {
+pub struct EventHandles {
     pub(crate) stored: SharedEvent,
     pub(crate) first: SharedEvent,
     pub(crate) second: SharedEvent,
 }
 
-/// Allocates an event and returns its handles.
-pub(crate) fn handles_of(alloc: Global, event: BookEvent) -> Result<EventHandles, AllocError>
-    ensures stored { IfOk result (λ h. h.stored ≡ event) }
-    ensures first { IfOk result (λ h. h.first ≡ event) }
-    ensures second { IfOk result (λ h. h.second ≡ event) }
-{
-    let stored = SharedEvent::new(alloc, event)?;
-    let first = stored.share()?;
-    let second = stored.share()?;
-    Ok(EventHandles {
-        stored,
-        first,
-        second,
-    })
+impl Model for EventHandles {
+    ghost use Rattle.std.specs.Prelude.{◌≡◌};
+    ghost use Rattle.wl_locked.specs.declared.event.BookEvent.{BookEvent};
+
+    ghost Value = { BookEvent };
+
+    ghost view = { λ h. h.stored };
+
+    ghost invariant = { λ h. (h.first ≡ h.stored) × (h.second ≡ h.stored) };
+}
+
+impl EventHandles {
+    /// Moves an event into a new allocation and returns its handles.
+    pub fn new(alloc: Global, event: BookEvent) -> Result<EventHandles, AllocError>
+        ensures { IfOk result (λ h. h ≡ event) }
+    {
+        let stored = SharedEvent::new(alloc, event)?;
+        let first = stored.share()?;
+        let second = stored.share()?;
+        Ok(EventHandles {
+            stored,
+            first,
+            second,
+        })
+    }
 }

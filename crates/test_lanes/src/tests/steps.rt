@@ -16,8 +16,8 @@ use std::sync::ledger::Blank;
 use test_support::retry::BACK;
 use wl_frames::{Addressed, Downward, Operation, Outcome};
 use wl_locked::{
-    BookEvent, Generation, LANE_LIMIT, Lane, LockedBroker, NotStepped, Receipt, Reply, STEP_LIMIT,
-    SharedEvent, Step,
+    BookEvent, CloseFault, Generation, LANE_LIMIT, Lane, LockedBroker, NotStepped, Receipt, Reply,
+    STEP_LIMIT, SharedEvent, Step,
 };
 
 // Rows
@@ -115,7 +115,7 @@ fn handing_over(alloc: Global) -> Result<Vec<Step>, AllocError> {
 
 // Calls of the broker
 
-fn copy(rt: &impl Abort, event: &BookEvent) -> BookEvent {
+pub fn copy(rt: &impl Abort, event: &BookEvent) -> BookEvent {
     match event.copy() {
         Ok(copy) => copy,
         Err(_) => event.copy().expect(rt, BACK),
@@ -141,7 +141,7 @@ fn take<J: Generation, R: Wait + Abort>(
 }
 
 /// Returns whether a receipt equals the step at its place.
-fn is_of(receipt: &Receipt, steps: &[Step]) -> bool {
+pub fn is_of(receipt: &Receipt, steps: &[Step]) -> bool {
     match steps.get(receipt.place as usize) {
         Some(step) => receipt.event == step.event && receipt.reply == step.reply,
         None => false,
@@ -262,7 +262,7 @@ fn play<R: Wait + Abort>(
 
 /// Rows of steps.
 #[derive(Clone, Copy)]
-enum Row {
+pub enum Row {
     Three,
     Four,
     HandingOver,
@@ -276,12 +276,17 @@ fn steps_of(alloc: Global, row: Row) -> Result<Vec<Step>, AllocError> {
     }
 }
 
-/// Plays a row of `count` steps on a broker whose generation has `limit` steps.
-fn plays<R: Wait + Abort>(rt: &R, alloc: Global, lanes: u16, limit: u32, row: Row, count: usize) {
-    let steps = match steps_of(alloc, row) {
+/// Returns the steps of a row.
+pub fn steps_in(rt: &impl Abort, alloc: Global, row: Row) -> Vec<Step> {
+    match steps_of(alloc, row) {
         Ok(steps) => steps,
         Err(_) => steps_of(alloc, row).expect(rt, BACK),
-    };
+    }
+}
+
+/// Plays a row of `count` steps on a broker whose generation has `limit` steps.
+fn plays<R: Wait + Abort>(rt: &R, alloc: Global, lanes: u16, limit: u32, row: Row, count: usize) {
+    let steps = steps_in(rt, alloc, row);
     same(rt, steps.len(), count);
     if play(rt, alloc, lanes, limit, steps.as_slice()).is_err() {
         play(rt, alloc, lanes, limit, steps.as_slice()).expect(rt, BACK);
@@ -358,5 +363,42 @@ fn listed_tabs_are_greeted(rt: HostRuntime) {
     let alloc = rt.alloc();
     if greet(&rt, alloc).is_err() {
         greet(&rt, alloc).expect(&rt, BACK);
+    }
+}
+
+// A lane left out
+
+/// Two lanes make a step each, and the broker is closed with one of them.
+fn leave_out_named<J: Generation, R: Wait + Abort>(
+    rt: &R,
+    alloc: Global,
+    blank: Blank,
+    row: &[Step],
+) -> Result<(), AllocError>
+    requires name { blank.name ≡ J.name }
+    requires parts { (blank.parts ≡ J.parts) × (J.parts ≡ 2) }
+    requires opening { J.opening ≡ started 1 [] }
+    requires limit { J.limit ≡ 2 }
+{
+    let (broker, mut lanes, _hellos) = LockedBroker::<J>::new(alloc, blank, 1, &[], 2, 2)?;
+    for place in 0..2usize {
+        let lane = lanes.get_mut(place).expect(rt, "a lane");
+        take_step(rt, alloc, &broker, lane, row, place);
+    }
+    drop(lanes.pop());
+    same(rt, broker.close(lanes).err(), Some(CloseFault::WrongCount));
+    Ok(())
+}
+
+fn leave_out<R: Wait + Abort>(rt: &R, alloc: Global, row: &[Step]) -> Result<(), AllocError> {
+    leave_out_named::<Brand, R>(rt, alloc, Blank::new(2), row)
+}
+
+#[test]
+fn a_lane_of_one_lock_left_out(rt: HostRuntime) {
+    let alloc = rt.alloc();
+    let steps = steps_in(&rt, alloc, Row::Three);
+    if leave_out(&rt, alloc, steps.as_slice()).is_err() {
+        leave_out(&rt, alloc, steps.as_slice()).expect(&rt, BACK);
     }
 }
