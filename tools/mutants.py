@@ -4,6 +4,9 @@ A mutant of `mutants/CRATE` has the form of the edits that `rt` tries in `crates
 lines. `after: TEXT` before an old text means its first occurrence behind TEXT. `refused: PATH` names the function
 whose proof has to fail. `gate: yes` has the gate try the mutant. `error: CODE` is explained below.
 
+The gate tries further forms of the wrong bodies in `must-fail`, and one mutant for each public
+function of `wl_hub`, `wl_client`, `wlb_hub` and `wlb_client`. With `--gate` the last line is `N passed, M failed`.
+
 `rt` tries one edit after another, each in a check of its crate. The proof of a function uses the contracts of the
 functions that it calls, never their code. So this tool copies a crate, changes each function once, and checks only
 these functions (`--only`). A mutant is killed by a goal of the contract of the function that it changes. Every other
@@ -50,7 +53,7 @@ def text_of(path):
         return file.read()
 
 
-FUNCTION = re.compile(r"(?:pub(?:\(\w+\))? )?(?:const )?(?:unsafe )?fn (\w+)")
+FUNCTION = re.compile(r'(?:pub(?:\(\w+\))? )?(?:const )?(?:unsafe )?(?:extern "C" )?fn (\w+)')
 # A goal of code with its name, and goals of a function's proof files and of lemma files with the error.
 IN_CODE = re.compile(r"note: (?:\./)?(src/\S+?):(\d+):\d+: it is not proved .*?\(`([^`]+)`\)")
 IN_PROOF = re.compile(r"(?:\./)?proofs/(\S+)/(?:Answers|Invariants|Proof)\.antt:\d+:\d+: error: (.*)")
@@ -620,6 +623,8 @@ def main():
             print("\n".join([*ended.passed, *ended.failed]), flush=True)
             passed, failed = passed + len(ended.passed), failed + len(ended.failed)
     print(f"controls: {passed} proved, {failed} not" if given.control else f"mutants: {passed} killed, {failed} not")
+    if given.gate:
+        print(f"{passed} passed, {failed} failed")
     return 1 if failed else 0
 
 

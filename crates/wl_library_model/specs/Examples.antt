@@ -12,8 +12,8 @@ use Rattle.wl_world_messages.specs.declared.message.Sender.TheVariants.{Kernel, 
 use Rattle.wl_world_model.specs.declared.event.Event.{Event}
 use Rattle.wl_world_model.specs.declared.event.Event.TheVariants as event
 use Rattle.wl_world_model.specs.WorldExamples.{a, p, command, report, request}
-use Rattle.wl_library_model.specs.Library.{Step, Opens, Closes, Restarts, HubAdvances, Asks, OpensChannel, Posts, new_library, run_steps, client_of, lives, to_client, to_hub}
-use Rattle.wl_library_model.specs.Events.{events, delivers}
+use Rattle.wl_library_model.specs.Library.{Step, Opens, Closes, Restarts, HubAdvances, Asks, Releases, OpensChannel, Posts, new_library, run_steps, client_of, lives, to_client, to_hub}
+use Rattle.wl_library_model.specs.Events.{events, events_of, delivers}
 use Rattle.wl_library_model.specs.Channels.{channel_calls}
 
 -- Whether the tab lives and its client holds the lock of number `k`.
@@ -59,6 +59,24 @@ ContendedIsThese =
 
 abbrev pub Contended : Type 0
 Contended = (holds 1 0 contended ≡ true) × (holds 2 0 contended ≡ false)
+
+-- A release ends the lock at once.
+abbrev pub Released : Type 0
+Released = holds 1 0 (contended ++ Releases 1 0 ∷ []) ≡ false
+
+-- A death is an event, and a restart lists the living tabs.
+abbrev pub DeathsAndRestartsAreEvents : Type 0
+DeathsAndRestartsAreEvents =
+    let l = run_steps contended new_library in
+    (events_of l (Closes 1) ≡ event.Kill 1 ∷ []) × (events_of l Restarts ≡ event.Stop ∷ event.Start (1 ∷ 2 ∷ []) ∷ [])
+
+-- The next broker has heard of the first tab alone, so the partition recovers.
+abbrev pub recovering : List Step
+recovering = Restarts ∷ (joins 1 ++ joins 2 ++ Restarts ∷ (to_client 1 1 ++ to_hub 1 2 1))
+
+-- A request in a partition that recovers is not granted.
+abbrev pub Recovering : Type 0
+Recovering = holds 1 0 (recovering ++ asks 1) ≡ false
 
 -- A held lock stays held over the restart.
 abbrev pub Restarted : Type 0

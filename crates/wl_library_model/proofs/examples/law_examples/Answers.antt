@@ -31,3 +31,15 @@ returns-clause-bereaved c = (refl, refl)
 pub returns-clause-talked : goal.returns-clause-talked
 unfolding is_grantable newly_granted settle queued probed released aborted ended restored is_active place_of is_misplaced settled_at newly_at join join_if with_told take_report_part perform take_command taking death_step with_part snapshot_of issue ended_number finish report_of enter_first enter_later report_bodies due noted becomes_status delivery arrival told step events_of
 returns-clause-talked c = (refl, refl, refl)
+
+pub returns-clause-released : goal.returns-clause-released
+unfolding is_grantable newly_granted settle queued probed released aborted ended restored is_active place_of is_misplaced settled_at newly_at join join_if with_told take_report_part perform take_command taking death_step with_part snapshot_of issue ended_number finish report_of enter_first enter_later report_bodies due noted becomes_status delivery arrival told step events_of
+returns-clause-released c = refl
+
+pub returns-clause-told : goal.returns-clause-told
+unfolding is_grantable newly_granted settle queued probed released aborted ended restored is_active place_of is_misplaced settled_at newly_at join join_if with_told take_report_part perform take_command taking death_step with_part snapshot_of issue ended_number finish report_of enter_first enter_later report_bodies due noted becomes_status delivery arrival told step events_of
+returns-clause-told c = (refl, refl)
+
+pub returns-clause-recovering : goal.returns-clause-recovering
+unfolding is_grantable newly_granted settle queued probed released aborted ended restored is_active place_of is_misplaced settled_at newly_at join join_if with_told take_report_part perform take_command taking death_step with_part snapshot_of issue ended_number finish report_of enter_first enter_later report_bodies due noted becomes_status delivery arrival told step events_of
+returns-clause-recovering c = refl
