@@ -1,9 +1,8 @@
-"""Measures `wlb`: scripts, the broker, the lock tables, the board, the lanes, processes, the C libraries, and JavaScript.
+"""Measures `wlb`: scripts, the broker, the lock table, the lanes, processes, the C libraries, and JavaScript.
 
 BENCH is the program of the crate `bench_core`, which measures single parts. If OLDER is given, an older `wlb`, the lines of
-Reports, Waiting and Answers also say how many times as long it takes. The tool builds `relay.c`, `bare_table.c` and
-`bench_library.c` and leaves out their figures if there is no `cc`. It needs `/proc`. It ends with an error if a run fails or has
-an unexpected number of answers.
+Reports, Waiting and Answers also say how many times as long it takes. The tool builds `relay.c` and `bench_library.c` and leaves out
+their figures if there is no `cc`. It needs `/proc`. It ends with an error if a run fails or has an unexpected number of answers.
 
 Handover: scripts of growing length, in which two tabs of one origin hand a lock over again and again. Prints the seconds of
 each script, and the time of a line as a ratio to the shortest script. If a line costs the same whatever was sent before it, the
@@ -23,16 +22,10 @@ the smallest one.
 Answers: one tab requests and releases a lock, again and again. Prints the processor time of a command with its answer, which
 includes the start and the end of the program.
 
-Tables: `bench_core tables` plays the same random calls on the indexed lock table and on the plain one. Prints the calls a
-second of both for each trace, and their ratio. It compares calls with those in a table of 64 entries: the same calls of the
-same clients beside 65,536 entries of other clients, and calls for any of 65,536 entries. `bare_table.c` stands beside the
-latter: its calls touch one row, one line and one name, and look nothing up. `std_table.rs` is a table over the collections of
-Rust's standard library. It takes turns with `bench_core tables` on four of the traces and has to make the same grants. Prints its
-best rate and the median ratio of the rates: above 1 the indexed table is faster. It is left out if there is no `rustc`.
-
-Board: in `bench_core board`, threads draw numbers from a board, look up a tab on it, or put parcels into an outbox that one
-more thread empties. The same loops run over a `Mutex` in the same run. Prints the best rate of the runs. The ratio is the time
-divided by the time of the loop over the mutex, the median of the runs: below 1 is faster than the mutex.
+Table: `bench_core tables` plays traces of random calls on the indexed lock table. Prints the best rate for each trace.
+`std_table.rs` is a table over the collections of Rust's standard library. It takes turns with `bench_core tables` and has to make the
+same grants. Prints its best rate and the median ratio of the rates: above 1 the indexed table is faster. It is left out if there is
+no `rustc`.
 
 Lanes: in `bench_core lanes`, 1, 2 and 4 lanes step a broker of 1, 2 and 4 shards. Each lane has its own thread, each shard its
 own lock. The events of a lane are requests and releases of a tab that is alone in its partition. `alone` is a broker of one
@@ -62,13 +55,15 @@ seconds, as a share of one processor: the median of the runs. The 64 tabs of the
 
 Library: `bench_library.c` over the archives in the folder BUILD, as `make lib` makes them. Its calls stand in one process: tabs
 with clients of their own take turns, and each requests a lock of its own, is granted it and releases it. Prints the best rate for
-each number of tabs, and the median ratio of the time to that with one tab. Its processes are a browser with one poll loop and
+each number of tabs, and the median ratio of the time to that with one tab. Then 16 tabs release and request again 4 locks each, at
+random. Prints the rate, and the median ratios to its time: of the same rounds beside 64,512 locks of 1,008 other tabs, and of rounds
+for any of 65,536 locks of 1,024 tabs. Its processes are a browser with one poll loop and
 renderers over socket pairs. A round sends a release and the next request, and waits for a grant. Beside them stands the same loop
 without a hub, which sends each frame back. Prints the best rates, and the median ratio. Then come the bytes that a hub allocates
 for each of 65,536 locks of 1,024 tabs, and the sizes of the stripped shared libraries.
 
 JavaScript: `js/lab/speed.js` measures locks through the JavaScript package beside the locks of browsers. Its head says what its lines
-mean. It is left out if there is no Node, or if `make wasm` has not made the modules.
+mean. It is left out if there is no Node.
 """
 
 import argparse
@@ -85,6 +80,7 @@ import time
 
 import argument_types
 import js
+import packages
 
 BENCH = argument_types.executable("`rt run` in crates/bench_core builds crates/bench_core/out/bench_core")
 
@@ -114,6 +110,8 @@ SECONDS = 120
 
 CALLED_TABS = [1, 4, 1_024]
 CALLED_ROUNDS = 50_000
+# Title, number of tabs that take locks, locks that each holds, and number of further tabs.
+HELD = [("any of 64 locks", 16, 4, 0), ("any of 64 locks, beside 64,512 of other tabs", 16, 4, 1_008), ("any of 65,536 locks", 1_024, 64, 0)]
 # Title, number of renderers, and whose the lock's name is.
 LINKED = [("1 renderer", 1, "own"), ("4 renderers, a name each", 4, "own"), ("4 renderers, one name", 4, "one")]
 LOCKS = 65_536
@@ -320,22 +318,6 @@ def beside(what, counts, seconds, programs):
         print(f"{what}: {count:7} {taken[0] * 1e6:8.2f} us each  ratio {taken[0] / base:5.2f}{older}")
 
 
-# ---- The board
-
-
-def board(bench):
-    rates, ratios = {}, {}
-    for _ in range(RUNS):
-        done = subprocess.run([bench, "board"], stdout=subprocess.PIPE, check=True)
-        for line in done.stdout.decode().splitlines():
-            what, threads, count, taken, taken_by_mutex = line.split()
-            rates.setdefault((what, threads), []).append(int(count) / int(taken) * 1e9)
-            ratios.setdefault((what, threads), []).append(int(taken) / int(taken_by_mutex))
-    for (what, threads), some in rates.items():
-        ratio = statistics.median(ratios[what, threads])
-        print(f"board: {what:7} by {threads} {max(some) / 1e6:8.2f} million a second  ratio to a mutex {ratio:5.2f}")
-
-
 # ---- Lanes
 
 
@@ -484,7 +466,7 @@ def relaying_seconds(relay, tabs, rounds):
 def build(place, name, *words):
     """Builds a C program of this folder and returns its path, or None without a compiler. `words` follow its source."""
     if not shutil.which("cc"):
-        print(f"no cc: {name} and the ratios to it are left out")
+        print(f"no cc: {name} and the ratios to it are left out: {packages.hint('cc')}")
         return None
     program = os.path.join(place, name)
     source = os.path.join(os.path.dirname(os.path.abspath(__file__)), f"{name}.c")
@@ -495,7 +477,7 @@ def build(place, name, *words):
 def build_rust(place, name):
     """Builds a Rust program of this folder and returns its path, or None without a compiler."""
     if not shutil.which("rustc"):
-        print(f"no rustc: {name} and the ratios to it are left out")
+        print(f"no rustc: {name} and the ratios to it are left out: {packages.hint('rustc')}")
         return None
     program = os.path.join(place, name)
     source = os.path.join(os.path.dirname(os.path.abspath(__file__)), f"{name}.rs")
@@ -588,41 +570,34 @@ def idle(program, seconds=IDLE_SECONDS, runs=IDLE_RUNS):
 
 
 def table_rates(words, kind):
-    """Returns what a benchmark of tables prints, and for each trace the rate of this kind of table and the digest of its grants."""
-    output = subprocess.run(words, stdout=subprocess.PIPE, check=True, text=True).stdout
+    """Returns for each trace of a benchmark of a table its rate and the digest of its grants."""
     rates, title = {}, None
-    for line in output.splitlines():
+    for line in subprocess.run(words, stdout=subprocess.PIPE, check=True, text=True).stdout.splitlines():
         if not line.startswith(" "):
             title = line
         elif line.startswith("  calls a second: "):
-            rate = int(line.partition(f"{kind} ")[2].partition(",")[0])
+            rate = int(line.partition(f"{kind} ")[2])
         elif line.startswith("  digest of the grants: "):
             rates[title] = rate, line.partition(": ")[2]
-    return output, rates
+    return rates
 
 
-def tables(bench, runs=TABLE_RUNS):
+def table(bench, runs=TABLE_RUNS):
     with tempfile.TemporaryDirectory(prefix="wlb-") as place:
         std = build_rust(place, "std_table")
         ours, others = [], []
-        for turn in range(runs if std else 1):
-            output, rates = table_rates([bench, "tables"], "indexed")
-            ours.append(rates)
-            if turn == 0:
-                print(output, end="")
+        for _ in range(runs):
+            ours.append(table_rates([bench, "tables"], "indexed"))
             if std:
-                others.append(table_rates([std], "std")[1])
-        for title in others[0] if others else []:
-            digests = {some[title][1] for some in (*ours, *others)}
-            assert len(digests) == 1, f"the tables grant different locks: {title}"
+                others.append(table_rates([std], "std"))
+    for title in ours[0]:
+        digests = {some[title][1] for some in (*ours, *others)}
+        assert len(digests) == 1, f"the tables grant different locks: {title}"
+        line = f"table: {title:34} {max(our[title][0] for our in ours):8} calls a second"
+        if others:
             ratio = statistics.median(our[title][0] / other[title][0] for our, other in zip(ours, others))
-            best = max(other[title][0] for other in others)
-            print(f"tables: {title:34} of std {best:8} calls a second  ratio to it {ratio:5.2f}  goal 1")
-    with tempfile.TemporaryDirectory(prefix="wlb-") as place:
-        bare = build(place, "bare_table")
-        if bare:
-            few, many, ratio = subprocess.run([bare], check=True, capture_output=True, text=True).stdout.split()
-            print(f"bare table: {few} nanoseconds a call with 64 entries, {many} with 65,536: {ratio}")
+            line += f"  of std {max(other[title][0] for other in others):8}  ratio to it {ratio:5.2f}  goal 1"
+        print(line)
 
 
 # ---- The C libraries
@@ -646,6 +621,18 @@ def calling(program):
         print(f"library: calls, {tabs:5} tabs {rate:8.0f} locks a second  ratio of the time of a lock {ratio:5.2f}")
 
 
+def holding(program):
+    """Prints the rate of locks among few that are held, and how a lock's time grows with many."""
+    taken = {what: [] for what, *_ in HELD}
+    for _ in range(RUNS):
+        for what, tabs, locks, others in HELD:
+            taken[what].append(number_of(program, "held", tabs, CALLED_ROUNDS, locks, others))
+    few, *_ = taken.values()
+    for what, some in taken.items():
+        ratio = statistics.median(time / first for time, first in zip(some, few))
+        print(f"library: {what:44} {CALLED_ROUNDS / min(some) * 1e9:8.0f} locks a second  ratio of the time of a lock {ratio:5.2f}")
+
+
 def linked(program, rounds=ROUNDS):
     """Prints the rate of locks of a browser process, beside the loop without a hub."""
     for what, tabs, name in LINKED:
@@ -666,6 +653,7 @@ def library(folder):
         if not program:
             return
         calling(program)
+        holding(program)
         linked(program)
         print(f"library: a lock of the hub takes {number_of(program, 'memory') / LOCKS:5.0f} bytes")
         for part in ("hub", "client"):
@@ -688,8 +676,7 @@ def main():
     beside("reports, tabs listed ", LISTED, report_seconds, programs)
     beside("commands, waiting for another lock", WAITING, command_seconds, programs)
     beside("commands with their answers", ANSWERED, answer_seconds, programs)
-    tables(bench)
-    board(bench)
+    table(bench)
     lanes_and_steps(bench)
     granting(program)
     sharding(program)

@@ -2,6 +2,10 @@
 //
 //     bench_library calls TABS ROUNDS         hub and clients in one process: TABS tabs by turns request a lock of their own, are
 //                                             granted it and release it, ROUNDS times in all. Prints nanoseconds
+//     bench_library held TABS ROUNDS LOCKS OTHERS
+//                                             hub and clients in one process: TABS tabs hold LOCKS locks each, and OTHERS
+//                                             further tabs 64 each. A random one of the first tabs' locks is released, requested
+//                                             and granted again, ROUNDS times. Prints nanoseconds
 //     bench_library memory                    1,024 tabs of 64 locks each. Prints the bytes that the hub takes for all locks
 //     bench_library browser TABS ROUNDS NAME  a process with a hub and one poll loop, and TABS renderers. Each requests a lock,
 //                                             waits for it and releases it, ROUNDS times. NAME is `own`, a lock a renderer, or
@@ -78,6 +82,42 @@ static long long calls(int count, int rounds) {
     }
     long long taken = now() - begin;
     close_tabs(count);
+    return taken;
+}
+
+// ---- Held locks
+
+// The number of each lock of each tab.
+static uint32_t held[TAB_LIMIT + 1][WLB_LIVE_NUMBERS];
+
+static void take(int tab, int lock) {
+    char name[32];
+    int length = snprintf(name, sizeof name, "lock/%d/%d", tab, lock);
+    expect(WLB_OK, wlb_client_request(&clients[tab], bytes_of(name), (size_t)length, false, &held[tab][lock]));
+    pass((uint16_t)tab);
+    expect((int32_t)held[tab][lock], (int32_t)last_of((uint16_t)tab, WLB_GRANTED).number);
+}
+
+// Returns a pseudorandom number below a limit: the high bits of a linear congruence.
+static int below(int limit) {
+    static uint64_t state = 20261123;
+    state = state * 6364136223846793005u + 1442695040888963407u;
+    return (int)((state >> 33) % (uint64_t)limit);
+}
+
+static long long held_locks(int tabs, int rounds, int locks, int others) {
+    open_tabs(tabs + others);
+    for (int tab = 1; tab <= tabs + others; tab++)
+        for (int lock = 0; lock < (tab <= tabs ? locks : WLB_LIVE_NUMBERS); lock++) take(tab, lock);
+    long long begin = now();
+    for (int round = 0; round < rounds; round++) {
+        int tab = 1 + below(tabs), lock = below(locks);
+        expect(WLB_OK, wlb_client_release(&clients[tab], held[tab][lock]));
+        pass((uint16_t)tab);
+        take(tab, lock);
+    }
+    long long taken = now() - begin;
+    close_tabs(tabs + others);
     return taken;
 }
 
@@ -319,27 +359,38 @@ static long long processes(int tabs, int rounds, const char *name) {
 
 // ---- Command line
 
-// Returns a number from 1 to the limit, or 0 for any other text.
-static int number_of(const char *text, int limit) {
+// Returns a number from `least` to the limit, or -1 for any other text.
+static int number_from(int least, const char *text, int limit) {
     char *end;
     long number = strtol(text, &end, 10);
-    return *text && !*end && number >= 1 && number <= limit ? (int)number : 0;
+    return *text && !*end && number >= least && number <= limit ? (int)number : -1;
+}
+
+// Returns a number from 1 to the limit, or 0 for any other text.
+static int number_of(const char *text, int limit) {
+    int number = number_from(1, text, limit);
+    return number > 0 ? number : 0;
 }
 
 int main(int argc, char **argv) {
     const char *part = argc > 1 ? argv[1] : "";
     int tabs = argc > 3 ? number_of(argv[2], TAB_LIMIT) : 0, rounds = tabs ? number_of(argv[3], ROUND_LIMIT) : 0;
     bool has_processes = rounds && tabs <= WLB_PARTITION_TABS;
+    int locks = rounds && argc == 6 && strcmp(part, "held") == 0 ? number_of(argv[4], WLB_LIVE_NUMBERS) : 0;
+    int others = locks ? number_from(0, argv[5], TAB_LIMIT - tabs) : -1;
     if (argc == 2 && strcmp(part, "memory") == 0)
         printf("%zu\n", memory());
     else if (rounds && argc == 4 && strcmp(part, "calls") == 0)
         printf("%lld\n", calls(tabs, rounds));
+    else if (others >= 0)
+        printf("%lld\n", held_locks(tabs, rounds, locks, others));
     else if (has_processes && argc == 4 && strcmp(part, "relay") == 0)
         printf("%lld\n", processes(tabs, rounds, NULL));
     else if (has_processes && argc == 5 && strcmp(part, "browser") == 0)
         printf("%lld\n", processes(tabs, rounds, argv[4]));
     else {
-        fputs("usage: bench_library calls TABS ROUNDS | memory | browser TABS ROUNDS own|one | relay TABS ROUNDS\n", stderr);
+        fputs("usage: bench_library calls TABS ROUNDS | held TABS ROUNDS LOCKS OTHERS | memory |\n"
+              "                     browser TABS ROUNDS own|one | relay TABS ROUNDS\n", stderr);
         return 2;
     }
     return 0;
