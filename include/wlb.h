@@ -54,6 +54,13 @@ extern "C" {
 #define WLB_POSTS 1000000          /* posts of a tab */
 #define WLB_INBOX 256              /* unread posts of a channel. A further post is lost for this channel */
 
+/* ---- Build */
+
+/* Returns how the libraries were built: "proved" or "not proved", then ", " and the line of the Rattle kit that compiled them. The
+ * string is static. Libraries that are "not proved" are compiled from the same sources without a proof, for trials and tests.
+ * Both libraries have this function. Take them from the same build. */
+const char *wlb_build(void);
+
 /* ---- Statuses */
 
 enum wlb_status {

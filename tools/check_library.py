@@ -1,15 +1,18 @@
 """Checks the C libraries of `wlb` as a C program uses them.
 
-It installs the header and the libraries into a temporary folder by `make install`. It compiles the programs in `examples/c` and
-plays them, with and without sanitizers: `in_process` has to print the file beside it, and each run of `browser` has to lose no
-update, also if the browser process is refused memory at random. The program in `README.md` has to run. It compares the header's
-limits and statuses with the constants of the crates, the header's functions with the names that the shared libraries export, and
-compiles the header as C++. `check_vectors.py` plays the test vectors of the protocol through the shared libraries, and
-`refused_calls.py` plays them with allocations refused. `library_edges.c` plays the edge cases of every function, and
-`fuzz_library.c` gives hub and client random and mutated bytes under the address sanitizer. The fuzzer has to find the wrong libraries of `wrong_library.c`.
+It installs the header and the libraries into a temporary folder by `make install`. With `--unproved` it takes those of FOLDER instead,
+as `tools/unproved.py --sanitize` writes them: then the address sanitizer is in the libraries, too.
 
-It prints each difference, and nothing if there is none. The status is 1 if there is a difference. It needs `make`, `rt`, a C compiler
-`cc`, the binutils and `pkg-config`. Without a C++ compiler `c++` it leaves that part out.
+It compiles the programs in `examples/c` and plays them, with and without sanitizers: `in_process` has to print the file beside it, and
+each run of `browser` has to lose no update, also if the browser process is refused memory at random. The program in `README.md` has to
+run. It compares the header's limits and statuses with the constants of the crates, the header's functions with the names that the
+shared libraries export, and compiles the header as C++. `wlb_build` has to say whether the libraries are proved, and `library.py` has
+to refuse what is not. `check_vectors.py` plays the test vectors of the protocol through the shared libraries, and `refused_calls.py`
+plays them with allocations refused. `library_edges.c` plays the edge cases of every function, and `fuzz_library.c` gives hub and client
+random and mutated bytes under the address sanitizer. The fuzzer has to find the wrong libraries of `wrong_library.c`.
+
+It prints each difference, and last how many checks passed and failed. The status is 1 if there is a difference. It needs `make`, `rt`,
+a C compiler `cc`, the binutils and `pkg-config`. Without a C++ compiler `c++` it leaves that part out.
 """
 
 import argparse
@@ -25,8 +28,12 @@ import sys
 import tempfile
 
 import argument_types
-from checks import differences, same
-from library import HEADER, LIBRARIES, TOP, functions_of
+import packages
+from archive import proof_of
+from checks import differences, readme_block, same
+from library import BUILD_FUNCTION, HEADER, LIBRARIES, PROVED, TOP, UNPROVED, functions_of
+from rlibs import kit_line
+from unproved import SANITIZED
 
 TOOLS = TOP / "tools"
 EXAMPLES = TOP / "examples" / "c"
@@ -59,20 +66,19 @@ LIMITS = {
 }
 
 
-class Installed:
-    """Folder with the installed header and libraries."""
+class Libraries:
+    """Header and libraries, and the programs that are compiled with them.
 
-    def __init__(self, folder, archives):
-        self.folder = pathlib.Path(folder)
-        self.prefix = self.folder / "prefix"
-        words = ["make", "-s", "-C", TOP, "install", f"PREFIX={self.prefix}", f"BUILD={self.folder / 'build'}"]
-        words += [f"ARCHIVES={' '.join(str(one.absolute()) for one in archives)}"] if archives else []
-        if subprocess.run(words, check=False).returncode:
-            sys.exit("check_library: `make install` failed")
-        self.environment = {**os.environ, "LD_LIBRARY_PATH": str(self.prefix / "lib")}
+    `plain` is the folder of libraries that any process can load, and `tested` that of the libraries of the programs. A build is a list
+    of compiler flags and whether the program is linked with the archives. All programs are compiled with the flags `always`."""
+
+    def __init__(self, folder, plain, tested, package, builds, always):
+        self.folder, self.plain, self.tested, self.package = pathlib.Path(folder), plain, tested, package
+        self.builds, self.always = builds, always
+        self.environment = {**os.environ, "LD_LIBRARY_PATH": str(tested)}
 
     def pkg_config(self, *words):
-        environment = {**os.environ, "PKG_CONFIG_PATH": str(self.prefix / "lib" / "pkgconfig")}
+        environment = {**os.environ, "PKG_CONFIG_PATH": str(self.package)}
         ran = subprocess.run(["pkg-config", *words, "wlb"], env=environment, capture_output=True, text=True, check=True)
         return ran.stdout.split()
 
@@ -81,14 +87,40 @@ class Installed:
         program = self.folder / (name or f"{source.stem}{'-static' if is_static else ''}{'-sanitized' if flags else ''}")
         libraries = self.pkg_config("--cflags", "--libs")
         if is_static:
-            archives = [self.prefix / "lib" / f"lib{name}.a" for name in LIBRARIES]
+            archives = [self.tested / f"lib{name}.a" for name in LIBRARIES]
             libraries = [*self.pkg_config("--cflags"), *archives]
-        ran = run(["cc", *FLAGS, *flags, "-o", program, source, *libraries])
+        ran = run(["cc", *FLAGS, *self.always, *flags, "-o", program, source, *libraries])
         same(f"cc {source.name}", "standard error", ran.stderr, "")
         return program if ran.returncode == 0 else None
 
     def play(self, program, *words):
         return run([program, *words], env=self.environment)
+
+
+class Installed(Libraries):
+    """Proved libraries, as `make install` installs them."""
+
+    def __init__(self, folder, archives):
+        prefix = pathlib.Path(folder) / "prefix"
+        words = ["make", "-s", "-C", TOP, "install", f"PREFIX={prefix}", f"BUILD={pathlib.Path(folder) / 'build'}"]
+        words += [f"ARCHIVES={' '.join(str(one.absolute()) for one in archives)}"] if archives else []
+        if subprocess.run(words, check=False).returncode:
+            sys.exit("check_library: `make install` failed")
+        lib = prefix / "lib"
+        super().__init__(folder, lib, lib, lib / "pkgconfig", [([], False), ([], True), (SANITIZERS, True)], [])
+        self.archives = archives or [TOP / "crates" / name / "out" for name in LIBRARIES]
+        self.says = f"{PROVED}, {proof_of(LIBRARIES[0], self.archives[0]).kit if archives else kit_line()}"
+
+
+class Unproved(Libraries):
+    """Libraries that are compiled with nothing proved."""
+
+    def __init__(self, folder, built):
+        sanitized = built / SANITIZED
+        if not (sanitized / "wlb.pc").is_file():
+            sys.exit(f"check_library: {built} has no sanitized libraries: `python3 tools/unproved.py --sanitize {built}` makes them")
+        super().__init__(folder, built, sanitized, sanitized, [([], False), ([], True)], SANITIZERS)
+        self.says = f"{UNPROVED}, {kit_line()}"
 
 
 def run(words, seconds=SECONDS, **how):
@@ -109,8 +141,8 @@ def run(words, seconds=SECONDS, **how):
 
 
 def builds_of(installed, source):
-    """Yields the program as three builds: over the shared libraries, over the archives, and over these with sanitizers."""
-    for flags, is_static in [([], False), ([], True), (SANITIZERS, True)]:
+    """Yields the program over the shared libraries and over the archives, with sanitizers in one build at least."""
+    for flags, is_static in installed.builds:
         program = installed.compile(source, *flags, is_static=is_static)
         if program:
             yield program
@@ -184,6 +216,7 @@ def check_status_names(installed):
 def check_cplusplus(installed):
     """The header is C++, too. A C++ program links the libraries."""
     if not shutil.which("c++"):
+        print(f"left out: the header as C++: {packages.lack('c++')}", flush=True)
         return
     source = installed.folder / "program.cc"
     body = "wlb_hub hub = WLB_EMPTY;\n    return wlb_hub_advance(&hub) - WLB_NO_HANDLE;\n"
@@ -199,9 +232,58 @@ def check_names(installed):
     """The libraries make visible what the header declares, and nothing else."""
     for name in LIBRARIES:
         for file, flags in [(f"lib{name}.so", ["-D"]), (f"lib{name}.a", ["-g"])]:
-            words = ["nm", *flags, "--defined-only", "--format=posix", installed.prefix / "lib" / file]
+            words = ["nm", *flags, "--defined-only", "--format=posix", installed.plain / file]
             found = [line.split()[0] for line in run(words).stdout.splitlines() if len(line.split()) > 2]
-            same_names(file, "visible names", found, functions_of(name))
+            same_names(file, "visible names", found, [*functions_of(name), BUILD_FUNCTION])
+
+
+def check_build(installed):
+    """Each way to link one library or both, also with all of their objects, gives a program that says how they were built."""
+    source = installed.folder / "says_build.c"
+    source.write_text("#include <stdio.h>\n#include <wlb.h>\nint main(void) {\n    puts(wlb_build());\n    return 0;\n}\n", encoding="utf-8")
+    archives = [installed.tested / f"lib{name}.a" for name in LIBRARIES]
+    shared = ["-L", installed.tested, *(f"-l{name}" for name in LIBRARIES)]
+    whole = ["-Wl,--whole-archive", *archives, "-Wl,--no-whole-archive"]
+    for words in [shared, archives, archives[:1], archives[1:], whole, [*shared[:3], archives[1]]]:
+        program = installed.folder / "says_build"
+        ran = run(["cc", *FLAGS, *installed.always, "-o", program, source, *installed.pkg_config("--cflags"), *words])
+        same(f"cc says_build.c {' '.join(map(str, words))}", "standard error", ran.stderr, "")
+        if ran.returncode == 0:
+            ends("the program with wlb_build", installed.play(program), f"{installed.says}\n")
+
+
+def check_claims(installed):
+    """`library.py` builds of no archive that its proof does not fit, and installs no unproved libraries unless it is told to."""
+    tool, prefix = [sys.executable, TOOLS / "library.py", "--prefix", installed.folder / "claimed"], installed.folder / "claimed"
+    if installed.says.startswith(UNPROVED):
+        same("library.py install", "the status over unproved libraries", run([*tool, "install", installed.plain]).returncode, 1)
+        same("library.py install", "whether it has installed them", prefix.exists(), False)
+        same("library.py install --unproved", "the status", run([*tool, "install", "--unproved", installed.plain]).returncode, 0)
+        return
+    taken = installed.folder / "archives"
+    taken.mkdir()
+    for name, folder in itertools.product(LIBRARIES, installed.archives):
+        for file in folder.glob(f"*{name}.*"):
+            shutil.copy(file, taken)
+    same("library.py build", "the status", run([*tool, "build", prefix, taken]).returncode, 0)
+    with open(taken / f"lib{LIBRARIES[0]}.a", "ab") as archive:
+        archive.write(b"\n")
+    same("library.py build", "the status over another archive than the proved one", run([*tool, "build", prefix / "wrong", taken]).returncode, 1)
+    same("library.py build", "whether it has built", (prefix / "wrong").exists(), False)
+
+
+def check_sanitizer(installed):
+    """The address sanitizer is in unproved libraries: it finds a write of the hub to memory that the caller has freed."""
+    if not installed.says.startswith(UNPROVED):
+        return
+    source = installed.folder / "freed.c"
+    body = "wlb_hub hub = WLB_EMPTY;\n    wlb_hub_numbers *numbers = malloc(sizeof *numbers);\n    free(numbers);\n"
+    body += "    return wlb_hub_new(&hub) == WLB_OK ? wlb_hub_status(&hub, numbers) : 2;\n"
+    source.write_text(f"#include <stdlib.h>\n#include <wlb.h>\nint main(void) {{\n    {body}}}\n", encoding="utf-8")
+    program = installed.compile(source, "-Wno-use-after-free", is_static=True)
+    if program:
+        said = installed.play(program).stderr
+        same("the program that passes freed memory", "what the sanitizer finds", re.findall("ERROR: AddressSanitizer: ([a-z-]+)", said), ["heap-use-after-free"])
 
 
 # ---- The programs
@@ -245,8 +327,7 @@ def check_refused(installed):
 def check_readme(installed):
     """The program in README.md is whole."""
     source = installed.folder / "tab.c"
-    readme = (TOP / "README.md").read_text(encoding="utf-8")
-    source.write_text(readme.partition("```c\n")[2].partition("```")[0], encoding="utf-8")
+    source.write_text(readme_block("c"), encoding="utf-8")
     program = installed.compile(source)
     if program:
         ends("the program in README.md", installed.play(program), "tab 1 holds the lock db\n")
@@ -254,7 +335,7 @@ def check_readme(installed):
 
 def check_vectors(installed):
     """Hub and client speak as the test vectors of the protocol say."""
-    ran = run([sys.executable, TOOLS / "check_vectors.py", "--libraries", installed.prefix / "lib"])
+    ran = run([sys.executable, TOOLS / "check_vectors.py", "--libraries", installed.plain])
     differences.extend(ran.stdout.splitlines())
     same("check_vectors.py", "standard error", ran.stderr, "")
 
@@ -265,7 +346,7 @@ def check_refused_calls(installed):
     folder.mkdir()
     for name in LIBRARIES:
         words = ["cc", *FLAGS, "-fPIC", "-shared", "-o", folder / f"lib{name}.so", TOOLS / "refuse_numbered.c"]
-        archive = installed.prefix / "lib" / f"lib{name}.a"
+        archive = installed.plain / f"lib{name}.a"
         ran = run([*words, "-Wl,--wrap=malloc,--wrap=realloc", "-Wl,--whole-archive", archive, "-Wl,--no-whole-archive"])
         same(f"cc refuse_numbered.c lib{name}.a", "standard error", ran.stderr, "")
     words = ["--all"] if installed.refuses_all else []
@@ -301,12 +382,24 @@ def check_fuzz_finds(installed):
         same(f"fuzz_library {part} over the wrong library {wrong}", "the status", ran.returncode, status)
 
 
+def fails(check, installed):
+    """Plays a check, prints its differences, and returns whether there are any."""
+    differences.clear()
+    check(installed)
+    for difference in differences:
+        print(difference, flush=True)
+    return bool(differences)
+
+
 CHECKS = [
     check_limits,
     check_statuses,
     check_status_names,
     check_cplusplus,
     check_names,
+    check_build,
+    check_claims,
+    check_sanitizer,
     check_readme,
     check_in_process,
     check_browser,
@@ -322,6 +415,7 @@ CHECKS = [
 def main():
     parser = argparse.ArgumentParser(description=__doc__, formatter_class=argparse.RawDescriptionHelpFormatter)
     parser.add_argument("archives", metavar="ARCHIVES", type=argument_types.folder, nargs="*", help="a folder with static libraries")
+    parser.add_argument("--unproved", metavar="FOLDER", type=argument_types.folder, help="take the libraries of `tools/unproved.py --sanitize`")
     parser.add_argument("--only", metavar="WORD", default="", help="run only the checks whose names contain this word")
     parser.add_argument("--megabytes", metavar="N", type=argument_types.amount, default=10, help="megabytes that hub and client each receive (10)")
     parser.add_argument("--seed", metavar="SEED", type=argument_types.number(0), default=1, help="the number from which the bytes are drawn")
@@ -336,14 +430,12 @@ def main():
     # A signal that ends the tool also removes its folder.
     signal.signal(signal.SIGTERM, lambda *_: sys.exit(1))
     with tempfile.TemporaryDirectory(prefix="wlb-") as folder:
-        installed = Installed(folder, given.archives)
+        installed = Unproved(folder, given.unproved.absolute()) if given.unproved else Installed(folder, given.archives)
         installed.megabytes, installed.seed, installed.is_told = given.megabytes, given.seed, given.tell
         installed.refuses_all = given.all
-        for check in chosen:
-            check(installed)
-    for difference in differences:
-        print(difference)
-    sys.exit(1 if differences else 0)
+        failed = sum(fails(check, installed) for check in chosen)
+    print(f"{len(chosen) - failed} passed, {failed} failed")
+    sys.exit(1 if failed else 0)
 
 
 if __name__ == "__main__":

@@ -6,6 +6,7 @@ import subprocess
 import sys
 
 import argument_types
+import rlibs
 
 SECONDS = 60
 
@@ -36,6 +37,12 @@ class Ended:
 
 def bytes_of(*frames):
     return bytes.fromhex("".join(frames))
+
+
+def readme_block(language):
+    """Returns the first program of this language in README.md."""
+    readme = (rlibs.TOP / "README.md").read_text(encoding="utf-8")
+    return readme.partition(f"```{language}\n")[2].partition("```")[0]
 
 
 def same(name, what, found, wanted):

@@ -97,7 +97,7 @@ class Tried:
     def runs(self, word, inputs):
         """Runs the program on each input, and returns the results."""
         argument_types.need_command("rt", "install the Rattle kit, or give a built program as PROGRAM")
-        say("`rt try` compiles the program and proves nothing; `make test` proves it.")
+        say("`rt try` compiles the program and proves nothing; `make verify` proves it.")
         start, results = time.monotonic(), None
         with tempfile.TemporaryDirectory(prefix="wlb-demo-") as place:
             room = pathlib.Path(place)

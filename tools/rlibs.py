@@ -1,6 +1,7 @@
 """Built libraries (rlibs) of the crates, as `rt ci` or `rt lib` has left them in this checkout."""
 
 import pathlib
+import re
 import subprocess
 import sys
 
@@ -13,9 +14,22 @@ PARTS = ("src", "specs", "proofs")
 
 def kit_folder():
     """Returns the folder of the kit: that of its first document."""
-    argument_types.need_command("rt", "the Rattle kit has it")
+    argument_types.need_command("rt", "install the Rattle kit that README.md names")
     said = subprocess.run(["rt", "doc"], capture_output=True, text=True, check=True).stdout
     return pathlib.Path(said.splitlines()[0]).parent
+
+
+def kit_line():
+    """Returns what `rt version` prints: the kit's name, and the sum of its logic behind the word `logic`."""
+    argument_types.need_command("rt", "install the Rattle kit that README.md names")
+    return subprocess.run(["rt", "version"], capture_output=True, text=True, check=True).stdout.strip()
+
+
+def tell_other_logic():
+    """Prints a line if the kit has another logic than the one that README.md names."""
+    wanted = re.search(r"`logic (\w+)`", (TOP / "README.md").read_text(encoding="utf-8"))[1]
+    if kit_line().split()[-1] != wanted:
+        print(f"the kit `{kit_line()}` has not the logic {wanted}: it may refuse the proofs. Install a kit of this logic", file=sys.stderr)
 
 
 def listed():
@@ -73,7 +87,7 @@ def build_missing(names):
     missing = [library for library in needed if not is_left_by_gate(library)]
     if not missing:
         return
-    argument_types.need_command("rt", "the Rattle kit has it")
+    argument_types.need_command("rt", "install the Rattle kit that README.md names")
     print(f"builds {len(needed)} libraries first, since `rt ci` has not left {' '.join(missing)}", file=sys.stderr, flush=True)
     for library in needed:
         ran = subprocess.run(["rt", "lib"], cwd=TOP / "crates" / library, stdout=subprocess.DEVNULL, check=False)

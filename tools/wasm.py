@@ -18,6 +18,7 @@ import sys
 import tempfile
 
 import argument_types
+from archive import proof_of
 from rlibs import TOP, kit_folder
 from library import functions_of
 from lower import lower
@@ -44,9 +45,11 @@ def run(*words, **how):
 
 
 def module_of(name, folders):
-    """Returns the LLVM module of a library, which lies beside its archive."""
+    """Returns the LLVM module of a library, which lies beside its archive. Ends the tool if it is not that of a proof."""
     for folder in folders:
         module = folder / f"{name}.bc"
+        if module.is_file() and not proof_of(name, folder):
+            sys.exit(f"wasm: {module} is not the module of a proof {name}.proof beside it: `python3 tools/archive.py {name}` proves and builds it")
         if module.is_file():
             return module
     sys.exit(f"wasm: no {name}.bc in {' '.join(map(str, folders))}: `python3 tools/archive.py {name}` makes it")
