@@ -1,42 +1,30 @@
-"""Runs a script of the JavaScript package with Node. Prints the reason if this machine cannot run it.
+"""Runs a script of the JavaScript package with Node, if this machine has it.
 
-It needs Node of version 20 or later, and the modules that `make wasm` writes. The status is that of the script, or 0 if it is left out.
+It needs Node of version 20 or later. The status is that of the script, or 0 if it is left out. Then the tool prints the reason.
 """
 
 import argparse
 import os
 import pathlib
-import re
-import shutil
 import subprocess
 import sys
 
 import argument_types
+from packages import OLDEST_NODE as OLDEST
+from packages import hint, node_version
 
 TOP = pathlib.Path(__file__).resolve().parent.parent
-OLDEST = 20
+NO_NODE = f"there is no `node` of version {OLDEST} or later: {hint('node')}"
 
 
-def left_out(why):
-    print(f"js: {why}", flush=True)
-
-
-def node_version():
-    """Returns the first number of Node's version, or 0 if there is no Node."""
-    if not shutil.which("node"):
-        return 0
-    ran = subprocess.run(["node", "--version"], capture_output=True, text=True, check=False)
-    found = re.match(r"v(\d+)\.", ran.stdout)
-    return int(found[1]) if found else 0
+def left_out(what, why):
+    print(f"left out: {what}: {why}", flush=True)
 
 
 def run(program, script, *words):
     """Runs a script of `js/lab` with PROGRAM as the program `wlb`, and returns the status."""
     if node_version() < OLDEST:
-        left_out(f"{script} is left out: there is no `node` of version {OLDEST} or later")
-        return 0
-    if not (TOP / "js" / "dist" / "wlb_hub32.wasm").exists():
-        left_out(f"{script} is left out: there is no js/dist/wlb_hub32.wasm: `make wasm` makes it")
+        left_out(f"js/lab/{script}", NO_NODE)
         return 0
     environment = {**os.environ, "WLB_PROGRAM": os.path.abspath(program)}
     return subprocess.run(["node", TOP / "js" / "lab" / script, *words], env=environment, check=False).returncode

@@ -14,7 +14,7 @@
 import fs from 'node:fs';
 import path from 'node:path';
 import { commandLine } from '../lab/command_line.js';
-import { sleep } from '../lab/kernel.js';
+import { needProgram, sleep } from '../lab/kernel.js';
 import { FOLDERS, HOSTS, RUN, SKIP } from './plan.js';
 
 const text = { type: 'string' }, flag = { type: 'boolean', default: false };
@@ -23,9 +23,10 @@ const { values: options, positionals: [suite] } = commandLine(import.meta.url, {
   seed: { ...text, default: '1' }, timeout: { ...text, default: '20000' }, quiet: flag,
 }, true);
 if (!suite || !fs.existsSync(path.join(suite, 'resources/testharness.js'))) {
-  console.error('conformance: give the folder of the web-platform-tests: the one with `resources/testharness.js`');
+  console.error('conformance: give the folder of the web-platform-tests that has resources/testharness.js: docs/CONFORMANCE.md says where it is');
   process.exit(2);
 }
+if (options.processes) needProgram();
 const Place = options.processes ? (await import('./processes.js')).Processes : (await import('./threads.js')).Threads;
 
 // A linear congruential generator, so that a seed gives the same moments again.

@@ -12,7 +12,7 @@ function headOf(script) {
 /**
  * Returns the options and the other words of the command line, as `parseArgs` does. With `--help` it prints the head of the script, and
  * ends. If words are wrong, it prints the reason behind the head, and ends with the status 2. Call it before the modules are imported
- * that need `make wasm`.
+ * that read `js/dist`.
  */
 export function commandLine(script, options, allowPositionals = false) {
   let words;

@@ -21,14 +21,17 @@ export const sleep = ms => new Promise(resolve => setTimeout(resolve, ms));
 const within = (promise, ms) => Promise.race([promise, sleep(ms).then(() => LATE)]);
 const quoted = text => `'${text.replaceAll("'", "'\\''")}'`;
 
-const PROGRAM = path.resolve(process.env.WLB_PROGRAM ?? built);
+/** The program: WLB_PROGRAM, or crates/wlb/out/wlb. If WLB_PROGRAM is empty, there is none. */
+export const program = process.env.WLB_PROGRAM === '' ? null : path.resolve(process.env.WLB_PROGRAM ?? built);
 
-/** Returns whether the program exists: WLB_PROGRAM, or crates/wlb/out/wlb. */
-export const hasProgram = () => fs.existsSync(PROGRAM);
+/** The reason why processes of `wlb kernel` cannot run, or false. */
+export const noProgram = program && fs.existsSync(program) ? false : 'there is no program `wlb`: run `make build`, or set WLB_PROGRAM';
 
-function program() {
-  if (!hasProgram()) throw new Error(`there is no ${PROGRAM}: run \`make test\`, or set WLB_PROGRAM`);
-  return PROGRAM;
+/** Ends the script with that reason if there is one. */
+export function needProgram() {
+  if (!noProgram) return;
+  console.error(noProgram);
+  process.exit(1);
 }
 
 /** Returns whether this process has the path among its arguments. Another process may have got its number. */
@@ -67,7 +70,7 @@ export class Kernel {
       `tab) exec ${quoted(process.execPath)} ${quoted(fileURLToPath(script))} "$@" ;;`,
       `broker) echo $$ >> ${quoted(this.#file('brokers'))} ;;`,
       'esac',
-      `exec ${quoted(program())} "$@"`, '',
+      `exec ${quoted(program)} "$@"`, '',
     ].join('\n'), { mode: 0o700 });
     const lines = opens.flatMap(({ url, top, data, pause }, id) => {
       const file = this.#file(`tab${id}`);
@@ -78,7 +81,7 @@ export class Kernel {
     fs.writeFileSync(this.#file('script'), ['start', ...lines, 'join', ''].join('\n'));
     this.#server = net.createServer(socket => this.#serve(socket)).listen(this.#file('control'));
     const options = ['--dir', stage, '--lanes', `${lanes}`, '--shards', `${shards}`, '--limit', `${limit}`];
-    this.#child = spawn(program(), ['kernel', ...options, this.#file('script')], { argv0: wrapper, stdio: ['ignore', 'pipe', 'pipe'] });
+    this.#child = spawn(program, ['kernel', ...options, this.#file('script')], { argv0: wrapper, stdio: ['ignore', 'pipe', 'pipe'] });
     for (const name of ['stdout', 'stderr']) this.#child[name].setEncoding('utf8').on('data', text => { this.#texts[name] += text; });
     const stop = () => this.#child.kill('SIGKILL');
     process.on('exit', stop);

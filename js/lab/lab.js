@@ -10,7 +10,7 @@ export const modules = process.env.WLB_MODULES ?? fileURLToPath(new URL('../dist
 function module(name) {
   const file = path.join(modules, name);
   if (!fs.existsSync(file)) {
-    console.error(`there is no ${file}: run \`make wasm\``);
+    console.error(`there is no ${file}: \`git checkout js/dist\` restores the committed modules`);
     process.exit(1);
   }
   return new WebAssembly.Module(fs.readFileSync(file));

@@ -11,6 +11,7 @@
 // ended otherwise than it should. With --wrong it is 1 if that was not noticed.
 
 import { commandLine } from './command_line.js';
+import { needProgram } from './kernel.js';
 
 const text = value => ({ type: 'string', default: value }), flag = { type: 'boolean', default: false };
 const { values } = commandLine(import.meta.url, {
@@ -18,6 +19,7 @@ const { values } = commandLine(import.meta.url, {
 });
 const numbers = Object.fromEntries(['seconds', 'tabs', 'kill'].map(key => [key, Number(values[key])]));
 const options = { ...numbers, seed: values.seed, restart: Number(values.restart || (values.processes ? 200 : 40)), patience: 20000 };
+if (values.processes) needProgram();
 const soak = values.processes ? (await import('./soak_processes.js')).soakProcesses : (await import('./soak_threads.js')).soakThreads;
 
 /** Plays clients that are wrong, and returns whether that was noticed. */

@@ -22,7 +22,7 @@ import { fileURLToPath } from 'node:url';
 import { MessageChannel, Worker } from 'node:worker_threads';
 import { Host, connect, linkPair, portLink } from '../src/index.js';
 import { commandLine } from './command_line.js';
-import { Kernel, hasProgram } from './kernel.js';
+import { Kernel, noProgram } from './kernel.js';
 import { measure } from './speed_loop.js';
 
 const { values } = commandLine(import.meta.url, { rounds: { type: 'string', default: '2000' }, runs: { type: 'string', default: '5' } });
@@ -137,7 +137,7 @@ function installed(names) {
 }
 
 const places = new Map([['one thread', oneThread], ['threads', threads]]);
-if (hasProgram()) places.set('processes', processes);
+if (!noProgram) places.set('processes', processes);
 else console.log('locks: there is no program `wlb`: processes are left out');
 const browsers = [];
 for (const [name, [programs, words]] of Object.entries(BROWSERS)) {

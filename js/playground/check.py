@@ -1,7 +1,6 @@
 """Plays the stories of the playground in headless Chromium (Debian's package), and compares what the page shows at their ends.
 
-Run it at the top of the repository, after `make wasm`. `--screenshot FILE` keeps a picture of the story `restart`, of the size
-`--size`: 1280,900 or for instance that of a phone, 390,844.
+`--screenshot FILE` keeps a picture of the story `restart`, of the size `--size`: 1280,900 or for instance that of a phone, 390,844.
 """
 
 import argparse
@@ -10,6 +9,7 @@ import html
 import http.server
 import pathlib
 import re
+import shutil
 import subprocess
 import sys
 import tempfile
@@ -36,7 +36,9 @@ def chromium(url, *words):
     """Returns what Chromium prints. It has an hour of its own time for the page, which passes at once if nothing happens."""
     with tempfile.TemporaryDirectory() as profile:
         flags = ["--headless=new", "--no-sandbox", "--disable-gpu", f"--user-data-dir={profile}", "--virtual-time-budget=3600000"]
-        ran = subprocess.run(["chromium", *flags, *words, url], capture_output=True, text=True, timeout=120, check=True)
+        ran = subprocess.run(["chromium", *flags, *words, url], capture_output=True, text=True, timeout=120, check=False)
+    if ran.returncode:
+        sys.exit(f"playground: chromium has failed with status {ran.returncode}: {ran.stderr.strip()[-300:]}")
     return ran.stdout
 
 
@@ -55,6 +57,8 @@ def main():
     parser.add_argument("--screenshot", metavar="FILE", type=pathlib.Path, help="where to keep a picture")
     parser.add_argument("--size", metavar="WIDTH,HEIGHT", default="1280,900", help="the size of the picture")
     given = parser.parse_args()
+    if not shutil.which("chromium"):
+        sys.exit("playground: there is no command `chromium`: install Debian's package chromium")
     server = http.server.ThreadingHTTPServer(("127.0.0.1", 0), functools.partial(Quiet, directory=TOP))
     threading.Thread(target=server.serve_forever, daemon=True).start()
     url = f"http://127.0.0.1:{server.server_port}/js/playground/?story="

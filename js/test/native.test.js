@@ -1,8 +1,8 @@
 // The modules against the native libraries: hub and clients play random operations, and each status, frame and event is compared.
-// `make lib` builds the libraries in the folder `build`; WLB_LIBRARIES names another folder.
+// `make lib` builds the libraries in the folder `build`. WLB_LIBRARIES names another folder, or none if it is empty.
 
 import assert from 'node:assert/strict';
-import { execFileSync } from 'node:child_process';
+import { execFileSync, spawnSync } from 'node:child_process';
 import fs from 'node:fs';
 import os from 'node:os';
 import path from 'node:path';
@@ -13,7 +13,12 @@ import { play } from '../lab/play.js';
 const top = fileURLToPath(new URL('../..', import.meta.url));
 const libraries = process.env.WLB_LIBRARIES ?? path.join(top, 'build');
 const archives = ['libwlb_hub.a', 'libwlb_client.a'].map(name => path.join(libraries, name));
-const skip = archives.every(file => fs.existsSync(file)) ? false : `there is no ${archives.join(' or ')}: run \`make lib\``;
+
+/** Returns the reason why the libraries cannot be linked, or false. */
+function noLibraries() {
+  if (!libraries || !archives.every(file => fs.existsSync(file))) return 'there are no C libraries: run `make lib`, or set WLB_LIBRARIES';
+  return spawnSync('cc', ['--version']).error ? 'there is no C compiler `cc`' : false;
+}
 
 /** Random operations that stay the same for a seed. */
 function operations(seed, count) {
@@ -45,7 +50,7 @@ function operations(seed, count) {
   return list;
 }
 
-test('modules and native libraries give the same bytes', { skip }, async () => {
+test('modules and native libraries give the same bytes', { skip: noLibraries() }, async () => {
   const folder = fs.mkdtempSync(path.join(os.tmpdir(), 'wlb-native-'));
   try {
     const program = path.join(folder, 'native');

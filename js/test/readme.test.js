@@ -7,12 +7,11 @@ import os from 'node:os';
 import path from 'node:path';
 import test from 'node:test';
 import { fileURLToPath } from 'node:url';
-import { hasProgram } from '../lab/kernel.js';
+import { noProgram, program } from '../lab/kernel.js';
 import { modules } from '../lab/lab.js';
 
 const here = fileURLToPath(new URL('..', import.meta.url));
 const readme = fs.readFileSync(path.join(here, 'README.md'), 'utf8');
-const program = path.resolve(process.env.WLB_PROGRAM ?? path.join(here, '../crates/wlb/out/wlb'));
 
 /** The files in a section of the README: each block begins with a comment that has its name. */
 function filesOf(section) {
@@ -41,7 +40,7 @@ function folderOf(t, section) {
 
 function run(folder, command) {
   const ran = spawnSync('bash', ['-c', command], {
-    cwd: folder, encoding: 'utf8', timeout: 30000, env: { ...process.env, PATH: `${path.dirname(program)}:${process.env.PATH}` },
+    cwd: folder, encoding: 'utf8', timeout: 30000, env: { ...process.env, PATH: program ? `${path.dirname(program)}:${process.env.PATH}` : process.env.PATH },
   });
   assert.deepEqual([ran.status, ran.stderr], [0, '']);
   return ran.stdout.split('\n').filter(Boolean);
@@ -54,12 +53,10 @@ function checkTurns(lines) {
   for (const name of ['one', 'two']) assert.equal(lines.filter(line => line === `${name} begins`).length, 3);
 }
 
-const skip = hasProgram() ? false : 'there is no program `wlb`: run `make test`, or set WLB_PROGRAM';
-
 test('the example at the top of the repository', t => {
-  const folder = installed(t, 'js'), text = fs.readFileSync(path.join(here, '../README.md'), 'utf8');
+  const folder = installed(t, 'node_modules/wlb'), text = fs.readFileSync(path.join(here, '../README.md'), 'utf8');
   fs.writeFileSync(path.join(folder, 'lock.mjs'), /^```js\n([\s\S]*?)^```$/m.exec(text)[1]);
-  assert.deepEqual(run(folder, 'node lock.mjs'), ['tab 1 holds the lock db']);
+  assert.deepEqual(run(folder, 'node lock.mjs').sort(), ['one holds the lock db', 'two holds the lock db']);
 });
 
 test('two threads', t => checkTurns(run(folderOf(t, 'Two threads'), 'node main.mjs')));
@@ -79,7 +76,7 @@ test('a second host ends, and a host that was killed has a successor', t => {
   assert.deepEqual(lines, [...turns(1), 'EADDRINUSE', ...turns(1), ...turns(2)]);
 });
 
-test('two processes under wlb kernel', { skip }, t => {
+test('two processes under wlb kernel', { skip: noProgram }, t => {
   const folder = folderOf(t, 'Two processes'), [, commands] = /^((?: {4}.*\n)+)(?=\nAfter `tab\.close)/m.exec(readme);
   const lines = run(folder, commands), isKernel = line => /^(up|opened|ended) /.test(line);
   const opened = [1, 2].map(tab => `opened ${tab} https://app.example`);

@@ -5,9 +5,7 @@ import { execFile } from 'node:child_process';
 import test from 'node:test';
 import { fileURLToPath } from 'node:url';
 import { promisify } from 'node:util';
-import { hasProgram } from '../lab/kernel.js';
-
-const skip = hasProgram() ? false : 'there is no program `wlb`: run `make test`, or set WLB_PROGRAM';
+import { noProgram } from '../lab/kernel.js';
 
 async function soak(...words) {
   const script = fileURLToPath(new URL('../lab/soak.js', import.meta.url));
@@ -19,7 +17,7 @@ test('threads, kills and restarts at random', async () => {
   assert.match(await soak('--seconds', '4'), /^[1-9]\d* sections, .* [1-9]\d* restarts, [1-9]\d* killed tabs$/m);
 });
 
-test('processes, kills and restarts at random', { skip }, async () => {
+test('processes, kills and restarts at random', { skip: noProgram }, async () => {
   assert.match(await soak('--processes', '--seconds', '4'), /^[1-9]\d* sections, .* [1-9]\d* restarts, [1-9]\d* killed tabs$/m);
 });
 

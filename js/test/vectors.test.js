@@ -8,7 +8,9 @@ import '../lab/lab.js';
 
 const top = fileURLToPath(new URL('../..', import.meta.url));
 
-test('the client speaks as the test vectors of the protocol say', () => {
+const skip = spawnSync('python3', ['--version']).error ? 'there is no command `python3`' : false;
+
+test('the client speaks as the test vectors of the protocol say', { skip }, () => {
   const { stdout, stderr, status } = spawnSync('python3', ['tools/check_vectors.py', '--client', 'node js/lab/vectors.js'], { cwd: top });
   assert.deepEqual([`${stdout}`, `${stderr}`, status], ['', '', 0]);
 });
