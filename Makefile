@@ -1,5 +1,6 @@
 # Shows, measures and tests `wlb`. `make` alone lists the targets.
-.PHONY: help demo try build demo-processes lib install wasm js-test conformance bench soak fuzz refuse mutants test
+.PHONY: help demo try quick test changed build demo-processes lib install wasm js-test conformance verify mutants refuse bench soak fuzz \
+	packages dist
 
 WLB = crates/wlb/out/wlb
 BENCH = crates/bench_core/out/bench_core
@@ -9,7 +10,7 @@ CLIENT = crates/wlb_client/out/libwlb_client.a
 # Ends a target if there is no command $(1). The text $(2) says where to get it.
 need = @command -v $(1) > /dev/null || { echo "make $@: there is no command $(1): $(2)" >&2; exit 1; }
 need_rt = $(call need,rt,install the Rattle kit)
-proving = @echo "Building $@. This proves each crate below it that has no proof in this checkout yet: processor-hours for all of them."
+proving = @echo "Building $@. This proves each crate below it that has no proof in this checkout yet: processor-hours for all of them. \`make quick\` compiles without proofs."
 need_node = $(call need,node,install Node of version 20 or later)
 
 help: ## lists the targets
@@ -23,6 +24,19 @@ demo: ## plays EXAMPLE, a script or frames: with the built program if it is up t
 
 try: ## plays EXAMPLE, always compiled with nothing proved
 	@python3 tools/demo.py $(EXAMPLE)
+
+UNPROVED_BUILD = build/unproved
+
+quick: ## compiles the C libraries and the WebAssembly modules in minutes, with nothing proved, in build/unproved
+	@python3 tools/unproved.py $(UNPROVED_BUILD)
+
+test: ## compiles and runs all tests, with nothing proved: at most ten minutes on two processors
+	@python3 tools/gate.py test
+
+BASE ?=
+
+changed: ## checks the crates that differ from BASE (the last commit) and those above them, and runs their tests
+	@python3 tools/changed.py $(if $(BASE),--base $(BASE))
 
 build: $(WLB) ## proves and builds the program, crates/wlb/out/wlb
 
@@ -39,15 +53,16 @@ ARCHIVES ?=
 lib: $(if $(ARCHIVES),,$(HUB) $(CLIENT)) ## builds the C libraries in the folder BUILD
 	python3 tools/library.py --prefix $(PREFIX) build $(BUILD) $(or $(ARCHIVES),$(dir $(HUB) $(CLIENT)))
 
-install: lib ## installs the header and the C libraries under PREFIX
-	python3 tools/library.py --prefix $(PREFIX) install --destdir "$(DESTDIR)" $(BUILD)
+# Not empty: `make install` takes the libraries of `make quick`.
+UNPROVED ?=
 
-MODULES = js/dist
+install: $(if $(UNPROVED),quick,lib) ## installs the header and the C libraries under PREFIX; with UNPROVED=1 those of `make quick`
+	python3 tools/library.py --prefix $(PREFIX) install --destdir "$(DESTDIR)" $(if $(UNPROVED),--unproved $(UNPROVED_BUILD),$(BUILD))
 
-wasm: $(if $(ARCHIVES),,$(HUB) $(CLIENT)) ## builds the WebAssembly modules of the JavaScript package in the folder `js/dist`
-	python3 tools/wasm.py $(MODULES) $(or $(ARCHIVES),$(dir $(HUB) $(CLIENT)))
+wasm: $(if $(ARCHIVES),,$(HUB) $(CLIENT)) ## proves, and renews the WebAssembly modules of the JavaScript package in the folder js/dist
+	python3 tools/modules.py renew $(or $(ARCHIVES),$(dir $(HUB) $(CLIENT)))
 
-js-test: ## runs the tests of the JavaScript package, over the results of `make wasm`, `make lib` and `make build`
+js-test: ## runs the tests of the JavaScript package, and names each that it skips
 	$(need_node)
 	node --test js/test/*.test.js
 
@@ -58,7 +73,7 @@ conformance: ## runs the web-platform-tests of the folder WPT over the JavaScrip
 	$(need_node)
 	node js/conformance/run.js $(CONFORMANCE) "$(WPT)"
 
-bench: $(WLB) $(BENCH) lib ## measures scripts, the broker, lock tables, the board, lanes, processes, the C libraries and JavaScript
+bench: $(WLB) $(BENCH) lib ## measures scripts, the broker, the lock table, lanes, processes, the C libraries and JavaScript
 	python3 tools/bench.py --build $(BUILD) $(WLB) $(BENCH)
 
 MINUTES ?= 10
@@ -89,21 +104,14 @@ mutants: ## kills the mutants of CRATES, or of all crates
 	$(need_rt)
 	python3 tools/mutants.py $(CRATES)
 
-test: ## the gate: proves every crate, kills mutants, runs every test and the program itself
-	$(need_rt)
-	@python3 tools/mutants.py --fit
-	@python3 tools/definitions.py --check
-	@python3 tools/check_documents.py
-	RT_JOBS=$${RT_JOBS:-$$(nproc)} rt ci
-	@python3 tools/mutants.py --gate
-	@python3 tools/refuse.py --gate
-	@python3 tools/check_program.py $(WLB)
-	@python3 tools/check_vectors.py --program $(WLB)
-	@python3 tools/chart.py --check --program $(WLB)
-	@python3 tools/check_sim.py $(WLB)
-	@python3 tools/check_processes.py $(WLB)
-	@python3 tools/check_library.py $(ARCHIVES)
-	@python3 tools/check_js.py $(WLB) $(or $(ARCHIVES),$(dir $(HUB) $(CLIENT)))
+verify: ## the gate: proves every crate from nothing, tries wrong bodies, and tests all that was proved: processor-hours
+	@python3 tools/gate.py verify
+
+packages: ## installs the Debian packages that optional steps use
+	@python3 tools/packages.py
+
+dist: $(if $(ARCHIVES),,$(HUB) $(CLIENT)) ## makes the files of a release in build/dist, from a proved tree
+	@python3 tools/dist.py $(if $(ARCHIVES),--archives $(ARCHIVES))
 
 $(WLB): crates.txt $(wildcard crates/*/src/*.rt crates/*/src/*/*.rt crates/*/specs/*.antt)
 	$(need_rt)

@@ -19,7 +19,7 @@ LINK = re.compile(r"\]\(([^)\s]+)\)")
 # A path from the top of the repository, from the document's folder, or from `crates`.
 PATH = re.compile(r"(?<![\w/.-])((?:crates|docs|examples|include|js|mutants|tools|vectors|wlb?_\w+)/[\w./-]*\w)")
 # A placeholder such as NAME, or a folder that the build makes.
-NOT_KEPT = re.compile(r"[A-Z]{3}|/(?:out|dist)\b")
+NOT_KEPT = re.compile(r"[A-Z]{3}|/out\b")
 # In code, a target follows `make` at the head of a line; in text, in backticks.
 TARGET = re.compile(r"^\s*make ([a-z][a-z-]*)")
 QUOTED_TARGET = re.compile(r"`make ([a-z][a-z-]*)")

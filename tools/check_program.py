@@ -35,6 +35,14 @@ HANDED_OVER = [
     "00000013 01 22 0001 01 11 00000001 00000002 00000001 04",
     "00000013 01 22 0002 01 11 00000001 00000001 00000000 02",
 ]
+# Tab 1 is listed and dies before it reports. So the desk drops the first request of tab 2, grants it when it is sent again, and then
+# answers a query.
+LISTED_TAB = "0000000C 01 21 00000001 0001 0001 0001"
+GREETING = "0000000A 01 22 0001 01 10 00000001"
+DEATH = "00000004 01 23 0001"
+SECOND_GRANT = "00000013 01 22 0002 01 11 00000001 00000001 00000000 02"
+QUERY = "00000011 01 20 0002 0001 01 01 00000001 00000001 04"
+SNAPSHOT = "0000001A 01 22 0002 01 12 00000001 00000001 0000 0001 0001 01 0002 02 01 61"
 
 # The count of requests and releases, and the length of an answer in bytes.
 TIMES = 1_000_000
@@ -75,8 +83,10 @@ def check_at_once(program):
     """Desk and sim answer all that they have read before they read on, so a peer that waits for each answer gets it."""
     frames = [([START, REPORT, REQUEST], [GRANT]), (SECOND, [WAITING]), ([RELEASE], HANDED_OVER)]
     frames = [(bytes_of(*sent), bytes_of(*answer)) for sent, answer in frames]
+    recovery = [(LISTED_TAB, GREETING), (SECOND[0], ""), (SECOND[1], ""), (DEATH, ""), (SECOND[1], SECOND_GRANT), (QUERY, SNAPSHOT)]
+    recovery = [(bytes_of(sent), bytes_of(answer)) for sent, answer in recovery]
     lines = [(b"start -\n", b"up 1\n"), (b"stop\n", b"stopped 1\n"), (b"stop\n", b"already down\n")]
-    for word, turns in [("desk", frames), ("sim", lines)]:
+    for word, turns in [("desk", frames), ("desk", recovery), ("sim", lines)]:
         ran = subprocess.Popen([program, word], stdin=subprocess.PIPE, stdout=subprocess.PIPE, stderr=subprocess.PIPE)
         guard = threading.Timer(SECONDS, ran.kill)
         guard.start()

@@ -26,6 +26,7 @@ import tempfile
 
 import argument_types
 import jobs
+import packages
 
 HERE = os.path.dirname(os.path.abspath(__file__))
 TOP = os.path.dirname(HERE)
@@ -68,6 +69,7 @@ class Result:
 
 def build(place):
     """Compiles the library that refuses allocations, for a preload, and returns its path."""
+    argument_types.need_command("cc", packages.hint("cc"))
     library = os.path.join(place, "refuse.so")
     subprocess.run(["cc", "-O2", "-shared", "-fPIC", "-o", library, os.path.join(HERE, "refuse.c")], check=True)
     return library

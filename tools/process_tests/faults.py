@@ -7,6 +7,7 @@ import subprocess
 import tempfile
 import time
 
+import packages
 from checks import differences, same
 from demo_processes import processes_of
 from process_tests.stage import HOLDER, TAKER, TOOLS, Stage, ended, ends, is_soon, opened, opens, play, rounds
@@ -16,7 +17,7 @@ from process_tests.stage import HOLDER, TAKER, TOOLS, Stage, ended, ends, is_soo
 def fault(name):
     """Yields the environment in which a system call of the kernel fails, or None without a C compiler, which is a difference."""
     if not shutil.which("cc"):
-        differences.append(f"the fault {name!r} was not played: no `cc` to compile faults.c")
+        differences.append(f"the fault {name!r} was not played: no `cc` to compile faults.c: {packages.hint('cc')}")
         yield None
         return
     with tempfile.TemporaryDirectory() as folder:
