@@ -30,7 +30,7 @@ UNPROVED_BUILD = build/unproved
 quick: ## compiles the C libraries and the WebAssembly modules in minutes, with nothing proved, in build/unproved
 	@python3 tools/unproved.py $(UNPROVED_BUILD)
 
-test: ## compiles and runs all tests, with nothing proved: at most ten minutes on two processors
+test: ## compiles and runs all tests, with nothing proved: some ten minutes on two processors
 	@python3 tools/gate.py test
 
 BASE ?=

@@ -1,6 +1,6 @@
 """Runs `make test`, which proves nothing, or `make verify`, which proves everything.
 
-`test` compiles tests, libraries and program without a proof, and needs at most ten minutes on two processors. `verify` proves every
+`test` compiles tests, libraries and program without a proof, and takes some ten minutes on two processors. `verify` proves every
 crate from nothing, tries the wrong bodies, and runs all tests over the proved code. Both go on after a failure, name what they leave
 out and why, and end with a line `N passed, M failed`. CONTRIBUTING.md says what each step checks.
 """
