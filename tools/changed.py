@@ -35,7 +35,7 @@ TIMES = TOP / "build" / "check_seconds.json"
 QUIET = ("checked ", "statements ", "logic ", "crate ", "rt: chose ")
 
 
-# ---- What differs
+# ---- Differences
 
 
 def git(*words):
@@ -51,7 +51,7 @@ def entries(text):
 
 
 class Difference:
-    """What differs from a revision: crates, crates whose must-fail edits differ, and other files of crates."""
+    """Differences from a revision: crates, crates whose must-fail edits differ, and other files of crates."""
 
     def __init__(self, base, name=None):
         differing = git("diff", "--name-only", "--no-renames", "-z", base, "--", "crates")

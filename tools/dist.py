@@ -78,7 +78,7 @@ def git(*words):
     return output_of("git", *words, cwd=TOP)
 
 
-# ---- What is refused
+# ---- Refusals
 
 
 def refuse_other_machine():

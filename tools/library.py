@@ -28,7 +28,7 @@ from rlibs import TOP, kit_folder
 
 HEADER = TOP / "include" / "wlb.h"
 LIBRARIES = ["wlb_hub", "wlb_client"]
-# Function that both libraries have beside those of `functions_of`, and its source.
+# Function of both libraries, which `functions_of` leaves out, and its source.
 BUILD_FUNCTION, BUILD_SOURCE = "wlb_build", TOP / "tools" / "wlb_build.c"
 # File of a folder with libraries: what `wlb_build` returns, and the hash of each library. It is written last.
 RECORD = "wlb.build"

@@ -153,8 +153,7 @@ def renew(archives, folder):
 def play_vectors(modules):
     """Plays the test vectors with the modules of a folder. Returns whether they pass."""
     if js.node_version() < js.OLDEST:
-        print(f"modules: the vectors cannot be played: install Node of version {js.OLDEST} or later")
-        return False
+        sys.exit(f"modules: the vectors cannot be played: install Node of version {js.OLDEST} or later")
     words = [sys.executable, TOP / "tools" / "check_vectors.py", "--client", shlex.join(CLIENT)]
     return subprocess.run(words, cwd=TOP, env={**os.environ, "WLB_MODULES": str(modules)}, check=False).returncode == 0
 
