@@ -1,5 +1,5 @@
 -- Tabs whose commands came too early: the broker dropped them, since the tab's partition recovered.
-use Rattle.std.specs.Prelude.{ℕ, ◌-◌, List, [], ◌∷◌, ◌++◌, Bool, ◌==◌, length, Option, Some, None, if◌then◌else◌}
+use Rattle.std.specs.Prelude.{ℕ, ◌-◌, List, [], ◌∷◌, ◌++◌, Bool, not, ◌==◌, length, filter, Option, Some, None, if◌then◌else◌}
 use Rattle.std.specs.List.{list_any}
 use Rattle.wl_broker.specs.declared.dropped.Dropped.TheVariants.{Recovering}
 use Rattle.wl_world_messages.specs.declared.effect.Effect.{Effect}
@@ -19,6 +19,10 @@ abbrev pub noted : Verdict → ℕ → List ℕ → ℕ → List ℕ × ℕ
 noted Early t ts n = (if list_any (λ x. x == t) ts then ts else ts ++ t ∷ [], n)
 noted Active t ts n = (ts, length ts)
 noted Other t ts n = (ts, n)
+
+-- The early tabs without one that has died.
+abbrev pub without_tab : ℕ → List ℕ → List ℕ
+without_tab t ts = filter (λ u. not (u == t)) ts
 
 abbrev pub first_of : List ℕ → Option ℕ
 first_of [] = None

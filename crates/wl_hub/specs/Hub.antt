@@ -22,7 +22,7 @@ use Rattle.wl_hub.specs.declared.receiving.Progress.{Progress}
 use Rattle.wl_hub.specs.declared.receiving.Progress.TheVariants.{Idle, Told, Greeted, Postponed, Handled, Refused}
 use Rattle.wl_hub.specs.declared.receiving.Verdict.{Verdict}
 use Rattle.wl_hub.specs.declared.receiving.Verdict.TheVariants.{Other}
-use Rattle.wl_hub.specs.Early.{verdict_of, noted, greeted_next, rest_after, postponed}
+use Rattle.wl_hub.specs.Early.{verdict_of, noted, without_tab, greeted_next, rest_after, postponed}
 use Rattle.wl_supervised_broker.specs.Supervising.{message_effect}
 use Rattle.wl_kernel.specs.declared.routes.Routed.TheVariants.{Broker, Tabs}
 use Rattle.wl_supervised_broker.specs.SupervisedStates.{SupervisedState, is_active_for, without_broker, with_kernel, after_message, frames_after_message, after_death, frames_at_death, after_stop, after_start, frames_at_start}
@@ -84,13 +84,14 @@ page_opened t (Ok p) is_pair h = hub_opened t p is_pair h
 abbrev pub without_sender : ℕ → HubState → HubState
 without_sender t h = if h.sender == t then record h { arrived = [] } else h
 
--- A tab dies. The broker is told later.
+-- A tab dies, and is not early any more. The broker is told later.
 abbrev pub hub_closed : ℕ → HubState → HubState
 hub_closed t h =
     without_sender t (record h {
       supervised = with_kernel (killed t h.supervised.kernel) h.supervised;
       feeds = swap_remove_entry (nat_eq t) h.feeds;
       untold = h.untold ++ t ∷ [];
+      early = without_tab t h.early;
     })
 
 -- Events of the kernel and its broker

@@ -2,7 +2,7 @@
 
 ghost use Rattle.std.specs.Prelude.{◌≡◌, ◌<◌, [], length, OnOk};
 ghost use Rattle.std.specs.VecDeque.{deque_len, deque_capacity};
-ghost use Rattle.wl_hub.specs.Early.{greeted_next, noted, postponed, rest_after};
+ghost use Rattle.wl_hub.specs.Early.{greeted_next, noted, postponed, rest_after, without_tab};
 
 use crate::receiving::Verdict;
 use std::alloc::{AllocError, Global};
@@ -55,6 +55,14 @@ impl EarlyTabs {
             Verdict::Active => self.greet_all(),
             Verdict::Other => {}
         }
+    }
+
+    /// Removes a tab that has died. Allocates no memory.
+    pub(crate) fn forget(&mut self, tab: u16)
+        ensures tabs { self.new.tabs.items ≡ without_tab tab self.old.tabs.items }
+        ensures greetings { self.new.greetings ≡ self.old.greetings }
+    {
+        self.tabs.retain(|early| *early != tab);
     }
 
     /// Lets all tabs whose partitions are active be greeted.

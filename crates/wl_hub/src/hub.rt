@@ -156,6 +156,7 @@ impl Hub {
         drop(self.supervised.kill(tab));
         drop(self.feeds.swap_remove(&tab));
         self.untold.push_back_reserved(tab);
+        self.early.forget(tab);
         if self.sender == tab {
             self.arrived.clear();
             self.handled = 0;
