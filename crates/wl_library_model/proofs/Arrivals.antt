@@ -110,7 +110,7 @@ frame-goes w t x g = (told-heard (tab_of w t) _ (delivery-heard (tab_of w t) (g.
 -- A hello
 
 -- The commands that the tab awaits are due.
-awaited-due : (a : TabState) (k : ℕ) → is_awaited (status_of a k) ≡ true → is_due a k ≡ true
+pub awaited-due : (a : TabState) (k : ℕ) → is_awaited (status_of a k) ≡ true → is_due a k ≡ true
 awaited-due a k y = ⊎_elim
     (λ p. or_left _ _ (or_right (nat_le a.acknowledged k) _ p))
     (λ p. or_right _ _ p)
@@ -207,7 +207,7 @@ In-range from (suc n) k le lt = ⊎_elim
     (λ d. let more : from + 1 ≤ k = omega arith in Behind (In-range (from + 1) n k more (omega arith)))
     (cases_eq from k)
 
-due-in : (a : TabState) (k : ℕ) → 0 < a.entered → k < length a.issued → is_due a k ≡ true → In k (due a)
+pub due-in : (a : TabState) (k : ℕ) → 0 < a.entered → k < length a.issued → is_due a k ≡ true → In k (due a)
 unfolding due
 due-in a k lt l d =
     either (In k) (a.entered == 0) [] (filter (is_due a) (numbers_of a))

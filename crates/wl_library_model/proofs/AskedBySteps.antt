@@ -22,7 +22,7 @@ use Rattle.wl_world_model.specs.declared.event.Event.TheVariants as event
 use Rattle.wl_world_model.specs.declared.event.Forged.{Forged}
 use Rattle.wl_world_model.specs.World.{empty_world, after_event, run}
 use Rattle.wl_world_model.specs.Holdings.{asking, WasAsked}
-use Rattle.wl_library_model.specs.Library.{Library, Line, with_line, Step, Opens, Closes, Restarts, Stops, HubReceives, HubAdvances, HubSends, HubDrops, Asks, Queries, Aborts, Releases, Resends, OpensChannel, Posts, Reads, ClosesChannel, TakesEvent, ClientReceives, ClientAdvances, ClientSends, ClientSkips, TakesOver, Forges, new_library, client_of, is_taken, runs, asks, step, run_steps}
+use Rattle.wl_library_model.specs.Library.{Library, Line, with_line, Step, Opens, Closes, Restarts, Stops, HubReceives, HubAdvances, HubSends, Asks, Queries, Aborts, Releases, Resends, OpensChannel, Posts, Reads, ClosesChannel, TakesEvent, ClientReceives, ClientAdvances, ClientSends, TakesOver, Forges, new_library, client_of, is_taken, runs, asks, step, run_steps}
 use Rattle.wl_library_model.specs.Events.{opening_events, forging, frame_events, first_events, greeting_events, telling_events, advance_events, call_events, delivery_events, handling_events, events_of, events_from, events}
 use Rattle.wl_library_model.specs.Promises.{WasAskedBy}
 use Rattle.wl_library_model.proofs.Carried.{Sim}
@@ -171,7 +171,6 @@ step-found l Stops before rest t mode b name is = none-found l Stops _ before re
 step-found l (HubReceives u n) before rest t mode b name is = none-found l (HubReceives u n) [] before rest t mode b name refl is
 step-found l HubAdvances before rest t mode b name is = none-found l HubAdvances _ before rest t mode b name (advance-none l) is
 step-found l HubSends before rest t mode b name is = none-found l HubSends [] before rest t mode b name refl is
-step-found l HubDrops before rest t mode b name is = none-found l HubDrops [] before rest t mode b name refl is
 step-found l (Asks u n c ys) before rest t mode b name is = ask-found l u n c ys before rest t mode b name is
 step-found l (Queries u) before rest t mode b name is = none-found l (Queries u) _ before rest t mode b name (call-none l u (event.Query u) refl) is
 step-found l (Aborts u k) before rest t mode b name is = none-found l (Aborts u k) _ before rest t mode b name (call-none l u (event.Abort u k) refl) is
@@ -186,7 +185,6 @@ step-found l (ClientReceives u n) before rest t mode b name is = none-found l (C
 step-found l (ClientAdvances u) before rest t mode b name is =
     none-found l (ClientAdvances u) _ before rest t mode b name (either None-asks (runs l u) (handling_events u (client_of l u) (client_of l u).arrived) [] (λ _. handling-none u (client_of l u) (client_of l u).arrived) (λ _. refl)) is
 step-found l (ClientSends u) before rest t mode b name is = none-found l (ClientSends u) [] before rest t mode b name refl is
-step-found l (ClientSkips u) before rest t mode b name is = none-found l (ClientSkips u) [] before rest t mode b name refl is
 step-found l (TakesOver u) before rest t mode b name is = none-found l (TakesOver u) _ before rest t mode b name refl is
 step-found l (Forges u f) before rest t mode b name is = none-found l (Forges u f) [] before rest t mode b name refl is
 

@@ -26,7 +26,7 @@ use Rattle.wl_agent.specs.Tab.{status_of, is_asked, ask_refusal, query_refusal, 
 use Rattle.wl_agent.specs.Tokens.{is_pending, is_holding}
 use Rattle.wl_world_model.specs.World.{WorldState, empty_world, run, lives, taken_over}
 use Rattle.wl_world_model.proofs.exclusion.OpeningAndKilling.{not_opened}
-use Rattle.wl_library_model.specs.Library.{Library, Line, Step, Opens, Closes, Restarts, Stops, HubReceives, HubAdvances, HubSends, HubDrops, Asks, Queries, Aborts, Releases, Resends, OpensChannel, Posts, Reads, ClosesChannel, TakesEvent, ClientReceives, ClientAdvances, ClientSends, ClientSkips, TakesOver, Forges, new_library, new_line, with_line, with_hub, client_of, runs, unless, asks, queries, aborts, releases, resends, takes_event, hub_fed, hub_sends_from, hub_drops_from, client_fed, sending, followed_by, step, run_steps}
+use Rattle.wl_library_model.specs.Library.{Library, Line, Step, Opens, Closes, Restarts, Stops, HubReceives, HubAdvances, HubSends, Asks, Queries, Aborts, Releases, Resends, OpensChannel, Posts, Reads, ClosesChannel, TakesEvent, ClientReceives, ClientAdvances, ClientSends, TakesOver, Forges, new_library, new_line, with_line, with_hub, client_of, runs, unless, asks, queries, aborts, releases, resends, takes_event, hub_fed, hub_sends_from, is_due, client_fed, sending, followed_by, step, run_steps}
 use Rattle.wl_library_model.specs.Library.{lives as lives_in, is_taken}
 use Rattle.wl_library_model.specs.Events.{events_of}
 use Rattle.wl_library_model.specs.Simulation.{ComesDown, IsOnItsWayDown}
@@ -61,11 +61,12 @@ fed-stays l t u n (f ∷ fs) = (refl, refl)
 
 sent-stays : (l : Library) (t : ℕ) (os : List (ℕ × Frame)) → LineStays l t (hub_sends_from os l)
 sent-stays l t [] = (refl, refl)
-sent-stays l t (o ∷ os) = line-stays l t o.0 _ (refl, refl)
-
-dropped-stays : (l : Library) (t : ℕ) (os : List (ℕ × Frame)) → LineStays l t (hub_drops_from os l)
-dropped-stays l t [] = (refl, refl)
-dropped-stays l t (o ∷ os) = (refl, refl)
+sent-stays l t (o ∷ os) =
+    let x = l.lines o.0 in
+    let m = with_hub (record l.hub { outputs = os }) l in
+    either (LineStays l t) (is_due l.hub o) (with_line o.0 (record x { down = x.down ++ o.1 ∷ [] }) m) m
+    (λ _. line-stays l t o.0 _ (refl, refl))
+    (λ _. (refl, refl))
 
 client_fed-stays : (n : ℕ) (fs : List Frame) (x : Line) → Stays x.client (client_fed n fs x).client
 client_fed-stays n [] x = (refl, refl)
@@ -200,7 +201,6 @@ told-step l w Stops t cs s o = told-stays l w Stops t cs s (refl, refl) o
 told-step l w (HubReceives u n) t cs s o = told-stays l w (HubReceives u n) t cs s (either (LineStays l t) (lives_in l u) (hub_fed u n l.hub.arrived l) l (λ _. fed-stays l t u n l.hub.arrived) (λ _. (refl, refl))) o
 told-step l w HubAdvances t cs s o = told-stays l w HubAdvances t cs s (refl, refl) o
 told-step l w HubSends t cs s o = told-stays l w HubSends t cs s (sent-stays l t l.hub.outputs) o
-told-step l w HubDrops t cs s o = told-stays l w HubDrops t cs s (dropped-stays l t l.hub.outputs) o
 told-step l w (Asks u mode b name) t cs s o = told-stays l w (Asks u mode b name) t cs s (call-stays l t u (asks mode b name) (unless-stays (call_refusal (ask_refusal (client_of l u).locks name) (client_of l u)) (client_of l u) (after_command (asked mode b name) (client_of l u)) (refl, refl))) o
 told-step l w (Queries u) t cs s o = told-stays l w (Queries u) t cs s (call-stays l t u queries (unless-stays (call_refusal (query_refusal (client_of l u).locks) (client_of l u)) (client_of l u) (after_command queried (client_of l u)) (refl, refl))) o
 told-step l w (Aborts u k) t cs s o =
@@ -222,7 +222,6 @@ told-step l w (ClientAdvances u) t cs s o = advanced-told l w t u cs s o
 told-step l w (ClientSends u) t cs s o =
     let z = sending (client_of l u) in
     told-stays l w (ClientSends u) t cs s (either (LineStays l t) (runs l u) (with_line u (record (l.lines u) { client = z.client; up = followed_by (l.lines u).up z.frame }) l) l (λ _. line-stays l t u (record (l.lines u) { client = z.client; up = followed_by (l.lines u).up z.frame }) (report-stays (client_of l u).report (client_of l u))) (λ _. (refl, refl))) o
-told-step l w (ClientSkips u) t cs s o = told-stays l w (ClientSkips u) t cs s (call-stays l t u (λ c. (sending c).client) (report-stays (client_of l u).report (client_of l u))) o
 told-step l w (TakesOver u) t cs s o = told-stays l w (TakesOver u) t cs s (either (LineStays l t) (lives_in l u) (record l { taken = taken_over u l.taken }) l (λ _. (refl, refl)) (λ _. (refl, refl))) o
 told-step l w (Forges u f) t cs s o = told-stays l w (Forges u f) t cs s (either (LineStays l t) (is_taken l u && lives_in l u) (with_line u (record (l.lines u) { up = (l.lines u).up ++ f ∷ [] }) l) l (λ _. line-stays l t u (record (l.lines u) { up = (l.lines u).up ++ f ∷ [] }) (refl, refl)) (λ _. (refl, refl))) o
 

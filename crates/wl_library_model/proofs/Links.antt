@@ -19,7 +19,7 @@ use Rattle.wl_world_model.specs.Holdings.{IsHonest}
 use Rattle.wl_world_model.specs.Sends.{stamped}
 use Rattle.wl_world_model.proofs.exclusion.Invariant.{was_opened}
 use Rattle.wl_world_model.proofs.exclusion.CoverExcludes.{living_opened}
-use Rattle.wl_library_model.specs.Library.{Library, Line, with_line, with_hub, client_of, is_taken, runs, hub_fed, hub_receives, hub_sends_from, hub_drops_from, client_fed, client_receives, unless_refused, Sending, sending_item, sending_due, sending_report, sending, followed_by, client_sends, client_skips, forges}
+use Rattle.wl_library_model.specs.Library.{Library, Line, with_line, with_hub, client_of, is_taken, runs, hub_fed, hub_receives, hub_sends_from, is_due, client_fed, client_receives, unless_refused, Sending, sending_item, sending_due, sending_report, sending, followed_by, client_sends, forges}
 use Rattle.wl_library_model.specs.Library.{lives as lives_in}
 use Rattle.wl_library_model.specs.Simulation.{IsRepeat, IsOnItsWayDown, IsOnItsWayUp, AreLocksOf, IsClientOf, IsLineOf, IsHubOf}
 use Rattle.wl_library_model.proofs.Carried.{Sim, Known, each_line}
@@ -67,9 +67,11 @@ hub_sends-sim l w [] s e = s
 hub_sends-sim l w (o ∷ os) s e =
     let x = l.lines o.0 in
     let i = s.lines o.0 in
-    let h = record l.hub { outputs = os } in
-    line-sim (with_hub h l) w o.0 (record x { down = x.down ++ o.1 ∷ [] })
-    (hub-sim l w h s (without-output w l.hub o os e s.hub))
+    let y = record x { down = x.down ++ o.1 ∷ [] } in
+    let m = with_hub (record l.hub { outputs = os }) l in
+    let dropped : Sim m w = hub-sim l w m.hub s (without-output w l.hub o os e s.hub) in
+    either (λ z. Sim z w) (is_due l.hub o) (with_line o.0 y m) m
+    (λ _. line-sim m w o.0 y dropped
     (record {
       client = i.client;
       down = λ f j. ⊎_elim (λ a. i.down f a) (λ a. subst (IsOnItsWayDown w o.0) (sym (In-one a)) (s.hub.outputs o.0 o.1 (subst (In (o.0, o.1)) (sym e) Here))) (In-append_cases x.down (o.1 ∷ []) j);
@@ -77,11 +79,8 @@ hub_sends-sim l w (o ∷ os) s e =
       up = i.up;
       report = i.report;
       posts = i.posts;
-    })
-
-pub hub_drops-sim : (l : Library) (w : WorldState) (os : List (ℕ × Frame)) → Sim l w → l.hub.outputs ≡ os → Sim (hub_drops_from os l) w
-hub_drops-sim l w [] s e = s
-hub_drops-sim l w (o ∷ os) s e = hub-sim l w (record l.hub { outputs = os }) s (without-output w l.hub o os e s.hub)
+    }))
+    (λ _. dropped)
 
 -- The client's links
 
@@ -265,9 +264,6 @@ module _ (w : WorldState) (t : ℕ) (x : Line) (i : IsLineOf w t x) (o : was_ope
     posts = z.posts;
   }
 
-  skipped-line : (s : Sending) → IsSendingOf w t c s → IsLineOf w t (record x { client = s.client })
-  skipped-line s z = record { client = sent-client s z; down = i.down; came = λ f j. i.came f (subst (In f) z.arrived j); up = i.up; report = z.report; posts = z.posts }
-
 -- A tab whose client runs was opened.
 pub runs-opened : (l : Library) (w : WorldState) (t : ℕ) → Sim l w → runs l t ≡ true → was_opened w t ≡ true
 runs-opened l w t s y = living_opened _ (subst (λ k. lives (record w { kernel = k }) t ≡ true) s.hub.kernel (and_parts _ _ y).0)
@@ -279,13 +275,4 @@ client_sends-sim l w t s =
     either (λ y. Sim y w) (runs l t) (with_line t (record x { client = z.client; up = followed_by x.up z.frame }) l) l
     (λ y. line-sim l w t (record x { client = z.client; up = followed_by x.up z.frame }) s
     (sent-line w t x (s.lines t) (runs-opened l w t s y) (s.known t) z (report-sent w t x (s.lines t) (runs-opened l w t s y) (s.known t) x.client.report refl)))
-    (λ _. s)
-
-pub client_skips-sim : (l : Library) (w : WorldState) (t : ℕ) → Sim l w → Sim (client_skips t l) w
-client_skips-sim l w t s =
-    let x = l.lines t in
-    let z = sending x.client in
-    either (λ y. Sim y w) (runs l t) (with_line t (record x { client = z.client }) l) l
-    (λ y. line-sim l w t (record x { client = z.client }) s
-    (skipped-line w t x (s.lines t) (runs-opened l w t s y) (s.known t) z (report-sent w t x (s.lines t) (runs-opened l w t s y) (s.known t) x.client.report refl)))
     (λ _. s)

@@ -238,10 +238,10 @@ mapped-some : (o : Option AgentFault) → is_some (option_map Agent o) ≡ is_so
 mapped-some None = refl
 mapped-some (Some f) = refl
 
-called : (r : Option AgentFault) (c : ClientState) → c.is_welcomed ≡ true → is_some (call_refusal r c) ≡ is_some r
+pub called : (r : Option AgentFault) (c : ClientState) → c.is_welcomed ≡ true → is_some (call_refusal r c) ≡ is_some r
 called r c y = ap (λ z. is_some (cond z (option_map Agent r) (Some NotWelcomed))) y ∙ mapped-some r
 
-uncalled : (r : Option AgentFault) (c : ClientState) → c.is_welcomed ≡ false → is_some (call_refusal r c) ≡ true
+pub uncalled : (r : Option AgentFault) (c : ClientState) → c.is_welcomed ≡ false → is_some (call_refusal r c) ≡ true
 uncalled r c n = ap (λ z. is_some (cond z (option_map Agent r) (Some NotWelcomed))) n
 
 -- The client issues the command unless it refuses it, and the world allows it in the same case.

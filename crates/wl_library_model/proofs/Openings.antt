@@ -5,7 +5,7 @@ use Rattle.std.proofs.lemmas.Bool.{cases_eq, eqb-false}
 use Rattle.wl_origin.specs.Order.{Pair}
 use Rattle.wl_origin.specs.declared.fault.OriginFault.{OriginFault}
 use Rattle.wl_draft.specs.Membership.{In}
-use Rattle.wl_draft.proofs.Membership.{apart, either, by_test, In-nil, In-one, In-cons_cases, In-append_cases}
+use Rattle.wl_draft.proofs.Membership.{apart, either, by_test, In-nil, In-one, In-cons_cases, In-append_cases, In-filter_cases}
 use Rattle.wl_grammar.specs.declared.frame.Frame.{Frame}
 use Rattle.wl_grammar.specs.declared.frame.Frame.TheVariants as frame
 use Rattle.wl_draft.proofs.TableLemmas.{find-put_same, find-put_other}
@@ -21,6 +21,7 @@ use Rattle.wl_kernel.specs.Welcome.{texts_of, welcome}
 use Rattle.wl_limits.specs.declared.tabs.TheConstants.{COMMAND_LIMIT}
 use Rattle.wl_tab.specs.Tabs.{tab_in}
 use Rattle.wl_hub.specs.declared.fault.OpenRefusal.TheVariants.{Tab}
+use Rattle.wl_hub.specs.Early.{without_tab}
 use Rattle.wl_hub.specs.Hub.{HubState, greeting, hub_opened, page_refusal, without_sender, hub_closed}
 use Rattle.wl_world_model.specs.declared.event.Event.{Event}
 use Rattle.wl_world_model.specs.declared.event.Event.TheVariants as event
@@ -181,6 +182,7 @@ before t h = record h {
   supervised = record { kernel = killed t h.supervised.kernel; broker = h.supervised.broker };
   feeds = swap_remove_entry (nat_eq t) h.feeds;
   untold = h.untold ++ t ∷ [];
+  early = without_tab t h.early;
 }
 
 closed-hub : (l : Library) (w : WorldState) (t : ℕ) → Sim l w → lives w t ≡ true → IsHubOf (after_event w (event.Kill t)) (without_sender t (before t l.hub))
@@ -196,7 +198,7 @@ closed-hub l w t s y =
       broker = ap (λ z. z.broker) e ∙ (s.hub.broker ∙ sym k.1);
       outputs = λ u f j. down-later w v x u f (s.hub.outputs u f (subst (In (u, f)) (without-keeps (λ z. z.outputs) (λ z. refl) t h) j));
       arrived = λ z f j. subst (λ m. IsOnItsWayUp v m f) (sym n) (up-later w v s.good x l.hub.sender f (s.hub.arrived (x.honest l.hub.sender (subst (IsHonest v) n z)) f (closed-arrived t h f j)));
-      early = λ u j. (x.opened u (s.hub.early u (subst (In u) (without-keeps (λ z. z.early) (λ z. refl) t h) j))).0;
+      early = λ u j. let kept = subst (In u) (without-keeps (λ z. z.early) (λ z. refl) t h) j in (x.opened u (s.hub.early u (In-filter_cases (λ n. not (n == t)) l.hub.early kept).0)).0;
     }
 
 pub close-sim : (l : Library) (w : WorldState) (t : ℕ) → Sim l w → Sim (closes t l) (after_event w (event.Kill t))

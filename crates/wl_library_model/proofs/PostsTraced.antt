@@ -39,7 +39,7 @@ use Rattle.wl_hub.specs.Early.{greeted_next}
 use Rattle.wl_hub.specs.Hub.{HubState, stepped, routed_step, with_verdict, after_first, greeted, postponing, after_greeting, after_told, advanced, greeting, hub_opened, page_refusal, without_sender, hub_closed, hub_stopped, hub_started, hub_down}
 use Rattle.wl_hub.specs.Hub.{from_broker as hub_sends}
 use Rattle.wl_world_model.specs.World.{WorldState, empty_world, run, taken_over}
-use Rattle.wl_library_model.specs.Library.{Library, Line, Step, Opens, Closes, Restarts, Stops, HubReceives, HubAdvances, HubSends, HubDrops, Asks, Queries, Aborts, Releases, Resends, OpensChannel, Posts, Reads, ClosesChannel, TakesEvent, ClientReceives, ClientAdvances, ClientSends, ClientSkips, TakesOver, Forges, new_library, new_line, with_line, with_hub, client_of, is_taken, runs, unless, asks, queries, aborts, releases, resends, opens_channel, posts, reads, takes_event, calls, closes, opens, hub_fed, hub_receives, hub_sends_from, hub_drops_from, client_fed, client_receives, client_sends, takes_over, forges, followed_by, Sending, unless_refused, sending_item, sending_due, sending_report, sending, step, run_steps}
+use Rattle.wl_library_model.specs.Library.{Library, Line, Step, Opens, Closes, Restarts, Stops, HubReceives, HubAdvances, HubSends, Asks, Queries, Aborts, Releases, Resends, OpensChannel, Posts, Reads, ClosesChannel, TakesEvent, ClientReceives, ClientAdvances, ClientSends, TakesOver, Forges, new_library, new_line, with_line, with_hub, client_of, is_taken, runs, unless, asks, queries, aborts, releases, resends, opens_channel, posts, reads, takes_event, calls, closes, opens, hub_fed, hub_receives, hub_sends_from, is_due, client_fed, client_receives, client_sends, takes_over, forges, followed_by, Sending, unless_refused, sending_item, sending_due, sending_report, sending, step, run_steps}
 use Rattle.wl_library_model.specs.Library.{lives as lives_in}
 use Rattle.wl_library_model.specs.Events.{events_of}
 use Rattle.wl_library_model.specs.Channels.{called_by, heard_by, handled_by, WasPostedBy, WasRouted, IsPostHeard, HeardArePosts, channel_calls_from, channel_calls_of}
@@ -58,19 +58,19 @@ abbrev PostOf : List Step → Library → ℕ → Frame → Type 0
 PostOf past l s f = is_taken l s ≡ false → PostBy past s f
 
 -- The frame for tab `t` is no post, or one that the hub handed on.
-abbrev HeardOf : List Step → Library → ℕ → Frame → Type 0
+abbrev pub HeardOf : List Step → Library → ℕ → Frame → Type 0
 HeardOf past l t (frame.Heard h) = IsPostHeard past l t h
 HeardOf past l t f = ⊤
 
-record LineTraced (past : List Step) (l : Library) (s : ℕ) (x : Line) : Type 0 where
+pub record LineTraced (past : List Step) (l : Library) (s : ℕ) (x : Line) : Type 0 where
   posts : (f : Frame) → In (unsent.Post f) x.client.unsent → PostOf past l s f
   report : (f : Frame) → In f x.client.report → PostOf past l s f
   up : (f : Frame) → In f x.up → PostOf past l s f
   down : (f : Frame) → In f x.down → HeardOf past l s f
   came : (f : Frame) → In f x.client.arrived → HeardOf past l s f
 
-record HubTraced (past : List Step) (l : Library) (h : HubState) : Type 0 where
-  outs : (t : ℕ) (f : Frame) → In (t, f) h.outputs → HeardOf past l t f
+pub record HubTraced (past : List Step) (l : Library) (h : HubState) : Type 0 where
+  pub outs : (t : ℕ) (f : Frame) → In (t, f) h.outputs → HeardOf past l t f
   arrived : (f : Frame) → In f h.arrived → PostOf past l h.sender f
 
 -- More steps
@@ -150,9 +150,9 @@ body-other past s (up.Report r) = tt
 body-other past s (up.ReportPart r) = tt
 
 -- The parts of a library that are traced by the steps, with those who are honest in `m`.
-record Parts (past : List Step) (m z : Library) : Type 0 where
-  lines : (s : ℕ) → LineTraced past m s (z.lines s)
-  hub : HubTraced past m z.hub
+pub record Parts (past : List Step) (m z : Library) : Type 0 where
+  pub lines : (s : ℕ) → LineTraced past m s (z.lines s)
+  pub hub : HubTraced past m z.hub
 
 -- The hub with more frames that are no posts, and fewer that have arrived.
 more-outs : (past : List Step) (m : Library) (h g : HubState) (new : List (ℕ × Frame)) → g.outputs ≡ h.outputs ++ new → g.sender ≡ h.sender → ((f : Frame) → In f g.arrived → In f h.arrived) → ((t : ℕ) (f : Frame) → In (t, f) new → HeardOf past m t f) → HubTraced past m h → HubTraced past m g
@@ -401,20 +401,21 @@ sent-parts past m l [] e y = y
 sent-parts past m l (o ∷ os) e y =
     let x = l.lines o.0 in
     let z = y.lines o.0 in
-    record {
-      lines = each_line (LineTraced past m) o.0 (record x { down = x.down ++ o.1 ∷ [] }) l.lines (record {
+    let longer = record x { down = x.down ++ o.1 ∷ [] } in
+    let rest = with_hub (record l.hub { outputs = os }) l in
+    let dropped : Parts past m rest = record { lines = y.lines; hub = record { outs = λ t f i. y.hub.outs t f (subst (In (t, f)) (sym e) (Behind i)); arrived = y.hub.arrived } } in
+    either (Parts past m) (is_due l.hub o) (with_line o.0 longer rest) rest
+    (λ _. record {
+      lines = each_line (LineTraced past m) o.0 longer l.lines (record {
         posts = z.posts;
         report = z.report;
         up = z.up;
         down = λ f i. ⊎_elim (λ a. z.down f a) (λ a. subst (HeardOf past m o.0) (sym (In-one a)) (y.hub.outs o.0 o.1 (subst (In (o.0, o.1)) (sym e) Here))) (In-append_cases x.down (o.1 ∷ []) i);
         came = z.came;
       }) y.lines;
-      hub = record { outs = λ t f i. y.hub.outs t f (subst (In (t, f)) (sym e) (Behind i)); arrived = y.hub.arrived };
-    }
-
-dropped-parts : (past : List Step) (m l : Library) (os : List (ℕ × Frame)) → l.hub.outputs ≡ os → Parts past m l → Parts past m (hub_drops_from os l)
-dropped-parts past m l [] e y = y
-dropped-parts past m l (o ∷ os) e y = record { lines = y.lines; hub = record { outs = λ t f i. y.hub.outs t f (subst (In (t, f)) (sym e) (Behind i)); arrived = y.hub.arrived } }
+      hub = dropped.hub;
+    })
+    (λ _. dropped)
 
 client_fed-line : (past : List Step) (m : Library) (u n : ℕ) (x : Line) (fs : List Frame) → LineTraced past m u x → LineTraced past m u (client_fed n fs x)
 client_fed-line past m u n x [] z = record { posts = z.posts; report = z.report; up = z.up; down = λ f i. z.down f (In-drop n x.down i); came = λ f i. z.down f (In-take n x.down i) }
@@ -427,10 +428,10 @@ followed past m s fs (Some g) y z f i = ⊎_elim (λ a. y f a) (λ a. subst (Pos
 -- Steps
 
 -- The parts of the library, traced by one more step.
-lifted : (past : List Step) (l : Library) (w : WorldState) (x : Step) → Sim l w → Parts past l l → Parts (past ++ x ∷ []) (step x l) l
+pub lifted : (past : List Step) (l : Library) (w : WorldState) (x : Step) → Sim l w → Parts past l l → Parts (past ++ x ∷ []) (step x l) l
 lifted past l w x s y = record { lines = λ t. line-more past x l (step x l) t (l.lines t) (still-honest l w x s) (y.lines t); hub = hub-more past x l (step x l) l.hub (still-honest l w x s) y.hub }
 
-step-parts : (past : List Step) (l : Library) (w : WorldState) (x : Step) → l ≡ run_steps past new_library → Sim l w → Parts (past ++ x ∷ []) (step x l) l → Parts (past ++ x ∷ []) (step x l) (step x l)
+pub step-parts : (past : List Step) (l : Library) (w : WorldState) (x : Step) → l ≡ run_steps past new_library → Sim l w → Parts (past ++ x ∷ []) (step x l) l → Parts (past ++ x ∷ []) (step x l) (step x l)
 unfolding step
 step-parts past l w (Opens t (Err f) i) is s y = y
 step-parts past l w (Opens t (Ok p) i) is s y =
@@ -450,7 +451,6 @@ step-parts past l w Stops is s y = record { lines = y.lines; hub = down-hub _ _ 
 step-parts past l w (HubReceives t n) is s y = either (Parts (past ++ HubReceives t n ∷ []) (hub_receives t n l)) (lives_in l t) (hub_fed t n l.hub.arrived l) l (λ _. fed-parts _ _ l t n l.hub.arrived y) (λ _. y)
 step-parts past l w HubAdvances is s y = record { lines = y.lines; hub = advanced-hub past l (with_hub (advanced l.hub) l) is y.hub }
 step-parts past l w HubSends is s y = sent-parts _ _ l l.hub.outputs refl y
-step-parts past l w HubDrops is s y = dropped-parts _ _ l l.hub.outputs refl y
 step-parts past l w (Asks t mode b name) is s y =
     let c = client_of l t in
     let k = client-of _ _ t (l.lines t) (y.lines t) in
@@ -506,8 +506,6 @@ step-parts past l w (ClientSends t) is s y =
       came = k.client.came;
     }))
     (λ _. y)
-step-parts past l w (ClientSkips t) is s y =
-    call-parts _ _ l t (λ c. (sending c).client) y (λ _. (sending-traced _ _ t (client_of l t).report (client_of l t) refl (client-of _ _ t (l.lines t) (y.lines t))).client)
 step-parts past l w (TakesOver t) is s y = either (Parts (past ++ TakesOver t ∷ []) (takes_over t l)) (lives_in l t) (record l { taken = taken_over t l.taken }) l (λ _. record { lines = y.lines; hub = y.hub }) (λ _. y)
 step-parts past l w (Forges t f) is s y =
     let x = l.lines t in
@@ -594,7 +592,7 @@ steps-traced (x ∷ xs) past l w t cs is s y c =
     steps-push [] x l = refl
     steps-push (z ∷ zs) x l = steps-push zs x (step z l)
 
-empty-parts : Parts [] new_library new_library
+pub empty-parts : Parts [] new_library new_library
 empty-parts = record {
   lines = λ s. record { posts = λ f i. absurd (In-nil i); report = λ f i. absurd (In-nil i); up = λ f i. absurd (In-nil i); down = λ f i. absurd (In-nil i); came = λ f i. absurd (In-nil i) };
   hub = record { outs = λ t f i. absurd (In-nil i); arrived = λ f i. absurd (In-nil i) };

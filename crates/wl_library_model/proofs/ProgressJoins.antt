@@ -31,6 +31,7 @@ use Rattle.wl_client.specs.declared.client.Event.TheVariants.{Welcomed, Told}
 use Rattle.wl_client.specs.declared.client.Unsent.TheVariants as unsent
 use Rattle.wl_client.specs.Client.{ClientState, new_client, welcome_of, after_welcome, after_told, after_delivery}
 use Rattle.wl_hub.specs.declared.fault.OpenRefusal.TheVariants.{Tab}
+use Rattle.wl_hub.specs.Sending.{is_current}
 use Rattle.wl_hub.specs.Hub.{HubState, greeting, hub_opened, page_refusal, advanced}
 use Rattle.wl_world_model.specs.World.{WorldState, empty_world, run}
 use Rattle.wl_world_model.proofs.exclusion.Invariant.{broker_in}
@@ -51,7 +52,7 @@ use Rattle.wl_library_model.proofs.Carried.{Sim}
 use Rattle.wl_library_model.proofs.Simulated.{run-sim}
 use Rattle.wl_library_model.proofs.ProgressBroker.{IsStranger, Joins, empty_report, newcomer-joins}
 use Rattle.wl_library_model.proofs.ProgressHub.{IsDone, idle-done, hub-handles, unrefused, frame-taken}
-use Rattle.wl_library_model.proofs.ProgressLinks.{at_line, runs-same, for_tab, for_tab-append, In-for_tab, all_handled, hearing, heard-all, fed, sends-line, receives-line, advances-hub}
+use Rattle.wl_library_model.proofs.ProgressLinks.{at_line, runs-same, due_for, In-due_for, due_for-first, due_for-append, all_handled, hearing, heard-all, fed, sends-line, receives-line, advances-hub}
 
 -- A tab that was never opened
 
@@ -115,6 +116,10 @@ welcomes t p false z rest = refl
 
 abbrev hello : ℕ → Frame
 hello g = frame.Hello (record { generation = g })
+
+welcome-current : (g t : ℕ) (p : Pair) (i : Bool) → is_current g (welcome t (texts_of p i).top (texts_of p i).own) ≡ true
+welcome-current g t p true = refl
+welcome-current g t p false = refl
 
 -- The locks of a tab that has entered its first generation.
 abbrev pub first : ℕ → Bool → ℕ → TabState
@@ -227,23 +232,28 @@ module _ (l : Library) (w : WorldState) (s : Sim l w) (t : ℕ) (p : Pair) (i : 
   abbrev W : Frame
   W = welcome t (texts_of p i).top (texts_of p i).own
 
-  outputs1 : for_tab t h1.outputs ≡ for_tab t l.hub.outputs ++ W ∷ hello g ∷ []
-  outputs1 =
-      for_tab-append t l.hub.outputs ((t, W) ∷ greeting t l.hub.supervised)
-      ∙ ap (λ zs. for_tab t l.hub.outputs ++ zs)
-      (ap (λ o. for_tab t ((t, W) ∷ cond (is_some o) ((t, hello k.generation) ∷ []) [])) up
-      ∙ (ap (λ c. cond c (W ∷ cond c (hello k.generation ∷ []) []) (cond c (hello k.generation ∷ []) [])) (eq-eqb t t refl)
-      ∙ ap (λ m. W ∷ hello m ∷ []) (sym now)))
+  -- The frames for the tab that were there before it was opened.
+  abbrev before : List Frame
+  before = due_for h1 t l.hub.outputs
 
-  old : (f : Frame) → In f (for_tab t l.hub.outputs) → welcome_of f ≡ None
-  old f j = old-frame w t f unopened_in (s.hub.outputs t f (In-for_tab t f l.hub.outputs j))
+  outputs1 : due_for h1 t h1.outputs ≡ before ++ W ∷ hello g ∷ []
+  outputs1 =
+      due_for-append h1 t l.hub.outputs ((t, W) ∷ greeting t l.hub.supervised)
+      ∙ ap (λ zs. before ++ zs)
+      (ap (λ o. due_for h1 t ((t, W) ∷ cond (is_some o) ((t, hello k.generation) ∷ []) [])) up
+      ∙ (due_for-first h1 t W ((t, hello k.generation) ∷ []) (and_from _ _ living (welcome-current k.generation t p i))
+      ∙ (ap (λ zs. W ∷ zs) (due_for-first h1 t (hello k.generation) [] (and_from _ _ living (eq-eqb k.generation k.generation refl)))
+      ∙ ap (λ m. W ∷ hello m ∷ []) (sym now))))
+
+  old : (f : Frame) → In f before → welcome_of f ≡ None
+  old f j = old-frame w t f unopened_in (s.hub.outputs t f (In-due_for h1 t f l.hub.outputs j))
 
   abbrev es : List Event
   es = Welcomed t ∷ Told (said.Entered g []) ∷ []
 
-  client2 : (fs : List Frame) → fs ≡ for_tab t l.hub.outputs ++ W ∷ hello g ∷ [] → hearing fs new_client ≡ greeted t i g es
+  client2 : (fs : List Frame) → fs ≡ before ++ W ∷ hello g ∷ [] → hearing fs new_client ≡ greeted t i g es
   client2 fs e =
-      let o = skips (for_tab t l.hub.outputs) (W ∷ hello g ∷ []) fs old in
+      let o = skips before (W ∷ hello g ∷ []) fs old in
       ap (λ zs. all_handled zs (fresh fs)) e ∙ (o.1 ∙ (welcomes t p i o.0 (hello g ∷ []) ∙ hears-hello t i g (Welcomed t ∷ []) (hello g ∷ []) positive))
 
   abbrev l2 : Library
@@ -261,8 +271,8 @@ module _ (l : Library) (w : WorldState) (s : Sim l w) (t : ℕ) (p : Pair) (i : 
   line2 : l2.lines t ≡ x2
   line2 =
       (heard-all l1 t runs1).line
-      ∙ (ap (λ (z : Line). record z { client = hearing (z.down ++ for_tab t h1.outputs) z.client; down = [] }) (at_line t new_line (with_hub h1 l))
-      ∙ ap (λ c. record new_line { client = c }) (client2 (for_tab t h1.outputs) outputs1))
+      ∙ (ap (λ (z : Line). record z { client = hearing (z.down ++ due_for h1 t h1.outputs) z.client; down = [] }) (at_line t new_line (with_hub h1 l))
+      ∙ ap (λ c. record new_line { client = c }) (client2 (due_for h1 t h1.outputs) outputs1))
 
   runs2 : runs l2 t ≡ true
   runs2 = runs-same l1 l2 t (ap (λ z. z.supervised) hub2) (heard-all l1 t runs1).taken ∙ runs1

@@ -1,10 +1,10 @@
 -- Delivery of all frames on their way to the hub or to a client.
-use Rattle.std.proofs.Common.{◌≡◌, ⊎_elim, ℕ, Bool, true, cond, not, ◌&&◌, List, [], ◌∷◌, ◌++◌, length, take, drop, replicate, Option, Some, None, refl, sym, ap, ap₂, ◌∙◌, subst, append_assoc, append-nil}
+use Rattle.std.proofs.Common.{◌≡◌, ⊎_elim, ℕ, Bool, true, cond, not, ◌&&◌, List, [], ◌∷◌, ◌++◌, length, take, drop, filter, replicate, Option, Some, None, refl, sym, ap, ap₂, ◌∙◌, subst, append_assoc, append-nil}
 use Rattle.std.specs.Prelude.{◌==◌}
 use Rattle.std.specs.List.{list_any}
 use Rattle.std.proofs.lemmas.Bool.{eq-eqb, eqb-true}
 use Rattle.wl_draft.specs.Membership.{In, Here, Later as Behind}
-use Rattle.wl_draft.proofs.Membership.{either, by_test, In-nil, In-cons_cases}
+use Rattle.wl_draft.proofs.Membership.{either, by_test, In-nil, In-cons_cases, In-filter, In-filter_cases}
 use Rattle.wl_grammar.specs.declared.frame.Frame.{Frame}
 use Rattle.wl_grammar.specs.declared.frame.Frame.TheVariants as frame
 use Rattle.wl_client.specs.declared.client.Unsent.TheVariants as unsent
@@ -13,7 +13,7 @@ use Rattle.wl_kernel.specs.Kernel.{is_living}
 use Rattle.wl_supervised_broker.specs.SupervisedStates.{SupervisedState}
 use Rattle.wl_hub.specs.Hub.{HubState}
 use Rattle.wl_hub.specs.Hub.{advanced as hub_advanced}
-use Rattle.wl_library_model.specs.Library.{Library, Line, HubReceives, HubAdvances, HubSends, ClientSends, ClientAdvances, with_line, with_hub, client_of, lives as lives_in, runs, hub_fed, hub_sends_from, client_fed, sending, followed_by, step, run_steps}
+use Rattle.wl_library_model.specs.Library.{Library, Line, HubReceives, HubAdvances, HubSends, ClientSends, ClientAdvances, with_line, with_hub, client_of, lives as lives_in, runs, hub_fed, hub_sends_from, is_due, client_fed, sending, followed_by, step, run_steps}
 use Rattle.wl_library_model.specs.Progress.{sent_out, received, handled, heard}
 
 -- Lines
@@ -53,26 +53,63 @@ In-for_tab t f (o ∷ os) i =
 pub for_tab-first : (t : ℕ) (f : Frame) (os : List (ℕ × Frame)) → In f (for_tab t ((t, f) ∷ os))
 for_tab-first t f os = subst (λ b. In f (cond b (f ∷ for_tab t os) (for_tab t os))) (sym (eq-eqb t t refl)) Here
 
-pub record SentOut (l m : Library) (t : ℕ) (os : List (ℕ × Frame)) : Type 0 where
+for_tab-In : (t : ℕ) (f : Frame) (os : List (ℕ × Frame)) → In (t, f) os → In f (for_tab t os)
+for_tab-In t f [] i = absurd (In-nil i)
+for_tab-In t f (o ∷ os) i = ⊎_elim
+    (λ e. subst (λ (z : ℕ × Frame). In f (for_tab t (z ∷ os))) e (for_tab-first t f os))
+    (λ k. either (In f) (t == o.0) (o.1 ∷ for_tab t os) (for_tab t os) (λ _. Behind (for_tab-In t f os k)) (λ _. for_tab-In t f os k))
+    (In-cons_cases i)
+
+-- Those that the hub sends.
+abbrev pub due_for : HubState → ℕ → List (ℕ × Frame) → List Frame
+due_for h t os = for_tab t (filter (λ o. is_due h o) os)
+
+pub In-due_for : (h : HubState) (t : ℕ) (f : Frame) (os : List (ℕ × Frame)) → In f (due_for h t os) → In (t, f) os
+In-due_for h t f os i = (In-filter_cases (λ o. is_due h o) os (In-for_tab t f (filter (λ o. is_due h o) os) i)).0
+
+pub due_for-In : (h : HubState) (t : ℕ) (f : Frame) (os : List (ℕ × Frame)) → In (t, f) os → is_due h (t, f) ≡ true → In f (due_for h t os)
+due_for-In h t f os i d = for_tab-In t f (filter (λ o. is_due h o) os) (In-filter (λ o. is_due h o) os i d)
+
+pub due_for-first : (h : HubState) (t : ℕ) (f : Frame) (os : List (ℕ × Frame)) → is_due h (t, f) ≡ true → due_for h t ((t, f) ∷ os) ≡ f ∷ due_for h t os
+due_for-first h t f os d =
+    ap (λ b. for_tab t (cond b ((t, f) ∷ filter (λ o. is_due h o) os) (filter (λ o. is_due h o) os))) d
+    ∙ ap (λ b. cond b (f ∷ due_for h t os) (due_for h t os)) (eq-eqb t t refl)
+
+pub due_for-append : (h : HubState) (t : ℕ) (os ps : List (ℕ × Frame)) → due_for h t (os ++ ps) ≡ due_for h t os ++ due_for h t ps
+due_for-append h t [] ps = refl
+due_for-append h t (o ∷ os) ps =
+    let d = λ (z : ℕ × Frame). is_due h z in
+    by_test (λ b. for_tab t (cond b (o ∷ filter d (os ++ ps)) (filter d (os ++ ps))) ≡ for_tab t (cond b (o ∷ filter d os) (filter d os)) ++ due_for h t ps) (is_due h o)
+    (λ _. by_test (λ b. cond b (o.1 ∷ due_for h t (os ++ ps)) (due_for h t (os ++ ps)) ≡ cond b (o.1 ∷ due_for h t os) (due_for h t os) ++ due_for h t ps) (t == o.0)
+    (λ _. ap (λ zs. o.1 ∷ zs) (due_for-append h t os ps))
+    (λ _. due_for-append h t os ps))
+    (λ _. due_for-append h t os ps)
+
+pub record SentOut (l m : Library) (t : ℕ) (fs : List Frame) : Type 0 where
   pub hub : m.hub ≡ record l.hub { outputs = [] }
   pub taken : m.taken ≡ l.taken
-  pub line : m.lines t ≡ record (l.lines t) { down = (l.lines t).down ++ for_tab t os }
+  pub line : m.lines t ≡ record (l.lines t) { down = (l.lines t).down ++ fs }
 
-sends-all : (os : List (ℕ × Frame)) (l : Library) (t : ℕ) → l.hub.outputs ≡ os → SentOut l (run_steps (replicate (length os) HubSends) l) t os
+sends-all : (os : List (ℕ × Frame)) (l : Library) (t : ℕ) → l.hub.outputs ≡ os → SentOut l (run_steps (replicate (length os) HubSends) l) t (due_for l.hub t os)
 unfolding step
 sends-all [] l t e = record { hub = λ i. record l.hub { outputs = e i }; taken = refl; line = λ i. record (l.lines t) { down = sym (append-nil (l.lines t).down) i } }
 sends-all (o ∷ os) l t e =
     let x = l.lines o.0 in
-    let m = with_line o.0 (record x { down = x.down ++ o.1 ∷ [] }) (with_hub (record l.hub { outputs = os }) l) in
-    let s = sends-all os m t refl in
-    subst (λ z. SentOut l (run_steps (replicate (length os) HubSends) (hub_sends_from z l)) t (o ∷ os)) (sym e) (record {
+    let m = with_hub (record l.hub { outputs = os }) l in
+    let n = with_line o.0 (record x { down = x.down ++ o.1 ∷ [] }) m in
+    let fs = due_for l.hub t os in
+    let due = filter (λ z. is_due l.hub z) os in
+    subst (λ z. SentOut l (run_steps (replicate (length os) HubSends) (hub_sends_from z l)) t (due_for l.hub t (o ∷ os))) (sym e)
+    (by_test (λ b. SentOut l (run_steps (replicate (length os) HubSends) (cond b n m)) t (for_tab t (cond b (o ∷ due) due))) (is_due l.hub o)
+    (λ _. let s = sends-all os n t refl in record {
       hub = s.hub;
       taken = s.taken;
-      line = s.line ∙ by_test (λ b. (t == o.0) ≡ b → record (cond b (record x { down = x.down ++ o.1 ∷ [] }) (l.lines t)) { down = (cond b (record x { down = x.down ++ o.1 ∷ [] }) (l.lines t)).down ++ for_tab t os } ≡ record (l.lines t) { down = (l.lines t).down ++ cond b (o.1 ∷ for_tab t os) (for_tab t os) }) (t == o.0)
-          (λ _ y. subst (λ n. record (l.lines o.0) { down = ((l.lines o.0).down ++ o.1 ∷ []) ++ for_tab t os } ≡ record (l.lines n) { down = (l.lines n).down ++ o.1 ∷ for_tab t os }) (sym (eqb-true t o.0 y)) (λ i. record (l.lines o.0) { down = append_assoc (l.lines o.0).down (o.1 ∷ []) (for_tab t os) i }))
+      line = s.line ∙ by_test (λ b. (t == o.0) ≡ b → record (cond b (record x { down = x.down ++ o.1 ∷ [] }) (l.lines t)) { down = (cond b (record x { down = x.down ++ o.1 ∷ [] }) (l.lines t)).down ++ fs } ≡ record (l.lines t) { down = (l.lines t).down ++ cond b (o.1 ∷ fs) fs }) (t == o.0)
+          (λ _ y. subst (λ n. record (l.lines o.0) { down = ((l.lines o.0).down ++ o.1 ∷ []) ++ fs } ≡ record (l.lines n) { down = (l.lines n).down ++ o.1 ∷ fs }) (sym (eqb-true t o.0 y)) (λ i. record (l.lines o.0) { down = append_assoc (l.lines o.0).down (o.1 ∷ []) fs i }))
           (λ _ _. refl)
           refl;
     })
+    (λ _. let s = sends-all os m t refl in record { hub = s.hub; taken = s.taken; line = s.line }))
 
 -- A client handles frames
 
@@ -153,7 +190,7 @@ abbrev pub met : ClientState → ClientState
 met c = all_handled c.arrived c
 
 abbrev pub on_way : Library → ℕ → List Frame
-on_way l t = (l.lines t).down ++ for_tab t l.hub.outputs
+on_way l t = (l.lines t).down ++ due_for l.hub t l.hub.outputs
 
 abbrev pub hearing : List Frame → ClientState → ClientState
 hearing fs c = all_handled fs (record (met c) { arrived = fs })

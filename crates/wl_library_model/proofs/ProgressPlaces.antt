@@ -255,18 +255,18 @@ pub record Steady (w : WorldState) : Type 0 where
   pub numbers : Numbered w
 
 -- The deed changes no broker and no number of commands.
-record Calm (w : WorldState) (d : StepResult) : Type 0 where
-  broker : broker_of (after w d) ≡ broker_of w
-  numbers : Numbered (after w d)
+pub record Calm (w : WorldState) (d : StepResult) : Type 0 where
+  pub broker : broker_of (after w d) ≡ broker_of w
+  pub numbers : Numbered (after w d)
 
-calm-allowed : (w : WorldState) (b : Bool) (d : StepResult) → Numbered w → (b ≡ true → Calm w d) → Calm w (if_allowed b w d)
+pub calm-allowed : (w : WorldState) (b : Bool) (d : StepResult) → Numbered w → (b ≡ true → Calm w d) → Calm w (if_allowed b w d)
 calm-allowed w b d n f = either (Calm w) b d (unchanged w) f (λ _. record { broker = refl; numbers = n })
 
 calm-acts : (w : WorldState) (t : ℕ) (y : TabState) (ms : List Message) → Numbered w → y.numbers ≡ (tab_of w t).numbers → Calm w (acts w t y ms)
 unfolding acts
 calm-acts w t y ms n e = record { broker = refl; numbers = each_tab (λ u z. z.numbers ≡ COMMAND_LIMIT) t y w.tabs (e ∙ n t) (λ u d. n u) }
 
-calm-becomes : (w : WorldState) (t : ℕ) (c : ChannelState) (ms : List Message) → Numbered w → Calm w (becomes w t c ms)
+pub calm-becomes : (w : WorldState) (t : ℕ) (c : ChannelState) (ms : List Message) → Numbered w → Calm w (becomes w t c ms)
 unfolding becomes
 calm-becomes w t c ms n = record { broker = refl; numbers = n }
 
@@ -275,7 +275,7 @@ calm-opens i w t p n =
     calm-allowed w (not (is_some (open_refusal t p w.kernel))) (with_kernel (opened t p w.kernel) (with_rows i t w)) n
     (λ _. record { broker = refl; numbers = each_tab (λ u z. z.numbers ≡ COMMAND_LIMIT) t (born i t COMMAND_LIMIT) w.tabs refl (λ u d. n u) })
 
-calm-takes_frame : (w : WorldState) (t : ℕ) (f : Frame) → Numbered w → Calm w (takes_frame w t f)
+pub calm-takes_frame : (w : WorldState) (t : ℕ) (f : Frame) → Numbered w → Calm w (takes_frame w t f)
 calm-takes_frame w t f n = calm-acts w t (told (delivery f (tab_of w t)).0) _ n (told-numbers (delivery f (tab_of w t)).0 ∙ delivery-numbers f (tab_of w t))
 
 calm-greets : (w : WorldState) (t : ℕ) (v : Option BrokerState) → Numbered w → Calm w (greets w t v)
@@ -292,7 +292,7 @@ calm-steady : (w : WorldState) (d : StepResult) → Later w (after w d) → Stea
 calm-steady w d later s c = record { places = subst (Places (after w d)) (sym c.broker) (places-later w (after w d) (broker_of w) later s.places); numbers = c.numbers }
 
 -- The world with another broker, or with none.
-abbrev at_broker : WorldState → Option BrokerState → WorldState
+abbrev pub at_broker : WorldState → Option BrokerState → WorldState
 at_broker w v = record w { broker = v }
 
 -- A message in the bag carries its tab's partition.
@@ -348,7 +348,7 @@ delivered-steady w m true g y i later = arrives-steady w g y m (i refl) later
 delivered-steady w m false g y i later = y
 
 -- The event is for no broker.
-abbrev IsElsewhere : Event → Type 0
+abbrev pub IsElsewhere : Event → Type 0
 IsElsewhere (event.Deliver m) = ⊥
 IsElsewhere (event.Tell t) = ⊥
 IsElsewhere event.Stop = ⊥
@@ -409,7 +409,7 @@ calm-closes w t k n =
 calm-forges : (w : WorldState) (t : ℕ) (x : Forged) → Numbered w → Calm w (forges w t x)
 calm-forges w t x n = calm-allowed w (is_corrupt w t && lives w t) (record { world = w; sends = forgery w.kernel t x }) n (λ _. calm-sends w (forgery w.kernel t x) n)
 
-calm : (w : WorldState) (e : Event) → IsElsewhere e → Numbered w → Calm w (step_result w e)
+pub calm : (w : WorldState) (e : Event) → IsElsewhere e → Numbered w → Calm w (step_result w e)
 unfolding step_result
 calm w (event.Open t p) i n = calm-opens false w t p n
 calm w (event.OpenTwo t p) i n = calm-opens true w t p n
@@ -432,7 +432,7 @@ calm w (event.Hello t) i n = calm-greets w t w.broker n
 calm w (event.Corrupt t) i n = calm-allowed w (lives w t) (unchanged (record w { corrupt = taken_over t w.corrupt })) n (λ _. record { broker = refl; numbers = n })
 calm w (event.Forge t x) i n = calm-forges w t x n
 
-steady-after : (w : WorldState) (e : Event) → Good w → Steady w → Later w (after_event w e) → Steady (after_event w e)
+pub steady-after : (w : WorldState) (e : Event) → Good w → Steady w → Later w (after_event w e) → Steady (after_event w e)
 unfolding after_event step_result
 steady-after w (event.Deliver m) g y later = delivered-steady w m (is_sent m w.bag) g y (λ h. is_sent-In m w.bag h) later
 steady-after w (event.Tell t) g y later = tells-steady w w.broker t y
@@ -440,7 +440,7 @@ steady-after w event.Stop g y later = stops-steady w w.broker y
 steady-after w (event.Start ts) g y later = starts-steady w ts w.broker y
 steady-after w e g y later = calm-steady w (step_result w e) later y (calm w e tt y.numbers)
 
-empty-steady : Steady empty_world
+pub empty-steady : Steady empty_world
 empty-steady = record { places = λ t. record { listed = no-place empty_world t; seated = no-place empty_world t; kept = no-place empty_world t }; numbers = λ t. refl }
 
 keeps-steady : (es : List Event) (w : WorldState) → Good w → Steady w → Steady (run es w)

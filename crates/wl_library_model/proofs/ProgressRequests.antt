@@ -2,11 +2,11 @@
 use Rattle.std.proofs.Common.{◌≡◌, ◌≢◌, inl, inr, ⊎_elim, ℕ, suc, ◌+◌, ◌<◌, ◌≤◌, true, false, cond, not, ◌&&◌, List, [], ◌∷◌, ◌++◌, length, length-append, Some, None, option_map, is_some, refl, sym, ap, ap₂, ◌∙◌, subst, arith}
 use Rattle.std.specs.Prelude.{◌==◌, nat_lt, nat_le}
 use Rattle.std.specs.List.{list_any}
-use Rattle.std.proofs.lemmas.Bool.{cases_Bool, and_parts, not-true, ne_eqb, lt-ltb, leb-true, lt-leb}
+use Rattle.std.proofs.lemmas.Bool.{cases_Bool, and_from, and_parts, eq-eqb, not-true, ne_eqb, lt-ltb, leb-true, lt-leb}
 use Rattle.std.proofs.lemmas.List.{get_or_push}
 use Rattle.wl_draft.specs.declared.mode.Mode.{Mode}
 use Rattle.wl_draft.specs.Locks.{live}
-use Rattle.wl_draft.specs.Membership.{In}
+use Rattle.wl_draft.specs.Membership.{In, Here}
 use Rattle.wl_draft.proofs.Membership.{apart, either, In-append_cases, In-append_right}
 use Rattle.wl_draft.proofs.TableLemmas.{find-put_same}
 use Rattle.wl_limits.specs.declared.tabs.TheConstants.{COMMAND_LIMIT, LAST_NUMBER}
@@ -32,7 +32,7 @@ use Rattle.wl_world_model.specs.World.{WorldState, empty_world, tab_of, lives, p
 use Rattle.wl_world_model.specs.Holdings.{IsHonest}
 use Rattle.wl_world_model.proofs.exclusion.Invariant.{Sound, generation, limit, limit_in, broker_in, broker_of}
 use Rattle.wl_world_model.proofs.exclusion.CoverExcludes.{living_opened}
-use Rattle.wl_library_model.specs.Library.{Library, Line, HubReceives, HubAdvances, Asks, ClientSends, new_library, with_line, with_hub, client_of, is_taken, runs, asks, sending, sending_report, sending_due, sending_item, unless_refused, followed_by, step, run_steps}
+use Rattle.wl_library_model.specs.Library.{Library, Line, HubReceives, HubAdvances, Asks, ClientSends, new_library, with_line, with_hub, client_of, is_taken, is_due, runs, asks, sending, sending_report, sending_due, sending_item, unless_refused, followed_by, step, run_steps}
 use Rattle.wl_library_model.specs.Events.{events, events_from}
 use Rattle.wl_library_model.specs.Simulation.{IsOnItsWayDown, AreLocksOf}
 use Rattle.wl_library_model.specs.Promises.{IsHolding}
@@ -43,7 +43,7 @@ use Rattle.wl_library_model.proofs.Simulated.{steps-sim, run-sim}
 use Rattle.wl_library_model.proofs.ProgressPlaces.{Steady, well-placed, run-steady}
 use Rattle.wl_library_model.proofs.ProgressBroker.{Grants, taking-grants}
 use Rattle.wl_library_model.proofs.ProgressHub.{IsDone, idle-done, hub-handles, unrefused, frame-taken}
-use Rattle.wl_library_model.proofs.ProgressLinks.{at_line, for_tab, for_tab-append, In-for_tab, for_tab-first, met, on_way, hearing, heard-all, fed, sends-line, receives-line, advances-hub}
+use Rattle.wl_library_model.proofs.ProgressLinks.{at_line, due_for, In-due_for, due_for-In, met, on_way, hearing, heard-all, fed, sends-line, receives-line, advances-hub}
 use Rattle.wl_library_model.proofs.ProgressFrames.{Waits, IsFine, grant, Kept, all-kept, all-grants}
 
 -- A request that the client does not refuse leaves numbers for more commands.
@@ -303,15 +303,24 @@ module _ (l : Library) (w : WorldState) (s : Sim l w) (steady : Steady w) (t : �
   fine-coming : (y : Frame) → In y (on_way l4 t) → IsFine g y
   fine-coming y i = ⊎_elim
       (λ k. fine4 y ((sim4.lines t).down y k))
-      (λ k. fine4 y (sim4.hub.outputs t y (In-for_tab t y l4.hub.outputs k)))
-      (In-append_cases (l4.lines t).down (for_tab t l4.hub.outputs) i)
+      (λ k. fine4 y (sim4.hub.outputs t y (In-due_for l4.hub t y l4.hub.outputs k)))
+      (In-append_cases (l4.lines t).down (due_for l4.hub t l4.hub.outputs) i)
+
+  current4 : g ≡ l4.hub.supervised.kernel.generation
+  current4 =
+      sym grants.generation
+      ∙ (sym (ap (λ o. (broker_in v.kernel.generation o).generation) up4)
+      ∙ (sim4.good.sound.current ∙ ap (λ z. z.generation) (sym sim4.hub.kernel)))
+
+  grant-due : is_due l4.hub (t, grant g n mode name grants.upto) ≡ true
+  grant-due = and_from _ _ (and_parts _ _ runs4).0 (eq-eqb g l4.hub.supervised.kernel.generation current4)
 
   grant-coming : In (grant g n mode name grants.upto) (on_way l4 t)
   grant-coming =
       In-append_right (l4.lines t).down
-      (subst (λ os. In (grant g n mode name grants.upto) (for_tab t os)) (sym handled4.1)
-      (subst (In (grant g n mode name grants.upto)) (sym (for_tab-append t l.hub.outputs (from_broker (answer_of g grants.upto t n Granted ∷ grants.others))))
-      (In-append_right (for_tab t l.hub.outputs) (for_tab-first t (grant g n mode name grants.upto) (from_broker grants.others)))))
+      (due_for-In l4.hub t (grant g n mode name grants.upto) l4.hub.outputs
+      (subst (In (t, grant g n mode name grants.upto)) (sym handled4.1) (In-append_right l.hub.outputs Here))
+      grant-due)
 
   waits2 : Waits g n mode name c2.locks
   waits2 = record {

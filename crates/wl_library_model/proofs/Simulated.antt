@@ -4,7 +4,7 @@ use Rattle.wl_draft.proofs.Membership.{apart, In-nil}
 use Rattle.wl_world_model.specs.declared.event.Event.{Event}
 use Rattle.wl_world_model.specs.World.{WorldState, empty_world, after_event, run}
 use Rattle.wl_world_model.proofs.exclusion.SoundRuns.{run-sound}
-use Rattle.wl_library_model.specs.Library.{Library, Step, Opens, Closes, Restarts, Stops, HubReceives, HubAdvances, HubSends, HubDrops, Asks, Queries, Aborts, Releases, Resends, OpensChannel, Posts, Reads, ClosesChannel, TakesEvent, ClientReceives, ClientAdvances, ClientSends, ClientSkips, TakesOver, Forges, new_library, step, run_steps}
+use Rattle.wl_library_model.specs.Library.{Library, Step, Opens, Closes, Restarts, Stops, HubReceives, HubAdvances, HubSends, Asks, Queries, Aborts, Releases, Resends, OpensChannel, Posts, Reads, ClosesChannel, TakesEvent, ClientReceives, ClientAdvances, ClientSends, TakesOver, Forges, new_library, step, run_steps}
 use Rattle.wl_library_model.specs.Events.{events_of, events_from, events}
 use Rattle.wl_library_model.specs.Simulation.{IsRunOfItsEvents}
 use Rattle.wl_library_model.proofs.Happens.{empty-fit}
@@ -12,7 +12,7 @@ use Rattle.wl_library_model.proofs.Carried.{Sim}
 use Rattle.wl_library_model.proofs.Hubs.{restart-sim, stop-sim}
 use Rattle.wl_library_model.proofs.Frames.{advance-sim}
 use Rattle.wl_library_model.proofs.Openings.{open-sim, close-sim, take-sim}
-use Rattle.wl_library_model.proofs.Links.{hub_receives-sim, hub_sends-sim, hub_drops-sim, client_receives-sim, client_sends-sim, client_skips-sim, forges-sim}
+use Rattle.wl_library_model.proofs.Links.{hub_receives-sim, hub_sends-sim, client_receives-sim, client_sends-sim, forges-sim}
 use Rattle.wl_library_model.proofs.Moves.{ask-sim, query-sim, abort-sim, release-sim}
 use Rattle.wl_library_model.proofs.ChannelCalls.{resend-sim, take_event-sim, open_channel-sim, post-sim, read-sim, close_channel-sim}
 use Rattle.wl_library_model.proofs.Arrivals.{client_advances-sim}
@@ -26,7 +26,6 @@ step-sim l w Stops s = stop-sim l w s
 step-sim l w (HubReceives t n) s = hub_receives-sim l w t n s
 step-sim l w HubAdvances s = advance-sim l w s
 step-sim l w HubSends s = hub_sends-sim l w l.hub.outputs s refl
-step-sim l w HubDrops s = hub_drops-sim l w l.hub.outputs s refl
 step-sim l w (Asks t mode if_available name) s = ask-sim l w t mode if_available name s
 step-sim l w (Queries t) s = query-sim l w t s
 step-sim l w (Aborts t k) s = abort-sim l w t k s
@@ -40,7 +39,6 @@ step-sim l w (TakesEvent t) s = take_event-sim l w t s
 step-sim l w (ClientReceives t n) s = client_receives-sim l w t n s
 step-sim l w (ClientAdvances t) s = client_advances-sim l w t s
 step-sim l w (ClientSends t) s = client_sends-sim l w t s
-step-sim l w (ClientSkips t) s = client_skips-sim l w t s
 step-sim l w (TakesOver t) s = take-sim l w t s
 step-sim l w (Forges t f) s = forges-sim l w t f s
 

@@ -26,7 +26,7 @@ use Rattle.wl_world_model.specs.declared.event.Event.TheVariants as event
 use Rattle.wl_world_model.specs.declared.event.Forged.{Forged}
 use Rattle.wl_world_model.specs.World.{WorldState, channels_of, lives, run}
 use Rattle.wl_world_model.specs.Holdings.{asking}
-use Rattle.wl_library_model.specs.Library.{Library, Step, Opens, Closes, Restarts, Stops, HubReceives, HubAdvances, HubSends, HubDrops, Asks, Queries, Aborts, Releases, Resends, OpensChannel, Posts, Reads, ClosesChannel, TakesEvent, ClientReceives, ClientAdvances, ClientSends, ClientSkips, TakesOver, Forges, client_of, is_taken, runs, hub_fed, hub_sends_from, hub_drops_from, step}
+use Rattle.wl_library_model.specs.Library.{Library, Step, Opens, Closes, Restarts, Stops, HubReceives, HubAdvances, HubSends, Asks, Queries, Aborts, Releases, Resends, OpensChannel, Posts, Reads, ClosesChannel, TakesEvent, ClientReceives, ClientAdvances, ClientSends, TakesOver, Forges, client_of, is_taken, runs, hub_fed, hub_sends_from, is_due, step}
 use Rattle.wl_library_model.specs.Library.{lives as lives_in}
 use Rattle.wl_library_model.specs.Events.{opening_events, restart_events, forging, frame_events, first_events, greeting_events, telling_events, advance_events, call_events, delivery_events, handling_events, receiving_events, events_of}
 use Rattle.wl_library_model.specs.Channels.{called_by, heard_by, handled_by, channel_calls_of}
@@ -170,7 +170,6 @@ step-channels l w Stops t s own sent = still-run (event.Stop ∷ []) w own (tt, 
 step-channels l w (HubReceives u n) t s own sent = refl
 step-channels l w HubAdvances t s own sent = still-run (advance_events l) w own (silent-advance l) t
 step-channels l w HubSends t s own sent = refl
-step-channels l w HubDrops t s own sent = refl
 step-channels l w (Asks u mode b name) t s own sent = still-run (call_events l u (asking u mode b name)) w own (silent-call l u (asking u mode b name) (silent-asking u mode b name)) t
 step-channels l w (Queries u) t s own sent = still-run (call_events l u (event.Query u)) w own (silent-call l u (event.Query u) tt) t
 step-channels l w (Aborts u k) t s own sent = still-run (call_events l u (event.Abort u k)) w own (silent-call l u (event.Abort u k) tt) t
@@ -184,7 +183,6 @@ step-channels l w (TakesEvent u) t s own sent = refl
 step-channels l w (ClientReceives u n) t s own sent = refl
 step-channels l w (ClientAdvances u) t s own sent = advances-channels l w u t s own sent
 step-channels l w (ClientSends u) t s own sent = refl
-step-channels l w (ClientSkips u) t s own sent = refl
 step-channels l w (TakesOver u) t s own sent = still-run (event.Corrupt u ∷ []) w own (tt, tt) t
 step-channels l w (Forges u f) t s own sent = refl
 
@@ -203,11 +201,7 @@ fed-keeps l t n (f ∷ fs) = refl
 
 sends-keeps : (l : Library) (os : List (ℕ × Frame)) → KeepsTabs l (hub_sends_from os l)
 sends-keeps l [] = refl
-sends-keeps l (o ∷ os) = refl
-
-drops-keeps : (l : Library) (os : List (ℕ × Frame)) → KeepsTabs l (hub_drops_from os l)
-drops-keeps l [] = refl
-drops-keeps l (o ∷ os) = refl
+sends-keeps l (o ∷ os) = keeps-choice l (is_due l.hub o) _ _ refl refl
 
 -- The step is neither an opening nor a closing.
 abbrev pub IsInside : Step → Type 0
@@ -224,7 +218,6 @@ step-keeps l Stops y = down-tabs l.hub
 step-keeps l (HubReceives t n) y = keeps-choice l (lives_in l t) (hub_fed t n l.hub.arrived l) l (fed-keeps l t n l.hub.arrived) refl
 step-keeps l HubAdvances y = advanced-tabs l.hub
 step-keeps l HubSends y = sends-keeps l l.hub.outputs
-step-keeps l HubDrops y = drops-keeps l l.hub.outputs
 step-keeps l (Asks t mode b name) y = keeps-choice l (runs l t) _ l refl refl
 step-keeps l (Queries t) y = keeps-choice l (runs l t) _ l refl refl
 step-keeps l (Aborts t k) y = keeps-choice l (runs l t) _ l refl refl
@@ -238,6 +231,5 @@ step-keeps l (TakesEvent t) y = keeps-choice l (runs l t) _ l refl refl
 step-keeps l (ClientReceives t n) y = keeps-choice l (runs l t) _ l refl refl
 step-keeps l (ClientAdvances t) y = keeps-choice l (runs l t) _ l refl refl
 step-keeps l (ClientSends t) y = keeps-choice l (runs l t) _ l refl refl
-step-keeps l (ClientSkips t) y = keeps-choice l (runs l t) _ l refl refl
 step-keeps l (TakesOver t) y = keeps-choice l (lives_in l t) _ l refl refl
 step-keeps l (Forges t f) y = keeps-choice l (is_taken l t && lives_in l t) _ l refl refl

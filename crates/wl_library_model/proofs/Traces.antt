@@ -35,7 +35,7 @@ use Rattle.wl_hub.specs.Early.{greeted_next}
 use Rattle.wl_hub.specs.Hub.{HubState, stepped, routed_step, with_verdict, after_first, greeted, postponing, after_greeting, after_told, advanced, greeting, hub_opened, page_refusal, without_sender, hub_closed, hub_stopped, hub_started, hub_down}
 use Rattle.wl_hub.specs.Hub.{from_broker as hub_sends}
 use Rattle.wl_world_model.specs.World.{taken_over}
-use Rattle.wl_library_model.specs.Library.{Library, Line, Step, Opens, Closes, Restarts, Stops, HubReceives, HubAdvances, HubSends, HubDrops, Asks, Queries, Aborts, Releases, Resends, OpensChannel, Posts, Reads, ClosesChannel, TakesEvent, ClientReceives, ClientAdvances, ClientSends, ClientSkips, TakesOver, Forges, new_line, with_line, with_hub, client_of, is_taken, runs, unless, asks, queries, aborts, releases, resends, opens_channel, posts, reads, takes_event, calls, hub_fed, hub_sends_from, hub_drops_from, client_fed, followed_by, Sending, unless_refused, sending_item, sending_due, sending_report, sending, step}
+use Rattle.wl_library_model.specs.Library.{Library, Line, Step, Opens, Closes, Restarts, Stops, HubReceives, HubAdvances, HubSends, Asks, Queries, Aborts, Releases, Resends, OpensChannel, Posts, Reads, ClosesChannel, TakesEvent, ClientReceives, ClientAdvances, ClientSends, TakesOver, Forges, new_line, with_line, with_hub, client_of, is_taken, runs, unless, asks, queries, aborts, releases, resends, opens_channel, posts, reads, takes_event, calls, hub_fed, hub_sends_from, is_due, client_fed, followed_by, Sending, unless_refused, sending_item, sending_due, sending_report, sending, step}
 use Rattle.wl_library_model.specs.Library.{lives as lives_in}
 use Rattle.wl_library_model.proofs.Hubs.{pair-first}
 use Rattle.wl_library_model.proofs.Carried.{each_line}
@@ -328,20 +328,21 @@ module _ (P H : ℕ → Frame → Type 0) (plain-post : (s : ℕ) (f : Frame) �
   sent-parts l (o ∷ os) e y =
       let x = l.lines o.0 in
       let z = y.lines o.0 in
-      record {
-        lines = each_line LineHas o.0 (record x { down = x.down ++ o.1 ∷ [] }) l.lines (record {
+      let longer = record x { down = x.down ++ o.1 ∷ [] } in
+      let rest = with_hub (record l.hub { outputs = os }) l in
+      let dropped : Has rest = record { lines = y.lines; hub = record { outs = λ t f i. y.hub.outs t f (subst (In (t, f)) (sym e) (Behind i)); arrived = y.hub.arrived } } in
+      either Has (is_due l.hub o) (with_line o.0 longer rest) rest
+      (λ _. record {
+        lines = each_line LineHas o.0 longer l.lines (record {
           posts = z.posts;
           report = z.report;
           up = z.up;
           down = λ f i. ⊎_elim (λ a. z.down f a) (λ a. subst (H o.0) (sym (In-one a)) (y.hub.outs o.0 o.1 (subst (In (o.0, o.1)) (sym e) Here))) (In-append_cases x.down (o.1 ∷ []) i);
           came = z.came;
         }) y.lines;
-        hub = record { outs = λ t f i. y.hub.outs t f (subst (In (t, f)) (sym e) (Behind i)); arrived = y.hub.arrived };
-      }
-
-  dropped-parts : (l : Library) (os : List (ℕ × Frame)) → l.hub.outputs ≡ os → Has l → Has (hub_drops_from os l)
-  dropped-parts l [] e y = y
-  dropped-parts l (o ∷ os) e y = record { lines = y.lines; hub = record { outs = λ t f i. y.hub.outs t f (subst (In (t, f)) (sym e) (Behind i)); arrived = y.hub.arrived } }
+        hub = dropped.hub;
+      })
+      (λ _. dropped)
 
   client_fed-line : (u n : ℕ) (x : Line) (fs : List Frame) → LineHas u x → LineHas u (client_fed n fs x)
   client_fed-line u n x [] z = record { posts = z.posts; report = z.report; up = z.up; down = λ f i. z.down f (In-drop n x.down i); came = λ f i. z.down f (In-take n x.down i) }
@@ -377,7 +378,6 @@ module _ (P H : ℕ → Frame → Type 0) (plain-post : (s : ℕ) (f : Frame) �
   step-parts l (HubReceives t n) s y = either Has (lives_in l t) (hub_fed t n l.hub.arrived l) l (λ _. fed-parts l t n l.hub.arrived y) (λ _. y)
   step-parts l HubAdvances s y = record { lines = y.lines; hub = advanced-hub l.hub (s.routes refl) y.hub }
   step-parts l HubSends s y = sent-parts l l.hub.outputs refl y
-  step-parts l HubDrops s y = dropped-parts l l.hub.outputs refl y
   step-parts l (Asks t mode b name) s y =
       let c = client_of l t in
       let k = client-of t (l.lines t) (y.lines t) in
@@ -433,8 +433,6 @@ module _ (P H : ℕ → Frame → Type 0) (plain-post : (s : ℕ) (f : Frame) �
         came = k.client.came;
       }))
       (λ _. y)
-  step-parts l (ClientSkips t) s y =
-      call-parts l t (λ c. (sending c).client) y (λ _. (sending-traced t (client_of l t).report (client_of l t) refl (client-of t (l.lines t) (y.lines t))).client)
   step-parts l (TakesOver t) s y = either Has (lives_in l t) (record l { taken = taken_over t l.taken }) l (λ _. record { lines = y.lines; hub = y.hub }) (λ _. y)
   step-parts l (Forges t f) s y =
       let x = l.lines t in

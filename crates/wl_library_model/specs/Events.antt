@@ -23,7 +23,7 @@ use Rattle.wl_world_model.specs.declared.event.Forged.{Forged}
 use Rattle.wl_world_model.specs.declared.event.Forged.TheVariants as forged
 use Rattle.wl_world_model.specs.Sends.{stamped}
 use Rattle.wl_world_model.specs.Holdings.{asking}
-use Rattle.wl_library_model.specs.Library.{Library, Step, Opens, Closes, Restarts, Stops, HubReceives, HubAdvances, HubSends, HubDrops, Asks, Queries, Aborts, Releases, Resends, OpensChannel, Posts, Reads, ClosesChannel, TakesEvent, ClientReceives, ClientAdvances, ClientSends, ClientSkips, TakesOver, Forges, new_library, client_of, is_taken, runs, step}
+use Rattle.wl_library_model.specs.Library.{Library, Step, Opens, Closes, Restarts, Stops, HubReceives, HubAdvances, HubSends, Asks, Queries, Aborts, Releases, Resends, OpensChannel, Posts, Reads, ClosesChannel, TakesEvent, ClientReceives, ClientAdvances, ClientSends, TakesOver, Forges, new_library, client_of, is_taken, runs, step}
 
 -- Steps of the hub
 
@@ -106,7 +106,6 @@ events_of l Stops = event.Stop ∷ []
 events_of l (HubReceives t n) = []
 events_of l HubAdvances = advance_events l
 events_of l HubSends = []
-events_of l HubDrops = []
 events_of l (Asks t mode if_available name) = call_events l t (asking t mode if_available name)
 events_of l (Queries t) = call_events l t (event.Query t)
 events_of l (Aborts t k) = call_events l t (event.Abort t k)
@@ -120,7 +119,6 @@ events_of l (TakesEvent t) = []
 events_of l (ClientReceives t n) = []
 events_of l (ClientAdvances t) = receiving_events l t
 events_of l (ClientSends t) = []
-events_of l (ClientSkips t) = []
 events_of l (TakesOver t) = event.Corrupt t ∷ []
 events_of l (Forges t f) = []
 

@@ -19,6 +19,7 @@ use Rattle.wl_client.specs.Client.{advanced as client_advanced}
 use Rattle.wl_client.specs.Sending.{after_item}
 use Rattle.wl_hub.specs.Hub.{HubState, new_hub, page_refusal, page_opened, hub_closed, hub_down, hub_restarted}
 use Rattle.wl_hub.specs.Hub.{advanced as hub_advanced}
+use Rattle.wl_hub.specs.Sending.{is_current}
 use Rattle.wl_world_model.specs.World.{taken_over}
 
 -- The state
@@ -81,18 +82,17 @@ hub_fed t n (f ∷ fs) l = l
 abbrev pub hub_receives : ℕ → ℕ → Library → Library
 hub_receives t n l = if lives l t then hub_fed t n l.hub.arrived l else l
 
--- `Hub::next_output`, which appends the oldest frame for a tab to the tab's link.
+-- A frame for a tab is due if the tab lives, and the frame belongs to no generation or to the last one that was started.
+abbrev pub is_due : HubState → ℕ × Frame → Bool
+is_due h o = is_living h.supervised.kernel o.0 && is_current h.supervised.kernel.generation o.1
+
+-- `Hub::next_output`. The oldest frame for a tab joins those on their way to it if it is due, and is dropped otherwise.
 abbrev pub hub_sends_from : List (ℕ × Frame) → Library → Library
 hub_sends_from [] l = l
 hub_sends_from (o ∷ os) l =
     let x = l.lines o.0 in
-    with_line o.0 (record x { down = x.down ++ o.1 ∷ [] }) (with_hub (record l.hub { outputs = os }) l)
-
--- `Hub::next_output`, which drops the oldest frame for a tab. The hub drops only frames that are not due; the machine may
--- drop any.
-abbrev pub hub_drops_from : List (ℕ × Frame) → Library → Library
-hub_drops_from [] l = l
-hub_drops_from (o ∷ os) l = with_hub (record l.hub { outputs = os }) l
+    let m = with_hub (record l.hub { outputs = os }) l in
+    if is_due l.hub o then with_line o.0 (record x { down = x.down ++ o.1 ∷ [] }) m else m
 
 -- Steps of a client
 
@@ -143,8 +143,8 @@ client_fed n (f ∷ fs) x = x
 abbrev pub client_receives : ℕ → ℕ → Library → Library
 client_receives t n l = if runs l t then with_line t (client_fed n (client_of l t).arrived (l.lines t)) l else l
 
--- `Client::next_output` sends a frame, or skips it. A report comes first, then the commands that are due, and then the
--- other items.
+-- `Client::next_output` takes the oldest item, which may have no frame. A report comes first, then the commands that are
+-- due, and then the other items.
 
 abbrev pub unless_refused : Option MessageFault → Frame → Option Frame
 unless_refused None f = Some f
@@ -179,14 +179,10 @@ abbrev pub followed_by : List Frame → Option Frame → List Frame
 followed_by fs None = fs
 followed_by fs (Some f) = fs ++ f ∷ []
 
--- The frame joins those on their way to the hub.
+-- `Client::next_output`. The frame, if there is one, joins those on their way to the hub.
 abbrev pub client_sends : ℕ → Library → Library
 client_sends t l =
     if runs l t then (let x = l.lines t in let s = sending x.client in with_line t (record x { client = s.client; up = followed_by x.up s.frame }) l) else l
-
--- The frame is dropped. The client drops only a frame that it may not send; the machine may drop any.
-abbrev pub client_skips : ℕ → Library → Library
-client_skips t l = calls t (λ c. (sending c).client) l
 
 -- Tabs that are taken over
 
@@ -208,7 +204,6 @@ pub data Step : Type 0 where
   HubReceives : (t n : ℕ) → Step  -- the next n frames of the tab's link
   HubAdvances : Step
   HubSends : Step
-  HubDrops : Step
   Asks : (t : ℕ) (mode : Mode) (if_available : Bool) (name : List ℕ) → Step  -- `request` and `probe`
   Queries : (t : ℕ) → Step
   Aborts : (t k : ℕ) → Step
@@ -222,7 +217,6 @@ pub data Step : Type 0 where
   ClientReceives : (t n : ℕ) → Step  -- the next n frames of the tab's link
   ClientAdvances : (t : ℕ) → Step
   ClientSends : (t : ℕ) → Step
-  ClientSkips : (t : ℕ) → Step
   TakesOver : (t : ℕ) → Step
   Forges : (t : ℕ) (f : Frame) → Step
 
@@ -234,7 +228,6 @@ step Stops l = with_hub (hub_down l.hub) l
 step (HubReceives t n) l = hub_receives t n l
 step HubAdvances l = with_hub (hub_advanced l.hub) l
 step HubSends l = hub_sends_from l.hub.outputs l
-step HubDrops l = hub_drops_from l.hub.outputs l
 step (Asks t mode if_available name) l = calls t (asks mode if_available name) l
 step (Queries t) l = calls t queries l
 step (Aborts t k) l = calls t (aborts k) l
@@ -248,7 +241,6 @@ step (TakesEvent t) l = calls t takes_event l
 step (ClientReceives t n) l = client_receives t n l
 step (ClientAdvances t) l = calls t client_advanced l
 step (ClientSends t) l = client_sends t l
-step (ClientSkips t) l = client_skips t l
 step (TakesOver t) l = takes_over t l
 step (Forges t f) l = forges t f l
 

@@ -41,9 +41,9 @@ pub fn law_library()
 
 /// The calls whose contracts are relations. The contracts of all other calls cite the definitions of their steps.
 pub fn law_calls()
-    // Sending the hub's next frame is `HubSends` or `HubDrops`.
+    // Sending the hub's next frame is `HubSends`.
     ensures hub_output { HubOutputIsStep }
-    // Sending the client's next item is `ClientSends` or `ClientSkips`.
+    // Sending the client's next item is `ClientSends`.
     ensures client_output { ClientOutputIsStep }
     // Bytes that are cut anywhere arrive as the next frames on their way.
     ensures pieces { PiecesAreFrames }
