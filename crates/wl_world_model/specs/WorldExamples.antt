@@ -19,6 +19,7 @@ use Rattle.wl_world_model.specs.declared.event.Event.{Event}
 use Rattle.wl_world_model.specs.declared.event.Event.TheVariants as event
 use Rattle.wl_world_model.specs.World.{WorldState, empty_world, tab_of, lives, after_event, run}
 use Rattle.wl_world_model.specs.Apart.{part, projected}
+use Rattle.wl_world_model.specs.Holdings.{Exclusion, Differ, IsHonest, partition_at, name_at, mode_at}
 use Rattle.wl_world_model.specs.Orders.{Reports, Commands, picked}
 
 -- Scripts
@@ -47,8 +48,11 @@ abbrev pub sent_behind : ℕ → List Line → List Message
 sent_behind n lines = drop n (played lines).bag
 
 -- Whether the tab lives and holds the lock of number `k`, by its own account.
+abbrev pub holds_in : WorldState → ℕ → ℕ → Bool
+holds_in w t k = lives w t && is_held (status_of (tab_of w t) k)
+
 abbrev pub holds : ℕ → ℕ → List Line → Bool
-holds t k lines = lives (played lines) t && is_held (status_of (tab_of (played lines) t) k)
+holds t k lines = holds_in (played lines) t k
 
 -- Abbreviations
 
@@ -142,6 +146,31 @@ RestartWhileHeld =
     × (holds 1 0 restarted_held ≡ true) × (holds 2 0 restarted_held ≡ false)
     × (sent_behind 12 restarted_behind
     ≡ hello 2 1 ∷ hello 2 2 ∷ report 2 1 3 (record { number = 2; held = false; mode = Exclusive; name = a } ∷ []) ∷ report 2 2 1 (entry true ∷ []) ∷ [])
+
+-- Two different locks of one name, the first exclusive, of honest tabs of one partition.
+pub record AreRivals (w : WorldState) (t k u j : ℕ) : Type 0 where
+  pub first : IsHonest w t
+  pub second : IsHonest w u
+  pub differ : Differ t k u j
+  pub partition : partition_at w t ≡ partition_at w u
+  pub name : name_at w t k ≡ name_at w u j
+  pub mode : mode_at w t k ≡ Exclusive
+
+-- Exclusion is false in a world in which rivals are both held.
+abbrev pub RivalsAreExcluded : Type 0
+RivalsAreExcluded = (w : WorldState) (t k u j : ℕ) → Exclusion w → AreRivals w t k u j → (holds_in w t k && holds_in w u j) ≡ false
+
+-- After a script, rivals are not both held.
+abbrev pub Excluded : ℕ → ℕ → ℕ → ℕ → List Line → Type 0
+Excluded t k u j lines = AreRivals (played lines) t k u j × ((holds t k lines && holds u j lines) ≡ false)
+
+-- A grant of the old generation arrives, and then that of the new one for the other tab.
+abbrev pub OldGrantExcluded : Type 0
+OldGrantExcluded = Excluded 1 0 2 0 restarted_asked
+
+-- One of two tabs has reported, and a grant to it would arrive. The other tab holds the lock.
+abbrev pub EarlyGrantExcluded : Type 0
+EarlyGrantExcluded = Excluded 1 2 2 0 (restarted_behind ++ Delivers 17 ∷ [])
 
 -- A death grants the lock to the waiting tab once the broker is told. Commands that the dead tab sent before are dropped.
 abbrev pub killed : List Line

@@ -3,7 +3,7 @@
 ghost use Rattle.wl_world_model.specs.HostileExamples.{CorruptHolderIsNotExcluded, ForgedPostIsItsTabs, HonestHolderStays};
 ghost use Rattle.wl_world_model.specs.PartExamples.{ApartByTop, ForgedParts, InTwoParts, OnePart, PartsGivenUp, PartsRefused};
 ghost use Rattle.wl_world_model.specs.ReplyExamples.{Joining, LateGrant, Snapshots, Recovery, Ending, Posts, FullInbox, Refusals};
-ghost use Rattle.wl_world_model.specs.WorldExamples.{FirstGrant, ReleaseHandsOver, LateGrantAfterAbort, RestartWhileAsked, RestartWhileHeld, DeathHandsOver, PostsInThePartition, TakenOnce, OtherOriginUnblocked};
+ghost use Rattle.wl_world_model.specs.WorldExamples.{FirstGrant, ReleaseHandsOver, LateGrantAfterAbort, RestartWhileAsked, RestartWhileHeld, RivalsAreExcluded, OldGrantExcluded, EarlyGrantExcluded, DeathHandsOver, PostsInThePartition, TakenOnce, OtherOriginUnblocked};
 
 /// Results of short scripts.
 pub fn law_examples()
@@ -12,6 +12,9 @@ pub fn law_examples()
     ensures late_grant_after_abort { LateGrantAfterAbort }
     ensures restart_while_asked { RestartWhileAsked }
     ensures restart_while_held { RestartWhileHeld }
+    ensures rivals { RivalsAreExcluded }
+    ensures old_grant { OldGrantExcluded }
+    ensures early_grant { EarlyGrantExcluded }
     ensures death_hands_over { DeathHandsOver }
     ensures posts_in_the_partition { PostsInThePartition }
     ensures taken_once { TakenOnce }

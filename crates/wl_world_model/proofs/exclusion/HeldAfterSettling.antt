@@ -62,7 +62,7 @@ granted-waited {x = x} held ahead (r ∷ rs) h =
     (λ g i. Later (granted-waited held (ahead ++ r ∷ []) rs i))
     h
 
-left_waiting-waited : {x : Row} (held ahead rows : List Row) → In x (left_waiting held ahead rows) → In x ahead ⊎ In x rows
+pub left_waiting-waited : {x : Row} (held ahead rows : List Row) → In x (left_waiting held ahead rows) → In x ahead ⊎ In x rows
 left_waiting-waited held ahead [] h = inl h
 left_waiting-waited {x = x} held ahead (r ∷ rs) h =
     either (λ zs. In x zs → In x ahead ⊎ In x (r ∷ rs)) (is_grantable held ahead r) (left_waiting (held ++ r ∷ []) ahead rs) (left_waiting held (ahead ++ r ∷ []) rs)
