@@ -80,9 +80,11 @@ MINUTES ?= 10
 SEED ?= 1
 JS_SECONDS ?= 60
 
-soak: $(WLB) ## kills brokers and tabs at random for MINUTES, then plays hostile tabs, then the JavaScript package for JS_SECONDS
+soak: $(WLB) lib ## kills brokers and tabs at random for MINUTES, then plays hostile tabs, histories of hub and clients, and JavaScript
 	python3 tools/soak.py $(MINUTES) $(SEED) $(WLB)
 	python3 tools/hostile.py $(SEED) $(WLB)
+	python3 tools/check_library.py --only rests --minutes $(MINUTES) --seed $(SEED)
+	python3 tools/planted_quiesce.py --seed $(SEED)
 	python3 tools/js.py $(WLB) soak.js --seconds $(JS_SECONDS) --seed $(SEED)
 	python3 tools/js.py $(WLB) soak.js --processes --seconds $(JS_SECONDS) --seed $(SEED)
 

@@ -9,7 +9,8 @@ run. It compares the header's limits and statuses with the constants of the crat
 shared libraries export, and compiles the header as C++. `wlb_build` has to say whether the libraries are proved, and `library.py` has
 to refuse what is not. `check_vectors.py` plays the test vectors of the protocol through the shared libraries, and `refused_calls.py`
 plays them with allocations refused. `library_edges.c` plays the edge cases of every function, and `fuzz_library.c` gives hub and client
-random and mutated bytes under the address sanitizer. The fuzzer has to find the wrong libraries of `wrong_library.c`.
+random and mutated bytes under the address sanitizer. The fuzzer has to find the wrong libraries of `wrong_library.c`. `quiesce.c` plays
+random histories of hub and clients: once all bytes have arrived, no request waits for nothing. It has to fail over links that lose frames.
 
 It prints each difference, and last how many checks passed and failed. The status is 1 if there is a difference. It needs `make`, `rt`,
 a C compiler `cc`, the binutils and `pkg-config`. Without a C++ compiler `c++` it leaves that part out.
@@ -26,6 +27,7 @@ import signal
 import subprocess
 import sys
 import tempfile
+import time
 
 import argument_types
 import packages
@@ -46,6 +48,10 @@ RUNS = [(1, 1, False), (2, 9, False), (4, 12, False), (4, 12, True), (9, 5, True
 
 # Which part of the fuzzer plays over which wrong library of `wrong_library.c`, and its status. Library 0 is right.
 WRONG = [("hub", 0, 0), ("client", 0, 0), ("hub", 1, 1), ("hub", 2, 1), ("client", 3, 1)]
+
+# Histories that `quiesce.c` plays, and most seconds of a batch of them.
+HISTORIES, BATCH_SECONDS = 2_000, 600
+RESTED = re.compile(r"\d+ histories, .* [1-9]\d* restarts, .*; [1-9]\d* partitions at rest with [1-9]\d* held and [1-9]\d* waiting\n")
 
 # Each limit of the header with the constant of a crate that it repeats, and what is added to that.
 LIMITS = {
@@ -382,6 +388,29 @@ def check_fuzz_finds(installed):
         same(f"fuzz_library {part} over the wrong library {wrong}", "the status", ran.returncode, status)
 
 
+def quiesce(installed, program, seed, *words):
+    return run([program, seed, *words], seconds=BATCH_SECONDS, env=installed.environment)
+
+
+def check_rests(installed):
+    """At rest no request waits for nothing, in random histories of hub and clients. The driver finds links that lose frames."""
+    program = installed.compile(TOOLS / "quiesce.c", "-Wl,--wrap=malloc,--wrap=realloc", is_static=True, name="quiesce")
+    if not program:
+        return
+    end, seed = time.monotonic() + 60 * installed.minutes, installed.seed
+    while not differences and (seed == installed.seed or time.monotonic() < end):
+        ran = quiesce(installed, program, seed, HISTORIES)
+        same(f"quiesce {seed} {HISTORIES}", "standard error", ran.stderr, "")
+        same(f"quiesce {seed} {HISTORIES}", "what it says, if not the numbers of its rests,", "" if RESTED.fullmatch(ran.stdout) else ran.stdout, "")
+        same(f"quiesce {seed} {HISTORIES}", "the status", ran.returncode, 0)
+        seed += HISTORIES
+    if installed.minutes:
+        print(f"quiesce: {seed - installed.seed} histories from seed {installed.seed}")
+    ran = quiesce(installed, program, installed.seed, HISTORIES, "lossy")
+    same(f"quiesce {installed.seed} {HISTORIES} lossy", "the status", ran.returncode, 1)
+    same(f"quiesce {installed.seed} {HISTORIES} lossy", "whether it names a fault", ran.stdout.startswith("quiesce: seed "), True)
+
+
 def fails(check, installed):
     """Plays a check, prints its differences, and returns whether there are any."""
     differences.clear()
@@ -409,6 +438,7 @@ CHECKS = [
     check_edges,
     check_fuzz,
     check_fuzz_finds,
+    check_rests,
 ]
 
 
@@ -418,7 +448,8 @@ def main():
     parser.add_argument("--unproved", metavar="FOLDER", type=argument_types.folder, help="take the libraries of `tools/unproved.py --sanitize`")
     parser.add_argument("--only", metavar="WORD", default="", help="run only the checks whose names contain this word")
     parser.add_argument("--megabytes", metavar="N", type=argument_types.amount, default=10, help="megabytes that hub and client each receive (10)")
-    parser.add_argument("--seed", metavar="SEED", type=argument_types.number(0), default=1, help="the number from which the bytes are drawn")
+    parser.add_argument("--seed", metavar="SEED", type=argument_types.number(0), default=1, help="the number from which bytes and histories are drawn")
+    parser.add_argument("--minutes", metavar="N", type=argument_types.amount, default=0, help=f"minutes of random histories, not {HISTORIES}")
     parser.add_argument("--all", action="store_true", help="refuse every allocation of hub and client, not a sample")
     parser.add_argument("--tell", action="store_true", help="print what the fuzzer has done")
     given = parser.parse_args()
@@ -432,7 +463,7 @@ def main():
     with tempfile.TemporaryDirectory(prefix="wlb-") as folder:
         installed = Unproved(folder, given.unproved.absolute()) if given.unproved else Installed(folder, given.archives)
         installed.megabytes, installed.seed, installed.is_told = given.megabytes, given.seed, given.tell
-        installed.refuses_all = given.all
+        installed.refuses_all, installed.minutes = given.all, given.minutes
         failed = sum(fails(check, installed) for check in chosen)
     print(f"{len(chosen) - failed} passed, {failed} failed")
     sys.exit(1 if failed else 0)

@@ -433,6 +433,48 @@ static void dropped_output(void) {
     end();
 }
 
+// Returns the number of calls of `advance` after which the hub has nothing to do.
+static int advances(void) {
+    int count = 0;
+    int32_t status;
+    while ((status = wlb_hub_advance(&hub)) == WLB_OK) count++;
+    expect(WLB_IDLE, status);
+    return count;
+}
+
+// A partition recovers, since tab 1 does not report. Tabs whose requests come too early leave nothing to do once they are closed,
+// and the one that lives is granted the lock at the end of the recovery.
+static void closed_early_tabs(void) {
+    enum { FIRST = 3, LAST = 22, OTHER };
+    uint32_t number;
+    begin();
+    expect(WLB_OK, wlb_hub_restart(&hub));
+    next_output_for(1);
+    for (uint16_t tab = FIRST; tab <= LAST; tab++) {
+        open_client(tab, URL);
+        send_down();
+        expect(WLB_OK, wlb_client_request(&clients[tab], bytes_of("a"), 1, false, &number));
+        pass(tab);
+    }
+    for (uint16_t tab = FIRST; tab < LAST; tab++) {
+        wlb_client_free(&clients[tab]);
+        expect(WLB_OK, wlb_hub_close(&hub, tab));
+    }
+    advance_hub();
+    open_client(OTHER, "https://b.test/");
+    send_down();
+    // At a death in another partition the hub tells the broker, and looks at the early tab that lives.
+    wlb_client_free(&clients[OTHER]);
+    expect(WLB_OK, wlb_hub_close(&hub, OTHER));
+    expect(2, advances());
+    expect(WLB_OK, wlb_hub_close(&hub, 1));
+    advance_hub();
+    send_down();
+    expect((int32_t)number, (int32_t)last_of(LAST, WLB_GRANTED).number);
+    wlb_client_free(&clients[LAST]);
+    end();
+}
+
 // Takes and drops what the client of tab 1 puts out.
 static void drop_output(void) {
     size_t length;
@@ -476,6 +518,7 @@ int main(void) {
     recovery();
     ended_numbers();
     dropped_output();
+    closed_early_tabs();
     channels();
     used_up();
     return 0;

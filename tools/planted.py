@@ -8,7 +8,8 @@ The tool applies each change to a copy of the crates, and runs the tests there b
 caught if the named test fails or stops the run. It is not caught if the copy does not compile, or the named test passes or does not run.
 The unchanged tests have to pass, which `make verify` sees before: a wrong body shows nothing if its test fails without it.
 
-The last line is `N passed, M failed`. The status is 1 if a wrong body was not caught. `--fit` only applies the changes.
+The last line is `N passed, M failed`. The status is 1 if a wrong body was not caught. `--fit` only applies the changes, and those of
+`tools/planted_quiesce`, which `planted_quiesce.py` tries.
 """
 
 import argparse
@@ -26,7 +27,10 @@ import jobs
 from mutants import Change
 from rlibs import TOP
 
+TOOL = pathlib.Path(sys.argv[0]).stem
 PLANTED = TOP / "tools" / "planted"
+# Wrong bodies of `planted_quiesce.py`.
+RESTING = TOP / "tools" / "planted_quiesce"
 STARTED = re.compile(r"^test (\S+) \.\.\.(.*)$", re.MULTILINE)
 
 
@@ -46,14 +50,14 @@ class WrongBody:
             file.write_text(change.made_in(file.read_text(encoding="utf-8"), self.name), encoding="utf-8")
 
 
-def read(file):
-    """Reads a wrong body. Ends the tool if a line is wrong."""
-    crate = test = path = after = old = ""
+def lines_of(file):
+    """Returns the changes of a wrong body, and the text of its line `test`. Ends the tool if a line is wrong."""
+    test = path = after = old = ""
     changes = []
     for line in file.read_text(encoding="utf-8").splitlines():
         word, _, text = line.partition(": ")
         if word == "test":
-            crate, _, test = text.partition(" ")
+            test = text
         elif word == "file":
             path = text
         elif word == "after":
@@ -64,10 +68,22 @@ def read(file):
             changes.append(Change(path, after, old, text))
             after = ""
         else:
-            sys.exit(f"planted: {file.name}: no line begins with {word!r}: use test, file, after, old and new")
-    if not (test and changes):
-        sys.exit(f"planted: {file.name}: a wrong body has a line `test: CRATE NAME`, a file, and what is old and new in it")
-    return WrongBody(file.stem, crate, test, tuple(changes))
+            sys.exit(f"{TOOL}: {file.name}: no line begins with {word!r}: use test, file, after, old and new")
+    return test, tuple(changes)
+
+
+def read(file):
+    """Reads a wrong body. Ends the tool if a line is wrong."""
+    test, changes = lines_of(file)
+    crate, _, name = test.partition(" ")
+    if not (name and changes):
+        sys.exit(f"{TOOL}: {file.name}: a wrong body has a line `test: CRATE NAME`, a file, and what is old and new in it")
+    return WrongBody(file.stem, crate, name, changes)
+
+
+def bodies_without_test(folder):
+    """Reads the wrong bodies of a folder whose files name no test."""
+    return [WrongBody(file.stem, "", "", lines_of(file)[1]) for file in sorted(folder.glob("*.edit"))]
 
 
 def copy_of_crates(room):
@@ -106,17 +122,22 @@ def plant(body):
         return failure(body, said_of_tests(body.crate, top))
 
 
+def fit(bodies):
+    """Applies each wrong body to a copy of the crates. Fails at the first one that does not fit."""
+    with tempfile.TemporaryDirectory(prefix="wlb-planted-") as place:
+        for body in bodies:
+            room = pathlib.Path(place, body.name)
+            room.mkdir()
+            body.apply(copy_of_crates(room))
+
+
 def main():
     parser = argparse.ArgumentParser(description=__doc__, formatter_class=argparse.RawDescriptionHelpFormatter)
     parser.add_argument("--fit", action="store_true", help="only apply the changes")
     given = parser.parse_args()
     bodies = [read(file) for file in sorted(PLANTED.glob("*.edit"))]
     if given.fit:
-        with tempfile.TemporaryDirectory(prefix="wlb-planted-") as place:
-            for body in bodies:
-                room = pathlib.Path(place, body.name)
-                room.mkdir()
-                body.apply(copy_of_crates(room))
+        fit([*bodies, *bodies_without_test(RESTING)])
         return 0
     argument_types.need_command("rt", "install the Rattle kit that README.md names")
     with concurrent.futures.ThreadPoolExecutor(jobs.count()) as pool:

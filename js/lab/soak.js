@@ -7,8 +7,9 @@
 //   --kill       milliseconds between the ends of tabs, on average
 //   --wrong      plays clients that do not wait for their locks, and clients that do not report them to the next broker
 //
-// The status is 1 if two holders have met, if a counter is wrong, if a request was not granted in time, or if a process or a tab has
-// ended otherwise than it should. With --wrong it is 1 if that was not noticed.
+// The status is 1 if two holders have met, if a counter is wrong, if a request was not granted in time, if a snapshot shows a request that
+// waits for a lock that nobody holds, if a tab waits with a request that the broker does not have, or if a process or a tab has ended
+// otherwise than it should. With --wrong it is 1 if the wrong clients were not noticed.
 
 import { commandLine } from './command_line.js';
 import { needProgram } from './kernel.js';

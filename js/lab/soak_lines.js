@@ -17,14 +17,16 @@ export const longest = (wrong, usual) => (wrong === 'forgetful' ? 60 : usual);
 export const pause = milliseconds => new Promise(resolve => (milliseconds ? setTimeout(resolve, milliseconds) : setImmediate(resolve)));
 
 /**
- * Plays the lines of a tab until `isOver()`. `section(line, name, mode)` runs under the lock. Returns counts by kind.
+ * Plays the lines of a tab with this number until `isOver()`. `section(line, name, mode)` runs under the lock. Returns counts by kind.
  */
-export async function play(locks, random, section, isOver) {
+export async function play(locks, tab, random, section, isOver) {
   const sums = { sections: 0, probes: 0, aborts: 0, queries: 0 };
+  const waiting = new Set(); // requests that wait, as {name, mode}
 
   const one = async line => {
-    const name = random(NAMES), mode = random(2) ? 'shared' : 'exclusive';
+    const name = random(NAMES), mode = random(2) ? 'shared' : 'exclusive', own = { name: `${name}`, mode };
     const enter = lock => {
+      waiting.delete(own);
       if (!lock) return undefined;
       sums.sections++;
       return section(line, name, mode);
@@ -35,7 +37,11 @@ export async function play(locks, random, section, isOver) {
         return locks.request(`${name}`, { mode, ifAvailable: true }, enter);
       case 1: {
         const aborts = new AbortController();
-        setTimeout(() => aborts.abort('late'), random(6));
+        waiting.add(own);
+        setTimeout(() => {
+          waiting.delete(own);
+          aborts.abort('late');
+        }, random(6));
         return locks.request(`${name}`, { mode, signal: aborts.signal }, enter).catch(reason => {
           if (reason !== 'late') throw reason;
           sums.aborts++;
@@ -43,8 +49,10 @@ export async function play(locks, random, section, isOver) {
       }
       case 2:
         sums.queries++;
-        return query(locks);
-      default: return locks.request(`${name}`, { mode }, enter);
+        return query(locks, tab, waiting);
+      default:
+        waiting.add(own);
+        return locks.request(`${name}`, { mode }, enter);
     }
   };
 
@@ -52,14 +60,28 @@ export async function play(locks, random, section, isOver) {
   return sums;
 }
 
-async function query(locks) {
-  const { held } = await locks.query().catch(error => {
+/** Queries, and checks the snapshot. Requests that have waited since before the query stand in it. */
+async function query(locks, tab, waiting) {
+  const before = [...waiting];
+  const snapshot = await locks.query().catch(error => {
     if (error.name !== 'OperationError') throw error;
-    return { held: [] };
+    return null;
   });
-  for (const { name, mode } of held) {
-    if (mode === 'exclusive' && held.filter(info => info.name === name).length > 1) throw new Error('a snapshot shows two holders');
-  }
+  const fault = snapshot && faultOf(snapshot, `${tab}`, before.filter(own => waiting.has(own)));
+  if (fault) throw new Error(fault);
+}
+
+const exclude = (one, other) => one.name === other.name && (one.mode === 'exclusive' || other.mode === 'exclusive');
+
+/** Returns what is wrong with a snapshot, or null. The requests `own`, as {name, mode}, of the tab `clientId` still wait. */
+export function faultOf({ held, pending }, clientId, own) {
+  if (held.some((one, place) => held.some((other, later) => later > place && exclude(one, other)))) return 'a snapshot shows two holders';
+  const isObstructed = (one, place) => held.some(other => exclude(one, other)) || pending.slice(0, place).some(other => other.name === one.name);
+  if (!pending.every(isObstructed)) return 'a request waits for a lock that nobody holds';
+  const count = (list, one) => list.filter(other => other.name === one.name && other.mode === one.mode).length;
+  const known = pending.filter(one => one.clientId === clientId);
+  if (own.some(one => count(known, one) < count(own, one))) return 'a tab waits with a request that the broker does not have';
+  return null;
 }
 
 /** The locks of a client that does not wait for its locks. */

@@ -26,7 +26,7 @@ async function section(line, name, mode) {
 }
 
 try {
-  tell({ op: 'done', sums: await play(wrong === 'hasty' ? hasty(tab.locks) : tab.locks, random, section, () => isOver) });
+  tell({ op: 'done', sums: await play(wrong === 'hasty' ? hasty(tab.locks) : tab.locks, tab.id, random, section, () => isOver) });
 } catch (error) {
   tell({ op: 'fault', text: error.stack ?? String(error) });
 }

@@ -20,7 +20,7 @@ async function section(line, name, mode) {
 }
 
 try {
-  parentPort.postMessage(await play(wrong === 'hasty' ? hasty(tab.locks) : tab.locks, random, section, () => isOver));
+  parentPort.postMessage(await play(wrong === 'hasty' ? hasty(tab.locks) : tab.locks, tab.id, random, section, () => isOver));
 } catch (error) {
   parentPort.postMessage({ fault: error.stack ?? String(error) });
 }
