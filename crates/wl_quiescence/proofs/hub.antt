@@ -1,0 +1,19 @@
+-- The hub tells of a death, greets a tab, or handles the oldest frame that arrived.
+pub mod Rows
+pub mod Moves
+pub mod Others
+pub mod Drafted
+pub mod Performed
+pub mod Snapshot
+pub mod Sender
+pub mod Steps
+pub mod Postponed
+pub mod Deaths
+pub mod Taken
+pub mod Commands
+pub mod Plain
+pub mod Messages
+pub mod Reports
+pub mod Reporting
+pub mod Joins
+pub mod Advances
