@@ -6,20 +6,26 @@ It covers `main`, the exit statuses and standard error, which no test of a crate
 - desk and sim with a peer that waits for each answer;
 - a million fresh names through the desk;
 - each example in `examples/` with the output beside it;
-- refused scripts, failing devices, wrong command lines.
+- refused scripts, failing devices, wrong command lines;
+- with each allocation refused in turn, the desk on the first grant and the sim on a row (needs `cc`).
 
 It prints each difference, and nothing if there is none.
 """
 
+import concurrent.futures
 import contextlib
 import os
 import pathlib
 import struct
 import subprocess
+import tempfile
 import threading
 
+import packages
+import refuse
 from checks import SECONDS, Ended, bytes_of, differences, ends, main_of, same
 from demo import FORMS, forms_of
+from sim_tests.play import rows
 
 TOP = pathlib.Path(__file__).resolve().parent.parent
 
@@ -213,5 +219,40 @@ def check_words(program):
     ends("a tab without a kernel", Ended(program, ["tab", "--socket", "nowhere/x", "TAB"]), b"", ["wlb: Device"], 3)
 
 
+def is_out_of_memory(ran, output):
+    """Returns whether a run ended for want of memory, after a prefix of the output."""
+    return ran.status == 3 and ran.said == "wlb: Memory" and output.startswith(ran.output)
+
+
+def check_refused(program, library, words, stdin, output):
+    """Runs the program with each of its allocations refused in turn. A run that does without one gives the whole output."""
+
+    def run(number):
+        return refuse.run([program, *words], library, number, stdin=stdin)
+
+    whole = run(0)
+    if (whole.status, whole.said, whole.output) != (0, "", output):
+        differences.append(f"{words} with all memory: status {whole.status}, {whole.said!r}, {whole.output!r}")
+        return
+    with concurrent.futures.ThreadPoolExecutor(refuse.WORKERS) as pool:
+        refused = list(pool.map(run, range(1, whole.count + 1)))
+    for number, ran in enumerate(refused, 1):
+        if not is_out_of_memory(ran, output) and (ran.status, ran.said, ran.output) != (0, "", output):
+            differences.append(f"{words} without allocation {number}: status {ran.status}, {ran.said!r}, {ran.output!r}")
+    if not any(is_out_of_memory(ran, output) for ran in refused):
+        differences.append(f"{words}: it ran out of memory at none of {whole.count} allocations")
+
+
+def check_refused_memory(program):
+    if not packages.has("cc"):
+        print(f"left out: the program with refused memory: {packages.lack('cc')}")
+        return
+    row = rows()["shared-then-exclusive"]
+    with tempfile.TemporaryDirectory(prefix="refuse-") as place:
+        library = refuse.build(place)
+        check_refused(program, library, ["desk"], bytes_of(START, REPORT, REQUEST), bytes_of(GRANT))
+        check_refused(program, library, ["sim"], row.script.encode(), row.output.encode())
+
+
 if __name__ == "__main__":
-    main_of(__doc__, check_desk, check_sim, check_at_once, check_forgetting, check_forms, check_words)
+    main_of(__doc__, check_desk, check_sim, check_at_once, check_forgetting, check_forms, check_words, check_refused_memory)

@@ -49,7 +49,7 @@ TEST = [
     Step("text that decides the modules", tool("compiled_text", "--check")),
     Step("modules of JavaScript are current", tool("modules", "check")),
     Step("tests of the crates, not proved", tool("try_tests"), ("rt",)),
-    Step(UNPROVED_BUILD, tool("unproved", "--sanitize", "--program", "--no-modules", UNPROVED), COMPILER),
+    Step(UNPROVED_BUILD, tool("unproved", "--sanitize", "--program", "--no-modules", UNPROVED), COMPILER, is_early=jobs.count() > 1),
     Step("examples", tool("check_program", UNPROVED / "wlb"), (), (UNPROVED_BUILD,)),
     Step("scripts of the sim", tool("check_sim", UNPROVED / "wlb"), (), (UNPROVED_BUILD,)),
     Step("vectors", tool("check_vectors", "--program", UNPROVED / "wlb"), (), (UNPROVED_BUILD,)),

@@ -6,12 +6,13 @@ use crate::tests::desk::bytes;
 use crate::tests::rows::{DEATH_HANDS_OVER, HANDOVER, RESTART_WHILE_HELD, Row, SNAPSHOT};
 use crate::tests::same;
 use std::alloc::{AllocError, Global};
+use std::marker::Model;
 use std::process::Abort;
 use test_support::retry::{BACK, append};
 use wl_broker::{Broker, Dropped, Frames, Outs};
 use wl_frames::{
-    Addressed, Downward, Entry, Feed, Frame, Hello, Mode, Name, Report, ReportPart, Sequence,
-    Stamped, Upward, encode,
+    Addressed, Command, Dead, Downward, Entry, Feed, Frame, Hello, Mode, Name, Operation, Report,
+    ReportPart, Sequence, Stamped, Upward, encode,
 };
 use wl_table::IndexedTable;
 
@@ -46,8 +47,35 @@ fn nothing(alloc: Global) -> Outs {
     Outs::new(Vec::new(alloc))
 }
 
-/// Starts a broker.
-fn start(
+/// Broker of a row, and its twin: a broker that gets each frame after it. When a frame is refused memory, the twin shows the state
+/// before that frame.
+#[derive(Drop)]
+struct Twins {
+    generation: u32,
+    broker: TestedBroker,
+    twin: TestedBroker,
+}
+
+// Contracts see nothing of the brokers, so that proofs of their callers stay small.
+impl Model for Twins {
+    ghost use Rattle.std.specs.Prelude.{⊤};
+
+    ghost Value = { ⊤ };
+
+    ghost view = { λ _. tt };
+}
+
+fn start_once(
+    alloc: Global,
+    generation: u32,
+    list: &[(u16, u16)],
+) -> Result<(TestedBroker, Outs), AllocError>
+    requires { TabsRiseFrom 1 list.now }
+{
+    Broker::start(alloc, generation, list)
+}
+
+fn start_one(
     rt: &impl Abort,
     alloc: Global,
     generation: u32,
@@ -55,13 +83,39 @@ fn start(
 ) -> (TestedBroker, Outs)
     requires { TabsRiseFrom 1 list.now }
 {
-    match Broker::start(alloc, generation, list) {
+    match start_once(alloc, generation, list) {
         Ok(started) => started,
-        Err(_) => Broker::start(alloc, generation, list).expect(rt, BACK),
+        Err(_) => start_once(alloc, generation, list).expect(rt, BACK),
     }
 }
 
-/// Returns the state of a broker: the joined ones of its first four tabs, and the active ones of its first three partitions.
+/// Starts a broker and its twin, and returns the broker's hellos.
+fn start(rt: &impl Abort, alloc: Global, generation: u32, list: &[(u16, u16)]) -> (Twins, Outs)
+    requires { TabsRiseFrom 1 list.now }
+{
+    let (broker, hellos) = start_one(rt, alloc, generation, list);
+    let (twin, hellos_of_twin) = start_one(rt, alloc, generation, list);
+    drop(hellos_of_twin);
+    let twins = Twins {
+        generation,
+        broker,
+        twin,
+    };
+    (twins, hellos)
+}
+
+/// Gives a broker a frame behind the start. A caller without the clauses of `take` is proved much sooner.
+fn give(alloc: Global, broker: &mut TestedBroker, frame: &Frame) -> Result<Outs, Dropped> {
+    match frame {
+        Frame::Stamped(stamped) => broker.take(stamped),
+        Frame::Dead(dead) => broker.dead(dead.tab).map_err(|_| Dropped::Memory),
+        _ => Ok(nothing(alloc)),
+    }
+}
+
+// State of a broker
+
+/// Returns the joined ones of a broker's first four tabs, and the active ones of its first three partitions.
 fn joined_and_active(broker: &TestedBroker) -> [bool; 7] {
     [
         broker.is_joined(1),
@@ -74,61 +128,88 @@ fn joined_and_active(broker: &TestedBroker) -> [bool; 7] {
     ]
 }
 
-/// Asserts that a refusal of memory left the broker unchanged.
-fn is_unchanged(rt: &impl Abort, broker: &TestedBroker, before: [bool; 7]) {
-    assert!(rt; joined_and_active(broker) == before);
+/// First number of the tabs that look at partitions. No row has a tab of such a number.
+const VISITORS: u16 = 60_000;
+
+/// Returns the query of a tab that has issued no other command.
+fn first_query(generation: u32) -> Upward {
+    Upward::Command(Command {
+        generation,
+        number: 0,
+        operation: Operation::Query,
+    })
 }
 
-/// Calls `take` alone: a caller without its clauses is proved much sooner.
-fn take_once(broker: &mut TestedBroker, stamped: &Stamped) -> Result<Outs, Dropped> {
-    broker.take(stamped)
-}
-
-/// Takes a tab's message, again if memory is refused.
-fn take_again(
+/// Returns the snapshot of a partition, or why the broker gives none: a new tab joins, queries, and dies.
+fn snapshot_in(
     rt: &impl Abort,
+    alloc: Global,
     broker: &mut TestedBroker,
-    stamped: &Stamped,
+    generation: u32,
+    partition: u16,
 ) -> Result<Outs, Dropped> {
-    let before = joined_and_active(broker);
-    match take_once(broker, stamped) {
-        Err(Dropped::Memory) => {
-            is_unchanged(rt, broker, before);
-            take_once(broker, stamped)
-        }
-        answer => answer,
+    let tab = VISITORS.saturating_add(partition);
+    let report = Frame::Stamped(stamped(tab, partition, report(alloc, generation, 0)));
+    let query = Frame::Stamped(stamped(tab, partition, first_query(generation)));
+    let death = Frame::Dead(Dead { tab });
+    give(alloc, broker, &report).expect(rt, BACK);
+    let snapshot = give(alloc, broker, &query);
+    give(alloc, broker, &death).expect(rt, BACK);
+    snapshot
+}
+
+/// Asserts that a partition of the broker is that of its twin.
+fn is_partition_of_twin(rt: &impl Abort, alloc: Global, twins: &mut Twins, partition: u16) {
+    let generation = twins.generation;
+    let found = snapshot_in(rt, alloc, &mut twins.broker, generation, partition);
+    let wanted = snapshot_in(rt, alloc, &mut twins.twin, generation, partition);
+    assert!(rt; found != Err(Dropped::Memory));
+    assert!(rt; found == wanted, "partition {partition}");
+}
+
+/// Asserts that the broker, to which a frame was refused memory, is as its twin, which has not got that frame.
+fn is_unchanged(rt: &impl Abort, alloc: Global, twins: &mut Twins) {
+    assert!(rt; joined_and_active(&twins.broker) == joined_and_active(&twins.twin));
+    for partition in 1..=3 {
+        is_partition_of_twin(rt, alloc, twins, partition);
     }
 }
 
-/// Returns the answer to a tab's message, which is empty if the broker drops the message.
-fn take(rt: &impl Abort, alloc: Global, broker: &mut TestedBroker, stamped: &Stamped) -> Outs {
-    match take_again(rt, broker, stamped) {
+/// Gives the twin a frame, again if memory is refused.
+fn follow(alloc: Global, twins: &mut Twins, frame: &Frame) {
+    let mut answer = give(alloc, &mut twins.twin, frame);
+    if answer == Err(Dropped::Memory) {
+        answer = give(alloc, &mut twins.twin, frame);
+    }
+    drop(answer);
+}
+
+// Answers
+
+/// Gives the broker a frame, again if memory is refused.
+fn give_again(
+    rt: &impl Abort,
+    alloc: Global,
+    twins: &mut Twins,
+    frame: &Frame,
+) -> Result<Outs, Dropped> {
+    let mut answer = give(alloc, &mut twins.broker, frame);
+    if answer == Err(Dropped::Memory) {
+        is_unchanged(rt, alloc, twins);
+        answer = give(alloc, &mut twins.broker, frame);
+    }
+    follow(alloc, twins, frame);
+    answer
+}
+
+/// Returns the answer to a frame behind the start, which is empty if the broker drops the frame.
+fn answer(rt: &impl Abort, alloc: Global, twins: &mut Twins, frame: &Frame) -> Outs {
+    match give_again(rt, alloc, twins, frame) {
         Ok(outs) => outs,
         Err(dropped) => {
             assert!(rt; dropped != Dropped::Memory);
             nothing(alloc)
         }
-    }
-}
-
-/// Returns the answer to a tab's death.
-fn bury(rt: &impl Abort, broker: &mut TestedBroker, tab: u16) -> Outs {
-    let before = joined_and_active(broker);
-    match broker.dead(tab) {
-        Ok(outs) => outs,
-        Err(_) => {
-            is_unchanged(rt, broker, before);
-            broker.dead(tab).expect(rt, BACK)
-        }
-    }
-}
-
-/// Returns the answer to a frame behind the start.
-fn answer(rt: &impl Abort, alloc: Global, broker: &mut TestedBroker, frame: &Frame) -> Outs {
-    match frame {
-        Frame::Stamped(stamped) => take(rt, alloc, broker, stamped),
-        Frame::Dead(dead) => bury(rt, broker, dead.tab),
-        _ => nothing(alloc),
     }
 }
 
@@ -182,10 +263,10 @@ fn frames(rt: &impl Abort, alloc: Global, row: &Row) -> Vec<Frame> {
 
 /// Gives frames to a broker of generation 1 without tabs, and compares its answers.
 pub fn answers(rt: &impl Abort, alloc: Global, input: &[u8], output: &[u8], name: &str) {
-    let (mut broker, _hellos) = start(rt, alloc, 1, &[]);
+    let (mut twins, _hellos) = start(rt, alloc, 1, &[]);
     let mut written = Vec::new(alloc);
     for frame in &frames_again(rt, alloc, input) {
-        let outs = answer(rt, alloc, &mut broker, frame);
+        let outs = answer(rt, alloc, &mut twins, frame);
         write(rt, alloc, outs, &mut written);
     }
     assert!(rt; written.as_slice() == output, "of {name}");
@@ -198,17 +279,11 @@ fn writes(rt: &impl Abort, alloc: Global, written: &[u8], row: &Row) {
 }
 
 /// Plays a row on a started broker, and compares its hellos and answers. With a place, each answer is the copy at that place.
-fn plays(
-    rt: &impl Abort,
-    alloc: Global,
-    started: (TestedBroker, Outs),
-    row: &Row,
-    place: Option<usize>,
-) {
-    let (mut broker, hellos) = started;
+fn plays(rt: &impl Abort, alloc: Global, started: (Twins, Outs), row: &Row, place: Option<usize>) {
+    let (mut twins, hellos) = started;
     let mut written = Vec::new(alloc);
     write(rt, alloc, hellos, &mut written);
-    answer_all(rt, alloc, &mut broker, row, place, &mut written);
+    answer_all(rt, alloc, &mut twins, row, place, &mut written);
     writes(rt, alloc, written.as_slice(), row);
 }
 
@@ -216,15 +291,15 @@ fn plays(
 fn answer_all(
     rt: &impl Abort,
     alloc: Global,
-    broker: &mut TestedBroker,
+    twins: &mut Twins,
     row: &Row,
     place: Option<usize>,
     written: &mut Vec<u8>,
 ) {
     for frame in &frames(rt, alloc, row) {
         let outs = match place {
-            Some(place) => copy(rt, alloc, broker, frame, place),
-            None => answer(rt, alloc, broker, frame),
+            Some(place) => copy(rt, alloc, twins, frame, place),
+            None => answer(rt, alloc, twins, frame),
         };
         write(rt, alloc, outs, written);
     }
@@ -249,21 +324,15 @@ fn told(broker: &mut TestedBroker, frame: &Frame) -> Result<Option<Vec<Outs>>, A
 }
 
 /// Returns the copy at this place of the answer to a frame, which is empty if the broker drops the frame.
-fn copy(
-    rt: &impl Abort,
-    alloc: Global,
-    broker: &mut TestedBroker,
-    frame: &Frame,
-    place: usize,
-) -> Outs {
-    let before = joined_and_active(broker);
-    let copies = match told(broker, frame) {
+fn copy(rt: &impl Abort, alloc: Global, twins: &mut Twins, frame: &Frame, place: usize) -> Outs {
+    let copies = match told(&mut twins.broker, frame) {
         Ok(copies) => copies,
         Err(_) => {
-            is_unchanged(rt, broker, before);
-            told(broker, frame).expect(rt, BACK)
+            is_unchanged(rt, alloc, twins);
+            told(&mut twins.broker, frame).expect(rt, BACK)
         }
     };
+    follow(alloc, twins, frame);
     match copies {
         Some(copies) => pick(rt, copies, place),
         None => nothing(alloc),
@@ -339,53 +408,53 @@ fn part_of(alloc: Global, part: u16, number: u32) -> Result<Upward, AllocError> 
 }
 
 /// Returns that part, stamped as tab 1 of a partition.
-fn part_in(rt: &impl Abort, alloc: Global, partition: u16, part: u16, number: u32) -> Stamped {
+fn part_in(rt: &impl Abort, alloc: Global, partition: u16, part: u16, number: u32) -> Frame {
     let inner = match part_of(alloc, part, number) {
         Ok(inner) => inner,
         Err(_) => part_of(alloc, part, number).expect(rt, BACK),
     };
-    stamped(1, partition, inner)
+    Frame::Stamped(stamped(1, partition, inner))
 }
 
-/// Returns a whole report of generation 2, base 2, without entries.
-fn report(alloc: Global) -> Upward {
+/// Returns a whole report without entries.
+fn report(alloc: Global, generation: u32, base: u32) -> Upward {
     Upward::Report(Report {
-        generation: 2,
-        base: 2,
+        generation,
+        base,
         entries: Sequence::new(Vec::new(alloc)),
     })
 }
 
-/// Takes a message, and compares the cause for which the broker drops it.
-fn drops(rt: &impl Abort, broker: &mut TestedBroker, stamped: Stamped, want: Dropped) {
-    let fault = take_again(rt, broker, &stamped).err();
-    drop(stamped);
+/// Gives the broker a frame, and compares the cause for which it drops the frame.
+fn drops(rt: &impl Abort, alloc: Global, twins: &mut Twins, frame: Frame, want: Dropped) {
+    let fault = give_again(rt, alloc, twins, &frame).err();
+    drop(frame);
     same(rt, fault, Some(want));
 }
 
-/// Takes a message, and asserts that its answer is empty.
-fn keeps(rt: &impl Abort, broker: &mut TestedBroker, stamped: Stamped) {
-    let answer = take_again(rt, broker, &stamped);
-    drop(stamped);
+/// Gives the broker a frame, and asserts that its answer is empty.
+fn keeps(rt: &impl Abort, alloc: Global, twins: &mut Twins, frame: Frame) {
+    let answer = give_again(rt, alloc, twins, &frame);
+    drop(frame);
     assert!(rt; answer.expect(rt, "it is kept").as_slice().is_empty());
 }
 
 #[test]
 fn parts_that_do_not_fit(rt: HostRuntime) {
     let alloc = rt.alloc();
-    let (mut broker, _hellos) = start(&rt, alloc, 2, &[(2, 1)]);
-    keeps(&rt, &mut broker, part_in(&rt, alloc, 1, 1, 0));
+    let (mut twins, _hellos) = start(&rt, alloc, 2, &[(2, 1)]);
+    keeps(&rt, alloc, &mut twins, part_in(&rt, alloc, 1, 1, 0));
     let second = part_in(&rt, alloc, 1, 1, 0);
-    drops(&rt, &mut broker, second, Dropped::PartTwice);
-    let whole = stamped(1, 1, report(alloc));
-    drops(&rt, &mut broker, whole, Dropped::BadReport);
+    drops(&rt, alloc, &mut twins, second, Dropped::PartTwice);
+    let whole = Frame::Stamped(stamped(1, 1, report(alloc, 2, 2)));
+    drops(&rt, alloc, &mut twins, whole, Dropped::BadReport);
     let not_below = part_in(&rt, alloc, 1, 0, 1);
-    drops(&rt, &mut broker, not_below, Dropped::BadReport);
+    drops(&rt, alloc, &mut twins, not_below, Dropped::BadReport);
     let elsewhere = part_in(&rt, alloc, 3, 0, 0);
-    drops(&rt, &mut broker, elsewhere, Dropped::Misplaced);
-    assert!(&rt; bury(&rt, &mut broker, 1).as_slice().is_empty());
+    drops(&rt, alloc, &mut twins, elsewhere, Dropped::Misplaced);
+    keeps(&rt, alloc, &mut twins, Frame::Dead(Dead { tab: 1 }));
     let second = part_in(&rt, alloc, 1, 1, 0);
-    drops(&rt, &mut broker, second, Dropped::DeadTab);
+    drops(&rt, alloc, &mut twins, second, Dropped::DeadTab);
 }
 
 // Answers to one event
@@ -435,10 +504,10 @@ fn is_alone(outs: Outs) -> bool {
 
 /// Returns whether the last answer to a row's frames is one frame without memory of its own.
 fn ends_alone(rt: &impl Abort, alloc: Global, row: &Row) -> bool {
-    let (mut broker, _hellos) = start(rt, alloc, 1, &[]);
+    let (mut twins, _hellos) = start(rt, alloc, 1, &[]);
     let mut is_last_alone = false;
     for frame in &frames(rt, alloc, row) {
-        is_last_alone = is_alone(answer(rt, alloc, &mut broker, frame));
+        is_last_alone = is_alone(answer(rt, alloc, &mut twins, frame));
     }
     is_last_alone
 }

@@ -1,6 +1,7 @@
-//! The kernel's supervisor over the lives of two tabs. A call that is refused memory is made again, and must then
-//! give its answer.
+//! The kernel's supervisor over the lives of two tabs. A call that is refused memory leaves the supervisor unchanged, is made again,
+//! and must then give its answer.
 
+use super::tab_table::{State, state};
 use std::alloc::Global;
 use std::process::Abort;
 use test_support::retry::is_spelled;
@@ -25,6 +26,11 @@ fn page(rt: &impl Abort, alloc: Global) -> Partition {
     page.ok().expect(rt, "a partition")
 }
 
+/// Returns the state of a supervisor: the generation that runs, and the table of tabs.
+fn seen(supervisor: &Supervisor) -> (Option<u32>, State) {
+    (supervisor.current(), state(supervisor.tabs()))
+}
+
 /// Opens a tab of the page.
 fn open(
     rt: &impl Abort,
@@ -32,25 +38,31 @@ fn open(
     supervisor: &mut Supervisor,
     tab: u16,
 ) -> Result<u16, OpenFault> {
+    let before = seen(supervisor);
     match supervisor.open(tab, page(rt, alloc)) {
-        Err(OpenFault::Memory) => supervisor.open(tab, page(rt, alloc)),
+        Err(OpenFault::Memory) => {
+            assert!(rt; seen(supervisor) == before);
+            supervisor.open(tab, page(rt, alloc))
+        }
         answer => answer,
     }
 }
 
 /// Starts a broker.
-fn start(supervisor: &mut Supervisor) -> Result<(u32, Frame), NotStarted> {
+fn start(rt: &impl Abort, supervisor: &mut Supervisor) -> Result<(u32, Frame), NotStarted> {
+    let before = seen(supervisor);
     let answer = supervisor.start_with_living();
     if matches!(&answer, Err(NotStarted::Memory)) {
         drop(answer);
+        assert!(rt; seen(supervisor) == before);
         return supervisor.start_with_living();
     }
     answer
 }
 
 /// Starts a broker, and returns the cause if it is refused.
-fn refusal(supervisor: &mut Supervisor) -> Option<NotStarted> {
-    match start(supervisor) {
+fn refusal(rt: &impl Abort, supervisor: &mut Supervisor) -> Option<NotStarted> {
+    match start(rt, supervisor) {
         Ok((_generation, frame)) => {
             drop(frame);
             None
@@ -144,14 +156,14 @@ fn growths_of_a_supervisor(rt: HostRuntime) {
 
 /// Starts the broker of generation 1 with tabs 3 and 5 of partition 3. A second start is refused.
 fn starts(rt: &impl Abort, alloc: Global, supervisor: &mut Supervisor) {
-    let Ok((generation, frame)) = start(supervisor) else {
+    let Ok((generation, frame)) = start(rt, supervisor) else {
         panic!(rt; "a broker is started");
     };
     assert_eq!(rt; generation, 1);
     let bytes = [0, 0, 0, 16, 1, 33, 0, 0, 0, 1, 0, 2, 0, 3, 0, 3, 0, 5, 0, 3];
     assert!(rt; is_spelled(alloc, &frame, &bytes));
     drop(frame);
-    assert_eq!(rt; refusal(supervisor), Some(NotStarted::AlreadyUp));
+    assert_eq!(rt; refusal(rt, supervisor), Some(NotStarted::AlreadyUp));
     assert_eq!(rt; supervisor.current(), Some(1));
 }
 
@@ -159,7 +171,7 @@ fn starts(rt: &impl Abort, alloc: Global, supervisor: &mut Supervisor) {
 fn ends(rt: &impl Abort, supervisor: &mut Supervisor) {
     assert_eq!(rt; supervisor.stop(), Ok(1));
     assert_eq!(rt; (supervisor.current(), supervisor.generation()), (None, 2));
-    assert_eq!(rt; refusal(supervisor), None);
+    assert_eq!(rt; refusal(rt, supervisor), None);
     assert_eq!(rt; supervisor.stop(), Err(NotStopped::GenerationsUsedUp));
     assert_eq!(rt; supervisor.current(), Some(2));
 }

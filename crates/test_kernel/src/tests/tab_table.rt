@@ -15,16 +15,16 @@ use wl_kernel::{
 use wl_origin::{OriginFault, Partition};
 
 /// Partition number of a tab, and whether the tab lives.
-type Seen = (Option<u16>, bool);
+pub type Seen = (Option<u16>, bool);
 
 fn seen(tabs: &Tabs, tab: u16) -> Seen {
     (tabs.partition_number(tab), tabs.is_living(tab))
 }
 
 /// State of the kernel: the generation, the count of living tabs, and `Seen` of the tabs 0 to 5.
-type State = (u32, usize, [Seen; 6]);
+pub type State = (u32, usize, [Seen; 6]);
 
-fn state(tabs: &Tabs) -> State {
+pub fn state(tabs: &Tabs) -> State {
     (
         tabs.generation(),
         tabs.living().len(),

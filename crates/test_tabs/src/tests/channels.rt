@@ -203,6 +203,14 @@ fn reads_nothing(channels: &mut Channels, channel: &Channel) -> bool {
     is_nothing(&read_once(channels, channel))
 }
 
+/// Reads all posts of a channel, and compares their sources and numbers.
+fn reads_all(rt: &impl Abort, channels: &mut Channels, channel: &Channel, posts: &[(u16, u32)]) {
+    for post in posts {
+        reads(rt, channels, channel, *post);
+    }
+    assert!(rt; reads_nothing(channels, channel));
+}
+
 /// Returns whether the name is refused for this cause.
 fn refuses_name(rt: &impl Abort, channels: &mut Channels, name: &str, fault: ChannelFault) -> bool {
     match open_once(channels, name) {
@@ -304,6 +312,19 @@ fn broadcast_to_all(rt: HostRuntime) {
     let second = open(&rt, &mut channels, &[&first], "n", 1);
     let third = open(&rt, &mut channels, &[&first, &second], "n", 2);
     play_to_all(&rt, alloc, &mut channels, &[&first, &second, &third]);
+    reads_all(&rt, &mut channels, &first, &[(1, 0), (1, 1)]);
+    reads_all(
+        &rt,
+        &mut channels,
+        &second,
+        &[(2, 0), (2, 1), (1, 0), (1, 1)],
+    );
+    reads_all(
+        &rt,
+        &mut channels,
+        &third,
+        &[(2, 0), (2, 1), (1, 0), (1, 1)],
+    );
     close(&rt, &mut channels, first);
     close(&rt, &mut channels, second);
     close_last(&rt, channels, third);
@@ -318,6 +339,7 @@ fn broadcast_1(rt: HostRuntime) {
     assert!(&rt; hears_new(&rt, alloc, &mut channels, &[&channel], 1, &[0], &[]));
     assert!(&rt; hears_old(&rt, alloc, &mut channels, &[&channel], 0));
     assert!(&rt; inbox_once(&channels, &channel) == Ok(1));
+    reads_all(&rt, &mut channels, &channel, &[(1, 1)]);
     close_last(&rt, channels, channel);
 }
 
@@ -334,6 +356,10 @@ fn broadcast_2(rt: HostRuntime) {
     assert!(&rt; hears_old(&rt, alloc, &mut channels, &[&channel], 256));
     reads(&rt, &mut channels, &channel, (1, 0));
     assert!(&rt; inbox_once(&channels, &channel) == Ok(255));
+    for number in 1..256 {
+        reads(&rt, &mut channels, &channel, (1, number));
+    }
+    assert!(&rt; reads_nothing(&mut channels, &channel));
     close_last(&rt, channels, channel);
 }
 
