@@ -139,6 +139,7 @@ TERMS = [
     ("line and run of a sim's script", "wl_script/specs/Sim.antt", ["Runs"]),
     ("orders for the broker's keeper", "wl_process_rules/specs/BrokerKeeping.antt", ["TellsTheFirst", "MissesWhatRuns"]),
     ("Hello that is owed", "wl_process_rules/specs/OwedHello.antt", ["OwesTheLatest"]),
+    ("order in which a shard's frames leave the broker", "wl_process_rules/specs/ShardOutput.antt", ["LeavesInOrder"]),
     ("limits of the standards and the protocol", "wl_limits/src/laws.rt", ["law_limits"]),
 ]
 

@@ -10,3 +10,4 @@ pub mod KernelLines
 pub mod TabLines
 pub mod KernelReplies
 pub mod CounterFile
+pub mod ShardOutput

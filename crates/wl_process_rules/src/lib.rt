@@ -1,6 +1,6 @@
 //! Pure decisions of the processes, and the script languages of the kernel and of tabs.
 //!
-//! They cover the kernel's supervisor and the frames that it sends, restarts of the broker, the ends of
+//! They cover the kernel's supervisor and the frames that it sends, restarts of the broker, the order of its output, the ends of
 //! processes, and the pace and patience of tabs.
 #![tactic(auto)]
 
@@ -19,6 +19,7 @@ pub mod owed_hello;
 pub mod patience;
 pub mod read_turns;
 pub mod script_laws;
+pub mod shard_output;
 pub mod start_fault;
 pub mod tab_ends;
 pub mod tab_line;
@@ -37,6 +38,7 @@ pub use open_refusals::{OpenError, unopened_reply, unread_reply};
 pub use owed_hello::{OwedHello, greeting_of};
 pub use patience::{Next, Patience};
 pub use read_turns::Dealt;
+pub use shard_output::{ShardOutput, law_shard_output};
 pub use start_fault::fault_of_start;
 pub use tab_ends::Ends;
 pub use tab_line::{TabLine, read_tab_line};
