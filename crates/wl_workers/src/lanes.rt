@@ -34,6 +34,13 @@ pub trait Intake {
         ensures dealt { IfSome result (IsDealt (shards self.old)) }
         ensures shards { shards self.new ≡ shards self.old };
 
+    /// Receives the shard and the place of the last work's step. `lane` calls it once for each step, before it
+    /// asks the gate.
+    fn stepped<R: Wait + Clock>(&mut self, _rt: &R, _shard: u16, _place: u32)
+        ensures given { given self.new ≡ given self.old }
+        ensures shards { shards self.new ≡ shards self.old }
+    {}
+
     /// Receives how the lane ended. `run_lanes` calls it once, after the last `next`.
     fn end<R: Wait + Clock>(&mut self, _rt: &R, _end: LaneEnd)
         ensures given { given self.new ≡ given self.old }
@@ -220,8 +227,8 @@ fn send<R: Wait + Clock, G: Gate, O: Outlet>(
     Ok(())
 }
 
-/// Runs a lane: takes works from the intake, passes each to the desk, and sends the frames of each
-/// step after the gate lets the lane pass.
+/// Runs a lane: takes works from the intake, passes each to the desk, tells the intake of each step,
+/// and sends the frames of the step after the gate lets the lane pass.
 ///
 /// An event that is lost for lack of memory makes no step, and nothing is sent for it.
 pub fn lane<R: Wait + Clock, I: Intake, D: Desk, G: Gate, O: Outlet>(
@@ -241,15 +248,17 @@ pub fn lane<R: Wait + Clock, I: Intake, D: Desk, G: Gate, O: Outlet>(
 {
     let mut steps = 0;
     for _event in 0..EVENT_LIMIT {
-        let Some(event) = intake.next(rt) else {
+        let Some(work) = intake.next(rt) else {
             return LaneEnd {
                 steps,
                 why: LaneEndCause::Ended,
             };
         };
-        match desk.take_one(rt, event) {
+        let shard = work.shard;
+        match desk.take_one(rt, work) {
             Ok(receipt) => {
                 steps += 1;
+                intake.stepped(rt, shard, receipt.place);
                 if let Err(why) = send(rt, number, receipt, gate, outlet) {
                     return LaneEnd { steps, why };
                 }

@@ -1,4 +1,4 @@
-use Rattle.std.proofs.Common.{ℕ, [], ◌∷◌, Ok, Err, inl, inr, refl, sym, ap, ◌∙◌, subst, arith, add-zero}
+use Rattle.std.proofs.Common.{ℕ, [], ◌∷◌, Some, Ok, Err, inl, inr, refl, sym, ap, ◌∙◌, subst, arith, add-zero}
 use Rattle.wl_locked.specs.declared.receipt.NotStepped.TheVariants.{Memory}
 use Rattle.wl_workers.specs.declared.lanes.LaneEndCause.TheVariants as cause
 use Rattle.wl_workers.specs.CallRecords.{RecordGrows}
@@ -16,7 +16,7 @@ loop-event-init g c = record { on = lane_begins; borrowed = refl; shards = c.req
 
 pub returns-in-Err-GenerationSpent-clause-runs : goal.returns-in-Err-GenerationSpent-clause-runs
 returns-in-Err-GenerationSpent-clause-runs g c =
-    let event = c.in-Some.event in
+    let event = c.in-Some.work in
     let is = c.in-Err-GenerationSpent.is ∙ ap Err c.in-Err-GenerationSpent.field-0-is in
     let given = subst (λ e. RecordGrows (g.I.Intake.given c.loop-event.intake) (g.I.Intake.given c.next.new.self) (e ∷ [])) c.in-Some.is c.next.ensures.given in
     let answered = subst (λ r. RecordGrows (g.D.Desk.answered c.loop-event.desk) (g.D.Desk.answered c.take_one.new.self) ((event, r) ∷ [])) is c.take_one.ensures.answered in
@@ -25,30 +25,32 @@ returns-in-Err-GenerationSpent-clause-runs g c =
 
 pub returns-in-Err-clause-runs : goal.returns-in-Err-clause-runs
 returns-in-Err-clause-runs g c =
-    let event = c.in-Some.event in
+    let event = c.in-Some.work in
     let given = subst (λ e. RecordGrows (g.I.Intake.given c.loop-event.intake) (g.I.Intake.given c.next.new.self) (e ∷ [])) c.in-Some.is c.next.ensures.given in
     let answered = subst (λ r. RecordGrows (g.D.Desk.answered c.loop-event.desk) (g.D.Desk.answered c.take_one.new.self) ((event, r) ∷ [])) c.in-Ok.is c.take_one.ensures.answered in
     let kept = λ (shard : ℕ). subst (λ r. RecordGrows (g.D.Desk.kept c.loop-event.desk shard) (g.D.Desk.kept c.take_one.new.self shard) (receipt_in shard (event, r))) c.in-Ok.is (c.take_one.ensures.kept shard) in
-    lane_unsent event c.in-Ok.receipt c.in-Err.why c.loop-event.invariant.on given answered kept c.in-Err.ensures.some
+    let told = subst (λ r. RecordGrows (g.I.Intake.given c.loop-event.intake) r (Some event ∷ [])) (sym c.stepped.ensures.given) given in
+    lane_unsent event c.in-Ok.receipt c.in-Err.why c.loop-event.invariant.on told answered kept c.in-Err.ensures.some
 
 pub loop-event-preserved : goal.loop-event-preserved
 loop-event-preserved g c =
-    let event = c.in-Some.event in
+    let event = c.in-Some.work in
     let given = subst (λ e. RecordGrows (g.I.Intake.given c.loop-event.intake) (g.I.Intake.given c.next.new.self) (e ∷ [])) c.in-Some.is c.next.ensures.given in
     let borrowed = c.take_one.ensures.borrowed ∙ c.loop-event.invariant.borrowed in
     let shards = c.next.ensures.shards ∙ c.loop-event.invariant.shards ∙ sym c.take_one.ensures.shards in
     elim c.match-take_one.branch [
       | in-Ok+in_default-send w ↦
+          let told = subst (λ r. RecordGrows (g.I.Intake.given c.loop-event.intake) r (Some event ∷ [])) (sym w.stepped.ensures.given) given in
           let answered = subst (λ a. RecordGrows (g.D.Desk.answered c.loop-event.desk) (g.D.Desk.answered c.take_one.new.self) ((event, a) ∷ [])) w.in-Ok.is c.take_one.ensures.answered in
           let kept = λ (shard : ℕ). subst (λ a. RecordGrows (g.D.Desk.kept c.loop-event.desk shard) (g.D.Desk.kept c.take_one.new.self shard) (receipt_in shard (event, a))) w.in-Ok.is (c.take_one.ensures.kept shard) in
-          let on = lane_goes_on (event, Ok w.in-Ok.receipt) c.loop-event.invariant.on (step_unspent event w.in-Ok.receipt) given answered kept w.in_default-send.ensures.all in
-          record { on = rw (w.outlet-is, w.steps-is) on; borrowed = borrowed; shards = shards; lets = inl (sent_is_let w.in_default-send.ensures.lets) }
+          let on = lane_goes_on (event, Ok w.in-Ok.receipt) c.loop-event.invariant.on (step_unspent event w.in-Ok.receipt) told answered kept w.in_default-send.ensures.all in
+          record { on = rw (w.intake-is, w.outlet-is, w.steps-is) on; borrowed = borrowed; shards = rw w.intake-is (w.stepped.ensures.shards ∙ shards); lets = inl (sent_is_let w.in_default-send.ensures.lets) }
       | in-Err-Memory w ↦
           let is = w.in-Err-Memory.is ∙ ap Err w.in-Err-Memory.field-0-is in
           let answered = subst (λ a. RecordGrows (g.D.Desk.answered c.loop-event.desk) (g.D.Desk.answered c.take_one.new.self) ((event, a) ∷ [])) is c.take_one.ensures.answered in
           let kept = λ (shard : ℕ). subst (λ a. RecordGrows (g.D.Desk.kept c.loop-event.desk shard) (g.D.Desk.kept c.take_one.new.self shard) (receipt_in shard (event, a))) is (c.take_one.ensures.kept shard) in
           let on = lane_goes_on (event, Err Memory) c.loop-event.invariant.on (lost_unspent event) given answered kept (Grows-nil (g.O.Outlet.put_out c.loop-event.outlet)) in
-          record { on = rw (w.outlet-is, w.steps-is, ← add-zero c.loop-event.steps) on; borrowed = borrowed; shards = shards; lets = rw w.steps-is c.loop-event.invariant.lets }
+          record { on = rw (w.intake-is, w.outlet-is, w.steps-is, ← add-zero c.loop-event.steps) on; borrowed = borrowed; shards = rw w.intake-is shards; lets = rw w.steps-is c.loop-event.invariant.lets }
     ]
 
 pub returns-clause-runs : goal.returns-clause-runs
