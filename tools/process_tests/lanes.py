@@ -138,13 +138,14 @@ def frames_by_tab(output):
 
 def check_order_of_lanes(program):
     """Over any numbers of lanes and shards each tab is sent what the desk sends it for the same input, in the same order: the
-    messages of a partition are done in the order of the link. No tab is sent nothing."""
+    messages of a partition are done in the order of the link, and their frames leave in the order of the steps. The tabs of a
+    partition have different lanes. No tab is sent nothing."""
     given = conversation()
     desk = Ended(program, ["desk"], given)
     same("the desk", "the status and standard error", (desk.status, desk.stderr), (0, ""))
     wanted = frames_by_tab(desk.stdout)
     same("the desk", "whether it sends each tab a frame", all(wanted.values()), True)
-    for lanes, shards in [(4, 1), (4, 3), (2, 16)]:
+    for lanes, shards in [(2, 1), (4, 1), (4, 3), (2, 16)]:
         name = f"the order of {lanes} lanes over {shards} shards"
 
         def talk(link, _wait, name=name):

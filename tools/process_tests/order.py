@@ -122,10 +122,10 @@ TABS = [orderer, prober]
 
 def check_order(program):
     """No post overtakes a request or a release before it on its link."""
-    for lanes, shards in [(1, 1), (4, 2)]:
+    for lanes, shards in [(1, 1), (2, 1), (4, 2)]:
         stage = Stage(program, foreign=True, lanes=lanes, shards=shards)
         played = play(stage, f"start\n{opens('orderer', 'prober')}join\n")
-        ends(f"posts behind commands over {lanes} lanes", played, "up 1\n" + opened(1, 2) + ended(0, 0))
+        ends(f"posts behind commands over {lanes} lanes and {shards} shards", played, "up 1\n" + opened(1, 2) + ended(0, 0))
 
 
 CHECKS = [check_order]

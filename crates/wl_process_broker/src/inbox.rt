@@ -1,12 +1,25 @@
 //! The broker's input, read by its lanes in turn.
 //!
-//! The lane that reads distributes the works to all lanes, by their shards. A lane that reads works
+//! The lane that reads distributes the works to all lanes, by their tabs. A lane that reads works
 //! of its own wakes no other thread.
+//!
+//! Works of one shard are stepped in the order in which they were dealt. So each shard has a line of
+//! lanes, with an entry for each work that was dealt and is not done: neither stepped nor lost. A lane
+//! takes its oldest work when it is first in the line of the work's shard, and leaves the line when
+//! the work is done.
+//!
+//! No lane waits forever for its place in a line. Take the oldest work that is not done. In its shard no
+//! older work is left, so its lane is first in line. In its lane's mailbox no older work is left, so it
+//! is the next one, or the lane has it in hand. So that lane waits for no other. A lane that ends with
+//! works in its mailbox, or with one in hand, cuts all mailboxes, and then no lane waits.
 
 ghost use Rattle.std.specs.Prelude.{◌≡◌, ◌<◌, ◌%◌};
+ghost use Rattle.wl_process_broker.specs.Tabs.{tab_of};
 
-use crate::mailbox::{Mailbox, Woken};
+use crate::mailbox::{Look, Mailbox, Woken};
 use std::alloc::{AllocError, Global};
+use std::collections::VecDeque;
+use std::hint::spin_loop;
 use std::os::unix::net::UnixStream;
 use std::rt::Clock;
 use std::sync::{Condvar, CondvarTimeouts, Mutex, Wait};
@@ -18,6 +31,9 @@ use wl_process_rules::Dealt;
 
 /// The time that a lane waits for the threads of all other lanes, in milliseconds.
 const MEETING: u64 = 5_000;
+
+/// The number of looks at its mailbox before a lane sleeps until it is first in line.
+const LOOKS: u32 = 12;
 
 /// The rendezvous of the lanes before any of them reads.
 #[derive(Drop)]
@@ -39,14 +55,15 @@ enum Turn<'a> {
     Over(Result<(), ProcessFault>),
 }
 
-/// The link's reading end and the mailboxes of the lanes. The lock of the turn is taken before
-/// those of the mailboxes.
+/// The link's reading end, the lines of the shards, and the mailboxes of the lanes. Their locks are taken
+/// in this order.
 #[derive(Drop)]
 pub(crate) struct Inbox<'a> {
     alloc: Global,
     lanes: u16,
     shards: u16,
     mailboxes: Vec<Mailbox>,
+    lines: Vec<Mutex<VecDeque<usize>>>,
     turn: Mutex<Turn<'a>>,
     meeting: Mutex<StartBarrier>,
     met: Condvar,
@@ -69,11 +86,16 @@ impl<'a> Inbox<'a> {
         for _lane in 0..lanes {
             mailboxes.push(Mailbox::new(alloc))?;
         }
+        let mut lines = Vec::new(alloc);
+        for _shard in 0..shards {
+            lines.push(Mutex::new(VecDeque::new(alloc)))?;
+        }
         Ok(Inbox {
             alloc,
             lanes,
             shards,
             mailboxes,
+            lines,
             turn: Mutex::new(Turn::Free(incoming)),
             meeting: Mutex::new(StartBarrier {
                 met: 0,
@@ -117,9 +139,18 @@ impl<'a> Inbox<'a> {
         }
     }
 
-    /// Returns the next work of a lane, if there is one.
+    /// Returns the next work of a lane, if the lane may take one soon. Looks again if the lane is not
+    /// first in line for it, with pauses that double.
     pub(crate) fn take_now<R: Wait>(&self, rt: &R, lane: usize) -> Option<Work> {
-        self.mailboxes.get(lane)?.take_now(rt)
+        let mailbox = self.mailboxes.get(lane)?;
+        for look in 0..LOOKS {
+            match mailbox.look(rt) {
+                Look::Work(work) => return Some(work),
+                Look::Empty => return None,
+                Look::Waits => pause(look),
+            }
+        }
+        None
     }
 
     /// Waits for the next work of a lane. Returns `None` if no more will come. A lane without works
@@ -139,7 +170,7 @@ impl<'a> Inbox<'a> {
     /// Returns the next work of a lane, if there is one. Otherwise the lane reads the link, if it
     /// is free, or sleeps until it is woken.
     fn look<R: Wait>(&self, rt: &R, lane: usize, mailbox: &Mailbox) -> Woken {
-        if let Some(work) = mailbox.take_now(rt) {
+        if let Look::Work(work) = mailbox.look(rt) {
             return Woken::Work(work);
         }
         if self.reads_on(rt, lane, mailbox) {
@@ -160,6 +191,34 @@ impl<'a> Inbox<'a> {
     pub(crate) fn shut<R: Wait>(&self, rt: &R) {
         for mailbox in self.mailboxes.iter() {
             mailbox.close(rt);
+        }
+    }
+
+    /// Cuts all mailboxes, so no lane takes or waits for a work.
+    pub(crate) fn cut<R: Wait>(&self, rt: &R) {
+        for mailbox in self.mailboxes.iter() {
+            mailbox.cut(rt);
+        }
+    }
+
+    /// Takes a lane whose work is done out of the line of a shard. Wakes the lane that is first then.
+    pub(crate) fn leave_line<R: Wait>(&self, rt: &R, lane: usize, shard: u16) {
+        let Some(line) = self.lines.get(usize::from(shard)) else {
+            return;
+        };
+        let mut line = line.lock(rt);
+        let _left = line.pop_front();
+        let next = line.front().copied();
+        if next == Some(lane) {
+            return;
+        }
+        self.set_first(rt, Some(lane), shard, false);
+        self.set_first(rt, next, shard, true);
+    }
+
+    fn set_first<R: Wait>(&self, rt: &R, lane: Option<usize>, shard: u16, is_first: bool) {
+        if let Some(mailbox) = lane.and_then(|lane| self.mailboxes.get(lane)) {
+            mailbox.set_first(rt, shard, is_first);
         }
     }
 
@@ -255,11 +314,26 @@ impl<'a> Inbox<'a> {
         Ok(dealt)
     }
 
-    /// Puts a work into a lane's mailbox. Returns the number of works that the lane was woken for.
-    fn put<R: Wait>(&self, rt: &R, place: usize, work: Work) -> usize {
-        match self.mailboxes.get(place) {
-            Some(mailbox) => mailbox.put(rt, work),
-            None => 0,
+    /// Puts a work into a lane's mailbox, and the lane into the line of the work's shard. Returns the
+    /// number of works that the lane will take, or 0 if it has not started. The work is lost if memory
+    /// runs out.
+    fn put<R: Wait>(&self, rt: &R, lane: usize, work: Work) -> usize {
+        let Some(line) = self.lines.get(usize::from(work.shard)) else {
+            return 0;
+        };
+        let Some(mailbox) = self.mailboxes.get(lane) else {
+            return 0;
+        };
+        let mut line = line.lock(rt);
+        if line.push_back(lane).is_err() {
+            return 0;
+        }
+        match mailbox.put(rt, work, line.len() == 1) {
+            Some(coming) => coming,
+            None => {
+                let _lost = line.pop_back();
+                0
+            }
         }
     }
 }
@@ -276,13 +350,24 @@ fn turn_after<'a>(
     }
 }
 
-/// Returns the lane that takes a work. All works of a shard have one lane, so they are done in the
-/// order in which they arrived, and that lane sends all frames to the tabs of its shards.
+/// Returns the lane that takes a work: that of the event's tab.
 fn lane_of(work: &Work, lanes: u16) -> u16
     requires { 0 < lanes }
-    ensures { result ≡ work.now.shard % lanes }
+    ensures { result ≡ tab_of work.now.event % lanes }
 {
-    work.shard % lanes
+    match &work.event {
+        BookEvent::Take(stamped) => stamped.tab % lanes,
+        BookEvent::Dead(tab) => *tab % lanes,
+    }
+}
+
+/// Pauses before another look, twice as long as before the last one.
+fn pause(look: u32)
+    requires { look < LOOKS }
+{
+    for _ in 0..1u32 << look {
+        spin_loop();
+    }
 }
 
 /// Returns a frame's event. Fails with `Unexpected` if the frame is no event.

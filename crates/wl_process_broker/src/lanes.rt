@@ -3,98 +3,31 @@
 ghost use Rattle.std.specs.Prelude.{◌≡◌, IfOk, length};
 
 use crate::inbox::Inbox;
+use crate::outbound::{LaneOutput, LinkOutput};
 use std::alloc::{AllocError, Global};
-use std::io::Write;
 use std::marker::{Model, PhantomData};
 use std::net::Shutdown;
 use std::os::unix::net::UnixStream;
 use std::rt::Clock;
-use std::sync::{Arc, Mutex, Wait};
+use std::sync::{Arc, Wait};
 use wl_frames::Frame;
-use wl_frames::device::BUNDLE_LEN;
 use wl_locked::{ShardLane, Shards, Work};
-use wl_process::{ProcessFault, append};
+use wl_process::ProcessFault;
 use wl_workers::{Intake, Job, LaneEnd, LaneEndCause, Outlet, OutletFault};
 
-/// The number of works after which a lane writes its gathered frames, even if it has more works.
+/// The number of works after which a lane writes the gathered frames, even if it has more works.
 const FLUSH_EVERY: u32 = 64;
 
-/// Frames that a lane has gathered to send. They are written when the lane has no more works, or
-/// after `FLUSH_EVERY` works.
-///
-/// The lock of `gathered` is used by one lane only and never contended. All lanes share the link.
-#[derive(Drop)]
-struct Outbound {
-    alloc: Global,
-    link: Arc<Mutex<UnixStream>>,
-    gathered: Mutex<Vec<u8>>,
-    fault: Mutex<Option<ProcessFault>>,
-}
-
-impl Outbound {
-    /// Creates the output buffer of a lane, with one handle for its intake and one for its outlet.
-    fn pair(
-        alloc: Global,
-        link: &Arc<Mutex<UnixStream>>,
-    ) -> Result<(Arc<Outbound>, Arc<Outbound>), AllocError> {
-        let outbound = Arc::new(
-            alloc,
-            Outbound {
-                alloc,
-                link: Arc::try_clone(link)?,
-                gathered: Mutex::new(Vec::new(alloc)),
-                fault: Mutex::new(None),
-            },
-        )?;
-        Ok((Arc::try_clone(&outbound)?, outbound))
-    }
-
-    /// Writes the gathered frames.
-    fn flush<R: Wait>(&self, rt: &R) -> Result<(), OutletFault> {
-        let mut gathered = self.gathered.lock(rt);
-        if gathered.is_empty() {
-            return Ok(());
-        }
-        let is_written = self.write(rt, gathered.as_slice());
-        gathered.clear();
-        if !is_written {
-            *self.fault.lock(rt) = Some(ProcessFault::Write);
-            return Err(OutletFault::Write);
-        }
-        Ok(())
-    }
-
-    fn write<R: Wait>(&self, rt: &R, bytes: &[u8]) -> bool {
-        self.link.lock(rt).write_all(bytes).is_ok()
-    }
-
-    fn fault<R: Wait>(&self, rt: &R) -> Option<ProcessFault> {
-        *self.fault.lock(rt)
-    }
-
-    fn gather<R: Wait>(&self, rt: &R, frame: &Frame) -> Result<(), OutletFault> {
-        let mut gathered = self.gathered.lock(rt);
-        if append(&mut gathered, frame).is_err() {
-            *self.fault.lock(rt) = Some(ProcessFault::Memory);
-            return Err(OutletFault::Memory);
-        }
-        let is_full = gathered.len() >= BUNDLE_LEN;
-        drop(gathered);
-        if is_full {
-            return self.flush(rt);
-        }
-        Ok(())
-    }
-}
-
-/// The intake of a lane. The lane's gathered frames are written before the lane reads the link or
-/// sleeps. Its value in contracts is the number of the broker's shards.
+/// The intake of a lane. Gathered frames are written before the lane reads the link or sleeps. Its value
+/// in contracts is the number of the broker's shards.
 #[derive(Drop)]
 pub(crate) struct LaneIntake<'a, 'l, J: Shards> {
     inbox: &'a Inbox<'l>,
     link: &'a UnixStream,
     lane: usize,
-    outbound: Arc<Outbound>,
+    output: Arc<LaneOutput>,
+    /// The shard of the work that the lane has in hand, which is neither stepped nor known to be lost.
+    in_hand: Option<u16>,
     /// Whether the rendezvous with the other lanes succeeded.
     has_met: bool,
     /// The number of works requested, modulo `FLUSH_EVERY`. At 0 the gathered frames are written
@@ -123,6 +56,20 @@ impl<'a, 'l, J: Shards> LaneIntake<'a, 'l, J> {
         self.has_met
     }
 
+    /// Leaves the line of the work in hand, if there is one.
+    fn leave_line<R: Wait>(&mut self, rt: &R) {
+        if let Some(shard) = self.in_hand {
+            self.in_hand = None;
+            self.inbox.leave_line(rt, self.lane, shard);
+        }
+    }
+
+    /// Leaves the last work behind: its line, if it was lost, and the place of its step.
+    fn finish<R: Wait>(&mut self, rt: &R) -> Result<(), OutletFault> {
+        self.leave_line(rt);
+        self.output.finish(rt)
+    }
+
     /// Waits for the next work. Returns `None` if no more will come or a write failed.
     fn wait<R: Wait>(&mut self, rt: &R) -> Option<Work> {
         self.asked = self.asked.wrapping_add(1) % FLUSH_EVERY;
@@ -131,7 +78,7 @@ impl<'a, 'l, J: Shards> LaneIntake<'a, 'l, J> {
                 return Some(work);
             }
         }
-        if self.outbound.flush(rt).is_err() {
+        if self.output.flush(rt).is_err() {
             return None;
         }
         self.inbox.take(rt, self.lane)
@@ -142,23 +89,38 @@ impl<'a, 'l, J: Shards> Intake for LaneIntake<'a, 'l, J> {
     ghost shards = { λ _. J.run.shards };
 
     fn next<R: Wait + Clock>(&mut self, rt: &R) -> Option<Work> {
-        if !self.meets(rt) {
+        if !self.meets(rt) || self.finish(rt).is_err() {
             return None;
         }
         // Works in a mailbox were dealt to this shard count, but the mailbox's lock has no
         // invariant that says so.
         match self.wait(rt) {
-            Some(work) if work.is_dealt(self.shards) => Some(work),
+            Some(work) if work.is_dealt(self.shards) => {
+                self.in_hand = Some(work.shard);
+                Some(work)
+            }
             _ => None,
         }
     }
 
-    /// Writes the last gathered frames and wakes all other lanes. Shuts the link down if the lane
-    /// failed, or ended before its intake did.
+    /// Lets the lane behind this one step its work, before this lane waits at the gate.
+    fn stepped<R: Wait + Clock>(&mut self, rt: &R, shard: u16, place: u32) {
+        self.output.begin(rt, shard, place);
+        self.leave_line(rt);
+    }
+
+    /// Finishes the last place, writes the gathered frames, and wakes all other lanes. If the lane
+    /// failed, or ended before its intake did, no lane takes another work. The other lanes may still
+    /// write the frames of their last steps, unless this one failed.
     fn end<R: Wait + Clock>(&mut self, rt: &R, end: LaneEnd) {
-        let _ = self.outbound.flush(rt);
-        let has_failed = !self.has_met || self.outbound.fault(rt).is_some();
+        let _ = self.finish(rt);
+        let _ = self.output.flush(rt);
+        let has_failed = !self.has_met || self.output.fault(rt).is_some();
         if has_failed || end.why != LaneEndCause::Ended {
+            self.inbox.cut(rt);
+            let _ = self.link.shutdown(Shutdown::Read);
+        }
+        if has_failed {
             shut_down(self.link);
         }
         self.inbox.shut(rt);
@@ -167,12 +129,12 @@ impl<'a, 'l, J: Shards> Intake for LaneIntake<'a, 'l, J> {
 
 #[derive(Drop)]
 pub(crate) struct LaneOutlet {
-    outbound: Arc<Outbound>,
+    output: Arc<LaneOutput>,
 }
 
 impl Outlet for LaneOutlet {
     fn put<R: Wait + Clock>(&mut self, rt: &R, frame: &Frame) -> Result<(), OutletFault> {
-        self.outbound.gather(rt, frame)
+        self.output.gather(rt, frame)
     }
 }
 
@@ -182,27 +144,28 @@ type LaneJob<'a, 'l, J> = Job<J, LaneIntake<'a, 'l, J>, LaneOutlet>;
 fn job_of<'a, 'l, J: Shards>(
     inbox: &'a Inbox<'l>,
     link: &'a UnixStream,
-    outbounds: (Arc<Outbound>, Arc<Outbound>),
+    outputs: (Arc<LaneOutput>, Arc<LaneOutput>),
     shards: u16,
     place: usize,
     lane: ShardLane<J>,
 ) -> LaneJob<'a, 'l, J>
     requires { shards ≡ J.run.shards }
 {
-    let (taking, putting) = outbounds;
+    let (taking, putting) = outputs;
     Job {
         lane,
         intake: LaneIntake {
             inbox,
             link,
             lane: place,
-            outbound: taking,
+            output: taking,
+            in_hand: None,
             has_met: false,
             asked: 0,
             shards,
             of: PhantomData,
         },
-        outlet: LaneOutlet { outbound: putting },
+        outlet: LaneOutlet { output: putting },
         end: None,
     }
 }
@@ -219,12 +182,12 @@ pub(crate) fn jobs_of<'a, 'l, J: Shards>(
     requires { shards ≡ J.run.shards }
     ensures { IfOk result (λ jobs. length jobs.items ≡ length lanes.items) }
 {
-    let writing = Arc::new(alloc, Mutex::new(writing))?;
+    let output = Arc::new(alloc, LinkOutput::new(alloc, writing, shards)?)?;
     let mut jobs = Vec::new(alloc);
     for lane in lanes {
-        let outbounds = Outbound::pair(alloc, &writing)?;
+        let outputs = LaneOutput::pair(alloc, &output)?;
         let place = jobs.len();
-        jobs.push(job_of(inbox, link, outbounds, shards, place, lane))?;
+        jobs.push(job_of(inbox, link, outputs, shards, place, lane))?;
     }
     Ok(jobs)
 }
@@ -242,7 +205,7 @@ pub(crate) fn end_of<R: Wait, J: Shards>(
         return Ok(());
     }
     for job in jobs {
-        if let Some(fault) = job.outlet.outbound.fault(rt) {
+        if let Some(fault) = job.outlet.output.fault(rt) {
             return Err(fault);
         }
     }

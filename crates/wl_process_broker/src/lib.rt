@@ -6,5 +6,6 @@ pub mod broker;
 mod inbox;
 mod lanes;
 mod mailbox;
+mod outbound;
 
 pub use broker::{run_broker, run_generation};
