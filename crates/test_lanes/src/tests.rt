@@ -1,10 +1,11 @@
-//! Modules: steps of a book, steps of one lane, lanes on threads over shards, ends of a lane, the lanes of the broker's process, and
-//! the statuses of faults.
+//! Modules: steps of a book, steps of one lane, lanes on threads over shards, ends of a lane, the lanes of the broker's process,
+//! the order of their frames, and the statuses of faults.
 
 mod books;
 mod events;
 mod lane_ends;
 mod lanes;
+mod place_order;
 mod process_lanes;
 mod runs;
 mod shards;

@@ -7,6 +7,7 @@ mod notices;
 mod outbox;
 mod pauses;
 mod sending;
+mod shard_output;
 mod tab_links;
 mod values;
 

@@ -32,15 +32,19 @@ impl<J: Generation> OwnBook<J> {
         self.book.step(&mut self.share, handles)
     }
 
-    /// Makes a step, again if memory is refused.
+    /// Makes a step, again if memory is refused. The receipt of the step shows that the refused one is not stored.
     fn step(
         &mut self,
         rt: &impl Abort,
         alloc: Global,
         event: &BookEvent,
     ) -> Result<(Receipt, Receipt), NotStepped> {
+        let is_spent = self.book.is_spent();
         match self.step_once(alloc, copy(rt, event)) {
-            Err(NotStepped::Memory) => self.step_once(alloc, copy(rt, event)),
+            Err(NotStepped::Memory) => {
+                same(rt, self.book.is_spent(), is_spent);
+                self.step_once(alloc, copy(rt, event))
+            }
             answer => answer,
         }
     }

@@ -76,7 +76,7 @@ fn a_lane_left_out(rt: HostRuntime) {
 }
 
 /// Returns how many histories there are, and how many steps they have.
-pub(super) fn count_steps(histories: &[History]) -> (usize, usize) {
+fn count_steps(histories: &[History]) -> (usize, usize) {
     let mut steps = 0usize;
     for history in histories {
         steps = steps.saturating_add(history.steps().len());

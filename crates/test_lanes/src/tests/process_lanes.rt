@@ -20,11 +20,11 @@ use wl_locked::BookEvent;
 use wl_process::append;
 use wl_process_broker::run_generation;
 
-/// Count of the broker's lanes. Over an even number of shards tab 2, alone in its partition, belongs to lane 0, and tab 1 to lane 1.
+/// Count of the broker's lanes. Tab 2 belongs to lane 0, and tab 1 to lane 1.
 const LANES: u16 = 2;
 
 /// Returns the bytes of a Start frame without tabs.
-fn start(alloc: Global) -> Result<Vec<u8>, AllocError> {
+pub(super) fn start(alloc: Global) -> Result<Vec<u8>, AllocError> {
     let mut bytes = Vec::new(alloc);
     let start = Start {
         generation: 1,
@@ -35,7 +35,7 @@ fn start(alloc: Global) -> Result<Vec<u8>, AllocError> {
 }
 
 /// Appends the bytes of an event.
-fn append_event(bytes: &mut Vec<u8>, event: BookEvent) -> Result<(), AllocError> {
+pub(super) fn append_event(bytes: &mut Vec<u8>, event: BookEvent) -> Result<(), AllocError> {
     let frame = match event {
         BookEvent::Take(stamped) => Frame::Stamped(stamped),
         BookEvent::Dead(tab) => Frame::Dead(Dead { tab }),
@@ -53,7 +53,7 @@ fn conversation(alloc: Global, tabs: &[u16]) -> Result<Vec<u8>, AllocError> {
 }
 
 /// Returns a link that these bytes come over, and its other end.
-fn link_with<R: Net>(rt: &R, bytes: &[u8]) -> io::Result<(UnixStream, UnixStream)> {
+pub(super) fn link_with<R: Net>(rt: &R, bytes: &[u8]) -> io::Result<(UnixStream, UnixStream)> {
     let (link, mut kernel) = UnixStream::pair(rt)?;
     kernel.write_all(bytes)?;
     Ok((link, kernel))
@@ -89,9 +89,10 @@ fn runs_gated<R: Threads + Wait + Clock + Net + Abort + Sync>(rt: &R, alloc: Glo
     }
 }
 
-/// The lanes run at the same time over two shards and over four.
+/// The lanes run at the same time over one shard, over two and over four. Each tab is alone in its partition.
 #[test]
 fn two_lanes_of_a_process_at_the_same_time(rt: HostRuntime) {
+    runs_gated(&rt, rt.alloc(), 1);
     runs_gated(&rt, rt.alloc(), 2);
     runs_gated(&rt, rt.alloc(), 4);
 }

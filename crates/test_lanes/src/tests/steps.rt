@@ -37,7 +37,11 @@ fn add(
 }
 
 /// Adds an event with an empty reply: a first report or a death.
-fn add_silent(alloc: Global, steps: &mut Vec<Step>, event: BookEvent) -> Result<(), AllocError> {
+pub fn add_silent(
+    alloc: Global,
+    steps: &mut Vec<Step>,
+    event: BookEvent,
+) -> Result<(), AllocError> {
     add(alloc, steps, event, reply(alloc, None, None))
 }
 
@@ -122,29 +126,35 @@ pub fn copy(rt: &impl Abort, event: &BookEvent) -> BookEvent {
     }
 }
 
-/// Takes an event for a lane, again if memory is refused: the lane is unchanged then.
+/// Returns whether a receipt equals the step at its place.
+pub fn is_of(receipt: &Receipt, steps: &[Step]) -> bool {
+    match steps.get(receipt.place as usize) {
+        Some(step) => receipt.event == step.event && receipt.reply == step.reply,
+        None => false,
+    }
+}
+
+/// Returns whether there are `count` receipts, which equal receipts of a row.
+pub fn are_of(receipts: &[Receipt], count: usize, row: &[Step]) -> bool {
+    receipts.len() == count && receipts.iter().all(|receipt| is_of(receipt, row))
+}
+
+/// Takes an event of a row for a lane, again if memory is refused: the lane's receipts are unchanged then.
 fn take<J: Generation, R: Wait + Abort>(
     rt: &R,
     alloc: Global,
     broker: &LockedBroker<J>,
     lane: &mut Lane<J>,
     event: &BookEvent,
+    row: &[Step],
 ) -> Result<Receipt, NotStepped> {
     let count = lane.count();
     match take_once(rt, broker, lane, copy(rt, event)) {
         Err(NotStepped::Memory) => {
-            same(rt, lane.count(), count);
+            assert!(rt; are_of(lane.receipts(), count, row));
             take_once(rt, broker, lane, copy(rt, event))
         }
         answer => answer,
-    }
-}
-
-/// Returns whether a receipt equals the step at its place.
-pub fn is_of(receipt: &Receipt, steps: &[Step]) -> bool {
-    match steps.get(receipt.place as usize) {
-        Some(step) => receipt.event == step.event && receipt.reply == step.reply,
-        None => false,
     }
 }
 
@@ -167,7 +177,7 @@ fn take_step<J: Generation, R: Wait + Abort>(
     place: usize,
 ) {
     let step = row.get(place).expect(rt, "a step of the row");
-    let receipt = take(rt, alloc, broker, lane, step.event.get()).expect(rt, "a step");
+    let receipt = take(rt, alloc, broker, lane, step.event.get(), row).expect(rt, "a step");
     assert!(rt;
         receipt.place as usize == place && is_of(&receipt, row),
         "at {place}"
@@ -180,12 +190,13 @@ fn find_spent<J: Generation, R: Wait + Abort>(
     rt: &R,
     broker: &LockedBroker<J>,
     lane: &mut Lane<J>,
+    row: &[Step],
 ) {
     let count = lane.count();
     let query = command(1, 1, 1, Operation::Query);
     let spent = take_once(rt, broker, lane, query).err();
     same(rt, spent, Some(NotStepped::GenerationSpent));
-    same(rt, lane.count(), count);
+    assert!(rt; are_of(lane.receipts(), count, row));
 }
 
 /// Takes the steps of a row. Takes one more event if these steps use up the generation.
@@ -203,7 +214,7 @@ fn take_row<J: Generation, R: Wait + Abort>(
         take_step(rt, alloc, broker, lane, row, place);
     }
     if row.len() == limit as usize {
-        find_spent(rt, broker, lanes.get_mut(0).expect(rt, "a lane"));
+        find_spent(rt, broker, lanes.get_mut(0).expect(rt, "a lane"), row);
     }
 }
 
@@ -217,7 +228,7 @@ fn are_of_row<J: Generation>(rt: &impl Abort, lanes: &[Lane<J>], row: &[Step]) {
 }
 
 /// Asserts that the steps of a history equal the steps of a row.
-fn is_row(rt: &impl Abort, steps: &[Step], row: &[Step]) {
+pub fn is_row(rt: &impl Abort, steps: &[Step], row: &[Step]) {
     same(rt, steps.len(), row.len());
     for (step, wanted) in steps.iter().zip(row) {
         assert!(rt; step.event == wanted.event && step.reply == wanted.reply);

@@ -18,7 +18,7 @@ use wl_locked::Work;
 use wl_workers::Gate;
 
 /// Count of milliseconds that a lane waits at the gate.
-const TURNS: u32 = 10_000;
+pub(super) const TURNS: u32 = 10_000;
 
 /// Counts of a lane's calls of `pass` and of `answered`.
 #[derive(Clone, Copy)]
